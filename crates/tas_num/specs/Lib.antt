@@ -1,0 +1,6 @@
+pub mod Places
+pub mod Sums
+pub mod Causes
+pub mod Memory
+pub mod Control
+pub mod Captures
