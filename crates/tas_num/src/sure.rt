@@ -1,0 +1,88 @@
+ghost use Rattle.std.specs.Prelude.{◌≡◌, ℕ, ◌≤◌, Option, Some, List, [], length, drop, take, min, true, IfOk, vec_len};
+
+use crate::memory::copy_front;
+use crate::outside::{IoFault, Sink, Source};
+use std::alloc::{AllocError, Global};
+
+/// Bytes in memory that never fail to be read.
+#[derive(Drop)]
+pub struct SureSource {
+    bytes: Vec<u8>,
+    at: usize,
+    ghost inside: { at ≤ vec_len bytes },
+}
+
+impl SureSource {
+    ghost use Rattle.std.specs.Prelude.{◌≡◌, IfOk, ℕ};
+    ghost use Rattle.tas_num.specs.Memory.{surely_left};
+
+    /// A source of a copy of these bytes.
+    pub fn new(alloc: Global, bytes: &[u8]) -> Result<SureSource, AllocError>
+        ensures left { IfOk result (λ s. surely_left s ≡ bytes.now) }
+    {
+        Ok(SureSource {
+            bytes: Vec::from_slice(alloc, bytes)?,
+            at: 0,
+        })
+    }
+}
+
+impl Source for SureSource {
+    ghost use Rattle.std.specs.Prelude.{Some};
+    ghost use Rattle.tas_num.specs.Memory.{surely_left};
+
+    ghost left = { λ s. Some (surely_left s) };
+
+    ghost faults = { λ _. 0 };
+
+    fn read(&mut self, buf: &mut [u8]) -> Result<usize, IoFault> {
+        let count = copy_front(&self.bytes[self.at..], buf);
+        self.at += count;
+        Ok(count)
+    }
+}
+
+/// Memory that grows as bytes are written, and never fails but for want of more.
+#[derive(Drop)]
+pub struct SureSink {
+    bytes: Vec<u8>,
+}
+
+impl SureSink {
+    ghost use Rattle.std.specs.Prelude.{◌≡◌, []};
+    ghost use Rattle.tas_num.specs.Memory.{surely_held};
+
+    /// A sink that holds nothing yet.
+    pub fn new(alloc: Global) -> SureSink
+        ensures { surely_held result ≡ [] }
+    {
+        SureSink {
+            bytes: Vec::new(alloc),
+        }
+    }
+
+    /// All that was written.
+    pub fn written(&self) -> &[u8]
+        ensures { result.now ≡ surely_held self.now }
+    {
+        self.bytes.as_slice()
+    }
+}
+
+impl Sink for SureSink {
+    ghost use Rattle.std.specs.Prelude.{Some, true};
+    ghost use Rattle.tas_num.specs.Memory.{surely_held};
+
+    ghost held = { λ s. Some (surely_held s) };
+
+    ghost faults = { λ _. 0 };
+
+    ghost grows = { λ _. true };
+
+    fn write(&mut self, bytes: &[u8]) -> Result<usize, IoFault> {
+        match self.bytes.extend_from_slice(bytes) {
+            Ok(()) => Ok(bytes.len()),
+            Err(_) => Err(IoFault::OutOfMemory),
+        }
+    }
+}
