@@ -50,9 +50,9 @@ fn a_small_sink_holds_what_fits(rt: HostRuntime) -> Result<(), Fail> {
     assert_eq!(rt; sink.write(b"abc"), Ok(3));
     assert_eq!(rt; sink.write(b"de"), Ok(1));
     assert_eq!(rt; sink.write(b"e"), Err(IoFault::Failed));
-    assert_eq!(rt; sink.written(), b"abcd");
+    assert_eq!(rt; sink.written(), b"abcd".as_slice());
     let mut sure = SureSink::new(rt.alloc());
     assert_eq!(rt; sure.write(b"fg"), Ok(2));
-    assert_eq!(rt; sure.written(), b"fg");
+    assert_eq!(rt; sure.written(), b"fg".as_slice());
     Ok(())
 }
