@@ -1,4 +1,6 @@
-ghost use Rattle.std.specs.Prelude.{◌≡◌, ℕ, ◌≤◌, Option, Some, List, [], length, drop, take, min, true, IfOk, vec_len};
+ghost use Rattle.std.specs.Prelude.{◌≡◌, ℕ, ◌≤◌, Option, Some, List, [], length, drop, take, min, true, IfOk, Ok, vec_len};
+ghost use Rattle.std.specs.Io.{ReadsAtMost};
+ghost use Rattle.std.specs.Io.KnownBytes.{ReadConsumes};
 
 use crate::memory::copy_front;
 use crate::outside::{IoFault, Sink, Source};
@@ -35,7 +37,12 @@ impl Source for SureSource {
 
     ghost faults = { λ _. 0 };
 
-    fn read(&mut self, buf: &mut [u8]) -> Result<usize, IoFault> {
+    fn read(&mut self, buf: &mut [u8]) -> Result<usize, IoFault>
+        ensures bound { ReadsAtMost result buf.new }
+        ensures bytes { ReadConsumes (Some (surely_left self.old)) (Some (surely_left self.new)) result buf.new }
+        // As much as fits.
+        ensures count { result ≡ Ok (min (length (surely_left self.old)) (length buf.new)) }
+    {
         let count = copy_front(&self.bytes[self.at..], buf);
         self.at += count;
         Ok(count)
