@@ -1,0 +1,9 @@
+//! The program: its words, its streams, and the one call that runs it.
+#![tactic(auto)]
+
+mod input;
+mod output;
+mod stop;
+mod words;
+
+fn main(_rt: HostRuntime) {}
