@@ -1,5 +1,6 @@
 ghost use Rattle.std.specs.Prelude.{◌≡◌, List, ℕ, map, string_bytes, option_map, IfSome, IfNone};
 ghost use Rattle.tas_main.specs.Words.{address_word, IsReplay};
+ghost use Rattle.std.specs.Net.Grammar.{IsIpv4Text};
 ghost use Rattle.std.specs.declared.net.ipv4_addr.Ipv4Addr.{Ipv4Addr};
 
 use std::net::Ipv4Addr;
@@ -9,7 +10,22 @@ pub fn local_address(words: &[String]) -> Option<Ipv4Addr>
     ensures some { IfSome result (IsReplay (map string_bytes words.now)) }
     ensures none { IfNone result ((address : Ipv4Addr) → ¬ IsReplay (map string_bytes words.now) address) }
 {
-    Ipv4Addr::parse_ascii(address_text(words)?).ok()
+    let text = address_text(words)?;
+    let Some(address) = address_in(text) else {
+        return None;
+    };
+    Some(address)
+}
+
+/// The address that the text writes.
+fn address_in(text: &[u8]) -> Option<Ipv4Addr>
+    ensures some { IfSome result (IsIpv4Text text.now) }
+    ensures none { IfNone result ((address : Ipv4Addr) → ¬ IsIpv4Text text.now address) }
+{
+    match Ipv4Addr::parse_ascii(text) {
+        Ok(address) => Some(address),
+        Err(_) => None,
+    }
 }
 
 /// The word that stands where the address has to stand.
