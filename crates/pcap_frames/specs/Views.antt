@@ -1,5 +1,5 @@
 -- What the code's values stand for in the grammar of captures.
-use Rattle.std.specs.Prelude.{◌≡◌, ℕ, ◌+◌, ◌≤◌, List, length, drop, Option, Some, None, Result, Ok, Err}
+use Rattle.std.specs.Prelude.{ℕ, List, drop}
 use Rattle.tas_num.specs.Captures.{Fault, Magic, Version, LinkType, CutShort, TooLong, Form, Record, Next}
 use Rattle.pcap_frames.specs.declared.capture.CaptureHeader.{CaptureHeader}
 use Rattle.pcap_frames.specs.declared.capture.RecordView.{RecordView}

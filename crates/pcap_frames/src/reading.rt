@@ -10,6 +10,7 @@ use crate::numbers::{half_at, word_at};
 #[tactic(auto, unfolding(tas_num::specs::Captures::form_of))]
 pub fn read_header(bytes: &[u8]) -> Result<CaptureHeader, PcapRefused>
     ensures form { IfOk result (λ header. form_of bytes.now ≡ Ok (form_in header)) }
+    ensures len { IfOk result (λ _. 24 ≤ length bytes.now) }
     ensures refused { IfErr result (λ fault. form_of bytes.now ≡ Err (fault_in fault)) }
 {
     if bytes.len() < 24 {

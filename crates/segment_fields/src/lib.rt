@@ -9,3 +9,6 @@ mod writing;
 pub use reading::read;
 pub use segment::{Flags, Refused, Segment};
 pub use writing::{NoRoom, write};
+
+#[cfg(test)]
+mod tests;
