@@ -1,3 +1,4 @@
 pub mod Words
 pub mod Stops
 pub mod FirstPath
+pub mod InMemory

@@ -1,6 +1,7 @@
 //! The program: its words, its streams, and the one call that runs it.
 #![tactic(auto)]
 
+mod capture;
 mod first_path;
 mod input;
 mod output;
