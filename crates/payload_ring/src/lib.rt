@@ -5,3 +5,6 @@ mod cells;
 mod ring;
 
 pub use ring::Ring;
+
+#[cfg(test)]
+mod tests;
