@@ -7,12 +7,15 @@ use std::marker::Model;
 
 /// A window of fixed size on a stream of bytes, in memory that is taken once.
 ///
-/// A place is the number of a byte in the stream. The bytes from `base` to below `end` stand in order; those ahead of them, up to below `base + size`, can be placed before the ones between have come.
+/// A place is the number of a byte in the stream. The bytes from `base` to below `end` stand in order; those ahead of them, up to below `base + size`, can be placed before the ones between have come. So it serves as a flow's send buffer, and as its receive buffer for segments that come out of order (RFC 9293, section 3.10.7.4).
 #[derive(Drop)]
 pub struct Ring {
     cells: Vec<u8>,
+    /// The cell of the byte at `base`.
     start: usize,
+    /// A place.
     base: u128,
+    /// How many bytes stand in order.
     len: u32,
 }
 
