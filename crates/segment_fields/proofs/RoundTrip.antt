@@ -1,14 +1,15 @@
 -- What the one packet of a segment's fields says.
-use Rattle.std.proofs.Common.{◌≡◌, ℕ, ◌+◌, ◌-◌, ◌/◌, ◌%◌, ◌≤◌, ◌==◌, ◌&&◌, ◌||◌, not, Bool, true, false, List, ◌++◌, Option, Some, None, length, sum, take, drop, slice_range, nat_lt, refl, sym, ap, ◌∙◌, arith, length-append, if◌then◌else◌}
+use Rattle.std.proofs.Common.{◌≡◌, ℕ, ◌+◌, ◌-◌, ◌/◌, ◌%◌, ◌≤◌, ◌==◌, ◌&&◌, ◌||◌, not, Bool, true, false, List, ◌++◌, Option, Some, None, IsSome, IsTrue, length, sum, take, drop, slice_range, nat_lt, refl, sym, ap, ◌∙◌, arith, length-append, if◌then◌else◌}
 use Rattle.std.proofs.lemmas.Bool.Decides.{nat_tests}
 use Rattle.std.proofs.lemmas.List.{take_at, drop_at, drop-drop, take_all}
 use Rattle.tas_num.specs.Sums.{words, checksum}
 use Rattle.segment_fields.specs.Bytes.{byte, half, word}
 use Rattle.segment_fields.specs.ControlBits.{has, syn}
-use Rattle.segment_fields.specs.Fields.{Fields}
+use Rattle.segment_fields.specs.Fields.{Fields, fields_of}
 use Rattle.segment_fields.specs.Options.{mss_past}
-use Rattle.segment_fields.specs.Canon.{canon, packet, ip_header, tcp_fixed, tcp_checksum, offset_byte, tcp_len, halves, option_bytes, borne_mss}
-use Rattle.segment_fields.specs.Text.{refusal, fields_in, mss_of, tcp, ip_len, total_len, data_offset, ip_sum, tcp_sum, pseudo_sum, is_wrong}
+use Rattle.segment_fields.specs.Canon.{canon, packet, ip_header, tcp_fixed, tcp_checksum, offset_byte, tcp_len, halves, option_bytes, borne_mss, canon_len, HasMssInSynAlone}
+use Rattle.segment_fields.specs.Text.{IsText, refusal, fields_in, mss_of, tcp, ip_len, total_len, data_offset, ip_sum, tcp_sum, pseudo_sum, is_wrong}
+use Rattle.segment_fields.specs.declared.segment.Segment.{Segment}
 use Rattle.segment_fields.specs.declared.segment.Refused.{Refused}
 use Rattle.segment_fields.specs.declared.segment.Refused.TheVariants.{Short, NotIpv4, HeaderLength, TotalLength, Fragment, NotTcp, IpSum, DataOffset, TcpSum}
 use Rattle.segment_fields.proofs.RightSums.{is_wrong_checksum, sum_words-append}
@@ -178,3 +179,17 @@ refusal-packet check f o aligned =
 
 pub refusal-canon : (check : Bool) (f : Fields) → refusal check (canon f) ≡ None
 refusal-canon check f = refusal-packet check f (option_bytes (borne_mss f)) (option_aligned (borne_mss f))
+
+by_mss : (mss : Option ℕ) (t : Bool) → (IsSome mss → IsTrue t) → (if t then mss else None) ≡ mss
+by_mss mss true e = refl
+by_mss None false e = refl
+by_mss (Some m) false e = absurd (cc (e refl))
+
+pub fields_in-canon_same : (f : Fields) → HasMssInSynAlone f → fields_in (canon f) ≡ f
+fields_in-canon_same f alone = fields_in-canon f ∙ ap (λ (mss : Option ℕ). record f { mss = mss }) (by_mss f.mss (has f.flags syn) alone)
+
+pub fields_of-text : (b : List ℕ) (s : Segment) → IsText b s → fields_of s ≡ fields_in b
+fields_of-text b s t = cc (t.src, t.dst, t.sport, t.dport, t.seq, t.ack, t.flags, t.window, t.mss, t.payload)
+
+pub length-canon : (f : Fields) → length (canon f) ≡ canon_len f
+length-canon f = omega (arith, length-packet f (option_bytes (borne_mss f)))
