@@ -1,0 +1,18 @@
+//! The endpoint of a connection: its calls, its replies, and which histories of them are right.
+#![tactic(auto)]
+
+mod bytes;
+mod entry;
+mod laws;
+mod recorded;
+
+pub use bytes::Bytes;
+pub use entry::{
+    CAPTURE, Call, Caller, Entry, FlowId, FourTuple, FrameId, Head, HostParams, NO_FLOW, Phase,
+    Reason, Reply, Seg,
+};
+pub use laws::{
+    acknowledges_what_is_in_order, endpoints_are_valid, one_entry_more, received_is_a_prefix,
+    worked_history,
+};
+pub use recorded::Recorded;
