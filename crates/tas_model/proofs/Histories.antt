@@ -20,6 +20,13 @@ along_split fact earlier (y ∷ xs) x facts =
     let rest = along_split fact (earlier ++ y ∷ []) xs x facts.1 in
     ((facts.0, rest.0), subst (λ (h : List Entry). fact h x) (append_assoc earlier (y ∷ []) xs) rest.1)
 
+-- the facts of both parts
+pub along_parts : (fact : List Entry → Entry → Type 0) (earlier xs ys : List Entry) → Along fact earlier (xs ++ ys) → Along fact earlier xs × Along fact (earlier ++ xs) ys
+along_parts fact earlier [] ys facts = (tt, subst (λ (h : List Entry). Along fact h ys) (sym (append-nil earlier)) facts)
+along_parts fact earlier (x ∷ xs) ys facts =
+    let rest = along_parts fact (earlier ++ x ∷ []) xs ys facts.1 in
+    ((facts.0, rest.0), subst (λ (h : List Entry). Along fact h ys) (append_assoc earlier (x ∷ []) xs) rest.1)
+
 -- What a fact keeps at each entry holds at the end.
 pub along_induction : (fact : List Entry → Entry → Type 0) (P : List Entry → Type 0)
     → ((h : List Entry) (x : Entry) → P h → fact h x → P (h ++ x ∷ []))
@@ -49,11 +56,10 @@ pub legal_push : (params : HostParams) (h : List Entry) (x : Entry) → Legal pa
 legal_push params [] x legal may = absurd legal
 legal_push params (y ∷ ys) x legal may = (legal.0, along_push (MayFollow params) (y ∷ []) ys x legal.1 may)
 
--- without the last entry, which may follow
-pub legal_split : (params : HostParams) (h : List Entry) (y x : Entry) → Legal params ((h ++ y ∷ []) ++ x ∷ []) → Legal params (h ++ y ∷ []) × MayFollow params (h ++ y ∷ []) x
-legal_split params [] y x legal = ((legal.0, tt), legal.1.0)
-legal_split params (z ∷ zs) y x legal =
-    let parts = along_split (MayFollow params) (z ∷ []) (zs ++ y ∷ []) x legal.1 in
+-- a beginning with an entry is legal, and what comes after it follows
+pub legal_parts : (params : HostParams) (x : Entry) (xs ys : List Entry) → Legal params (x ∷ xs ++ ys) → Legal params (x ∷ xs) × LegalAfter params (x ∷ xs) ys
+legal_parts params x xs ys legal =
+    let parts = along_parts (MayFollow params) (x ∷ []) xs ys legal.1 in
     ((legal.0, parts.0), parts.1)
 
 -- What holds of the first entry alone, and is kept by each entry that may follow, holds of every history.

@@ -169,26 +169,26 @@ after_data_in p e tick window q from seg is says s =
 -- what the verdict says of a segment that is taken
 taken_tells : (acceptable bare rst first syn ack : Bool) (q q' : ℕ)
     → cond (not acceptable) (cond bare BareAck (cond rst Dropped Answered)) (cond rst (cond first Reset Answered) (cond syn Answered (cond ack (Taken q) Dropped))) ≡ Taken q'
-    → (q ≡ q') × (syn ≡ false)
+    → (q ≡ q') × (syn ≡ false) × (acceptable ≡ true)
 taken_tells false true rst first syn ack q q' h = absurd (cc (h))
 taken_tells false false true first syn ack q q' h = absurd (cc (h))
 taken_tells false false false first syn ack q q' h = absurd (cc (h))
 taken_tells true bare true true syn ack q q' h = absurd (cc (h))
 taken_tells true bare true false syn ack q q' h = absurd (cc (h))
 taken_tells true bare false first true ack q q' h = absurd (cc (h))
-taken_tells true bare false first false true q q' h = (cc (h), refl)
+taken_tells true bare false first false true q q' h = (cc (h), refl, refl)
 taken_tells true bare false first false false q q' h = absurd (cc (h))
 
-place_tells : (o : Option ℕ) (r window q : ℕ) (seg : Seg) → verdict_of_place o r window seg ≡ Taken q → (o ≡ Some q) × (is_syn seg ≡ false)
+pub place_tells : (o : Option ℕ) (r window q : ℕ) (seg : Seg) → verdict_of_place o r window seg ≡ Taken q → (o ≡ Some q) × (is_syn seg ≡ false) × (is_acceptable r window q (seg_len seg) ≡ true)
 place_tells None r window q seg h = absurd (never (is_rst seg) h)
   where
     never : (b : Bool) → cond b Dropped Answered ≡ Taken q → ⊥
     never true e = cc (e)
     never false e = cc (e)
 place_tells (Some k) r window q seg h =
-    let t : (k ≡ q) × (is_syn seg ≡ false) =
+    let t : (k ≡ q) × (is_syn seg ≡ false) × (is_acceptable r window k (seg_len seg) ≡ true) =
     taken_tells (is_acceptable r window k (seg_len seg)) (eqb window 0 && eqb k r && not (is_rst seg) && not (is_syn seg)) (is_rst seg) (eqb k r) (is_syn seg) (is_ack seg) k q h in
-    (ap (λ (n : ℕ). Some n) t.0, t.1)
+    (ap (λ (n : ℕ). Some n) t.0, t.1, subst (λ (n : ℕ). is_acceptable r window n (seg_len seg) ≡ true) t.0 t.2)
 
 taken_in : (p : List ℕ) (e : Endpoint) (tick q from : ℕ) (seg : Seg) (a : AckVerdict) → from ≡ q + 2 ^ 32 → Says p (next_place e.rx) from seg → InStream p e.rx → InStream p (taken e tick q seg a).state.rx
 taken_in p e tick q from seg Stray is says s = s
@@ -209,7 +209,7 @@ verdict_in p e tick seg Reset is says s = s
 verdict_in p e tick seg BareAck is says s =
     on_cond (λ (o : Outcome). InStream p o.state.rx) (is_ack seg) _ _ (λ t. bare_in p e tick seg _ s) (λ f. s)
 verdict_in p e tick seg (Taken q) is says s =
-    let t : (place_of_seq e seg ≡ Some q) × (is_syn seg ≡ false) = place_tells (place_of_seq e seg) (next_place e.rx) (wnd e) q seg is in
+    let t : (place_of_seq e seg ≡ Some q) × (is_syn seg ≡ false) × (is_acceptable (next_place e.rx) (wnd e) q (seg_len seg) ≡ true) = place_tells (place_of_seq e seg) (next_place e.rx) (wnd e) q seg is in
     taken_in p e tick q (raised_place e seg) seg _ (nearest_raised _ _ q t.0) (says t.1) s
 
 rx_in_in : (p : List ℕ) (ph : Phase) (e : Endpoint) (tick : ℕ) (seg : Seg) → phase e ≡ ph → (is_syn seg ≡ false → IsSynchronized (phase e) → Says p (next_place e.rx) (raised_place e seg) seg)

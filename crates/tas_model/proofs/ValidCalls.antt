@@ -149,13 +149,13 @@ IsLater phases.SynSent = ⊥
 IsLater phases.Closed = ⊥
 IsLater _ = Unit {0}
 
-later_of : (reason : Option Reason) (peer : Option ℕ) (una : ℕ) (shut fin_acked ended ended_first : Bool) (ph : Phase)
+pub later_of : (reason : Option Reason) (peer : Option ℕ) (una : ℕ) (shut fin_acked ended ended_first : Bool) (ph : Phase)
     → phase_by reason peer una shut fin_acked ended ended_first ≡ ph → IsLater ph → (n : ℕ) → IsUnopened peer n
 later_of (Some why) peer una shut fin_acked ended ended_first ph is later n = absurd (subst IsLater (sym is) later)
 later_of None None una shut fin_acked ended ended_first ph is later n = absurd (subst IsLater (sym is) later)
 later_of None (Some first) una shut fin_acked ended ended_first ph is later n = tt
 
-unopened_peer : (reason : Option Reason) (peer : Option ℕ) (una : ℕ) (shut fin_acked ended ended_first : Bool)
+pub unopened_peer : (reason : Option Reason) (peer : Option ℕ) (una : ℕ) (shut fin_acked ended ended_first : Bool)
     → phase_by reason peer una shut fin_acked ended ended_first ≡ phases.SynSent → peer ≡ None
 unopened_peer (Some why) peer una shut fin_acked ended ended_first is = absurd (cc (is))
 unopened_peer None None una shut fin_acked ended ended_first is = refl

@@ -92,7 +92,7 @@ data_keeps ring rx window q payload small v =
     high : rx.ended ≡ false → 0 < length (trimmed (next_place rx) window q payload) → max q (next_place rx) - 1 + length (trimmed (next_place rx) window q payload) ≤ rx.read + ring
     high f some = let r : next_place rx ≡ 1 + length rx.got = grind arith in omega (arith, v.room, v.read, trimmed_length (next_place rx) window q payload)
 
-good_tells : (tx : Sending) (a : ℕ) → ack_verdict tx a ≡ Good → a ≤ tx.max
+pub good_tells : (tx : Sending) (a : ℕ) → ack_verdict tx a ≡ Good → a ≤ tx.max
 good_tells tx a is = grind (arith, nat_tests)
 
 -- rule 5

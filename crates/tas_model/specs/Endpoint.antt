@@ -19,8 +19,8 @@ pub record Sending : Type 0 where
   pub window : ℕ  -- SND.WND: bytes that the peer has room for
   pub wl1 : ℕ  -- SND.WL1: the place of the segment that the window is from
   pub wl2 : ℕ  -- SND.WL2: the place that this segment acknowledged
-  pub dup : ℕ  -- duplicate acknowledgements in a row (RFC 5681, section 2), 3 at most
-  pub age : ℕ  -- ticks since the timer was started
+  pub dup : ℕ  -- duplicate acknowledgements since the last advance (RFC 5681, section 2), 3 at most
+  pub age : ℕ  -- ticks that the timer has run
   pub tries : ℕ  -- how often the timer ran out since the last progress
   pub probe : Bool  -- a probe of the peer's window is due (section 3.8.6.1)
 
