@@ -1,8 +1,10 @@
 -- What follows of every history: how far places go, which bytes were read, and how much the bucket lets through.
-use Rattle.std.proofs.Common.{◌≡◌, ℕ, ◌+◌, ◌-◌, ◌*◌, ◌≤◌, Bool, true, false, cond, List, [], ◌∷◌, ◌++◌, length, take, max, flat_map, Option, Some, None, IsSome, refl, sym, subst, ap, ◌∙◌, arith, true≢false, append-nil, append_assoc, length-append}
+use Rattle.std.proofs.Common.{◌≡◌, ℕ, ◌+◌, ◌-◌, ◌*◌, ◌≤◌, Bool, true, false, cond, List, [], ◌∷◌, ◌++◌, length, take, drop, max, flat_map, Option, Some, None, IsSome, refl, sym, subst, ap, ◌∙◌, arith, true≢false, append-nil, append_assoc, length-append, take-append-drop}
 use Rattle.std.proofs.lemmas.Grind.{flat_map-append}
 use Rattle.tas_model.proofs.Histories.{legal_induction, legal_parts, legal_push, replay_push, replay_first}
 use Rattle.tas_model.proofs.ValidCalls.{valid_replay, step_keeps}
+use Rattle.tas_model.proofs.StreamLaw.{got_is_prefix}
+use Rattle.tas_model.specs.OneStream.{OneStream, IsPrefixOf}
 use Rattle.tas_model.proofs.Moves.{Moves, LeavesMoved}
 use Rattle.tas_model.proofs.MovesSteps.{step_moves}
 use Rattle.tas_model.specs.declared.entry.HostParams.{HostParams}
@@ -130,6 +132,14 @@ read_is_of_got params h fits legal =
     after es x before so_far may =
         read_push es x ∙ (ap (λ (bs : List ℕ). bs ++ given_bytes x.reply) so_far
         ∙ (sym (entry_moves params es x fits before may).bytes ∙ ap (λ (e : Endpoint). take e.rx.read e.rx.got) (sym (replay_push params es x before))))
+
+-- hence the beginning of the stream that the peer sends
+pub read_is_of_stream : (params : HostParams) (stream : List ℕ) (h : List Entry) → InRange params → Legal params h → OneStream params stream h → IsPrefixOf (bytes_read h) stream
+read_is_of_stream params stream h fits legal one =
+    let e : Endpoint = replay params h in
+    let got : IsPrefixOf e.rx.got stream = (got_is_prefix params stream h legal one).0 in
+    let whole : bytes_read h ++ drop e.rx.read e.rx.got ≡ e.rx.got = ap (λ (bs : List ℕ). bs ++ drop e.rx.read e.rx.got) (read_is_of_got params h fits legal) ∙ take-append-drop e.rx.read e.rx.got in
+    (drop e.rx.read e.rx.got ++ got.0, sym (append_assoc (bytes_read h) (drop e.rx.read e.rx.got) got.0) ∙ (ap (λ (bs : List ℕ). bs ++ got.0) whole ∙ got.1))
 
 -- ----- what the bucket lets through
 -- data and what is left in the bucket are what it held and was filled with

@@ -1,5 +1,5 @@
 -- Which lists of entries are histories of an endpoint. A history is read from its oldest entry on.
-use Rattle.std.specs.Prelude.{◌≡◌, ℕ, ◌≤◌, ◌==◌, Bool, true, false, List, [], ◌∷◌, ◌++◌, take, max, count_by, Option, Some, None, ⊤}
+use Rattle.std.specs.Prelude.{◌≡◌, ℕ, ◌≤◌, ◌==◌, Bool, true, false, List, [], ◌∷◌, ◌++◌, length, take, max, count_by, Option, Some, None, ⊤}
 use Rattle.tas_model.specs.declared.entry.HostParams.{HostParams}
 use Rattle.tas_model.specs.declared.entry.Entry.{Entry}
 use Rattle.tas_model.specs.declared.entry.Caller.{Caller}
@@ -130,9 +130,18 @@ abbrev pub reply_or : Option Outcome → Reply → Reply
 reply_or None reply = reply
 reply_or (Some o) reply = o.reply
 
--- The history with the one entry that this call makes, at this tick or the last entry's, whichever is later. `offer` has the bytes that a Send offers, of which the first that fit are taken.
+-- A call offers these bytes, where it is a Send.
+abbrev pub Offers : Call → (offer : List ℕ) → Type 0
+Offers (calls.Send offered) offer = offered ≡ length offer
+Offers _ offer = ⊤
+
+-- of the bytes offered, the first that fit
+abbrev pub shown : Endpoint → (offer : List ℕ) → Reply
+shown e offer = replies.Took (take (send_room e) offer)
+
+-- The history with the one entry that this call makes, at this tick or the last entry's, whichever is later. A Send offers `offer`.
 abbrev pub extended_by : HostParams → List Entry → Caller → (tick : ℕ) → Call → (offer : List ℕ) → List Entry
 extended_by params h caller tick call offer =
     let t : ℕ = max tick (last_tick 0 h) in
     let e : Endpoint = replay params h in
-    h ++ (record { caller = caller; number = next_number caller h; tick = t; call = call; reply = reply_or (step e t call (replies.Took (take (send_room e) offer))) replies.Nothing }) ∷ []
+    h ++ (record { caller = caller; number = next_number caller h; tick = t; call = call; reply = reply_or (step e t call (shown e offer)) replies.Nothing }) ∷ []

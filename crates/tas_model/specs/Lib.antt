@@ -10,5 +10,6 @@ pub mod Outputs
 pub mod OneStream
 pub mod Valid
 pub mod BucketLaw
+pub mod BadSegment
 pub mod InOrder
 pub mod WorkedHistories

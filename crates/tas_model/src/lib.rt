@@ -12,7 +12,8 @@ pub use entry::{
     Reason, Reply, Seg,
 };
 pub use laws::{
-    acknowledges_what_is_in_order, endpoints_are_valid, one_entry_more, received_is_a_prefix,
-    worked_history,
+    acknowledges_what_is_in_order, bad_segments_change_nothing, bucket_bounds_data,
+    endpoints_are_valid, one_call_more, one_entry_more, places_grow_slowly, read_is_a_prefix,
+    received_is_a_prefix,
 };
 pub use recorded::Recorded;
