@@ -13,6 +13,7 @@ ghost use Rattle.tas_model.specs.OneStream.{OneStream, IsPrefixOf, IsSynchronize
 ghost use Rattle.tas_model.specs.Valid.{Valid, InRange, PlacesWithin};
 ghost use Rattle.tas_model.specs.BadSegment.{IsDropped};
 ghost use Rattle.tas_model.specs.BucketLaw.{data_sent, fills};
+ghost use Rattle.tas_model.specs.WorkedHistories.{replay_params, host_params, three_packets, data_out_of_order, three_duplicates, client_of_hello, server_of_hello};
 
 /// A history that grows by an entry that may come next is legal, and its endpoint is the one that the entry's step leaves.
 pub fn one_entry_more()
@@ -71,4 +72,13 @@ pub fn bad_segments_change_nothing()
 /// Over any stretch of a history after the peer's SYN was taken, the bytes sent as data are at most the bucket's depth at its start and the fills of its ticks.
 pub fn bucket_bounds_data()
     ensures { (params : HostParams) (h stretch : List Entry) → InRange params → Legal params (h ++ stretch) → IsSome (replay params h).peer → data_sent (replay params h) stretch ≤ (replay params h).rate.depth + fills (replay params h) stretch }
+{}
+
+/// Histories that an independent program computed are legal.
+pub fn worked_histories_are_legal()
+    ensures three_packets { Legal replay_params three_packets }
+    ensures data_out_of_order { Legal replay_params data_out_of_order }
+    ensures three_duplicates { Legal replay_params three_duplicates }
+    ensures client_of_hello { Legal (host_params 167772161 1000) client_of_hello }
+    ensures server_of_hello { Legal (host_params 167772162 5000) server_of_hello }
 {}
