@@ -1,6 +1,6 @@
 -- A call that is a step gives one entry more of a legal history.
-use Rattle.std.proofs.Common.{◌≡◌, ℕ, ◌+◌, ◌-◌, ◌==◌, ◌&&◌, not, Bool, true, false, cond, List, [], ◌++◌, length, take, min, max, Option, Some, None, IsSome, refl, sym, subst, ap, ◌∙◌, true≢false, arith, eq-eqb, length-take}
-use Rattle.std.proofs.lemmas.List.{take_min, take-take}
+use Rattle.std.proofs.Common.{◌≡◌, ℕ, ◌==◌, ◌&&◌, not, Bool, true, false, cond, List, ◌++◌, length, take, min, max, Option, Some, None, IsSome, refl, sym, subst, ap, ◌∙◌, true≢false, arith, eq-eqb, length-take}
+use Rattle.std.proofs.lemmas.List.{take_min}
 use Rattle.std.proofs.lemmas.Bool.Decides.{nat_tests}
 use Rattle.tas_model.specs.declared.entry.HostParams.{HostParams}
 use Rattle.tas_model.specs.declared.entry.Entry.{Entry}

@@ -1,8 +1,8 @@
 -- What follows of every history: how far places go, which bytes were read, and how much the bucket lets through.
-use Rattle.std.proofs.Common.{◌≡◌, ℕ, ◌+◌, ◌-◌, ◌*◌, ◌≤◌, Bool, true, false, cond, List, [], ◌∷◌, ◌++◌, length, take, drop, max, flat_map, Option, Some, None, IsSome, refl, sym, subst, ap, ◌∙◌, arith, true≢false, append-nil, append_assoc, length-append, take-append-drop}
+use Rattle.std.proofs.Common.{◌≡◌, ℕ, ◌+◌, ◌*◌, ◌≤◌, Bool, true, false, cond, List, [], ◌∷◌, ◌++◌, length, take, drop, max, Option, Some, None, IsSome, refl, sym, subst, ap, ◌∙◌, arith, true≢false, append-nil, append_assoc, length-append, take-append-drop}
 use Rattle.std.proofs.lemmas.Grind.{flat_map-append}
 use Rattle.tas_model.proofs.Histories.{legal_induction, legal_parts, legal_push, replay_push, replay_first}
-use Rattle.tas_model.proofs.ValidCalls.{valid_replay, step_keeps}
+use Rattle.tas_model.proofs.ValidCalls.{valid_replay}
 use Rattle.tas_model.proofs.StreamLaw.{got_is_prefix}
 use Rattle.tas_model.specs.OneStream.{OneStream, IsPrefixOf}
 use Rattle.tas_model.proofs.Moves.{Moves, LeavesMoved}
@@ -12,10 +12,9 @@ use Rattle.tas_model.specs.declared.entry.Entry.{Entry}
 use Rattle.tas_model.specs.declared.entry.Call.{Call}
 use Rattle.tas_model.specs.declared.entry.Call.TheVariants as calls
 use Rattle.tas_model.specs.declared.entry.Reply.{Reply}
-use Rattle.tas_model.specs.declared.entry.Reply.TheVariants as replies
 use Rattle.tas_model.specs.Endpoint.{Endpoint, Island, next_place}
 use Rattle.tas_model.specs.Segments.{Outcome}
-use Rattle.tas_model.specs.LegalHistory.{step, state_or, moved, replay, replay_on, opened, Opens, Gives, Legal, LegalAfter, MayFollow, IsFirst}
+use Rattle.tas_model.specs.LegalHistory.{step, state_or, moved, replay, replay_on, opened, Gives, Legal, LegalAfter, MayFollow, IsFirst}
 use Rattle.tas_model.specs.Outputs.{given_bytes, bytes_read}
 use Rattle.tas_model.specs.Valid.{Valid, InRange, IsPastGap, PlacesWithin, IslandWithin}
 use Rattle.tas_model.specs.BucketLaw.{data_by, fill_by, data_sent, fills}

@@ -1,5 +1,5 @@
 -- How far a received segment moves an endpoint.
-use Rattle.std.proofs.Common.{◌≡◌, ℕ, ◌+◌, ◌-◌, ◌≤◌, Bool, true, false, cond, not, ◌&&◌, ◌||◌, List, [], ◌∷◌, ◌++◌, length, take, drop, max, Option, Some, None, IsSome, refl, sym, subst, ap, ◌∙◌, arith, true≢false, ltb, leb, eqb, append-nil, append_assoc}
+use Rattle.std.proofs.Common.{◌≡◌, ℕ, ◌+◌, ◌-◌, ◌≤◌, Bool, true, false, cond, not, ◌&&◌, List, [], ◌∷◌, ◌++◌, length, take, drop, max, Option, Some, None, IsSome, refl, sym, subst, ap, ◌∙◌, arith, true≢false, ltb, leb, eqb, append-nil, append_assoc}
 use Rattle.std.proofs.lemmas.Bool.Decides.{nat_tests}
 use Rattle.std.proofs.lemmas.List.{take-append-le}
 use Rattle.tas_model.proofs.Tests.{on_cond}
@@ -14,9 +14,9 @@ use Rattle.tas_model.specs.declared.entry.Seg.{Seg}
 use Rattle.tas_model.specs.declared.entry.Reply.{Reply}
 use Rattle.tas_model.specs.declared.entry.Reply.TheVariants as replies
 use Rattle.tas_model.specs.Endpoint.{Endpoint, Sending, Receiving, Rate, Island, phase, next_place, wnd, uncounted}
-use Rattle.tas_model.specs.Segments.{Outcome, unchanged, seg_len, is_fin, is_ack, is_rst, is_syn, acks, resets, stray_reply}
+use Rattle.tas_model.specs.Segments.{seg_len, is_fin, is_ack, is_rst, is_syn, acks, resets, stray_reply}
 use Rattle.tas_model.specs.Reassembly.{bridged, grown, with_part, with_data, kept_apart, trimmed}
-use Rattle.tas_model.specs.Receive.{with_fin, takes_fin, rate_after, ack_verdict, AckVerdict, Stray, TooFar, Good, Verdict, Dropped, Answered, Reset, BareAck, Taken, after_ack, after_data, taken, bare_ack, by_verdict, verdict, rx_later, rx_syn_sent, connected, rx_in, rx, place_of_ack, place_of_seq, is_acceptable, is_duplicate, after_duplicate, after_advance, with_window, moves_window, sending_after, is_heard}
+use Rattle.tas_model.specs.Receive.{takes_fin, ack_verdict, AckVerdict, Stray, TooFar, Good, Verdict, Dropped, Answered, Reset, BareAck, Taken, after_ack, after_data, taken, bare_ack, by_verdict, verdict, rx_later, rx_syn_sent, connected, rx_in, rx, place_of_ack, place_of_seq, is_acceptable, is_duplicate, after_duplicate, after_advance, moves_window, sending_after, is_heard}
 use Rattle.tas_model.specs.Outputs.{given_bytes}
 use Rattle.tas_model.specs.Valid.{Valid}
 

@@ -1,5 +1,5 @@
 -- How far every step moves an endpoint.
-use Rattle.std.proofs.Common.{◌≡◌, ℕ, ◌+◌, ◌-◌, ◌*◌, ◌≤◌, Bool, true, false, cond, not, ◌&&◌, List, [], ◌++◌, length, take, drop, min, max, Option, Some, None, IsSome, refl, sym, arith, ltb, leb, eqb, append-nil}
+use Rattle.std.proofs.Common.{◌≡◌, ℕ, ◌+◌, ◌-◌, ◌*◌, Bool, true, false, not, ◌&&◌, List, [], ◌++◌, length, min, max, Option, Some, None, refl, arith, ltb, leb, eqb}
 use Rattle.std.proofs.lemmas.Bool.Decides.{nat_tests}
 use Rattle.std.proofs.Math.Seq.{take-add}
 use Rattle.tas_model.proofs.Tests.{on_cond}
@@ -13,11 +13,11 @@ use Rattle.tas_model.specs.declared.entry.Call.{Call}
 use Rattle.tas_model.specs.declared.entry.Call.TheVariants as calls
 use Rattle.tas_model.specs.declared.entry.Reply.{Reply}
 use Rattle.tas_model.specs.declared.entry.Reply.TheVariants as replies
-use Rattle.tas_model.specs.Endpoint.{Endpoint, Sending, Receiving, Rate, phase, unread, send_room}
+use Rattle.tas_model.specs.Endpoint.{Endpoint, Sending, phase, unread, send_room}
 use Rattle.tas_model.specs.Segments.{Outcome}
-use Rattle.tas_model.specs.ApplicationCalls.{Column, Opening, Over, Running, column, accept_in, ready_in, send_in, recv_in, recv_open, recv_given, empty_reply, update_of, after_recv, shut_in, close_in, abort_in, abort_reply, tells_abort}
+use Rattle.tas_model.specs.ApplicationCalls.{Column, Opening, Over, Running, column, accept_in, ready_in, send_in, recv_in, recv_open, recv_given, empty_reply, shut_in, close_in, abort_in, abort_reply, tells_abort}
 use Rattle.tas_model.specs.NextSegment.{Going, going, going_in, going_running, emitted, past, waiting, data_len}
-use Rattle.tas_model.specs.Timers.{ticks, tick_in, ticked, waited, expired, is_armed, patience, probes, filled, controlled, control}
+use Rattle.tas_model.specs.Timers.{ticks, tick_in, ticked, waited, is_armed, patience, probes, filled, controlled, control}
 use Rattle.tas_model.specs.LegalHistory.{step, control_in, taken_bytes}
 use Rattle.tas_model.specs.Outputs.{given_bytes}
 use Rattle.tas_model.specs.Valid.{Valid}
