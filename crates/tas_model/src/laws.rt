@@ -12,6 +12,7 @@ ghost use Rattle.tas_model.specs.Outputs.{AcksInOrder, bytes_read};
 ghost use Rattle.tas_model.specs.OneStream.{OneStream, IsPrefixOf, IsSynchronized};
 ghost use Rattle.tas_model.specs.Valid.{Valid, InRange, PlacesWithin};
 ghost use Rattle.tas_model.specs.BadSegment.{IsDropped};
+ghost use Rattle.tas_model.specs.InOrder.{FollowsInOrder, in_order_outcome};
 ghost use Rattle.tas_model.specs.BucketLaw.{data_sent, fills};
 ghost use Rattle.tas_model.specs.WorkedHistories.{replay_params, host_params, three_packets, data_out_of_order, three_duplicates, client_of_hello, server_of_hello};
 
@@ -50,6 +51,11 @@ pub fn read_is_a_prefix()
 /// Each segment that was sent with ACK and without RST acknowledges the next place that was expected, and no other.
 pub fn acknowledges_what_is_in_order()
     ensures { (params : HostParams) (h : List Entry) → Legal params h → AcksInOrder params h }
+{}
+
+/// Plain data that comes in order, where nothing is missing and all that was sent is acknowledged, is received and acknowledged, and may move the window.
+pub fn data_in_order_is_received()
+    ensures { (e : Endpoint) (tick : ℕ) (seg : Seg) → Valid e → FollowsInOrder e seg → rx e tick seg ≡ in_order_outcome e seg }
 {}
 
 /// A segment that rules 1 to 4 of the receiving drop changes nothing, and these are they.

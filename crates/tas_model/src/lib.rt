@@ -13,7 +13,7 @@ pub use entry::{
 };
 pub use laws::{
     acknowledges_what_is_in_order, bad_segments_change_nothing, bucket_bounds_data,
-    endpoints_are_valid, one_call_more, one_entry_more, places_grow_slowly, read_is_a_prefix,
-    received_is_a_prefix, worked_histories_are_legal,
+    data_in_order_is_received, endpoints_are_valid, one_call_more, one_entry_more,
+    places_grow_slowly, read_is_a_prefix, received_is_a_prefix, worked_histories_are_legal,
 };
 pub use recorded::Recorded;
