@@ -1,5 +1,5 @@
 -- How far every step moves an endpoint.
-use Rattle.std.proofs.Common.{◌≡◌, ℕ, ◌+◌, ◌-◌, ◌*◌, Bool, true, false, not, ◌&&◌, List, [], ◌++◌, length, min, max, Option, Some, None, refl, arith, ltb, leb, eqb}
+use Rattle.std.proofs.Common.{◌≡◌, ℕ, ◌+◌, ◌-◌, ◌*◌, Bool, true, false, not, ◌&&◌, List, ◌++◌, length, take, min, max, Option, Some, None, refl, sym, append-nil, arith, ltb, leb, eqb}
 use Rattle.std.proofs.lemmas.Bool.Decides.{nat_tests}
 use Rattle.std.proofs.Math.Seq.{take-add}
 use Rattle.tas_model.proofs.Tests.{on_cond}
@@ -19,7 +19,6 @@ use Rattle.tas_model.specs.ApplicationCalls.{Column, Opening, Over, Running, col
 use Rattle.tas_model.specs.NextSegment.{Going, going, going_in, going_running, emitted, past, waiting, data_len}
 use Rattle.tas_model.specs.Timers.{ticks, tick_in, ticked, waited, is_armed, patience, probes, filled, controlled, control}
 use Rattle.tas_model.specs.LegalHistory.{step, control_in, taken_bytes}
-use Rattle.tas_model.specs.Outputs.{given_bytes}
 use Rattle.tas_model.specs.Valid.{Valid}
 use Rattle.tas_model.specs.BucketLaw.{data_in, data_by, fill_by}
 
