@@ -9,3 +9,4 @@ pub mod AllOpened
 pub mod OneRun
 pub mod Sound
 pub mod Runs
+pub mod Loops

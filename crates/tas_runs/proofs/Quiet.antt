@@ -1,5 +1,5 @@
 -- After so many emissions nothing may go.
-use Rattle.std.proofs.Common.{◌≡◌, ℕ, zero, suc, ◌+◌, ◌-◌, ◌≤◌, ◌<◌, ◌==◌, ◌&&◌, Bool, true, false, List, [], ◌∷◌, length, min, map, Option, Some, None, refl, sym, subst, ◌∙◌, true≢false, arith, nat_lt, if◌then◌else◌, tests}
+use Rattle.std.proofs.Common.{◌≡◌, ℕ, zero, suc, ◌+◌, ◌-◌, ◌≤◌, ◌<◌, ◌==◌, ◌&&◌, Bool, true, false, List, [], ◌∷◌, length, min, map, Option, Some, None, refl, sym, subst, ap, ◌∙◌, true≢false, arith, nat_lt, if◌then◌else◌, tests}
 use Rattle.tas_model.specs.declared.entry.Caller.{Caller}
 use Rattle.tas_model.specs.declared.entry.Caller.TheVariants.{Core}
 use Rattle.tas_model.specs.declared.entry.Call.TheVariants as calls
@@ -73,6 +73,18 @@ emit_endpoint l by t g legal h = replay_push l.flow.params l.flow.entries _ lega
 pub emit_legal : (l : Live) (by : Caller) (t : ℕ) (g : Going) → IsLegal l → going (endpoint l) ≡ Some g → IsLegal (with_call l by t calls.Emit [])
 emit_legal l by t g legal h = legal_by l.flow.params l.flow.entries by t calls.Emit [] legal tt (emit_steps (endpoint l) _ (shown (endpoint l) []) g h)
 
+-- what is left falls at each segment
+pub sent_falls : (t : ℕ) (l : Live) (g : Going) → IsLegal l → going (endpoint l) ≡ Some g → left (endpoint (with_call l (Core 0) t calls.Emit [])) < left (endpoint l)
+sent_falls t l g legal h =
+    let lower : left g.after < left (endpoint l) = falls (endpoint l) g h in
+    rw (emit_endpoint l (Core 0) t g legal h) lower
+
+left_small : (e : Endpoint) → left e < length e.tx.out + 4
+left_small e = by_probe e.tx.probe where
+  by_probe : (b : Bool) → left_by (length e.tx.out) e.tx.nxt b < length e.tx.out + 4
+  by_probe true = omega arith
+  by_probe false = omega arith
+
 within_quiet : (most t : ℕ) (l : Live) → IsLegal l → left (endpoint l) < most → IsQuiet (quieted_within most t l)
 within_quiet zero t l legal small = absurd (omega arith)
 within_quiet (suc most) t l legal small = by_going (going (endpoint l)) refl (λ next. within_quiet most t next) where
@@ -84,11 +96,40 @@ within_quiet (suc most) t l legal small = by_going (going (endpoint l)) refl (λ
       rest (with_call l (Core 0) t calls.Emit []) (emit_legal l (Core 0) t g legal h) (rw (emit_endpoint l (Core 0) t g legal h) (omega arith))
 
 pub quieted_quiet : (t : ℕ) (l : Live) → IsLegal l → IsQuiet (quieted t l)
-quieted_quiet t l legal = within_quiet (length (endpoint l).tx.out + 4) t l legal (by_probe (endpoint l).tx.probe) where
-  by_probe : (b : Bool) → left_by (length (endpoint l).tx.out) (endpoint l).tx.nxt b < length (endpoint l).tx.out + 4
-  by_probe true = omega arith
-  by_probe false = omega arith
+quieted_quiet t l legal = within_quiet (length (endpoint l).tx.out + 4) t l legal (left_small (endpoint l))
 
 pub all_quiet : (t : ℕ) (ls : List Live) → Each IsLegal ls → Each IsQuiet (map (quieted t) ls)
 all_quiet t [] each = tt
 all_quiet t (l ∷ ls) each = (quieted_quiet t l each.0, all_quiet t ls each.1)
+
+-- ----- a loop that sends all that may go
+-- more than enough is enough
+within_same : (most more t : ℕ) (l : Live) → IsLegal l → left (endpoint l) < most → left (endpoint l) < more → quieted_within most t l ≡ quieted_within more t l
+within_same zero more t l legal small large = absurd (omega arith)
+within_same (suc most) zero t l legal small large = absurd (omega arith)
+within_same (suc most) (suc more) t l legal small large = by_going (going (endpoint l)) refl (λ next. within_same most more t next) where
+  by_going : (o : Option Going) → going (endpoint l) ≡ o
+      → ((next : Live) → IsLegal next → left (endpoint next) < most → left (endpoint next) < more → quieted_within most t next ≡ quieted_within more t next)
+      → ◌≡◌ {A = Live} (elim o [ None ↦ l | Some g ↦ quieted_within most t (with_call l (Core 0) t calls.Emit []) ])
+      (elim o [ None ↦ l | Some g ↦ quieted_within more t (with_call l (Core 0) t calls.Emit []) ])
+  by_going None h rest = refl
+  by_going (Some g) h rest =
+      let lower : left (endpoint (with_call l (Core 0) t calls.Emit [])) < left (endpoint l) = sent_falls t l g legal h in
+      rest (with_call l (Core 0) t calls.Emit []) (emit_legal l (Core 0) t g legal h) (omega arith) (omega arith)
+
+-- where nothing may go, all is sent
+pub quieted_done : (t : ℕ) (l : Live) → going (endpoint l) ≡ None → quieted t l ≡ l
+quieted_done t l none =
+    let more : length (endpoint l).tx.out + 4 ≡ suc (length (endpoint l).tx.out + 3) = omega arith in
+    ap (λ (n : ℕ). quieted_within n t l) more ∙ rw (none, quieted_within) refl
+
+-- one segment goes, and what is left to send is the same
+pub quieted_next : (t : ℕ) (l : Live) (g : Going) → IsLegal l → going (endpoint l) ≡ Some g → quieted t l ≡ quieted t (with_call l (Core 0) t calls.Emit [])
+quieted_next t l g legal some =
+    let next : Live = with_call l (Core 0) t calls.Emit [] in
+    let more : length (endpoint l).tx.out + 4 ≡ suc (length (endpoint l).tx.out + 3) = omega arith in
+    let lower : left (endpoint next) < left (endpoint l) = sent_falls t l g legal some in
+    let small : left (endpoint l) < length (endpoint l).tx.out + 4 = left_small (endpoint l) in
+    let one : quieted_within (suc (length (endpoint l).tx.out + 3)) t l ≡ quieted_within (length (endpoint l).tx.out + 3) t next = rw (some, quieted_within) refl in
+    ap (λ (n : ℕ). quieted_within n t l) more ∙ one
+    ∙ within_same (length (endpoint l).tx.out + 3) (length (endpoint next).tx.out + 4) t next (emit_legal l (Core 0) t g legal some) (omega arith) (left_small (endpoint next))
