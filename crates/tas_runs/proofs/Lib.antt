@@ -1,0 +1,12 @@
+pub mod WorkedReplays
+pub mod WorkedRecords
+pub mod Steps
+pub mod AllLegal
+pub mod Quiet
+pub mod SerialRounds
+pub mod OnePlace
+pub mod AllOpened
+pub mod OneRun
+pub mod Sound
+pub mod Runs
+pub mod Loops

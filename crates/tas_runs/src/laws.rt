@@ -1,0 +1,40 @@
+ghost use Rattle.std.specs.Prelude.{◌≡◌, ℕ, ◌≤◌, List, [], Bool, IfOk};
+ghost use Rattle.tas_runs.specs.Logs.{HostRun, RunLog};
+ghost use Rattle.tas_runs.specs.Records.{Item};
+ghost use Rattle.tas_runs.specs.Batches.{batches_of};
+ghost use Rattle.tas_runs.specs.Rounds.{Each};
+ghost use Rattle.tas_runs.specs.Replays.{Replay, items_in, replay_params};
+ghost use Rattle.tas_runs.specs.SerialOrder.{serial_replay};
+ghost use Rattle.tas_runs.specs.Places.{uses_hosts, coming, flat};
+ghost use Rattle.tas_runs.specs.Openings.{AreOpened, openings_of};
+ghost use Rattle.tas_runs.specs.Histories.{IsSound, HasSentAll};
+
+/// The run in serial order is a run of its capture.
+pub fn serial_order_is_right()
+    ensures { (local : ℕ) (bytes : List ℕ) (loose : Bool) → IfOk (serial_replay local bytes loose) (λ log. Replay local bytes loose log) }
+{}
+
+/// In every run of a capture, whatever the order of its ticks, each flow is sound: it has a history of the endpoint, it read a prefix of every stream that its peer may have sent, and it acknowledged only what stands in order.
+pub fn flows_are_sound()
+    ensures { (local : ℕ) (bytes : List ℕ) (loose : Bool) (log : RunLog) → Replay local bytes loose log → Each (λ (h : HostRun). Each IsSound h.flows) log.hosts }
+{}
+
+/// Each frame that comes to the host stands in exactly one place of the histories and the log.
+pub fn frames_have_one_place()
+    // It stands in as many places as there are frames with its number,
+    ensures place { (local : ℕ) (bytes : List ℕ) (loose : Bool) (log : RunLog) → Replay local bytes loose log → (n : ℕ) → uses_hosts n log.hosts ≡ coming n (items_in local bytes loose) }
+    // a number is that of one frame at most,
+    ensures once { (local : ℕ) (bytes : List ℕ) (loose : Bool) (n : ℕ) → coming n (items_in local bytes loose) ≤ 1 }
+    // and the batches leave none out.
+    ensures batches { (items : List Item) → flat (batches_of items) ≡ items }
+{}
+
+/// Every flow was opened with the host's parameters, in one of its slots, as that slot's next generation, and with the first number that the capture gives it.
+pub fn flows_are_opened_rightly()
+    ensures { (local : ℕ) (bytes : List ℕ) (loose : Bool) (log : RunLog) → Replay local bytes loose log → Each (λ (h : HostRun). AreOpened (items_in local bytes loose) (replay_params local) [] (openings_of h.flows)) log.hosts }
+{}
+
+/// When a run has ended, no flow has a segment that may go.
+pub fn flows_have_sent_all()
+    ensures { (local : ℕ) (bytes : List ℕ) (loose : Bool) (log : RunLog) → Replay local bytes loose log → Each (λ (h : HostRun). Each HasSentAll h.flows) log.hosts }
+{}

@@ -1,0 +1,13 @@
+//! Whole runs: what a capture asks of a host, which runs of it are right, the run in serial order, and the texts that show a run.
+#![tactic(auto)]
+
+mod laws;
+mod log;
+mod worked;
+
+pub use laws::{
+    flows_are_opened_rightly, flows_are_sound, flows_have_sent_all, frames_have_one_place,
+    serial_order_is_right,
+};
+pub use log::{LogEvent, LogLine};
+pub use worked::{worked_records, worked_replays};
