@@ -36,15 +36,15 @@ pub record FromOut (e : Endpoint) (seg : Seg) : Type 0 where
   pub fin : is_fin seg ≡ true → (e.tx.shut ≡ true) × (place + length seg.bytes ≡ 1 + length e.tx.out)
 
 -- The segment acknowledges the next place, and says what is to be sent, where it says something. `b` is the endpoint before it.
-abbrev IsRight : (b e : Endpoint) → Seg → Type 0
+abbrev pub IsRight : (b e : Endpoint) → Seg → Type 0
 IsRight b e seg = AcksNext e seg.head × (Valid b → is_heard seg ≡ true → FromOut e seg)
 
-abbrev RepliesRight : (b e : Endpoint) → Reply → Type 0
+abbrev pub RepliesRight : (b e : Endpoint) → Reply → Type 0
 RepliesRight b e (replies.Sent seg) = IsRight b e seg
 RepliesRight b e (replies.Got bytes (Some head)) = IsRight b e (bare head)
 RepliesRight b e _ = Unit {0}
 
-abbrev LeavesRight : Endpoint → Option Outcome → Type 0
+abbrev pub LeavesRight : Endpoint → Option Outcome → Type 0
 LeavesRight b None = Unit {0}
 LeavesRight b (Some o) = RepliesRight b o.state o.reply
 
@@ -252,7 +252,7 @@ all_ack_next b e replies.Expired right = tt
 all_ack_next b e replies.TimedOut right = tt
 all_ack_next b e (replies.Window cwnd ssthresh) right = tt
 
-given_right : (o : Option Outcome) (e : Endpoint) (reply : Reply) → Gives o reply → LeavesRight e o → RepliesRight e (state_or e o) reply
+pub given_right : (o : Option Outcome) (e : Endpoint) (reply : Reply) → Gives o reply → LeavesRight e o → RepliesRight e (state_or e o) reply
 given_right None e reply gives right = absurd gives
 given_right (Some o) e reply gives right = subst (RepliesRight e o.state) gives right
 
