@@ -1,4 +1,4 @@
--- Each acknowledgement is of the next place.
+-- Each segment that is sent acknowledges the next place, and its bytes are those to be sent.
 use Rattle.std.proofs.Common.{◌≡◌, ℕ, ◌+◌, ◌-◌, ◌*◌, Bool, true, false, cond, not, ◌&&◌, List, [], ◌∷◌, ◌++◌, length, take, drop, min, Option, Some, None, refl, sym, subst, ap, ◌∙◌, ◌≤◌, arith, length-take, ltb, leb, eqb}
 use Rattle.tas_model.proofs.Tests.{on_cond}
 use Rattle.tas_model.specs.declared.entry.Reason.{Reason}
