@@ -2,10 +2,10 @@
 use Rattle.std.proofs.Common.{◌≡◌, ℕ, List, Some, subst}
 use Rattle.std.specs.Net.Grammar.{IsIpv4Text}
 use Rattle.std.specs.declared.net.ipv4_addr.Ipv4Addr.{Ipv4Addr}
-use Rattle.tas_main.specs.Words.{address_word, IsReplay}
+use Rattle.tas_main.specs.Words.{Options, Reads, asked, Request, IsReplay}
 
--- a word that writes no address names none
-pub not_named : (words : List (List ℕ)) (text : List ℕ) → address_word words ≡ Some text → ((a : Ipv4Addr) → ¬ IsIpv4Text text a) → (a : Ipv4Addr) → ¬ IsReplay words a
-not_named words text stands none a replay =
-    let same : replay.text ≡ text = cc (stands, replay.stands) in
-    none a (subst (λ (t : List ℕ). IsIpv4Text t a) same replay.named)
+-- an option that writes no address asks for nothing
+pub not_named : (words : List (List ℕ)) (o : Options) (text : List ℕ) → asked words ≡ Reads o → o.local ≡ Some text → ((a : Ipv4Addr) → ¬ IsIpv4Text text a) → (r : Request) → ¬ IsReplay words r
+not_named words o text read local none r replay =
+    let same : replay.text ≡ text = cc (read, replay.options, local) in
+    none r.local (subst (λ (t : List ℕ). IsIpv4Text t r.local) same replay.address)

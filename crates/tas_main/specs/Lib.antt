@@ -1,4 +1,5 @@
 pub mod Words
+pub mod Requests
 pub mod Stops
 pub mod FirstPath
 pub mod InMemory

@@ -9,7 +9,7 @@ use crate::input::read_all;
 use crate::output::write_all;
 use crate::report::report;
 use crate::stop::Stop;
-use crate::words::local_address;
+use crate::words::read_words;
 use std::alloc::Global;
 use std::sync::Wait;
 use std::thread::Threads;
@@ -52,9 +52,10 @@ fn serve<S: Source, K: Sink>(
     ensures cause { IfErr result (Cause (record { words = map string_bytes words.now; input = S.left source.old; unread = (S.faults source.old, S.faults source.new); unwritten = (K.faults sink.old, K.faults sink.new) })) }
     ensures kept { IfErr result (λ stop. writes_nothing stop ≡ true → Keeps (K.held sink.old) (K.held sink.new)) }
 {
-    let Some(local) = local_address(words) else {
+    let Some(asked) = read_words(words) else {
         return Err(Stop::NotBuilt);
     };
+    let local = asked.local;
     let bytes = read_all(alloc, MOST, source)?;
     let capture = read_capture(alloc, &bytes)?;
     let address = local.to_bits();
