@@ -1,0 +1,15 @@
+pub mod Endpoint
+pub mod Segments
+pub mod Reassembly
+pub mod Receive
+pub mod ApplicationCalls
+pub mod NextSegment
+pub mod Timers
+pub mod LegalHistory
+pub mod Outputs
+pub mod OneStream
+pub mod Valid
+pub mod BucketLaw
+pub mod BadSegment
+pub mod InOrder
+pub mod WorkedHistories

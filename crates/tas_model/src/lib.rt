@@ -1,0 +1,19 @@
+//! The endpoint of a connection: its calls, its replies, and which histories of them are right.
+#![tactic(auto)]
+
+mod bytes;
+mod entry;
+mod laws;
+mod recorded;
+
+pub use bytes::Bytes;
+pub use entry::{
+    CAPTURE, Call, Caller, Entry, FlowId, FourTuple, FrameId, Head, HostParams, NO_FLOW, Phase,
+    Reason, Reply, Seg,
+};
+pub use laws::{
+    acknowledges_what_is_in_order, bad_segments_change_nothing, bucket_bounds_data,
+    endpoints_are_valid, one_call_more, one_entry_more, places_grow_slowly, read_is_a_prefix,
+    received_is_a_prefix, worked_histories_are_legal,
+};
+pub use recorded::Recorded;
