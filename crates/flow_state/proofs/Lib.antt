@@ -4,4 +4,5 @@ pub mod Memory
 pub mod Sending
 pub mod Receiving
 pub mod Near
+pub mod Looking
 pub mod Acting

@@ -7,3 +7,4 @@ pub mod Counts
 pub mod Record
 pub mod Inside
 pub mod App
+pub mod Views

@@ -14,6 +14,7 @@ mod reading;
 mod record;
 mod slot;
 mod stage;
+mod view;
 
 pub use app::AppCalls;
 pub use call::{Answer, CallIn};
@@ -21,3 +22,7 @@ pub use engine::{Engine, cost};
 pub use parts::Parts;
 pub use record::FlowRecord;
 pub use stage::Stage;
+pub use view::{CallView, EntryView, ReplyView, SegView};
+
+#[cfg(test)]
+mod tests;

@@ -1,4 +1,4 @@
-ghost use Rattle.std.specs.Prelude.{◌≡◌, ℕ, ◌+◌, ◌-◌, ◌^◌, ◌<◌, ◌≤◌, ◌++◌, ◌∷◌, ◌↔◌, [], List, length, take, replicate, max, vec_len, vec_capacity, IfOk, IfSome, IfNone, IsSome, OnErr, OnOk, IsOk};
+ghost use Rattle.std.specs.Prelude.{◌≡◌, ℕ, ◌+◌, ◌-◌, ◌^◌, ◌<◌, ◌≤◌, ◌++◌, ◌∷◌, ◌↔◌, [], List, length, take, slice_get, Some, replicate, max, vec_len, vec_capacity, IfOk, IfSome, IfNone, IsSome, OnErr, OnOk, IsOk};
 ghost use Rattle.tas_model.specs.Endpoint.{phase};
 ghost use Rattle.tas_model.specs.LegalHistory.{Legal, replay, extended_by, last_tick};
 ghost use Rattle.tas_model.specs.Valid.{InRange};
@@ -7,6 +7,7 @@ ghost use Rattle.flow_state.specs.Calls.{call_of, offer_of, answer_of, reply_byt
 ghost use Rattle.flow_state.specs.Flow.{Flow, reply_to, last_reply, first_passive, first_connect};
 ghost use Rattle.flow_state.specs.Slots.{entries_of};
 ghost use Rattle.flow_state.specs.Made.{IsMadeAt};
+ghost use Rattle.flow_state.specs.Views.{seen_entry};
 
 use crate::call::{Answer, CallIn};
 use crate::counts::{CallerCount, count_one, number_of};
@@ -14,6 +15,7 @@ use crate::engine::{Engine, cost};
 use crate::open::{connect_parts, passive_parts};
 use crate::parts::Parts;
 use crate::slot::{Slot, close_entry, connect_slot, passive_slot};
+use crate::view::{EntryView, entry_view, reply_view};
 use segment_fields::Segment;
 use std::alloc::{AllocError, Global};
 use std::marker::Model;
@@ -164,6 +166,24 @@ impl FlowRecord {
         self.slots.len()
     }
 
+    /// The `i`-th entry of its history, counted from 0, the oldest first.
+    pub fn entry(&self, i: usize) -> EntryView<'_>
+        requires { i < length self.now.entries }
+        ensures { slice_get self.now.entries i ≡ Some (seen_entry result) }
+    {
+        entry_view(&self.arena, &self.slots[i])
+    }
+
+    /// The bytes of the last entry's reply.
+    pub fn last_bytes(&self) -> &[u8]
+        ensures { result.now ≡ reply_bytes (last_reply self.now.entries) }
+    {
+        match self.slots.last() {
+            Some(slot) => reply_view(&self.arena, slot.reply).bytes(),
+            None => &[],
+        }
+    }
+
     /// The present endpoint in its compact form.
     pub fn parts(&self) -> &Parts
         ensures parts { result.now ≡ self.now.parts }
@@ -187,8 +207,10 @@ impl FlowRecord {
         requires timely { IsTimely self.old.parts.phase call.now }
         ensures exact { IfOk result (λ r. IfSome r (λ a. self.new.entries ≡ extended_by self.old.params self.old.entries caller tick (call_of call.now) (offer_of call.now))) }
         ensures answer { IfOk result (λ r. IfSome r (λ a. a ≡ answer_of (reply_to self.old.params self.old.entries tick (call_of call.now) (offer_of call.now)))) }
-        ensures unmade { IfOk result (λ r. IfNone r ((self.new.entries ≡ self.old.entries) × (self.new.parts ≡ self.old.parts))) }
-        ensures err { OnErr result ((self.new.entries ≡ self.old.entries) × (self.new.parts ≡ self.old.parts)) }
+        ensures unmade { IfOk result (λ r. IfNone r (self.new.entries ≡ self.old.entries)) }
+        ensures unmade_parts { IfOk result (λ r. IfNone r (self.new.parts ≡ self.old.parts)) }
+        ensures err { OnErr result (self.new.entries ≡ self.old.entries) }
+        ensures err_parts { OnErr result (self.new.parts ≡ self.old.parts) }
         ensures serves { IfOk result (λ r. IsSome r ↔ E.serves engine.now self.old.parts call.now) }
         ensures spare { 1 ≤ self.old.spare_entries → cost_of self.old.parts.smss call.now ≤ self.old.spare_bytes → IsOk result }
         ensures legal { Legal self.new.params self.new.entries }
