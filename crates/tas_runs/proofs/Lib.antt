@@ -10,3 +10,5 @@ pub mod OneRun
 pub mod Sound
 pub mod Runs
 pub mod Loops
+pub mod ClosedStays
+pub mod AllTimed

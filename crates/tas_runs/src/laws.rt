@@ -2,12 +2,14 @@ ghost use Rattle.std.specs.Prelude.{◌≡◌, ℕ, ◌≤◌, List, [], Bool, I
 ghost use Rattle.tas_runs.specs.Logs.{HostRun, RunLog};
 ghost use Rattle.tas_runs.specs.Records.{Item};
 ghost use Rattle.tas_runs.specs.Batches.{batches_of};
-ghost use Rattle.tas_runs.specs.Rounds.{Each};
+ghost use Rattle.tas_runs.specs.Hosts.{Host};
+ghost use Rattle.tas_runs.specs.Rounds.{Each, Round};
 ghost use Rattle.tas_runs.specs.Replays.{Replay, items_in, replay_params};
 ghost use Rattle.tas_runs.specs.SerialOrder.{serial_replay};
 ghost use Rattle.tas_runs.specs.Places.{uses_hosts, coming, flat};
 ghost use Rattle.tas_runs.specs.Openings.{AreOpened, openings_of};
-ghost use Rattle.tas_runs.specs.Histories.{IsSound, HasSentAll};
+ghost use Rattle.tas_runs.specs.Histories.{HasHistory, IsSound, HasSentAll};
+ghost use Rattle.tas_runs.specs.Passing.{AreTimed};
 
 /// The run in serial order is a run of its capture.
 pub fn serial_order_is_right()
@@ -37,4 +39,12 @@ pub fn flows_are_opened_rightly()
 /// When a run has ended, no flow has a segment that may go.
 pub fn flows_have_sent_all()
     ensures { (local : ℕ) (bytes : List ℕ) (loose : Bool) (log : RunLog) → Replay local bytes loose log → Each (λ (h : HostRun). Each HasSentAll h.flows) log.hosts }
+{}
+
+/// In each tick every flow that was opened before has one Tick, which is wanting only where the flow was closed in the tick. A flow that was closed before has none, nor has one that was opened in the tick.
+pub fn open_flows_have_one_tick()
+    // Of the histories before a tick it is asked that they are legal,
+    ensures timed { (items : List Item) (t : ℕ) (batch : List Item) (before after : Host) → Each HasHistory before.flows → Round items t batch before after → AreTimed before.flows after.flows }
+    // and so are those after it.
+    ensures kept { (items : List Item) (t : ℕ) (batch : List Item) (before after : Host) → Each HasHistory before.flows → Round items t batch before after → Each HasHistory after.flows }
 {}

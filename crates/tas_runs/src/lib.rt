@@ -7,7 +7,7 @@ mod worked;
 
 pub use laws::{
     flows_are_opened_rightly, flows_are_sound, flows_have_sent_all, frames_have_one_place,
-    serial_order_is_right,
+    open_flows_have_one_tick, serial_order_is_right,
 };
 pub use log::{LogEvent, LogLine};
 pub use worked::{worked_records, worked_replays};
