@@ -12,3 +12,5 @@ pub mod Runs
 pub mod Loops
 pub mod ClosedStays
 pub mod AllTimed
+pub mod Counts
+pub mod AllBatches

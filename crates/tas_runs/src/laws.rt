@@ -1,7 +1,8 @@
-ghost use Rattle.std.specs.Prelude.{◌≡◌, ℕ, ◌≤◌, List, [], Bool, IfOk};
+ghost use Rattle.std.specs.Prelude.{◌≡◌, ◌↔◌, ℕ, ◌+◌, ◌≤◌, List, [], Bool, Err, IfOk};
+ghost use Rattle.tas_num.specs.Captures.{Fault, capture_of};
 ghost use Rattle.tas_runs.specs.Logs.{HostRun, RunLog};
 ghost use Rattle.tas_runs.specs.Records.{Item};
-ghost use Rattle.tas_runs.specs.Batches.{batches_of};
+ghost use Rattle.tas_runs.specs.Batches.{batches_of, AreBatches};
 ghost use Rattle.tas_runs.specs.Hosts.{Host};
 ghost use Rattle.tas_runs.specs.Rounds.{Each, Round};
 ghost use Rattle.tas_runs.specs.Replays.{Replay, items_in, replay_params};
@@ -47,4 +48,19 @@ pub fn open_flows_have_one_tick()
     ensures timed { (items : List Item) (t : ℕ) (batch : List Item) (before after : Host) → Each HasHistory before.flows → Round items t batch before after → AreTimed before.flows after.flows }
     // and so are those after it.
     ensures kept { (items : List Item) (t : ℕ) (batch : List Item) (before after : Host) → Each HasHistory before.flows → Round items t batch before after → Each HasHistory after.flows }
+{}
+
+/// A batch has from 1 to 64 records and no two segments of one flow, and none of them could have been longer.
+pub fn batches_are_longest()
+    ensures { (items : List Item) → AreBatches (batches_of items) }
+{}
+
+/// Every record of a capture is counted once: as a frame, as passed over, or as refused.
+pub fn records_are_counted()
+    ensures { (local : ℕ) (bytes : List ℕ) (loose : Bool) (log : RunLog) → Replay local bytes loose log → log.records ≡ log.frames + log.passed + log.refused }
+{}
+
+/// The run in serial order fails exactly where the bytes are no capture, and by the same fault.
+pub fn only_captures_are_replayed()
+    ensures { (local : ℕ) (bytes : List ℕ) (loose : Bool) (fault : Fault) → serial_replay local bytes loose ≡ Err fault ↔ capture_of bytes ≡ Err fault }
 {}
