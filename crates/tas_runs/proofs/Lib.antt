@@ -14,3 +14,7 @@ pub mod ClosedStays
 pub mod AllTimed
 pub mod Counts
 pub mod AllBatches
+pub mod Slots
+pub mod Texts
+pub mod Pushes
+pub mod Filed
