@@ -1,5 +1,5 @@
 -- What a history gave: the segments that it sent, the bytes that were accepted and those that were read.
-use Rattle.std.specs.Prelude.{◌≡◌, ℕ, Bool, true, false, List, [], ◌∷◌, ◌++◌, flat_map, Option, Some, None, ⊤}
+use Rattle.std.specs.Prelude.{◌≡◌, ℕ, true, false, List, [], ◌∷◌, ◌++◌, flat_map, Some, ⊤}
 use Rattle.tas_model.specs.declared.entry.HostParams.{HostParams}
 use Rattle.tas_model.specs.declared.entry.Entry.{Entry}
 use Rattle.tas_model.specs.declared.entry.Head.{Head}
@@ -7,7 +7,7 @@ use Rattle.tas_model.specs.declared.entry.Seg.{Seg}
 use Rattle.tas_model.specs.declared.entry.Reply.{Reply}
 use Rattle.tas_model.specs.declared.entry.Reply.TheVariants as replies
 use Rattle.tas_model.specs.Endpoint.{Endpoint}
-use Rattle.tas_model.specs.Segments.{Outcome, has, ack_of, bare}
+use Rattle.tas_model.specs.Segments.{has, ack_of, bare}
 use Rattle.tas_model.specs.LegalHistory.{Along, replay, taken_bytes}
 
 -- ----- segments

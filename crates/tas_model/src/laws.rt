@@ -1,17 +1,20 @@
-ghost use Rattle.std.specs.Prelude.{◌≡◌, ℕ, ◌+◌, ◌*◌, ◌≤◌, List, [], ◌∷◌, ◌++◌, length, take, max, Option, Some, None, IsSome, true, false};
+ghost use Rattle.std.specs.Prelude.{◌≡◌, ℕ, ◌+◌, ◌*◌, ◌≤◌, List, [], ◌∷◌, ◌++◌, length, take, min, max, Option, Some, None, IsSome, true, false};
 ghost use Rattle.tas_model.specs.declared.entry.Call.{Call};
+ghost use Rattle.tas_model.specs.declared.entry.Call.TheVariants as calls;
 ghost use Rattle.tas_model.specs.declared.entry.Caller.{Caller};
+ghost use Rattle.tas_model.specs.declared.entry.Reply.TheVariants as replies;
 ghost use Rattle.tas_model.specs.declared.entry.Entry.{Entry};
 ghost use Rattle.tas_model.specs.declared.entry.HostParams.{HostParams};
 ghost use Rattle.tas_model.specs.declared.entry.Seg.{Seg};
-ghost use Rattle.tas_model.specs.Endpoint.{Endpoint, phase, wnd, next_place};
+ghost use Rattle.tas_model.specs.Endpoint.{Endpoint, phase, wnd, next_place, send_room};
 ghost use Rattle.tas_model.specs.Segments.{seg_len, is_rst, is_syn, is_ack};
 ghost use Rattle.tas_model.specs.Receive.{rx, verdict, place_of_seq, is_acceptable};
-ghost use Rattle.tas_model.specs.LegalHistory.{step, Legal, MayFollow, Offers, shown, last_tick, extended_by, moved, replay};
-ghost use Rattle.tas_model.specs.Outputs.{AcksInOrder, bytes_read};
+ghost use Rattle.tas_model.specs.LegalHistory.{step, Gives, Legal, MayFollow, Offers, shown, last_tick, extended_by, moved, replay};
+ghost use Rattle.tas_model.specs.Outputs.{AcksInOrder, accepted, bytes_read};
 ghost use Rattle.tas_model.specs.OneStream.{OneStream, IsPrefixOf, IsSynchronized};
 ghost use Rattle.tas_model.specs.Valid.{Valid, InRange, PlacesWithin};
 ghost use Rattle.tas_model.specs.BadSegment.{IsDropped};
+ghost use Rattle.tas_model.specs.InOrder.{FollowsInOrder, in_order_outcome};
 ghost use Rattle.tas_model.specs.BucketLaw.{data_sent, fills};
 ghost use Rattle.tas_model.specs.WorkedHistories.{replay_params, host_params, three_packets, data_out_of_order, three_duplicates, client_of_hello, server_of_hello};
 
@@ -47,9 +50,20 @@ pub fn read_is_a_prefix()
     ensures of_stream { (params : HostParams) (stream : List ℕ) (h : List Entry) → InRange params → Legal params h → OneStream params stream h → IsPrefixOf (bytes_read h) stream }
 {}
 
+/// What is to be sent is what the application's Sends took, and each takes as much as there is room for.
+pub fn accepted_is_what_is_sent()
+    ensures out { (params : HostParams) (h : List Entry) → InRange params → Legal params h → (replay params h).tx.out ≡ accepted h }
+    ensures fits { (e : Endpoint) (tick offered : ℕ) (bytes : List ℕ) → Gives (step e tick (calls.Send offered) (replies.Took bytes)) (replies.Took bytes) → length bytes ≡ min offered (send_room e) }
+{}
+
 /// Each segment that was sent with ACK and without RST acknowledges the next place that was expected, and no other.
 pub fn acknowledges_what_is_in_order()
     ensures { (params : HostParams) (h : List Entry) → Legal params h → AcksInOrder params h }
+{}
+
+/// Plain data that comes in order, where nothing is missing and all that was sent is acknowledged, is received and acknowledged, and may move the window.
+pub fn data_in_order_is_received()
+    ensures { (e : Endpoint) (tick : ℕ) (seg : Seg) → Valid e → FollowsInOrder e seg → rx e tick seg ≡ in_order_outcome e seg }
 {}
 
 /// A segment that rules 1 to 4 of the receiving drop changes nothing, and these are they.
