@@ -18,3 +18,4 @@ pub mod Slots
 pub mod Texts
 pub mod Pushes
 pub mod Filed
+pub mod AllGrown

@@ -10,7 +10,7 @@ ghost use Rattle.tas_runs.specs.SerialOrder.{serial_replay};
 ghost use Rattle.tas_runs.specs.Places.{uses_hosts, coming, flat};
 ghost use Rattle.tas_runs.specs.Openings.{AreOpened, openings_of};
 ghost use Rattle.tas_runs.specs.Histories.{HasHistory, IsSound, HasSentAll};
-ghost use Rattle.tas_runs.specs.Passing.{AreTimed};
+ghost use Rattle.tas_runs.specs.Passing.{AreTimed, Went, IsUpTo};
 
 /// The run in serial order is a run of its capture.
 pub fn serial_order_is_right()
@@ -63,4 +63,12 @@ pub fn records_are_counted()
 /// The run in serial order fails exactly where the bytes are no capture, and by the same fault.
 pub fn only_captures_are_replayed()
     ensures { (local : ℕ) (bytes : List ℕ) (loose : Bool) (fault : Fault) → serial_replay local bytes loose ≡ Err fault ↔ capture_of bytes ≡ Err fault }
+{}
+
+/// A tick takes nothing back: each history grows by entries of that tick alone, and the log by lines of it.
+pub fn ticks_only_add()
+    // Of the histories before a tick it is asked that no entry is of a later one,
+    ensures went { (items : List Item) (t : ℕ) (batch : List Item) (before after : Host) → Each (IsUpTo t) before.flows → Round items t batch before after → Went t before after }
+    // and then none is of a later one before the next tick.
+    ensures kept { (items : List Item) (t : ℕ) (batch : List Item) (before after : Host) → Each (IsUpTo t) before.flows → Round items t batch before after → Each (IsUpTo (t + 1)) after.flows }
 {}
