@@ -19,3 +19,4 @@ pub mod Texts
 pub mod Pushes
 pub mod Filed
 pub mod AllGrown
+pub mod AllShown

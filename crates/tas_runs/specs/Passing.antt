@@ -36,12 +36,10 @@ AreTimed (l ∷ ls) (m ∷ ms) = IsTimed l m × AreTimed ls ms
 -- ----- what a tick adds
 -- each of these entries bears the tick, and each of these lines
 abbrev pub AllAt : (tick : ℕ) → List Entry → Type 0
-AllAt t [] = ⊤
-AllAt t (x ∷ xs) = (x.tick ≡ t) × AllAt t xs
+AllAt t xs = Each (λ (x : Entry). x.tick ≡ t) xs
 
 abbrev pub LinesAt : (tick : ℕ) → List LogLine → Type 0
-LinesAt t [] = ⊤
-LinesAt t (l ∷ ls) = (l.tick ≡ t) × LinesAt t ls
+LinesAt t ls = Each (λ (l : LogLine). l.tick ≡ t) ls
 
 -- the history grew by entries of this tick, and the log by lines of it
 abbrev pub Grew : (tick : ℕ) → (before after : List Entry) → Type 0

@@ -10,6 +10,7 @@ ghost use Rattle.tas_runs.specs.SerialOrder.{serial_replay};
 ghost use Rattle.tas_runs.specs.Places.{uses_hosts, coming, flat};
 ghost use Rattle.tas_runs.specs.Openings.{AreOpened, openings_of};
 ghost use Rattle.tas_runs.specs.Histories.{HasHistory, IsSound, HasSentAll};
+ghost use Rattle.tas_runs.specs.SentFrames.{IsShown, AreAnswersShown};
 ghost use Rattle.tas_runs.specs.Passing.{AreTimed, Went, IsUpTo};
 
 /// The run in serial order is a run of its capture.
@@ -71,4 +72,9 @@ pub fn ticks_only_add()
     ensures went { (items : List Item) (t : ℕ) (batch : List Item) (before after : Host) → Each (IsUpTo t) before.flows → Round items t batch before after → Went t before after }
     // and then none is of a later one before the next tick.
     ensures kept { (items : List Item) (t : ℕ) (batch : List Item) (before after : Host) → Each (IsUpTo t) before.flows → Round items t batch before after → Each (IsUpTo (t + 1)) after.flows }
+{}
+
+/// The capture of a run leaves out nothing: its ticks show all segments of each flow, in their order, and all answers to segments of no flow.
+pub fn captures_show_all()
+    ensures { (local : ℕ) (bytes : List ℕ) (loose : Bool) (log : RunLog) → Replay local bytes loose log → Each (λ (h : HostRun). Each (IsShown log.ticks) h.flows × AreAnswersShown log.ticks h.log) log.hosts }
 {}
