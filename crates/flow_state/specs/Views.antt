@@ -1,5 +1,4 @@
 -- The entry that a view shows.
-use Rattle.std.specs.Prelude.{List}
 use Rattle.tas_model.specs.declared.entry.Call.{Call}
 use Rattle.tas_model.specs.declared.entry.Call.TheVariants as calls
 use Rattle.tas_model.specs.declared.entry.Reply.{Reply}
