@@ -1,5 +1,4 @@
 pub mod Words
 pub mod Requests
 pub mod Stops
-pub mod FirstPath
-pub mod InMemory
+pub mod Outputs

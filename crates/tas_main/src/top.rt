@@ -1,19 +1,22 @@
-ghost use Rattle.std.specs.Prelude.{◌≡◌, ◌⊎◌, ℕ, ◌<◌, ◌≤◌, length, map, string_bytes, true, IfErr, IfSome, OnErr};
-ghost use Rattle.std.specs.Io.KnownBytes.{Keeps};
-ghost use Rattle.tas_main.specs.Stops.{Given, Cause, status_of, writes_nothing};
+ghost use Rattle.std.specs.Prelude.{◌≡◌, ◌⊎◌, ℕ, ◌≤◌, length, map, string_bytes, true, Ok, IfOk, IfErr, OnOk, OnErr};
+ghost use Rattle.std.specs.Io.KnownBytes.{Appends, Keeps};
+ghost use Rattle.std.specs.Net.Addr.{ipv4_bits};
+ghost use Rattle.tas_runs.specs.SerialOrder.{serial_replay};
+ghost use Rattle.tas_round.specs.Runs.{log_in};
+ghost use Rattle.tas_main.specs.Requests.{request_in};
+ghost use Rattle.tas_main.specs.Stops.{given, Cause, status_of, writes_nothing, Unreplayed, Unwritten};
+ghost use Rattle.tas_main.specs.Outputs.{WritesAll, WritesFront, AppendsFront, IsWhole, text_of};
 ghost use Rattle.tas_main.specs.declared.stop.Stop.{Stop};
 
-use crate::capture::read_capture;
-use crate::first_path::is_upload;
 use crate::input::read_all;
 use crate::output::write_all;
-use crate::report::report;
 use crate::stop::Stop;
-use crate::words::read_words;
+use crate::words::{Request, read_words};
 use std::alloc::Global;
 use std::sync::Wait;
 use std::thread::Threads;
 use tas_num::{Gate, IoFault, Sink, Source};
+use tas_round::{Mode, ReplayFault, RunLog, replay, write_capture, write_report};
 
 /// The most bytes that a capture may have.
 const MOST: u32 = 67_108_864;
@@ -21,17 +24,24 @@ const MOST: u32 = 67_108_864;
 /// Runs what the words ask for, and answers the status that the program ends with. The output goes to `sink`. Where the status is not 0, a fault line goes to
 /// `faults`; if that fails, the status stays.
 pub fn tas<R: Threads + Wait + Sync, S: Source, K: Sink, F: Sink, G: Gate>(
-    _rt: &R,
+    rt: &R,
     alloc: Global,
     words: &[String],
     source: &mut S,
     sink: &mut K,
     faults: &mut F,
-    _gate: &G,
+    gate: &G,
 ) -> u8
-    ensures cause { (result ≡ 0) ⊎ ((stop : Stop) × (result ≡ status_of stop) × Cause (record { words = map string_bytes words.now; input = S.left source.old; unread = (S.faults source.old, S.faults source.new); unwritten = (K.faults sink.old, K.faults sink.new) }) stop) }
+    // At status 0 the sink grew by exactly the text of the run that was asked for.
+    ensures headline { result ≡ 0 → WritesAll (given (map string_bytes words.now) (S.left source.old) (S.faults source.old) (S.faults source.new) (K.faults sink.old) (K.faults sink.new)) (K.held sink.old) (K.held sink.new) }
+    // Every other status has its cause.
+    ensures cause { (result ≡ 0) ⊎ ((stop : Stop) × (result ≡ status_of stop) × Cause (given (map string_bytes words.now) (S.left source.old) (S.faults source.old) (S.faults source.new) (K.faults sink.old) (K.faults sink.new)) stop) }
+    ensures front { WritesFront (given (map string_bytes words.now) (S.left source.old) (S.faults source.old) (S.faults source.new) (K.faults sink.old) (K.faults sink.new)) (K.held sink.old) (K.held sink.new) }
+    ensures nothing { (result ≡ 3) ⊎ ((result ≡ 4) ⊎ ((result ≡ 7) ⊎ (result ≡ 8))) → Keeps (K.held sink.old) (K.held sink.new) }
+    // Words of the form and a capture within its length give status 0, or want of memory, where no stream fails.
+    ensures complete { IsWhole (given (map string_bytes words.now) (S.left source.old) (S.faults source.old) (S.faults source.new) (K.faults sink.old) (K.faults sink.new)) → (result ≡ 0) ⊎ (result ≡ 6) }
 {
-    match serve(alloc, words, source, sink) {
+    match serve(rt, alloc, words, source, sink, gate) {
         Ok(()) => 0,
         Err(stop) => {
             if let Ok(line) = format!(in alloc; "{stop}\n") {
@@ -42,30 +52,66 @@ pub fn tas<R: Threads + Wait + Sync, S: Source, K: Sink, F: Sink, G: Gate>(
     }
 }
 
-/// Replays the capture that the source has.
-fn serve<S: Source, K: Sink>(
+/// Replays the capture that the source has, and writes what was asked for.
+fn serve<R: Threads + Wait + Sync, S: Source, K: Sink, G: Gate>(
+    rt: &R,
     alloc: Global,
     words: &[String],
     source: &mut S,
     sink: &mut K,
+    gate: &G,
 ) -> Result<(), Stop>
-    ensures cause { IfErr result (Cause (record { words = map string_bytes words.now; input = S.left source.old; unread = (S.faults source.old, S.faults source.new); unwritten = (K.faults sink.old, K.faults sink.new) })) }
+    ensures done { OnOk result (WritesAll (given (map string_bytes words.now) (S.left source.old) (S.faults source.old) (S.faults source.new) (K.faults sink.old) (K.faults sink.new)) (K.held sink.old) (K.held sink.new)) }
+    ensures cause { IfErr result (Cause (given (map string_bytes words.now) (S.left source.old) (S.faults source.old) (S.faults source.new) (K.faults sink.old) (K.faults sink.new))) }
+    ensures front { OnErr result (WritesFront (given (map string_bytes words.now) (S.left source.old) (S.faults source.old) (S.faults source.new) (K.faults sink.old) (K.faults sink.new)) (K.held sink.old) (K.held sink.new)) }
     ensures kept { IfErr result (λ stop. writes_nothing stop ≡ true → Keeps (K.held sink.old) (K.held sink.new)) }
 {
     let Some(asked) = read_words(words) else {
         return Err(Stop::NotBuilt);
     };
-    let local = asked.local;
     let bytes = read_all(alloc, MOST, source)?;
-    let capture = read_capture(alloc, &bytes)?;
-    let address = local.to_bits();
-    if !is_upload(address, &capture.header, &capture.records) {
-        return Err(Stop::NotBuilt);
+    let log = replay_of(rt, alloc, &asked, &bytes, gate)?;
+    write_log(alloc, &asked, &log, sink)
+}
+
+/// The run that the words ask for, of the capture that these bytes are.
+fn replay_of<R: Threads + Wait + Sync, G: Gate>(
+    rt: &R,
+    alloc: Global,
+    asked: &Request,
+    bytes: &[u8],
+    gate: &G,
+) -> Result<RunLog, Stop>
+    requires { length bytes.now ≤ 67108864 }
+    ensures ok { IfOk result (λ log. serial_replay (ipv4_bits asked.now.local) bytes.now asked.now.loose ≡ Ok (log_in log)) }
+    ensures refused { IfErr result (Unreplayed bytes.now) }
+{
+    match replay(rt, alloc, asked.local.to_bits(), bytes, asked.loose, Mode::Serial, gate) {
+        Ok(log) => Ok(log),
+        Err(ReplayFault::OutOfMemory) => Err(Stop::Memory),
+        Err(ReplayFault::Pcap(fault)) => Err(Stop::Input {
+            number: fault.record(),
+        }),
     }
-    let Ok(text) = report(alloc, local, &capture.header, &capture.records) else {
-        return Err(Stop::Memory);
+}
+
+/// Writes the text of the run that was asked for.
+fn write_log<K: Sink>(
+    alloc: Global,
+    asked: &Request,
+    log: &RunLog,
+    sink: &mut K,
+) -> Result<(), Stop>
+    ensures ok { OnOk result (Appends (K.held sink.old) (K.held sink.new) (text_of (request_in asked.now) (log_in log.now))) }
+    ensures err { OnErr result (AppendsFront (K.held sink.old) (K.held sink.new) (text_of (request_in asked.now) (log_in log.now))) }
+    ensures cause { IfErr result (Unwritten (K.faults sink.old) (K.faults sink.new)) }
+{
+    let wrote = if asked.pcap {
+        write_capture(alloc, log, sink)
+    } else {
+        write_report(alloc, log, sink)
     };
-    match write_all(sink, text.as_bytes()) {
+    match wrote {
         Ok(()) => Ok(()),
         Err(IoFault::Failed) => Err(Stop::Write),
         Err(IoFault::OutOfMemory) => Err(Stop::Memory),
