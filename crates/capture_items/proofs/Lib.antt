@@ -1,1 +1,3 @@
 pub mod Read
+pub mod Batches
+pub mod Following

@@ -1,7 +1,8 @@
 ghost use Rattle.std.specs.Prelude.{◌≡◌, ◌≤◌, Some, None, IfSome, IfNone};
 ghost use Rattle.segment_fields.specs.Refusals.{number_of};
 ghost use Rattle.pcap_frames.specs.Views.{form_in, record_in};
-ghost use Rattle.tas_runs.specs.Records.{is_other_traffic, due_content, content_of_packet, item_of};
+ghost use Rattle.tas_runs.specs.Records.{is_other_traffic, due_content, content_of_packet, item_of, is_damaged};
+ghost use Rattle.tas_runs.specs.Batches.{tuple_of, is_of, same_tuple};
 ghost use Rattle.capture_items.specs.Items.{content_in, item_in, sends, receives};
 
 use pcap_frames::{CaptureHeader, RecordView, packet};
@@ -25,6 +26,42 @@ pub struct Item<'a> {
     /// The record's number, from 1.
     pub number: u32,
     pub content: Content<'a>,
+}
+
+impl Item<'_> {
+    /// The four-tuple of the item's flow. A packet that breaks a rule of reading is of no flow.
+    pub fn tuple(&self) -> Option<FourTuple>
+        ensures { result ≡ tuple_of (content_in self.now.content) }
+    {
+        match self.content {
+            Content::Damaged(_) => None,
+            Content::Remote(tuple, _) | Content::Local(tuple, _) => Some(tuple),
+        }
+    }
+
+    /// Whether the item is a segment of this flow.
+    pub fn is_of(&self, tuple: &FourTuple) -> bool
+        ensures { result ≡ is_of tuple.now (item_in self.now) }
+    {
+        match self.tuple() {
+            Some(other) => is_same_tuple(tuple, &other),
+            None => false,
+        }
+    }
+
+    /// Whether it is a packet that breaks a rule of reading.
+    pub fn is_damaged(&self) -> bool
+        ensures { result ≡ is_damaged (item_in self.now) }
+    {
+        matches!(self.content, Content::Damaged(_))
+    }
+}
+
+/// Whether two four-tuples are of one flow.
+fn is_same_tuple(a: &FourTuple, b: &FourTuple) -> bool
+    ensures { result ≡ same_tuple a.now b.now }
+{
+    a.laddr == b.laddr && a.lport == b.lport && a.raddr == b.raddr && a.rport == b.rport
 }
 
 /// What a record of a capture with this header is for the host of the address `local`. None where it is passed over: it wasn't captured whole, or it is
