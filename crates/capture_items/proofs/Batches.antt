@@ -2,7 +2,7 @@
 use Rattle.std.proofs.Common.{◌≡◌, ℕ, zero, suc, ◌+◌, ◌<◌, Bool, true, false, cond, List, [], ◌∷◌, ◌++◌, length, take, drop, get_or, map, fold, Option, Some, None, nat_lt, ◌≤◌, ◌&&◌, ◌||◌, not, refl, sym, ap, ◌∙◌, subst, arith, append_assoc, if◌then◌else◌, drop-cons, length-take, length-drop}
 use Rattle.std.specs.List.{list_any}
 use Rattle.std.proofs.lemmas.Bool.Decides.{nat_tests}
-use Rattle.std.proofs.lemmas.List.{take_more, take-map, get_or-map}
+use Rattle.std.proofs.lemmas.List.{take_more, take-map, get_or-map, length-map, length-take-le}
 use Rattle.tas_runs.specs.Records.{Content, Damaged, Remote, Local, Item}
 use Rattle.tas_model.specs.declared.entry.FourTuple.{FourTuple}
 use Rattle.tas_runs.specs.Batches.{tuple_of, is_of, clashes, Cut, joins, cut_at, closed_cut, batches_of}
@@ -101,12 +101,6 @@ few_by : (b c : Bool) → (b && c) ≡ true → b ≡ true
 few_by true c h = refl
 few_by false c h = h
 
--- a batch that is joined has fewer than 64
-pub joined_few : (batch : List Item) (x : Item) → joins batch x ≡ true → length batch < 64
-joined_few batch x h =
-    let few : nat_lt (length batch) 64 ≡ true = few_by _ _ h in
-    grind (arith, nat_tests, few)
-
 -- a test of what the elements stand for
 pub any_mapped : {X Y : Type 0} (p : Y → Bool) (f : X → Y) (xs : List X) → list_any p (map f xs) ≡ list_any (λ x. p (f x)) xs
 any_mapped p f [] = refl
@@ -119,3 +113,10 @@ clashes_of batch x tuple is = ap (λ (o : Option FourTuple). elim o as (λ o. Bo
 pub joins_at : {X : Type 0} (f : X → Item) (xs : List X) (n : ℕ) (x : X) (b : Bool) → n < length xs → b ≡ joins (map f (take n xs)) (f (get_or xs n x)) → b ≡ joins (take n (map f xs)) (get_or (map f xs) n (f x))
 joins_at f xs n x b below is =
     is ∙ (ap (λ (ys : List Item). joins ys (f (get_or xs n x))) (sym (take-map f n xs)) ∙ ap (joins (take n (map f xs))) (sym (get_or-map f xs n x (f x) below)))
+
+-- a batch that is joined has fewer than 64
+pub joined_few : {X : Type 0} (f : X → Item) (xs : List X) (n : ℕ) (x : X) (b : Bool) → n < length xs → b ≡ joins (map f (take n xs)) (f (get_or xs n x)) → b ≡ true → n + 1 ≤ 64
+joined_few f xs n x b below is joined =
+    let few : nat_lt (length (map f (take n xs))) 64 ≡ true = few_by _ _ (sym is ∙ joined) in
+    let len : length (map f (take n xs)) ≡ n = length-map (take n xs) f ∙ length-take-le n xs (omega (arith, below)) in
+    grind (arith, nat_tests, few, len)
