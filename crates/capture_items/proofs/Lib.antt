@@ -1,3 +1,4 @@
 pub mod Read
 pub mod Batches
 pub mod Following
+pub mod Listed

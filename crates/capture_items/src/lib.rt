@@ -4,7 +4,9 @@
 mod batch;
 mod found;
 mod item;
+mod numbers;
 
 pub use batch::next_batch;
 pub use found::{Found, InputFault, find_items};
 pub use item::{Content, Item, read_item};
+pub use numbers::FirstNumbers;
