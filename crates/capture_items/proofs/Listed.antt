@@ -14,7 +14,7 @@ use Rattle.tas_model.specs.declared.entry.FourTuple.{FourTuple}
 use Rattle.tas_runs.specs.Records.{Item}
 use Rattle.tas_runs.specs.Batches.{same_tuple}
 use Rattle.tas_runs.specs.FirstNumbers.{with_new, local_syn, local_numbers, first_number}
-use Rattle.capture_items.specs.Numbers.{same_turn, same_known, number_at, AreNumbersOf, number_for, count_in, AreOf}
+use Rattle.capture_items.specs.Numbers.{equal_tuple, same_turn, same_known, number_at, AreNumbersOf, number_for, count_in, AreOf}
 use Rattle.capture_items.specs.declared.numbers.Turn.{Turn}
 use Rattle.capture_items.specs.declared.numbers.Known.{Known}
 use Rattle.capture_items.specs.declared.numbers.Numbering.{Numbering}
@@ -44,24 +44,34 @@ same_fields : (a b c d e f g h : ℕ) → a ≡ e → b ≡ f → c ≡ g → d 
     → ◌≡◌ {A = FourTuple} (record { laddr = a; lport = b; raddr = c; rport = d }) (record { laddr = e; lport = f; raddr = g; rport = h })
 same_fields a b c d e f g h e1 e2 e3 e4 = cc (e1, e2, e3, e4)
 
-pub tuple_exact : (a b : FourTuple) → same_tuple a b ≡ true → a ≡ b
+pub tuple_exact : (a b : FourTuple) → equal_tuple a b ≡ true → a ≡ b
 tuple_exact a b h =
-    let last = both _ _ h in
-    let third = both _ _ last.0 in
-    let second = both _ _ third.0 in
-    same_fields _ _ _ _ _ _ _ _ (equal a.laddr b.laddr second.0) (equal a.lport b.lport second.1) (equal a.raddr b.raddr third.1) (equal a.rport b.rport last.1)
+    let first = both _ _ h in
+    let second = both _ _ first.1 in
+    let third = both _ _ second.1 in
+    same_fields _ _ _ _ _ _ _ _ (equal a.laddr b.laddr first.0) (equal a.lport b.lport second.0) (equal a.raddr b.raddr third.0) (equal a.rport b.rport third.1)
 
 self_equal : (n : ℕ) → (n == n) ≡ true
 self_equal n = grind (arith, nat_tests)
 
-pub tuple_itself : (a : FourTuple) → same_tuple a a ≡ true
+pub tuple_itself : (a : FourTuple) → equal_tuple a a ≡ true
 tuple_itself a = rw (self_equal a.laddr, self_equal a.lport, self_equal a.raddr, self_equal a.rport) refl
 
-pub tuple_apart : (a b : FourTuple) → same_tuple a b ≡ false → same_tuple b a ≡ false
-tuple_apart a b h = by_same (same_tuple b a) refl where
-  by_same : (t : Bool) → same_tuple b a ≡ t → same_tuple b a ≡ false
+pub tuple_apart : (a b : FourTuple) → equal_tuple a b ≡ false → equal_tuple b a ≡ false
+tuple_apart a b h = by_same (equal_tuple b a) refl where
+  by_same : (t : Bool) → equal_tuple b a ≡ t → equal_tuple b a ≡ false
   by_same false e = e
-  by_same true e = absurd (true≢false (sym (tuple_itself a) ∙ (ap (same_tuple a) (sym (tuple_exact b a e)) ∙ h)))
+  by_same true e = absurd (true≢false (sym (tuple_itself a) ∙ (ap (equal_tuple a) (sym (tuple_exact b a e)) ∙ h)))
+
+nested : (a b c d : Bool) → (a && b && c && d) ≡ (a && (b && (c && d)))
+nested true true true d = refl
+nested true true false d = refl
+nested true false c d = refl
+nested false b c d = refl
+
+-- segments are of one flow where their four-tuples are equal
+pub same_equal : (a b : FourTuple) → same_tuple a b ≡ equal_tuple a b
+same_equal a b = nested (a.laddr == b.laddr) (a.lport == b.lport) (a.raddr == b.raddr) (a.rport == b.rport)
 
 -- ----- one number more
 one_less : (m k : ℕ) → (suc m == suc k) ≡ (m == k)
@@ -100,10 +110,10 @@ list_any-push (x ∷ xs) n m = ap (λ b. x == m || b) (list_any-push xs n m) ∙
   later a false c = refl
 
 -- a number that is listed
-pub listed_stays : (s : Numbering) (tuple t : FourTuple) (n : ℕ) (list : List ℕ) → contains same_known s.known (record { tuple = tuple; number = n }) ≡ true → AreOf s t list
-    → (if same_tuple t tuple then with_new list n else list) ≡ list
-listed_stays s tuple t n list old are = by_same (same_tuple t tuple) refl where
-  by_same : (b : Bool) → same_tuple t tuple ≡ b → (if b then with_new list n else list) ≡ list
+listed_stays : (s : Numbering) (tuple t : FourTuple) (n : ℕ) (list : List ℕ) → contains same_known s.known (record { tuple = tuple; number = n }) ≡ true → AreOf s t list
+    → (if equal_tuple t tuple then with_new list n else list) ≡ list
+listed_stays s tuple t n list old are = by_same (equal_tuple t tuple) refl where
+  by_same : (b : Bool) → equal_tuple t tuple ≡ b → (if b then with_new list n else list) ≡ list
   by_same false e = refl
   by_same true e =
       let here : contains same_known s.known (record { tuple = t; number = n }) ≡ true = subst (λ (q : FourTuple). contains same_known s.known (record { tuple = q; number = n }) ≡ true) (sym (tuple_exact t tuple e)) old in
@@ -113,26 +123,26 @@ listed_stays s tuple t n list old are = by_same (same_tuple t tuple) refl where
 -- a number that isn't
 pub record IsMore (s r : Numbering) (tuple : FourTuple) (number : Seq) : Type 0 where
   pub fresh : contains same_known s.known (record { tuple = tuple; number = number.0 }) ≡ false
-  pub counts : (q : FourTuple) → get same_tuple r.counts q ≡ cond (same_tuple tuple q) (Some (count_in s tuple + 1)) (get same_tuple s.counts q)
+  pub counts : (q : FourTuple) → get equal_tuple r.counts q ≡ cond (equal_tuple tuple q) (Some (count_in s tuple + 1)) (get equal_tuple s.counts q)
   pub known : (q : Known) → contains same_known r.known q ≡ cond (same_known (record { tuple = tuple; number = number.0 }) q) true (contains same_known s.known q)
   pub numbers : (q : Turn) → get same_turn r.numbers q ≡ cond (same_turn (record { tuple = tuple; place = count_in s tuple }) q) (Some number) (get same_turn s.numbers q)
 
-pub listed_more : (s r : Numbering) (tuple t : FourTuple) (number : Seq) (list : List ℕ) → IsMore s r tuple number → AreOf s t list → AreOf r t (if same_tuple t tuple then with_new list number.0 else list)
-listed_more s r tuple t number list more are = by_same (same_tuple t tuple) refl where
-  by_same : (b : Bool) → same_tuple t tuple ≡ b → AreOf r t (if b then with_new list number.0 else list)
+more_by : (s r : Numbering) (tuple t : FourTuple) (number : Seq) (list : List ℕ) → IsMore s r tuple number → AreOf s t list → AreOf r t (if equal_tuple t tuple then with_new list number.0 else list)
+more_by s r tuple t number list more are = by_same (equal_tuple t tuple) refl where
+  by_same : (b : Bool) → equal_tuple t tuple ≡ b → AreOf r t (if b then with_new list number.0 else list)
   by_same false e =
-      let apart : same_tuple tuple t ≡ false = tuple_apart t tuple e in
+      let apart : equal_tuple tuple t ≡ false = tuple_apart t tuple e in
       record {
-        counted = ap (λ (o : Option ℕ). unwrap_or o 0) (more.counts t ∙ ap (λ (b : Bool). cond b (Some (count_in s tuple + 1)) (get same_tuple s.counts t)) apart) ∙ are.counted;
+        counted = ap (λ (o : Option ℕ). unwrap_or o 0) (more.counts t ∙ ap (λ (b : Bool). cond b (Some (count_in s tuple + 1)) (get equal_tuple s.counts t)) apart) ∙ are.counted;
         known = λ m. more.known (record { tuple = t; number = m }) ∙ (ap (λ (b : Bool). cond (b && number.0 == m) true (contains same_known s.known (record { tuple = t; number = m }))) apart ∙ are.known m);
         numbers = λ k. ap (option_map (λ (s : Seq). s.0)) (more.numbers (record { tuple = t; place = k }) ∙ ap (λ (b : Bool). cond (b && count_in s tuple == k) (Some number) (get same_turn s.numbers (record { tuple = t; place = k }))) apart) ∙ are.numbers k;
       }
   by_same true e =
       let exact : t ≡ tuple = tuple_exact t tuple e in
-      let here : same_tuple tuple t ≡ true = ap (same_tuple tuple) exact ∙ tuple_itself tuple in
+      let here : equal_tuple tuple t ≡ true = ap (equal_tuple tuple) exact ∙ tuple_itself tuple in
       let count : count_in s tuple ≡ length list = ap (count_in s) (sym exact) ∙ are.counted in
       let fresh : list_any (λ m. m == number.0) list ≡ false = sym (are.known number.0) ∙ (ap (λ (q : FourTuple). contains same_known s.known (record { tuple = q; number = number.0 })) exact ∙ more.fresh) in
-      let counted : count_in r t ≡ count_in s tuple + 1 = ap (λ (o : Option ℕ). unwrap_or o 0) (more.counts t ∙ ap (λ (b : Bool). cond b (Some (count_in s tuple + 1)) (get same_tuple s.counts t)) here) in
+      let counted : count_in r t ≡ count_in s tuple + 1 = ap (λ (o : Option ℕ). unwrap_or o 0) (more.counts t ∙ ap (λ (b : Bool). cond b (Some (count_in s tuple + 1)) (get equal_tuple s.counts t)) here) in
       let longer : AreOf r t (list ++ number.0 ∷ []) =
           record {
             counted = omega (arith, counted, count, length-append list (number.0 ∷ []));
@@ -144,8 +154,11 @@ listed_more s r tuple t number list more are = by_same (same_tuple t tuple) refl
       in
       rw fresh longer
 
+pub listed_more : (s r : Numbering) (tuple t : FourTuple) (number : Seq) (list : List ℕ) → IsMore s r tuple number → AreOf s t list → AreOf r t (if same_tuple t tuple then with_new list number.0 else list)
+listed_more s r tuple t number list more are = subst (λ (b : Bool). AreOf r t (if b then with_new list number.0 else list)) (sym (same_equal t tuple)) (more_by s r tuple t number list more are)
+
 -- ----- one item more
-abbrev with_one : List ℕ → Option ℕ → List ℕ
+abbrev pub with_one : List ℕ → Option ℕ → List ℕ
 with_one list None = list
 with_one list (Some n) = with_new list n
 
@@ -177,11 +190,12 @@ with_one_if true list n = refl
 with_one_if false list n = refl
 
 -- at most one number an item
-pub numbers_few : {X : Type 0} (f : X → Item) (xs : List X) (i : ℕ) (d : X) (t : FourTuple) → i < length xs → length (local_numbers (map f (take i xs)) t) ≤ i → length (local_numbers (map f (take (i + 1) xs)) t) ≤ i + 1
-numbers_few f xs i d t below few =
-    let more = numbers_more f xs i d t (local_syn t (f (get_or xs i d)).content) below refl in
-    let one = with_one_few (local_syn t (f (get_or xs i d)).content) (local_numbers (map f (take i xs)) t) in
-    omega (arith, few, one, ap length more)
+pub numbers_few : {X : Type 0} (f : X → Item) (xs : List X) (i : ℕ) (d : X) (t : FourTuple) (o : Option ℕ) → i < length xs → o ≡ local_syn t (f (get_or xs i d)).content
+    → length (local_numbers (map f (take i xs)) t) ≤ i → length (local_numbers (map f (take (i + 1) xs)) t) ≤ i + 1
+numbers_few f xs i d t o below is few =
+    let more : length (local_numbers (map f (take (i + 1) xs)) t) ≡ length (with_one (local_numbers (map f (take i xs)) t) o) = ap length (numbers_more f xs i d t o below is) in
+    let one = with_one_few o (local_numbers (map f (take i xs)) t) in
+    omega (arith, few, one, more)
 
 pub was_new : (b c : Bool) → b ≡ true → b ≡ not c → c ≡ false
 was_new b true is e = absurd (true≢false (sym is ∙ e))

@@ -14,12 +14,17 @@ use Rattle.capture_items.specs.declared.numbers.Turn.{Turn}
 use Rattle.capture_items.specs.declared.numbers.Known.{Known}
 use Rattle.capture_items.specs.declared.numbers.Numbering.{Numbering}
 
+-- ----- keys are equal where all their fields are
+abbrev pub equal_tuple : FourTuple → FourTuple → Bool
+equal_tuple a b = a.laddr == b.laddr && (a.lport == b.lport && (a.raddr == b.raddr && a.rport == b.rport))
+
 abbrev pub same_turn : Turn → Turn → Bool
-same_turn a b = same_tuple a.tuple b.tuple && a.place == b.place
+same_turn a b = equal_tuple a.tuple b.tuple && a.place == b.place
 
 abbrev pub same_known : Known → Known → Bool
-same_known a b = same_tuple a.tuple b.tuple && a.number == b.number
+same_known a b = equal_tuple a.tuple b.tuple && a.number == b.number
 
+-- ----- what is kept
 -- the number that is kept of a four-tuple at this place
 abbrev pub number_at : List (Turn × Seq) → FourTuple → (place : ℕ) → Option ℕ
 number_at kept tuple place = option_map (λ (s : Seq). s.0) (lookup (same_turn (record { tuple = tuple; place = place })) kept)
@@ -36,7 +41,7 @@ number_for tuple (Some found) = if same_tuple tuple found.0 then Some found.1.0 
 
 -- how many numbers the four-tuple has
 abbrev pub count_in : Numbering → FourTuple → ℕ
-count_in s tuple = unwrap_or (get same_tuple s.counts tuple) 0
+count_in s tuple = unwrap_or (get equal_tuple s.counts tuple) 0
 
 -- The four-tuple has these numbers so far.
 pub record AreOf (s : Numbering) (tuple : FourTuple) (list : List ℕ) : Type 0 where
