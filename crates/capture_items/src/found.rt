@@ -35,6 +35,7 @@ pub fn find_items<'a>(
 ) -> Result<Found<'a>, InputFault>
     requires { length bytes.now ≤ 67108864 }
     ensures found { IfOk result (IsFound bytes.now local loose) }
+    ensures few { IfOk result (λ found. length found.items.items ≤ found.records) }
     ensures refused { IfErr result (IsNoCapture bytes.now) }
 {
     let header = match read_header(bytes) {

@@ -4,6 +4,7 @@ use Rattle.pcap_frames.specs.Views.{form_in, record_in, next_in, fault_in}
 use Rattle.pcap_frames.proofs.Following.{capture_of_refused, capture_of_form}
 use Rattle.tas_runs.specs.Records.{Item, items_of}
 use Rattle.capture_items.specs.Items.{item_in}
+use Rattle.capture_items.proofs.Counted.{found_few}
 use Rattle.capture_items.proofs.Following.{Seen, seen, after, seen_next, seen_ends, seen_refused, seen_all, seen_fault}
 use Rattle.capture_items.proofs.found.find_items.Goals as goal
 
@@ -48,3 +49,6 @@ returns-in-Err-next_record-clause-refused c =
     let refused : first_record form number (drop c.loop-view.at c.args.bytes.now) ≡ Err fault = c.in-Err-next_record.ensures.refused in
     let ends = seen_refused form c.args.local c.args.loose number _ fault _ c.loop-view.records _ refused c.loop-view.invariant.so_far in
     capture_of_form _ form c.loop-view.invariant.form ∙ ap (capture_with form) (seen_fault form c.args.local c.args.loose _ fault ends)
+
+pub returns-in-Ok-None-clause-few : goal.returns-in-Ok-None-clause-few
+returns-in-Ok-None-clause-few c = found_few c.args.bytes.now c.args.local c.args.loose _ (returns-in-Ok-None-clause-found c)
