@@ -1,5 +1,5 @@
 -- The first batch of some items is the longest front that joins.
-use Rattle.std.proofs.Common.{◌≡◌, ℕ, zero, suc, ◌+◌, ◌<◌, Bool, true, false, cond, List, [], ◌∷◌, ◌++◌, length, take, drop, get_or, map, fold, Option, Some, None, nat_lt, ◌≤◌, ◌&&◌, ◌||◌, not, refl, sym, ap, ◌∙◌, subst, arith, append_assoc, if◌then◌else◌, drop-cons, length-take, length-drop}
+use Rattle.std.proofs.Common.{◌≡◌, ℕ, suc, ◌+◌, ◌<◌, Bool, true, false, List, [], ◌∷◌, ◌++◌, length, take, drop, get_or, map, fold, Option, Some, None, nat_lt, ◌≤◌, ◌&&◌, ◌||◌, refl, sym, ap, ◌∙◌, subst, arith, append_assoc, if◌then◌else◌, drop-cons, length-take, length-drop}
 use Rattle.std.specs.List.{list_any}
 use Rattle.std.proofs.lemmas.Bool.Decides.{nat_tests}
 use Rattle.std.proofs.lemmas.List.{take_more, take-map, get_or-map, length-map, length-take-le}

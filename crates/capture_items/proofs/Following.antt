@@ -2,7 +2,7 @@
 use Rattle.std.proofs.Common.{◌≡◌, ℕ, ◌+◌, Bool, List, [], ◌∷◌, ◌++◌, length, Option, Some, None, Result, Ok, Err, refl, sym, ap, ◌∙◌, arith, append_assoc, append-nil}
 use Rattle.std.specs.List.{cons_option}
 use Rattle.std.proofs.lemmas.List.Elements.{filter_map-append}
-use Rattle.tas_num.specs.Captures.{Fault, Form, Record, Next, first_record, records_from, joined, capture_of, capture_with}
+use Rattle.tas_num.specs.Captures.{Fault, Form, Record, Next, first_record, records_from, joined}
 use Rattle.pcap_frames.proofs.Following.{records_from_next, records_from_ends, records_from_refused}
 use Rattle.tas_runs.specs.Records.{Item, item_of, items_of}
 

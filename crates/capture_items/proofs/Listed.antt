@@ -14,7 +14,7 @@ use Rattle.tas_model.specs.declared.entry.FourTuple.{FourTuple}
 use Rattle.tas_runs.specs.Records.{Item}
 use Rattle.tas_runs.specs.Batches.{same_tuple}
 use Rattle.tas_runs.specs.FirstNumbers.{with_new, local_syn, local_numbers, first_number}
-use Rattle.capture_items.specs.Numbers.{equal_tuple, same_turn, same_known, number_at, AreNumbersOf, number_for, count_in, AreOf}
+use Rattle.capture_items.specs.Numbers.{equal_tuple, same_turn, same_known, number_at, AreNumbersOf, count_in, AreOf}
 use Rattle.capture_items.specs.declared.numbers.Turn.{Turn}
 use Rattle.capture_items.specs.declared.numbers.Known.{Known}
 use Rattle.capture_items.specs.declared.numbers.Numbering.{Numbering}
@@ -109,18 +109,7 @@ list_any-push (x ∷ xs) n m = ap (λ b. x == m || b) (list_any-push xs n m) ∙
     or_true false = refl
   later a false c = refl
 
--- a number that is listed
-listed_stays : (s : Numbering) (tuple t : FourTuple) (n : ℕ) (list : List ℕ) → contains same_known s.known (record { tuple = tuple; number = n }) ≡ true → AreOf s t list
-    → (if equal_tuple t tuple then with_new list n else list) ≡ list
-listed_stays s tuple t n list old are = by_same (equal_tuple t tuple) refl where
-  by_same : (b : Bool) → equal_tuple t tuple ≡ b → (if b then with_new list n else list) ≡ list
-  by_same false e = refl
-  by_same true e =
-      let here : contains same_known s.known (record { tuple = t; number = n }) ≡ true = subst (λ (q : FourTuple). contains same_known s.known (record { tuple = q; number = n }) ≡ true) (sym (tuple_exact t tuple e)) old in
-      let listed : list_any (λ m. m == n) list ≡ true = sym (are.known n) ∙ here in
-      rw listed refl
-
--- a number that isn't
+-- what one number more changes: it isn't listed yet
 pub record IsMore (s r : Numbering) (tuple : FourTuple) (number : Seq) : Type 0 where
   pub fresh : contains same_known s.known (record { tuple = tuple; number = number.0 }) ≡ false
   pub counts : (q : FourTuple) → get equal_tuple r.counts q ≡ cond (equal_tuple tuple q) (Some (count_in s tuple + 1)) (get equal_tuple s.counts q)

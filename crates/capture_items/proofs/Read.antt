@@ -1,6 +1,5 @@
 -- What was read from a packet is what the packet's fields make.
 use Rattle.std.proofs.Common.{◌≡◌, ℕ, List, ap}
-use Rattle.segment_fields.specs.Fields.{fields_of}
 use Rattle.segment_fields.specs.Text.{IsText, fields_in}
 use Rattle.segment_fields.specs.declared.segment.Segment.{Segment}
 use Rattle.segment_fields.proofs.RoundTrip.{fields_of-text}

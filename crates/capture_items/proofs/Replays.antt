@@ -1,7 +1,6 @@
 -- What was found in a capture is what its run in serial order is of; and its ticks, one after the other.
-use Rattle.std.proofs.Common.{◌≡◌, ℕ, ◌+◌, Bool, List, [], ◌∷◌, map, take, drop, Result, Ok, Err, refl, sym, ap, ◌∙◌}
-use Rattle.tas_num.specs.Captures.{Fault, Capture, capture_of}
-use Rattle.tas_runs.specs.Logs.{RunLog}
+use Rattle.std.proofs.Common.{◌≡◌, ℕ, ◌+◌, Bool, List, ◌∷◌, map, take, drop, Ok, Err, sym, ap, ◌∙◌}
+use Rattle.tas_num.specs.Captures.{Fault, capture_of}
 use Rattle.tas_runs.specs.Records.{Item, items_of}
 use Rattle.tas_runs.specs.Batches.{batches_of}
 use Rattle.tas_runs.specs.Hosts.{Host}

@@ -1,4 +1,4 @@
-use Rattle.std.proofs.Common.{rules, ◌≡◌, ◌∙◌, sym, map, Option, Some}
+use Rattle.std.proofs.Common.{rules, ◌≡◌, ◌∙◌, sym, map, Some}
 use Rattle.tas_runs.specs.Batches.{tuple_of, is_of}
 use Rattle.capture_items.specs.Items.{item_in}
 use Rattle.capture_items.proofs.Batches.{any_mapped, clashes_of}

@@ -1,4 +1,4 @@
-use Rattle.std.proofs.Common.{rules, ◌≡◌, ◌<◌, ◌≤◌, ◌+◌, ◌∙◌, sym, map, take, length, true, false, List, [], ℕ, drop, fold, subst, arith}
+use Rattle.std.proofs.Common.{◌≡◌, ◌<◌, ◌∙◌, sym, map, take, length, List, [], ℕ, drop, fold, subst, arith}
 use Rattle.tas_runs.specs.Batches.{cut_at}
 use Rattle.std.proofs.lemmas.List.{length-map}
 use Rattle.tas_runs.specs.Records.{Item}

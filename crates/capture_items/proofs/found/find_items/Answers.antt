@@ -1,5 +1,5 @@
-use Rattle.std.proofs.Common.{rules, ◌≡◌, ◌+◌, ◌++◌, ◌∷◌, [], ap, sym, ◌∙◌, map, drop, length, List, Result, Ok, Err, Some, None}
-use Rattle.tas_num.specs.Captures.{Record, Fault, first_record, records_from, capture_with}
+use Rattle.std.proofs.Common.{rules, ◌≡◌, ◌+◌, ◌++◌, ◌∷◌, [], ap, ◌∙◌, map, drop, List, Result, Ok, Err, Some, None}
+use Rattle.tas_num.specs.Captures.{Fault, first_record, records_from, capture_with}
 use Rattle.pcap_frames.specs.Views.{form_in, record_in, next_in, fault_in}
 use Rattle.pcap_frames.proofs.Following.{capture_of_refused, capture_of_form}
 use Rattle.tas_runs.specs.Records.{Item, items_of}

@@ -1,4 +1,4 @@
-use Rattle.std.proofs.Common.{◌≡◌, ℕ, ◌+◌, ◌≤◌, map, take, length, Option, Some, None, List, sym, ◌∙◌, subst, if◌then◌else◌}
+use Rattle.std.proofs.Common.{◌≡◌, ℕ, ◌+◌, ◌≤◌, map, take, length, Some, None, List, sym, ◌∙◌, subst, if◌then◌else◌}
 use Rattle.tas_model.specs.declared.entry.FourTuple.{FourTuple}
 use Rattle.tas_runs.specs.Batches.{same_tuple}
 use Rattle.tas_runs.specs.FirstNumbers.{local_numbers, with_new}

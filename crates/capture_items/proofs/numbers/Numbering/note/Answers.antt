@@ -1,10 +1,5 @@
-use Rattle.std.proofs.Common.{rules, ◌≡◌, ℕ, ◌+◌, ◌<◌, ◌^◌, arith, true, false}
-use Rattle.capture_items.specs.Numbers.{count_in, AreOf, same_known, same_turn}
-use Rattle.tas_model.specs.declared.entry.FourTuple.{FourTuple}
-use Rattle.tas_runs.specs.Batches.{same_tuple}
-use Rattle.std.proofs.Common.{cond, Some}
-use Rattle.std.specs.HashMap.{get}
-use Rattle.std.specs.HashSet.{contains}
+use Rattle.std.proofs.Common.{rules, ◌≡◌, ◌+◌, ◌<◌, ◌^◌, arith}
+use Rattle.capture_items.specs.Numbers.{count_in}
 use Rattle.capture_items.proofs.Listed.{IsMore, listed_more, was_new}
 use Rattle.capture_items.proofs.numbers.Numbering.note.Goals as goal
 
