@@ -422,7 +422,7 @@ opened_valid p (calls.Connect iss) fits opens = fresh_valid p iss.0 fits
 opened_valid p (calls.Passive frame iss seg) fits opens = record {
   fits = fits;
   unopened = tt;
-  tx = record { una = omega arith; nxt = omega arith; max = omega arith; room = omega arith; dup = omega arith };
+  tx = record { una = omega arith; nxt = omega arith; max = omega arith; room = omega arith; dup = omega arith; opening = λ h. refl };
   rx = record { read = omega arith; room = omega arith; island = tt };
   rate = first_rate_valid p seg.head.mss fits;
   paced = first_rate_paced p seg.head.mss fits;
