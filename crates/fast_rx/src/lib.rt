@@ -1,0 +1,5 @@
+//! What a received segment does to a flow that stands, and the common case of it (RFC 9293, section 3.10.7.4).
+#![tactic(auto)]
+
+mod acking;
+mod hearing;
