@@ -1,2 +1,4 @@
 pub mod Placing
 pub mod Acknowledging
+pub mod Receiving
+pub mod Joining

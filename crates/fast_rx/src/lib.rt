@@ -3,3 +3,4 @@
 
 mod acking;
 mod hearing;
+mod keeping;
