@@ -1,4 +1,5 @@
 pub mod Placing
 pub mod Acknowledging
-pub mod Receiving
+pub mod Growing
 pub mod Joining
+pub mod Islands

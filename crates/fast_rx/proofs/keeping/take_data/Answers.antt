@@ -4,7 +4,7 @@ use Rattle.payload_ring.specs.Window.{end_of}
 use Rattle.tas_model.specs.Endpoint.{Receiving}
 use Rattle.tas_model.specs.Reassembly.{with_data, with_part, trimmed, grown, kept_apart}
 use Rattle.flow_state.specs.Stands.{Stands}
-use Rattle.fast_rx.proofs.Receiving.{part_is, none_part, next_part, far_part, end_is}
+use Rattle.fast_rx.proofs.Growing.{part_is, none_part, next_part, far_part, end_is}
 use Rattle.fast_rx.proofs.keeping.take_data.Goals as goal
 
 pub returns-then-is_empty-clause-stands : goal.returns-then-is_empty-clause-stands

@@ -85,7 +85,7 @@ grown_holds w ring read got part bytes more low h there = record {
     ∙ sym (drop-append-le read (got ++ part) bytes (omega (arith, length-append got part)))));
 }
 
-empty_is : (xs : List ℕ) → length xs ≡ 0 → xs ≡ []
+pub empty_is : (xs : List ℕ) → length xs ≡ 0 → xs ≡ []
 empty_is [] h = refl
 empty_is (x ∷ xs) h = absurd (omega arith)
 
