@@ -79,10 +79,10 @@ grown_holds w ring read got part bytes more low h there = record {
   size = h.size;
   base = h.base;
   bytes =
-    ap (λ (x : List ℕ). (w.bytes ++ part) ++ x) there
-    ∙ (ap (λ (x : List ℕ). (x ++ part) ++ bytes) h.bytes
-    ∙ (ap (λ (x : List ℕ). x ++ bytes) (sym (drop-append-le read got part low))
-    ∙ sym (drop-append-le read (got ++ part) bytes (omega (arith, length-append got part)))));
+      ap (λ (x : List ℕ). (w.bytes ++ part) ++ x) there
+      ∙ (ap (λ (x : List ℕ). (x ++ part) ++ bytes) h.bytes
+      ∙ (ap (λ (x : List ℕ). x ++ bytes) (sym (drop-append-le read got part low))
+      ∙ sym (drop-append-le read (got ++ part) bytes (omega (arith, length-append got part)))));
 }
 
 pub empty_is : (xs : List ℕ) → length xs ≡ 0 → xs ≡ []

@@ -91,9 +91,10 @@ joined_is ahead i at part end past past' fits meets meets' is =
     let start : min (i.at - end) (at - end) ≡ min at i.at - end = omega arith in
     let len : length ((take before part ++ i.bytes) ++ drop behind part) ≡ max (i.at + length i.bytes - end) (at - end + length part) - min (i.at - end) (at - end) =
     omega (arith, left, right, length-append (take before part ++ i.bytes) (drop behind part), length-append (take before part) i.bytes) in
-    let len' : max (i.at + length i.bytes - end) (at - end + length part) - min (i.at - end) (at - end) ≡ length (joined i at part).bytes = sym len ∙ ap (length {A = ℕ}) bytes in
-    (ap (λ (n : ℕ). span n (max (i.at + length i.bytes - end) (at - end + length part) - min (i.at - end) (at - end))) start ∙ ap (span (min at i.at - end)) len',
-     subst (λ (n : ℕ). StandsAt (joined_ahead ahead at part end before behind) n (joined i at part).bytes) start (subst (StandsAt (joined_ahead ahead at part end before behind) (min (i.at - end) (at - end))) bytes there))
+    let len' : max (i.at + length i.bytes - end) (at - end + length part) - min (i.at - end) (at - end) ≡ length (joined i at part).bytes = sym len ∙ ap (length {A = ℕ}) bytes in (
+      ap (λ (n : ℕ). span n (max (i.at + length i.bytes - end) (at - end + length part) - min (i.at - end) (at - end))) start ∙ ap (span (min at i.at - end)) len',
+      subst (λ (n : ℕ). StandsAt (joined_ahead ahead at part end before behind) n (joined i at part).bytes) start (subst (StandsAt (joined_ahead ahead at part end before behind) (min (i.at - end) (at - end))) bytes there),
+    )
   where
     span : ℕ → ℕ → Option (ℕ × ℕ)
     span a b = Some (a, b)

@@ -3,3 +3,4 @@ pub mod Acknowledging
 pub mod Growing
 pub mod Joining
 pub mod Islands
+pub mod Taking

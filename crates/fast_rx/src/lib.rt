@@ -4,3 +4,6 @@
 mod acking;
 mod hearing;
 mod keeping;
+mod receiving;
+
+pub use receiving::receive;
