@@ -1,0 +1,5 @@
+use Rattle.fast_tx.proofs.Alike.{piece_is_next}
+use Rattle.fast_tx.proofs.piece.piece_is_next_segment.Goals as goal
+
+pub returns : goal.returns
+returns c = piece_is_next
