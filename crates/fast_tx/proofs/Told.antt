@@ -1,9 +1,10 @@
 -- What the next piece tells of the endpoint, and the bytes that go with it.
-use Rattle.std.proofs.Common.{◌≡◌, ℕ, ◌+◌, ◌-◌, ◌≤◌, ◌<◌, ◌==◌, ◌&&◌, Bool, true, false, cond, eqb, nat_lt, List, length, take, drop, Option, Some, None, refl, sym, ◌∙◌, ap, subst, arith, tests, length-take, length-drop, true≢false}
+use Rattle.std.proofs.Common.{◌≡◌, ℕ, ◌+◌, ◌-◌, ◌≤◌, ◌<◌, ◌==◌, ◌&&◌, Bool, true, false, cond, eqb, nat_lt, List, length, take, drop, Option, Some, None, is_some, IsSome, ◌↔◌, refl, sym, ◌∙◌, ap, subst, arith, tests, length-take, length-drop, true≢false}
 use Rattle.std.proofs.lemmas.List.{drop-drop}
 use Rattle.tas_model.specs.Endpoint.{Endpoint}
 use Rattle.tas_model.specs.ApplicationCalls.{Column, Opening, Over, Running, column}
 use Rattle.tas_model.specs.NextSegment.{Going, going, emitted}
+use Rattle.flow_state.specs.declared.call.CallIn.TheVariants as ins
 use Rattle.tas_model.specs.declared.entry.Reply.TheVariants as replies
 use Rattle.flow_state.specs.declared.call.Answer.TheVariants as answers
 use Rattle.flow_state.specs.Made.{IsStep}
@@ -13,7 +14,7 @@ use Rattle.flow_state.specs.declared.parts.Parts.{Parts}
 use Rattle.flow_state.specs.Stands.{Stands, acked_bytes}
 use Rattle.fast_tx.specs.declared.piece.Piece.{Piece}
 use Rattle.fast_tx.specs.declared.piece.Piece.TheVariants as pieces
-use Rattle.fast_tx.specs.Piece.{in_flight, is_next, bytes_waiting, bytes_due, is_probe_due, is_fin_due, piece_at, piece_len, next_piece}
+use Rattle.fast_tx.specs.Piece.{IsEmission, in_flight, is_next, bytes_waiting, bytes_due, is_probe_due, is_fin_due, piece_at, piece_len, next_piece}
 use Rattle.tas_model.specs.declared.entry.Head.{Head}
 use Rattle.fast_tx.specs.declared.emission.Out.{Out}
 use Rattle.fast_tx.specs.Going.{going_as, going_by, out_of, HasGone, WasNext}
@@ -141,3 +142,13 @@ emission_is e piece after sent out is went =
 -- and is the next segment
 pub next_gone : (e : Endpoint) (piece : Piece) (after : Parts) (sent : Out) (out : List ℕ) → going e ≡ Some (going_as piece e) → HasGone after sent out (going_as piece e) → WasNext after sent out (going e)
 next_gone e piece after sent out is went = subst (WasNext after sent out) (sym is) went
+
+is_as : (o : Option Piece) (e : Endpoint) → is_some (going_by o e) ≡ is_some o
+is_as None e = refl
+is_as (Some piece) e = refl
+
+-- the engine serves an Emit exactly where the model has a next segment
+pub serves_is : (p : Parts) (e : Endpoint) → Valid e → Stands p e → IsEmission p ins.Emit ↔ IsSome (going e)
+serves_is p e v s =
+    let same : is_some (going e) ≡ is_some (next_piece p) = ap (λ (o : Option Going). is_some o) (piece_is_next p e v s) ∙ is_as (next_piece p) e in
+    (λ h. same ∙ h, λ h. sym same ∙ h)

@@ -1,4 +1,4 @@
-ghost use Rattle.std.specs.Prelude.{◌≡◌, ℕ, ◌+◌, ◌-◌, ◌^◌, ◌==◌, ◌≤◌, ◌<◌, ◌↔◌, max, List, length, take, drop, Some, None, IsSome, if◌then◌else◌};
+ghost use Rattle.std.specs.Prelude.{◌≡◌, ℕ, ◌+◌, ◌-◌, ◌^◌, ◌==◌, ◌≤◌, ◌<◌, ◌↔◌, max, List, length, take, drop, Some, None, IsSome, IfSome, if◌then◌else◌};
 ghost use Rattle.tas_model.specs.declared.entry.Phase.TheVariants as phases;
 ghost use Rattle.tas_model.specs.Endpoint.{Endpoint, wnd, phase};
 ghost use Rattle.tas_model.specs.Segments.{seq_of, ack_of};
@@ -26,6 +26,7 @@ pub struct Out {
 pub fn next_out(parts: &Parts) -> Option<Out>
     ensures segment { (e : Endpoint) → Valid e → Stands parts.now e → result ≡ next_out_of (model_going e) }
     ensures none { result ≡ None ↔ piece_of parts.now ≡ None }
+    ensures len { IfSome result (λ out. out.len ≡ len_of (piece_of parts.now)) }
 {
     match next_piece(parts) {
         Some(piece) => Some(out_for(parts, piece)),

@@ -1,11 +1,12 @@
-ghost use Rattle.std.specs.Prelude.{◌≡◌, ℕ, ◌+◌, ◌-◌, min, length, Some};
+ghost use Rattle.std.specs.Prelude.{◌≡◌, ℕ, ◌+◌, ◌-◌, ◌↔◌, min, length, Some, IsSome};
 ghost use Rattle.payload_ring.specs.Window.{end_of};
 ghost use Rattle.tas_model.specs.Endpoint.{Endpoint};
 ghost use Rattle.tas_model.specs.NextSegment.{going as model_going};
 ghost use Rattle.tas_model.specs.Valid.{Valid};
 ghost use Rattle.flow_state.specs.declared.parts.Parts.{Parts};
 ghost use Rattle.flow_state.specs.Stands.{Stands};
-ghost use Rattle.fast_tx.specs.Piece.{next_piece as piece_of, running_piece as running_of, in_flight as flight_of, bytes_waiting as waiting_of, bytes_due as due_of, is_next as is_next_at, is_probe_due as probe_due, is_fin_due as fin_due};
+ghost use Rattle.fast_tx.specs.Piece.{next_piece as piece_of, running_piece as running_of, in_flight as flight_of, bytes_waiting as waiting_of, bytes_due as due_of, is_next as is_next_at, is_probe_due as probe_due, is_fin_due as fin_due, IsEmission};
+ghost use Rattle.flow_state.specs.declared.call.CallIn.TheVariants as ins;
 ghost use Rattle.fast_tx.specs.Going.{going_by};
 
 use flow_state::{Parts, Stage};
@@ -103,5 +104,6 @@ fn is_fin_due(parts: &Parts) -> bool
 
 /// The piece that the parts tell is the segment of the model: nothing may go exactly where the endpoint that they stand for has no next segment.
 pub fn piece_is_next_segment()
-    ensures { (p : Parts) (e : Endpoint) → Valid e → Stands p e → model_going e ≡ going_by (piece_of p) e }
+    ensures segment { (p : Parts) (e : Endpoint) → Valid e → Stands p e → model_going e ≡ going_by (piece_of p) e }
+    ensures serves { (p : Parts) (e : Endpoint) → Valid e → Stands p e → (IsEmission p ins.Emit ↔ IsSome (model_going e)) }
 {}
