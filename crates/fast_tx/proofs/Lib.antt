@@ -2,4 +2,4 @@ pub mod Columns
 pub mod Heads
 pub mod Alike
 pub mod Told
-mod Ends
+pub mod Ends
