@@ -1,14 +1,4 @@
 -- Each emission leaves less to send.
-<<<<<<< HEAD
-use Rattle.std.proofs.Common.{◌≡◌, ℕ, ◌+◌, ◌-◌, ◌≤◌, ◌<◌, ◌==◌, ◌&&◌, Bool, true, false, length, min, nat_lt, Option, Some, None, refl, sym, subst, true≢false, arith, tests}
-use Rattle.std.specs.Prelude.{⊤}
-use Rattle.tas_model.specs.Endpoint.{Endpoint}
-use Rattle.tas_model.specs.Segments.{one_if}
-use Rattle.tas_model.specs.ApplicationCalls.{Column, Opening, Over, Running, column}
-use Rattle.tas_model.specs.NextSegment.{Going, going, going_in, data_len, waiting}
-use Rattle.tas_model.proofs.Tests.{on_cond}
-use Rattle.fast_tx.specs.Going.{left_in}
-=======
 use Rattle.std.proofs.Common.{◌≡◌, ℕ, ◌+◌, ◌-◌, ◌%◌, ◌^◌, ◌≤◌, ◌<◌, ◌==◌, ◌∙◌, ap, ◌&&◌, Bool, true, false, length, min, nat_lt, Option, Some, None, refl, sym, subst, true≢false, arith, tests}
 use Rattle.std.specs.Prelude.{⊤}
 use Rattle.tas_model.specs.Endpoint.{Endpoint}
@@ -28,7 +18,6 @@ use Rattle.tas_model.specs.Valid.{Valid, LeavesValid}
 use Rattle.tas_model.proofs.ValidCalls.{step_keeps}
 use Rattle.flow_state.specs.declared.parts.Parts.{Parts}
 use Rattle.flow_state.specs.Stands.{Stands}
->>>>>>> team-sending
 
 abbrev Falls : Endpoint → Option Going → Type 0
 Falls e None = ⊤
@@ -71,8 +60,6 @@ falls_in Running e =
 pub falls : (e : Endpoint) (g : Going) → going e ≡ Some g → left_in g.after < left_in e
 unfolding going
 falls e g h = subst (Falls e) h (falls_in (column e) e)
-<<<<<<< HEAD
-=======
 
 -- ----- of the parts
 places_left : (iss iss2 first nxt end out : ℕ) → iss ≡ iss2 → first ≡ (iss2 + nxt) % 2 ^ 32 → end ≡ out → nxt ≤ out + 2 → out + 2 < nxt + 2 ^ 32 → ((iss + (2 + end)) % 2 ^ 32 + (2 ^ 32 - first)) % 2 ^ 32 ≡ out + 2 - nxt
@@ -90,4 +77,3 @@ gone_valid e g v is = subst (λ (o : Option Going). LeavesValid (emitted o)) is 
 
 pub left_falls : (p q : Parts) (e : Endpoint) (g : Going) → Valid e → Stands p e → going e ≡ Some g → Stands q g.after → left_of q < left_of p
 left_falls p q e g v s is t = omega (arith, left_is p e v s, left_is q g.after (gone_valid e g v is) t, falls e g is)
->>>>>>> team-sending

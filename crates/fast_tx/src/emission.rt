@@ -5,10 +5,7 @@ ghost use Rattle.tas_model.specs.Segments.{seq_of, ack_of};
 ghost use Rattle.tas_model.specs.ApplicationCalls.{column, Opening, Running};
 ghost use Rattle.tas_model.specs.NextSegment.{Going, going as model_going, past, syn_head, waiting, going_data, going_probe, going_fin};
 ghost use Rattle.tas_model.specs.Valid.{Valid};
-<<<<<<< HEAD
-=======
 ghost use Rattle.flow_state.specs.declared.parts.Parts.{Parts};
->>>>>>> team-sending
 ghost use Rattle.flow_state.specs.Stands.{Stands};
 ghost use Rattle.fast_tx.specs.declared.piece.Piece.TheVariants as pieces;
 ghost use Rattle.fast_tx.specs.Piece.{next_piece as piece_of, piece_len, len_of, in_flight as flight_of, bytes_waiting as waiting_of, left_of};
@@ -44,10 +41,7 @@ pub fn emit(parts: &mut Parts, out: &mut [u8]) -> Out
     requires room { len_of (piece_of parts.old) ≤ length out.old }
     ensures made { (e : Endpoint) → Valid e → Stands parts.old e → WasNext parts.new result out.new (model_going e) }
     ensures len { result.len ≡ len_of (piece_of parts.old) }
-<<<<<<< HEAD
-=======
     ensures falls { (e : Endpoint) → Valid e → Stands parts.old e → left_of parts.new < left_of parts.old }
->>>>>>> team-sending
     ensures tuple { parts.new.tuple ≡ parts.old.tuple }
     ensures params { parts.new.params ≡ parts.old.params }
 {
@@ -229,14 +223,8 @@ pub fn left_to_send(parts: &Parts) -> u64
     u64::from(places) + u64::from(parts.probe)
 }
 
-<<<<<<< HEAD
-/// Each emission leaves less to send.
-pub fn emission_ends()
-    ensures { (e : Endpoint) (g : Going) → model_going e ≡ Some g → left_in g.after < left_in e }
-=======
 /// Each emission leaves less to send: of the endpoint, and so of the parts that stand for it.
 pub fn emission_ends()
     ensures ends { (e : Endpoint) (g : Going) → model_going e ≡ Some g → left_in g.after < left_in e }
     ensures falls { (before after : Parts) (e : Endpoint) (g : Going) → Valid e → Stands before e → model_going e ≡ Some g → Stands after g.after → left_of after < left_of before }
->>>>>>> team-sending
 {}

@@ -1,13 +1,5 @@
-<<<<<<< HEAD
-use Rattle.fast_tx.proofs.Ends.{falls}
-use Rattle.fast_tx.proofs.emission.emission_ends.Goals as goal
-
-pub returns : goal.returns
-returns c = falls
-=======
 use Rattle.fast_tx.proofs.Ends.{falls, left_falls}
 use Rattle.fast_tx.proofs.emission.emission_ends.Goals as goal
 
 pub returns : goal.returns
 returns c = record { ends = falls; falls = left_falls }
->>>>>>> team-sending
