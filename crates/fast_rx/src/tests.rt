@@ -1,4 +1,4 @@
-ghost use Rattle.std.specs.Prelude.{IfOk};
+ghost use Rattle.std.specs.Prelude.{◌+◌, ◌≤◌, length, IfOk};
 ghost use Rattle.flow_state.specs.Stands.{IsNear};
 
 use super::*;
@@ -68,6 +68,27 @@ fn established(alloc: Global, irs: Seq) -> Result<Parts, AllocError>
     })
 }
 
+/// A ring with bytes ahead.
+fn ring_ahead(alloc: Global, pos: u128, bytes: &[u8]) -> Result<Ring, AllocError>
+    requires { pos + length bytes.now ≤ 65535 }
+    ensures { IfOk result (λ ring. ring.base + length ring.bytes ≤ 65535) }
+{
+    let mut ring = Ring::new(alloc, 65535)?;
+    ring.put_at(pos, bytes);
+    let _size = ring.size();
+    Ok(ring)
+}
+
+/// A ring with bytes in order.
+fn ring_of(alloc: Global, bytes: &[u8]) -> Result<Ring, AllocError>
+    requires { length bytes.now ≤ 65535 }
+    ensures { IfOk result (λ ring. ring.base + length ring.bytes ≤ 65535) }
+{
+    let mut ring = Ring::new(alloc, 65535)?;
+    ring.append(bytes);
+    Ok(ring)
+}
+
 fn segment<'a>(seq: u32, ack: u32, flags: u8, payload: &'a [u8]) -> Segment<'a> {
     Segment {
         src: 167772161,
@@ -104,7 +125,7 @@ fn bytes_past_a_gap_wait_for_those_before(rt: HostRuntime) -> Result<(), Fail> {
     assert_eq!(rt; answer, acks(1, 101, 65535));
     assert_eq!(rt; early.island, Some((2, 2)));
     let mut late = established(rt.alloc(), Seq(100))?;
-    late.rx.put_at(2, b"cd");
+    late.rx = ring_ahead(rt.alloc(), 2, b"cd")?;
     late.island = Some((2, 2));
     let answer = fast_rx(&mut late, &segment(101, 1, 24, b"ab"), 3);
     assert_eq!(rt; answer, acks(1, 105, 65531));
@@ -123,7 +144,7 @@ fn numbers_wrap(rt: HostRuntime) -> Result<(), Fail> {
 #[test]
 fn the_third_duplicate_goes_back(rt: HostRuntime) -> Result<(), Fail> {
     let mut parts = established(rt.alloc(), Seq(100))?;
-    parts.tx.append(b"ok");
+    parts.tx = ring_of(rt.alloc(), b"ok")?;
     parts.nxt = Seq(3);
     parts.max = Seq(3);
     parts.dup = 2;
