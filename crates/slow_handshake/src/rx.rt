@@ -2,7 +2,6 @@ ghost use Rattle.std.specs.Prelude.{◌≡◌, ℕ, List};
 ghost use Rattle.tas_model.specs.Endpoint.{Endpoint};
 ghost use Rattle.tas_model.specs.Segments.{stray_reply};
 ghost use Rattle.tas_model.specs.Receive.{rx};
-ghost use Rattle.tas_model.specs.OneStream.{IsSynchronized};
 ghost use Rattle.tas_model.specs.Valid.{Valid};
 ghost use Rattle.flow_state.specs.Stands.{Stands, IsNear};
 ghost use Rattle.flow_state.specs.Calls.{seg_of, reply_of, answer_len};
@@ -29,17 +28,6 @@ fn receive_in_closed(seg: &Segment<'_>) -> Answer
     }
 }
 
-fn receive_later(parts: &mut Parts, seg: &Segment<'_>, tick: u32) -> Answer
-    requires later { IsSynchronized parts.old.phase }
-    requires near { IsNear parts.old }
-    ensures made { (out : List ℕ) (e : Endpoint) → Valid e → Stands parts.old e → IsOutcome parts.new result out (rx e tick (seg_of seg.now)) }
-    ensures len { answer_len result ≡ 0 }
-    ensures params { parts.new.params ≡ parts.old.params }
-    ensures tuple { parts.new.tuple ≡ parts.old.tuple }
-{
-    Answer::Nothing
-}
-
 /// A segment that arrives in any state.
 #[tactic(auto, unfolding(tas_model::specs::Receive::rx))]
 fn receive(parts: &mut Parts, seg: &Segment<'_>, tick: u32) -> Answer
@@ -52,7 +40,7 @@ fn receive(parts: &mut Parts, seg: &Segment<'_>, tick: u32) -> Answer
     match parts.phase {
         Phase::Closed => receive_in_closed(seg),
         Phase::SynSent => receive_in_syn_sent(parts, seg),
-        _ => receive_later(parts, seg, tick),
+        _ => fast_rx::receive(parts, seg, tick),
     }
 }
 
