@@ -1,6 +1,6 @@
 use super::*;
 use crate::app_end::shut;
-use crate::app_send::send;
+use crate::app_recv::recv;
 use crate::open::passive_parts;
 use segment_fields::{Flags, Segment};
 use std::test::*;
@@ -40,6 +40,8 @@ fn syn() -> Segment<'static> {
     }
 }
 
+fn may_change_threads<T: Send>(_item: &T) {}
+
 #[test]
 fn a_new_flow_is_given_up(rt: HostRuntime) -> Result<(), Fail> {
     let id = FlowId {
@@ -69,6 +71,7 @@ fn a_new_flow_is_given_up(rt: HostRuntime) -> Result<(), Fail> {
         )
     );
     assert_eq!(rt; record.entries(), 4);
+    may_change_threads(&record);
     Ok(())
 }
 
@@ -77,12 +80,8 @@ fn a_stream_ends_once(rt: HostRuntime) -> Result<(), Fail> {
     let mut parts = passive_parts(rt.alloc(), TUPLE, &PARAMS, Seq(0), &syn())?;
     parts.phase = Phase::Established;
     let mut out = [0; 5];
-    assert!(rt;
-        matches!(
-            send(&mut parts, b"hello", &mut out),
-            Answer::Took { len: 5 }
-        )
-    );
+    let nothing = recv(&mut parts, 5, &mut out);
+    assert!(rt; matches!(nothing, Answer::NotYet));
     assert!(rt; matches!(shut(&mut parts), Answer::Ok));
     assert!(rt; matches!(shut(&mut parts), Answer::Shut));
     assert!(rt; matches!(parts.phase, Phase::FinWait1));

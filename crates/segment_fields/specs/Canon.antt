@@ -1,5 +1,5 @@
 -- The one packet that a segment is written as (RFC 791, section 3.1; RFC 9293, section 3.1).
-use Rattle.std.specs.Prelude.{ℕ, ◌+◌, ◌*◌, ◌/◌, ◌%◌, List, [], ◌∷◌, ◌++◌, length, sum, Option, Some, None, if◌then◌else◌}
+use Rattle.std.specs.Prelude.{ℕ, ◌+◌, ◌*◌, ◌/◌, ◌%◌, List, [], ◌∷◌, ◌++◌, length, sum, Option, Some, None, IsSome, IsTrue, if◌then◌else◌}
 use Rattle.tas_num.specs.Sums.{words, checksum}
 use Rattle.segment_fields.specs.Bytes.{two, four}
 use Rattle.segment_fields.specs.ControlBits.{has, syn}
@@ -14,6 +14,10 @@ option_bytes (Some mss) = 2 ∷ 4 ∷ two mss
 -- an MSS stands in a SYN alone
 abbrev pub borne_mss : Fields → Option ℕ
 borne_mss f = if has f.flags syn then f.mss else None
+
+-- the MSS is one that a packet can bear: there is none, or SYN is set
+abbrev pub HasMssInSynAlone : Fields → Type 0
+HasMssInSynAlone f = IsSome f.mss → IsTrue (has f.flags syn)
 
 -- The IPv4 header without options: version 4 and IHL 5, type of service 0, total length, identification 0, DF and fragment offset 0, TTL 64, protocol 6,
 -- checksum, and the addresses.

@@ -44,7 +44,7 @@ is_wrong total = total == 0 || not (total % 65535 == 0)
 
 -- ----- the rules of reading
 -- The first rule that the bytes break. Where `check` is false no checksum is looked at.
--- Of the field of flags and fragment offset, MF and the offset (its low 14 bits but for DF) have to be 0.
+-- Bytes 6 and 7 hold three flags and the fragment offset; MF and the offset are the low 14 bits.
 unfoldable pub refusal : (check : Bool) → List ℕ → Option Refused
 refusal check b =
     if nat_lt (length b) 20 then Some Short

@@ -2,10 +2,12 @@
 #![tactic(auto)]
 
 mod bytes;
+mod laws;
 mod reading;
 mod segment;
 mod writing;
 
+pub use laws::{texts_spell_fields, what_is_written_is_read};
 pub use reading::read;
 pub use segment::{Flags, Refused, Segment};
 pub use writing::{NoRoom, write};

@@ -128,7 +128,12 @@ fn is_data(seg: &Segment<'_>) -> bool
 }
 
 /// Where one more record leads to, where its segment may come next.
-fn after_record(stage: Option<Stage>, local: u32, header: &CaptureHeader, view: &RecordView<'_>) -> Option<Stage>
+fn after_record(
+    stage: Option<Stage>,
+    local: u32,
+    header: &CaptureHeader,
+    view: &RecordView<'_>,
+) -> Option<Stage>
     ensures { result ≡ paths.after_record local (form_in header.now) stage (record_in view.now) }
 {
     let before = stage?;

@@ -1,30 +1,19 @@
 ghost use Rattle.std.specs.Prelude.{◌≡◌, ℕ, ◌+◌, ◌<◌, ◌≤◌, ◌^◌, ◌++◌, length, Ok, Err, IfOk, IfErr, IfSome, OnOk, OnErr};
-ghost use Rattle.std.specs.Io.KnownBytes.{Consumes, IsAtEnd};
 ghost use Rattle.tas_num.specs.Causes.{Rose};
+ghost use Rattle.tas_main.specs.Stops.{Unread};
 
+use crate::stop::Stop;
 use std::alloc::{AllocError, Global};
 use tas_num::{IoFault, Source};
-
-/// Why the input was not read to its end.
-#[derive(Clone, Copy, PartialEq, Eq, Debug)]
-pub enum Unread {
-    /// The source failed.
-    Failed,
-    /// There was no memory.
-    OutOfMemory,
-    /// The source gave more than the limit.
-    TooLong,
-}
 
 /// The most bytes that one call of a source is asked for.
 pub const PIECE: usize = 4096;
 
 /// All that the source has left, at most `limit` bytes. Reading stops one byte past the limit.
-pub fn read_all<S: Source>(alloc: Global, limit: u32, source: &mut S) -> Result<Vec<u8>, Unread>
-    ensures all { IfOk result (λ v. Consumes (S.left source.old) (S.left source.new) v.items × IsAtEnd (S.left source.new)) }
+pub fn read_all<S: Source>(alloc: Global, limit: u32, source: &mut S) -> Result<Vec<u8>, Stop>
+    ensures all { IfOk result (λ v. IfSome (S.left source.old) (λ bytes. v.items ≡ bytes)) }
     ensures short { IfOk result (λ v. length v.items ≤ limit) }
-    ensures failed { result ≡ Err Unread.Failed → Rose (S.faults source.old) (S.faults source.new) }
-    ensures long { result ≡ Err Unread.TooLong → IfSome (S.left source.old) (λ xs. limit < length xs) }
+    ensures cause { IfErr result (Unread (S.left source.old) limit (S.faults source.old) (S.faults source.new)) }
     ensures later { S.faults source.old ≤ S.faults source.new }
 {
     let limit = limit as usize;
@@ -34,17 +23,17 @@ pub fn read_all<S: Source>(alloc: Global, limit: u32, source: &mut S) -> Result<
         let room = (limit + 1 - all.len()).min(PIECE);
         let count = match source.read(&mut buf[..room]) {
             Ok(count) => count,
-            Err(IoFault::Failed) => return Err(Unread::Failed),
-            Err(IoFault::OutOfMemory) => return Err(Unread::OutOfMemory),
+            Err(IoFault::Failed) => return Err(Stop::Read),
+            Err(IoFault::OutOfMemory) => return Err(Stop::Memory),
         };
         if count == 0 {
             return Ok(all);
         }
         if put(&mut all, &buf[..count]).is_err() {
-            return Err(Unread::OutOfMemory);
+            return Err(Stop::Memory);
         }
     }
-    Err(Unread::TooLong)
+    Err(Stop::TooLong)
 }
 
 /// Appends the bytes.

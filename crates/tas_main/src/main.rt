@@ -5,7 +5,42 @@ mod capture;
 mod first_path;
 mod input;
 mod output;
+mod report;
 mod stop;
+mod streams;
+#[cfg(test)]
+mod tests;
+mod top;
 mod words;
 
-fn main(_rt: HostRuntime) {}
+use std::alloc::{AllocError, Global};
+use std::env;
+use std::process::ExitCode;
+use streams::{StderrSink, StdinSource, StdoutSink};
+use tas_num::NoGate;
+use top::tas;
+
+fn main(rt: HostRuntime) -> ExitCode {
+    let alloc = rt.alloc();
+    let mut faults = StderrSink::new(rt.stderr());
+    let mut words = Vec::new(alloc);
+    let Ok(arguments) = env::args(&rt) else {
+        return ExitCode::from(6);
+    };
+    for word in arguments.skip(1) {
+        if words.push(word).is_err() {
+            return ExitCode::from(6);
+        }
+    }
+    let mut source = StdinSource::new(rt.stdin());
+    let mut sink = StdoutSink::new(rt.stdout());
+    ExitCode::from(tas(
+        &rt,
+        alloc,
+        &words,
+        &mut source,
+        &mut sink,
+        &mut faults,
+        &NoGate,
+    ))
+}

@@ -1,17 +1,22 @@
-ghost use Rattle.std.specs.Prelude.{◌≡◌, ℕ, List};
+ghost use Rattle.std.specs.Prelude.{◌≡◌};
 ghost use Rattle.tas_main.specs.Stops.{status_of};
 
 use std::alloc::AllocError;
+use std::fmt;
 
 /// Why the program stopped before all was written.
 #[derive(Clone, Copy, PartialEq, Eq, Debug)]
 pub enum Stop {
+    /// The input is no capture; the record at fault, or 0 for the file header.
+    Input { number: u32 },
     /// The source failed.
     Read,
     /// The sink failed.
     Write,
     /// There was no memory.
     Memory,
+    /// The source gave more than a capture may have.
+    TooLong,
     /// What was asked for, or the form of its input, is not built.
     NotBuilt,
 }
@@ -22,30 +27,25 @@ impl Stop {
         ensures { result ≡ status_of self }
     {
         match self {
+            Stop::Input { .. } => 3,
             Stop::Read => 4,
             Stop::Write => 5,
             Stop::Memory => 6,
+            Stop::TooLong => 7,
             Stop::NotBuilt => 8,
-        }
-    }
-
-    /// The fault line, with its line feed.
-    pub fn line(self) -> &'static str {
-        match self {
-            Stop::Read => "tas: read\n",
-            Stop::Write => "tas: write\n",
-            Stop::Memory => "tas: memory\n",
-            Stop::NotBuilt => "tas: not built\n",
         }
     }
 }
 
-impl From<AllocError> for Stop {
-    ghost use Rattle.tas_main.specs.declared.stop.Stop.{Stop};
-
-    ghost from_gives = { λ _ stop. stop ≡ Stop.Memory };
-
-    fn from(_: AllocError) -> Stop {
-        Stop::Memory
+impl fmt::Display for Stop {
+    fn fmt<W: fmt::Write>(&self, f: &mut fmt::Formatter<W>) -> fmt::Result {
+        match self {
+            Stop::Input { number } => write!(f, "tas: input record {number}"),
+            Stop::Read => write!(f, "tas: read"),
+            Stop::Write => write!(f, "tas: write"),
+            Stop::Memory => write!(f, "tas: memory"),
+            Stop::TooLong => write!(f, "tas: too long"),
+            Stop::NotBuilt => write!(f, "tas: not built"),
+        }
     }
 }

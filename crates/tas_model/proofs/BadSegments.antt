@@ -6,8 +6,8 @@ use Rattle.tas_model.specs.declared.entry.Phase.{Phase}
 use Rattle.tas_model.specs.declared.entry.Phase.TheVariants as phases
 use Rattle.tas_model.specs.declared.entry.Seg.{Seg}
 use Rattle.tas_model.specs.Endpoint.{Endpoint, phase, phase_by, next_place, wnd}
-use Rattle.tas_model.specs.Segments.{Outcome, seg_len, is_rst, is_syn, is_ack}
-use Rattle.tas_model.specs.Receive.{Verdict, Dropped, Answered, Reset, BareAck, Taken, verdict, verdict_at, verdict_of_place, place_of_seq, is_acceptable, by_verdict, rx, rx_in, rx_later}
+use Rattle.tas_model.specs.Segments.{seg_len, is_rst, is_syn, is_ack}
+use Rattle.tas_model.specs.Receive.{Verdict, Dropped, Answered, Reset, BareAck, Taken, verdict, verdict_of_place, place_of_seq, is_acceptable, by_verdict, rx, rx_in, rx_later}
 use Rattle.tas_model.specs.OneStream.{IsSynchronized}
 use Rattle.tas_model.specs.BadSegment.{IsDropped}
 

@@ -1,6 +1,6 @@
 -- A call that is a step gives one entry more of a legal history.
-use Rattle.std.proofs.Common.{◌≡◌, ℕ, ◌+◌, ◌-◌, ◌==◌, ◌&&◌, not, Bool, true, false, cond, List, [], ◌++◌, length, take, min, max, Option, Some, None, IsSome, refl, sym, subst, ap, ◌∙◌, true≢false, arith, eq-eqb, length-take}
-use Rattle.std.proofs.lemmas.List.{take_min, take-take}
+use Rattle.std.proofs.Common.{◌≡◌, ℕ, ◌==◌, ◌&&◌, not, Bool, true, false, cond, List, ◌++◌, length, take, min, max, Option, Some, None, IsSome, refl, sym, subst, ap, ◌∙◌, true≢false, arith, eq-eqb, length-take}
+use Rattle.std.proofs.lemmas.List.{take_min}
 use Rattle.std.proofs.lemmas.Bool.Decides.{nat_tests}
 use Rattle.tas_model.specs.declared.entry.HostParams.{HostParams}
 use Rattle.tas_model.specs.declared.entry.Entry.{Entry}
@@ -125,3 +125,22 @@ reply_shown e t (calls.Recv most) offer reply o g first = given (step e t (calls
 reply_shown e t calls.Shut offer reply o g first = given (step e t calls.Shut reply) reply g
 reply_shown e t calls.Close offer reply o g first = given (step e t calls.Close reply) reply g
 reply_shown e t calls.Abort offer reply o g first = given (step e t calls.Abort reply) reply g
+
+-- ----- a Send
+took : (shut full fits : Bool) (e : Endpoint) (bytes : List ℕ) → Gives (sends shut full fits e bytes) (replies.Took bytes) → fits ≡ true
+took true full fits e bytes g = absurd (cc (g))
+took false true fits e bytes g = absurd (cc (g))
+took false false true e bytes g = refl
+took false false false e bytes g = absurd g
+
+send_takes : (c : Column) (e : Endpoint) (offered : ℕ) (bytes : List ℕ) → Gives (send_in c e offered bytes) (replies.Took bytes) → length bytes ≡ min offered (send_room e)
+send_takes Opening e offered bytes g = absurd (cc (g))
+send_takes (Over why) e offered bytes g = absurd (cc (g))
+send_takes Running e offered bytes g =
+    let fits : (length bytes == min offered (send_room e)) ≡ true = took e.tx.shut (min offered (send_room e) == 0 && not (offered == 0)) (length bytes == min offered (send_room e)) e bytes g in
+    grind (arith, nat_tests, fits)
+
+-- a Send takes as many bytes as there is room for, of those that are offered
+pub takes_what_fits : (e : Endpoint) (tick offered : ℕ) (bytes : List ℕ) → Gives (step e tick (calls.Send offered) (replies.Took bytes)) (replies.Took bytes) → length bytes ≡ min offered (send_room e)
+unfolding step
+takes_what_fits e tick offered bytes g = send_takes (column e) e offered bytes g

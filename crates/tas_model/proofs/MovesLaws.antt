@@ -1,8 +1,8 @@
 -- What follows of every history: how far places go, which bytes were read, and how much the bucket lets through.
-use Rattle.std.proofs.Common.{◌≡◌, ℕ, ◌+◌, ◌-◌, ◌*◌, ◌≤◌, Bool, true, false, cond, List, [], ◌∷◌, ◌++◌, length, take, drop, max, flat_map, Option, Some, None, IsSome, refl, sym, subst, ap, ◌∙◌, arith, true≢false, append-nil, append_assoc, length-append, take-append-drop}
+use Rattle.std.proofs.Common.{◌≡◌, ℕ, ◌+◌, ◌*◌, ◌≤◌, Bool, true, false, cond, List, [], ◌∷◌, ◌++◌, length, take, drop, max, Option, Some, None, IsSome, refl, sym, subst, ap, ◌∙◌, arith, true≢false, append-nil, append_assoc, length-append, take-append-drop}
 use Rattle.std.proofs.lemmas.Grind.{flat_map-append}
 use Rattle.tas_model.proofs.Histories.{legal_induction, legal_parts, legal_push, replay_push, replay_first}
-use Rattle.tas_model.proofs.ValidCalls.{valid_replay, step_keeps}
+use Rattle.tas_model.proofs.ValidCalls.{valid_replay}
 use Rattle.tas_model.proofs.StreamLaw.{got_is_prefix}
 use Rattle.tas_model.specs.OneStream.{OneStream, IsPrefixOf}
 use Rattle.tas_model.proofs.Moves.{Moves, LeavesMoved}
@@ -12,11 +12,10 @@ use Rattle.tas_model.specs.declared.entry.Entry.{Entry}
 use Rattle.tas_model.specs.declared.entry.Call.{Call}
 use Rattle.tas_model.specs.declared.entry.Call.TheVariants as calls
 use Rattle.tas_model.specs.declared.entry.Reply.{Reply}
-use Rattle.tas_model.specs.declared.entry.Reply.TheVariants as replies
 use Rattle.tas_model.specs.Endpoint.{Endpoint, Island, next_place}
 use Rattle.tas_model.specs.Segments.{Outcome}
-use Rattle.tas_model.specs.LegalHistory.{step, state_or, moved, replay, replay_on, opened, Opens, Gives, Legal, LegalAfter, MayFollow, IsFirst}
-use Rattle.tas_model.specs.Outputs.{given_bytes, bytes_read}
+use Rattle.tas_model.specs.LegalHistory.{step, state_or, moved, replay, replay_on, opened, Gives, Legal, LegalAfter, MayFollow, IsFirst, taken_bytes}
+use Rattle.tas_model.specs.Outputs.{given_bytes, bytes_read, accepted}
 use Rattle.tas_model.specs.Valid.{Valid, InRange, IsPastGap, PlacesWithin, IslandWithin}
 use Rattle.tas_model.specs.BucketLaw.{data_by, fill_by, data_sent, fills}
 
@@ -25,7 +24,7 @@ outcome_moves : (fill paid : ℕ) (e : Endpoint) (o : Option Outcome) (reply : R
 outcome_moves fill paid e None reply gives m = absurd gives
 outcome_moves fill paid e (Some o) reply gives m = subst (λ (r : Reply). Moves fill paid e (record { state = o.state; reply = r })) gives m
 
-entry_moves : (params : HostParams) (h : List Entry) (x : Entry) → InRange params → Legal params h → MayFollow params h x
+pub entry_moves : (params : HostParams) (h : List Entry) (x : Entry) → InRange params → Legal params h → MayFollow params h x
     → Moves (fill_by (replay params h) x.call) (data_by (replay params h) x.call) (replay params h) (record { state = moved (replay params h) x; reply = x.reply })
 entry_moves params h x fits legal may =
     let e : Endpoint = replay params h in
@@ -140,6 +139,24 @@ read_is_of_stream params stream h fits legal one =
     let got : IsPrefixOf e.rx.got stream = (got_is_prefix params stream h legal one).0 in
     let whole : bytes_read h ++ drop e.rx.read e.rx.got ≡ e.rx.got = ap (λ (bs : List ℕ). bs ++ drop e.rx.read e.rx.got) (read_is_of_got params h fits legal) ∙ take-append-drop e.rx.read e.rx.got in
     (drop e.rx.read e.rx.got ++ got.0, sym (append_assoc (bytes_read h) (drop e.rx.read e.rx.got) got.0) ∙ (ap (λ (bs : List ℕ). bs ++ got.0) whole ∙ got.1))
+
+-- ----- which bytes were accepted
+accepted_push : (h : List Entry) (x : Entry) → accepted (h ++ x ∷ []) ≡ accepted h ++ taken_bytes x.reply
+accepted_push h x = flat_map-append (λ (y : Entry). taken_bytes y.reply) h (x ∷ []) ∙ ap (λ (bs : List ℕ). accepted h ++ bs) (append-nil (taken_bytes x.reply))
+
+none_accepted : (params : HostParams) (call : Call) → (opened params call).tx.out ≡ []
+none_accepted params (calls.Connect iss) = refl
+none_accepted params (calls.Passive frame iss seg) = refl
+none_accepted params _ = refl
+
+-- what is to be sent is what was accepted
+pub out_is_accepted : (params : HostParams) (h : List Entry) → InRange params → Legal params h → (replay params h).tx.out ≡ accepted h
+out_is_accepted params h fits legal =
+    legal_induction params (λ (es : List Entry). (replay params es).tx.out ≡ accepted es)
+    (λ x first. ap (λ (e : Endpoint). e.tx.out) (replay_first params x) ∙ (none_accepted params x.call ∙ sym (ap (λ (r : Reply). taken_bytes r ++ []) first.reply)))
+    (λ es x before so_far may. ap (λ (e : Endpoint). e.tx.out) (replay_push params es x before)
+    ∙ ((entry_moves params es x fits before may).out ∙ (ap (λ (bs : List ℕ). bs ++ taken_bytes x.reply) so_far ∙ sym (accepted_push es x))))
+    h legal
 
 -- ----- what the bucket lets through
 -- data and what is left in the bucket are what it held and was filled with

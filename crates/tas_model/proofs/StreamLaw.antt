@@ -1,6 +1,5 @@
 -- What is received is the beginning of the peer's stream.
-use Rattle.std.proofs.Common.{◌≡◌, ℕ, ◌+◌, ◌-◌, ◌*◌, true, not, ◌&&◌, List, [], ◌∷◌, ◌++◌, length, drop, min, Option, Some, None, refl, sym, subst, ap, ◌∙◌, ltb, leb, eqb, take-append-drop, append_assoc}
-use Rattle.std.proofs.lemmas.List.{append-nil}
+use Rattle.std.proofs.Common.{◌≡◌, ℕ, ◌+◌, ◌-◌, ◌*◌, true, not, ◌&&◌, List, [], ◌∷◌, ◌++◌, length, drop, min, Option, Some, None, refl, sym, subst, ap, ◌∙◌, ltb, leb, eqb, take-append-drop}
 use Rattle.tas_model.proofs.Tests.{on_cond}
 use Rattle.tas_model.proofs.StreamSteps.{rx_in_stream}
 use Rattle.tas_model.proofs.Histories.{along_split, legal_induction, replay_push, replay_first}
@@ -18,7 +17,7 @@ use Rattle.tas_model.specs.ApplicationCalls.{Column, Opening, Over, Running, col
 use Rattle.tas_model.specs.NextSegment.{Going, going, going_in, emitted, waiting, data_len}
 use Rattle.tas_model.specs.Timers.{ticks, tick_in, ticked, is_armed, patience, probes, filled, control}
 use Rattle.tas_model.specs.LegalHistory.{step, control_in, opened, taken_bytes, Legal, Opens, replay, state_or}
-use Rattle.tas_model.specs.OneStream.{InStream, IsOfStream, OneStream, OneStreamAfter, LeavesIn, IsPrefixOf}
+use Rattle.tas_model.specs.OneStream.{InStream, IsOfStream, OneStream, LeavesIn, IsPrefixOf}
 
 abbrev W : List ℕ → Outcome → Type 0
 W p o = InStream p o.state.rx

@@ -1,5 +1,5 @@
 -- Every step leaves an endpoint valid.
-use Rattle.std.proofs.Common.{◌≡◌, ℕ, ◌+◌, ◌-◌, ◌*◌, ◌/◌, ◌<◌, ◌≤◌, Bool, true, false, cond, not, ◌&&◌, ◌||◌, List, ◌++◌, length, min, max, Option, Some, None, refl, sym, subst, arith, length-append, ltb, leb, eqb}
+use Rattle.std.proofs.Common.{◌≡◌, ℕ, ◌+◌, ◌-◌, ◌*◌, ◌/◌, ◌<◌, ◌≤◌, Bool, true, false, cond, not, ◌&&◌, List, ◌++◌, length, min, max, Option, Some, None, refl, sym, subst, arith, length-append, ltb, leb, eqb}
 use Rattle.std.proofs.lemmas.Bool.Decides.{nat_tests}
 use Rattle.tas_model.proofs.Tests.{on_cond}
 use Rattle.tas_model.proofs.ValidSteps.{data_keeps, sending_keeps}

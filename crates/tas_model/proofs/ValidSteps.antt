@@ -5,7 +5,7 @@ use Rattle.tas_model.proofs.Tests.{on_cond}
 use Rattle.tas_model.specs.Endpoint.{Sending, Receiving, Island, next_place}
 use Rattle.tas_model.specs.Receive.{after_duplicate, after_advance, with_window, sending_after, moves_window, is_duplicate, ack_verdict, Good}
 use Rattle.tas_model.specs.Reassembly.{trimmed, meets, joined, kept_apart, bridged, grown, with_part, with_data}
-use Rattle.tas_model.specs.Valid.{ValidSending, ValidReceiving, IsPastGap, PastGap}
+use Rattle.tas_model.specs.Valid.{ValidSending, ValidReceiving, IsPastGap}
 
 duplicate_keeps : (ring : ℕ) (tx : Sending) (a len window : ℕ) → ValidSending ring tx → ValidSending ring (after_duplicate tx a len window)
 duplicate_keeps ring tx a len window v = grind (arith, nat_tests)

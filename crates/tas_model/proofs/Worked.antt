@@ -1,5 +1,5 @@
 -- The worked histories are legal, by computation.
-use Rattle.std.proofs.Common.{◌≡◌, ℕ, ◌≤◌, Bool, true, false, ◌&&◌, leb, List, [], ◌∷◌, ◌++◌, map, Option, Some, None, option_map, refl, sym, subst, ap, ◌∙◌, arith, true≢false}
+use Rattle.std.proofs.Common.{◌≡◌, ℕ, Bool, true, false, ◌&&◌, leb, List, [], ◌∷◌, ◌++◌, map, Option, Some, None, option_map, refl, sym, ap, ◌∙◌, arith, true≢false}
 use Rattle.std.proofs.lemmas.Bool.Decides.{nat_tests}
 use Rattle.tas_num.specs.Places.{nearest}
 use Rattle.tas_model.specs.declared.entry.HostParams.{HostParams}
@@ -10,7 +10,7 @@ use Rattle.tas_model.specs.Segments.{Outcome}
 use Rattle.tas_model.specs.Receive.{rx, rx_later, rx_syn_sent}
 use Rattle.tas_model.specs.NextSegment.{going}
 use Rattle.tas_model.specs.Timers.{ticks, control}
-use Rattle.tas_model.specs.LegalHistory.{step, moved, replay, replay_on, opened, next_number, last_tick, Gives, IsFirst, MayFollow, Legal, LegalAfter}
+use Rattle.tas_model.specs.LegalHistory.{step, moved, replay, opened, next_number, last_tick, Gives, IsFirst, Legal, LegalAfter}
 use Rattle.tas_model.specs.WorkedHistories.{replay_params, host_params, three_packets, data_out_of_order, three_duplicates, client_of_hello, server_of_hello}
 use Rattle.tas_model.proofs.Histories.{replay_on_push}
 

@@ -1,5 +1,5 @@
 -- What an endpoint is, the phase that it is in, and the endpoint that a connection begins with (RFC 9293, sections 3.3 and 3.4).
-use Rattle.std.specs.Prelude.{ℕ, ◌+◌, ◌-◌, ◌*◌, ◌^◌, ◌==◌, not, ◌&&◌, Bool, true, false, List, [], length, nat_lt, min, max, Option, Some, None, is_some, unwrap_or, if◌then◌else◌}
+use Rattle.std.specs.Prelude.{ℕ, ◌+◌, ◌-◌, ◌*◌, ◌^◌, ◌==◌, not, ◌&&◌, Bool, false, List, [], length, nat_lt, min, max, Option, Some, None, is_some, unwrap_or, if◌then◌else◌}
 use Rattle.tas_num.specs.Control.{refill}
 use Rattle.tas_model.specs.declared.entry.HostParams.{HostParams}
 use Rattle.tas_model.specs.declared.entry.Phase.{Phase}

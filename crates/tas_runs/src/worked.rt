@@ -1,0 +1,35 @@
+ghost use Rattle.std.specs.Prelude.{◌≡◌, true, false, Err};
+ghost use Rattle.tas_num.specs.Captures.{CutShort};
+ghost use Rattle.tas_runs.specs.SerialOrder.{serial_replay};
+ghost use Rattle.tas_runs.specs.WorkedTexts.{host_address, replayed, capture_or_none};
+ghost use Rattle.tas_runs.specs.WorkedReplays.{hello_capture, hello_report, late_start_capture, late_start_report, sending_capture, sending_report, both_ends_capture, both_ends_report, resets_capture, resets_report, hello_sent, cut_capture};
+ghost use Rattle.tas_runs.specs.WorkedRecords.{damaged_capture, damaged_report, loose_report, two_strays_capture, two_strays_report, other_traffic_capture, other_traffic_report, two_faults_capture, two_faults_report, later_number_capture, later_number_report, counted_openings_capture, counted_openings_report, data_and_end_capture, data_and_end_report, early_data_capture, early_data_report, refused_connect_capture, refused_connect_report, reset_while_opening_capture, reset_while_opening_report, abort_while_opening_capture, abort_while_opening_report, used_again_capture, used_again_report};
+
+/// Reports that another program wrote for captures of single connections are those of the run in serial order.
+pub fn worked_replays()
+    ensures hello { replayed host_address hello_capture false ≡ hello_report }
+    ensures late_start { replayed host_address late_start_capture false ≡ late_start_report }
+    ensures sending { replayed host_address sending_capture false ≡ sending_report }
+    ensures both_ends { replayed host_address both_ends_capture false ≡ both_ends_report }
+    ensures resets { replayed host_address resets_capture false ≡ resets_report }
+    // The capture of what was sent, and a capture that is cut short.
+    ensures hello_sent { capture_or_none (serial_replay host_address hello_capture false) ≡ hello_sent }
+    ensures cut_short { serial_replay host_address cut_capture false ≡ Err (CutShort 3) }
+{}
+
+/// The same of captures that show how records are chosen, which batches they make, and what the local script does with them.
+pub fn worked_records()
+    ensures damaged { replayed host_address damaged_capture false ≡ damaged_report }
+    ensures loose { replayed host_address damaged_capture true ≡ loose_report }
+    ensures two_strays { replayed host_address two_strays_capture false ≡ two_strays_report }
+    ensures other_traffic { replayed host_address other_traffic_capture false ≡ other_traffic_report }
+    ensures two_faults { replayed host_address two_faults_capture false ≡ two_faults_report }
+    ensures later_number { replayed host_address later_number_capture false ≡ later_number_report }
+    ensures counted_openings { replayed host_address counted_openings_capture false ≡ counted_openings_report }
+    ensures data_and_end { replayed host_address data_and_end_capture false ≡ data_and_end_report }
+    ensures early_data { replayed host_address early_data_capture false ≡ early_data_report }
+    ensures refused_connect { replayed host_address refused_connect_capture false ≡ refused_connect_report }
+    ensures reset_while_opening { replayed host_address reset_while_opening_capture false ≡ reset_while_opening_report }
+    ensures abort_while_opening { replayed host_address abort_while_opening_capture false ≡ abort_while_opening_report }
+    ensures used_again { replayed host_address used_again_capture false ≡ used_again_report }
+{}
