@@ -1,5 +1,5 @@
 -- How far one step moves an endpoint, whatever the call.
-use Rattle.std.proofs.Common.{◌≡◌, ℕ, ◌+◌, ◌≤◌, List, [], ◌++◌, length, take, max, Option, Some, None, IsSome, refl, sym, ap, ◌∙◌, arith, append-nil}
+use Rattle.std.proofs.Common.{◌≡◌, ℕ, ◌+◌, ◌≤◌, true, List, [], ◌++◌, length, take, max, Option, Some, None, IsSome, refl, sym, ap, ◌∙◌, arith, append-nil}
 use Rattle.tas_model.specs.declared.entry.Reason.{Reason}
 use Rattle.tas_model.specs.declared.entry.Reply.{Reply}
 use Rattle.tas_model.specs.Endpoint.{Endpoint, Sending, Rate, next_place}
@@ -14,6 +14,8 @@ pub record Moves (fill paid : ℕ) (e : Endpoint) (o : Outcome) : Type 0 where
   pub read : o.state.rx.read ≤ max e.rx.read (length e.rx.got)
   pub wl1 : o.state.tx.wl1 ≤ max e.tx.wl1 (next_place e.rx + 65535)
   pub wl2 : o.state.tx.wl2 ≤ max e.tx.wl2 e.tx.max
+  pub iss : o.state.iss ≡ e.iss
+  pub shut : e.tx.shut ≡ true → (o.state.tx.shut ≡ true) × (taken_bytes o.reply ≡ [])
   pub out : o.state.tx.out ≡ e.tx.out ++ taken_bytes o.reply
   pub bytes : take o.state.rx.read o.state.rx.got ≡ take e.rx.read e.rx.got ++ given_bytes o.reply
   pub bucket : IsSome e.peer → IsSome o.state.peer × (paid + o.state.rate.tokens ≤ e.rate.tokens + fill)
@@ -31,13 +33,15 @@ grown_by_none xs ys none = sym (append-nil xs) ∙ ap (λ (bs : List ℕ). xs ++
 
 -- nothing is accepted, received or read
 pub moves_sending : (fill paid : ℕ) (e : Endpoint) (tx : Sending) (rate : Rate) (reason : Option Reason) (reply : Reply) → Valid e
-    → tx.out ≡ e.tx.out → tx.una ≡ e.tx.una → tx.wl1 ≡ e.tx.wl1 → tx.wl2 ≡ e.tx.wl2 → paid + rate.tokens ≤ e.rate.tokens + fill → IsSilent reply
+    → tx.out ≡ e.tx.out → (e.tx.shut ≡ true → tx.shut ≡ true) → tx.una ≡ e.tx.una → tx.wl1 ≡ e.tx.wl1 → tx.wl2 ≡ e.tx.wl2 → paid + rate.tokens ≤ e.rate.tokens + fill → IsSilent reply
     → Moves fill paid e (record { state = record e { tx = tx; rate = rate; reason = reason }; reply = reply })
-moves_sending fill paid e tx rate reason reply v out una wl1 wl2 pays silent = record {
+moves_sending fill paid e tx rate reason reply v out shut una wl1 wl2 pays silent = record {
   una = omega (arith, una, v.tx.una, v.tx.nxt);
   read = omega arith;
   wl1 = omega (arith, wl1);
   wl2 = omega (arith, wl2);
+  iss = refl;
+  shut = λ s. (shut s, silent.1);
   out = out ∙ grown_by_none e.tx.out (taken_bytes reply) silent.1;
   bytes = grown_by_none (take e.rx.read e.rx.got) (given_bytes reply) silent.0;
   bucket = λ s. (s, pays);
@@ -45,7 +49,7 @@ moves_sending fill paid e tx rate reason reply v out una wl1 wl2 pays silent = r
 
 -- nothing changes but the reason
 pub moves_reason : (e : Endpoint) (reason : Option Reason) (reply : Reply) → Valid e → IsSilent reply → Moves 0 0 e (record { state = record e { reason = reason }; reply = reply })
-moves_reason e reason reply v silent = moves_sending 0 0 e e.tx e.rate reason reply v refl refl refl refl (omega arith) silent
+moves_reason e reason reply v silent = moves_sending 0 0 e e.tx e.rate reason reply v refl (λ s. s) refl refl refl (omega arith) silent
 
 pub moves_nothing : (e : Endpoint) (reply : Reply) → Valid e → IsSilent reply → Moves 0 0 e (unchanged e reply)
 moves_nothing e reply v silent = moves_reason e e.reason reply v silent

@@ -24,7 +24,7 @@ outcome_moves : (fill paid : ℕ) (e : Endpoint) (o : Option Outcome) (reply : R
 outcome_moves fill paid e None reply gives m = absurd gives
 outcome_moves fill paid e (Some o) reply gives m = subst (λ (r : Reply). Moves fill paid e (record { state = o.state; reply = r })) gives m
 
-entry_moves : (params : HostParams) (h : List Entry) (x : Entry) → InRange params → Legal params h → MayFollow params h x
+pub entry_moves : (params : HostParams) (h : List Entry) (x : Entry) → InRange params → Legal params h → MayFollow params h x
     → Moves (fill_by (replay params h) x.call) (data_by (replay params h) x.call) (replay params h) (record { state = moved (replay params h) x; reply = x.reply })
 entry_moves params h x fits legal may =
     let e : Endpoint = replay params h in

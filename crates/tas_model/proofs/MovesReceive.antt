@@ -52,17 +52,19 @@ data_receives rx window q payload =
 
 -- ----- what is acknowledged
 abbrev Acked : Sending → (a q : ℕ) → Sending → Type 0
-Acked tx a q x = (x.una ≤ tx.max) × (x.wl1 ≤ max tx.wl1 q) × (x.wl2 ≤ max tx.wl2 a) × (x.out ≡ tx.out)
+Acked tx a q x = (x.una ≤ tx.max) × (x.wl1 ≤ max tx.wl1 q) × (x.wl2 ≤ max tx.wl2 a) × (x.out ≡ tx.out) × (x.shut ≡ tx.shut)
 
 sending_acked : (tx : Sending) (a q len window : ℕ) → a ≤ tx.max → tx.una ≤ tx.max → Acked tx a q (sending_after tx a q len window)
 sending_acked tx a q len window good una =
-    let duplicate : Acked tx a q (after_duplicate tx a len window) = on_cond (Acked tx a q) (is_duplicate tx a len window) _ tx (λ t. (una, omega arith, omega arith, refl)) (λ f. (una, omega arith, omega arith, refl)) in
+    let duplicate : Acked tx a q (after_duplicate tx a len window) = on_cond (Acked tx a q) (is_duplicate tx a len window) _ tx (λ t. (una, omega arith, omega arith, refl, refl)) (λ f. (una, omega arith, omega arith, refl, refl)) in
     let advance : Acked tx a q (after_advance (after_duplicate tx a len window) a) =
-    on_cond (Acked tx a q) (ltb (after_duplicate tx a len window).una a) _ (after_duplicate tx a len window) (λ t. (good, duplicate.1, duplicate.2, duplicate.3)) (λ f. duplicate) in
-    on_cond (Acked tx a q) (moves_window tx a q) _ (after_advance (after_duplicate tx a len window) a) (λ t. (advance.0, omega arith, omega arith, advance.3)) (λ f. advance)
+    on_cond (Acked tx a q) (ltb (after_duplicate tx a len window).una a) _ (after_duplicate tx a len window) (λ t. (good, duplicate.1, duplicate.2, duplicate.3, duplicate.4)) (λ f. duplicate) in
+    on_cond (Acked tx a q) (moves_window tx a q) _ (after_advance (after_duplicate tx a len window) a) (λ t. (advance.0, omega arith, omega arith, advance.3, advance.4)) (λ f. advance)
 
 -- ----- both
 record Hears (e x : Endpoint) : Type 0 where
+  pub iss : x.iss ≡ e.iss
+  pub shut : x.tx.shut ≡ e.tx.shut
   pub out : x.tx.out ≡ e.tx.out
   pub una : x.tx.una ≤ e.tx.max
   pub wl1 : x.tx.wl1 ≤ max e.tx.wl1 (next_place e.rx + 65535)
@@ -77,6 +79,8 @@ moves_heard e x reply v h silent = record {
   read = omega (arith, h.rx.read);
   wl1 = h.wl1;
   wl2 = h.wl2;
+  iss = h.iss;
+  shut = λ s. (h.shut ∙ s, silent.1);
   out = h.out ∙ grown_by_none e.tx.out (taken_bytes reply) silent.1;
   bytes = same_read ∙ grown_by_none (take e.rx.read e.rx.got) (given_bytes reply) silent.0;
   bucket = λ s. (subst (λ (o : Option ℕ). IsSome o) (sym h.peer) s, omega (arith, h.tokens));
@@ -90,6 +94,8 @@ ack_hears e tick a q len window v good near =
     let most : a ≤ e.tx.max = good_tells e.tx a good in
     let s : Acked e.tx a q (sending_after e.tx a q len window) = sending_acked e.tx a q len window most (omega (arith, v.tx.una, v.tx.nxt)) in
     record {
+      iss = refl;
+      shut = s.4;
       out = s.3;
       una = s.0;
       wl1 = omega (arith, s.1);
@@ -103,8 +109,8 @@ after_data_hears : (e x : Endpoint) (tick window q : ℕ) (seg : Seg) → x.rx �
 after_data_hears e x tick window q seg same h =
     let rx : Receives e.rx (with_data x.rx window q seg.bytes) = subst (λ (r : Receiving). Receives r (with_data x.rx window q seg.bytes)) same (data_receives x.rx window q seg.bytes) in
     on_cond (Hears e) (takes_fin x.rx (with_data x.rx window q seg.bytes) window q (length seg.bytes) (is_fin seg)) _ _
-    (λ t. record { out = h.out; una = h.una; wl1 = h.wl1; wl2 = h.wl2; rx = record { read = rx.read; got = rx.got }; peer = h.peer; tokens = h.tokens })
-    (λ f. record { out = h.out; una = h.una; wl1 = h.wl1; wl2 = h.wl2; rx = rx; peer = h.peer; tokens = h.tokens })
+    (λ t. record { iss = h.iss; shut = h.shut; out = h.out; una = h.una; wl1 = h.wl1; wl2 = h.wl2; rx = record { read = rx.read; got = rx.got }; peer = h.peer; tokens = h.tokens })
+    (λ f. record { iss = h.iss; shut = h.shut; out = h.out; una = h.una; wl1 = h.wl1; wl2 = h.wl2; rx = rx; peer = h.peer; tokens = h.tokens })
 
 -- ----- the verdicts
 heard_silent : (e : Endpoint) (b : Bool) → IsSilent (cond b (acks e) replies.Nothing)
@@ -149,6 +155,8 @@ connected_moves e seg v none sent = record {
   read = omega arith;
   wl1 = omega arith;
   wl2 = omega arith;
+  iss = refl;
+  shut = λ s. (s, refl);
   out = sym (append-nil e.tx.out);
   bytes = sym (append-nil (take e.rx.read e.rx.got));
   bucket = λ s. absurd (true≢false (sym (subst (λ (o : Option ℕ). IsSome o) none s)));

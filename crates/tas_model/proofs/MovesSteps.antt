@@ -1,5 +1,5 @@
 -- How far every step moves an endpoint.
-use Rattle.std.proofs.Common.{◌≡◌, ℕ, ◌+◌, ◌-◌, ◌*◌, Bool, true, false, not, ◌&&◌, List, ◌++◌, length, take, min, max, Option, Some, None, refl, sym, append-nil, arith, ltb, leb, eqb}
+use Rattle.std.proofs.Common.{◌≡◌, ℕ, ◌+◌, ◌-◌, ◌*◌, Bool, true, false, not, ◌&&◌, List, ◌++◌, length, take, min, max, Option, Some, None, refl, sym, ◌∙◌, true≢false, append-nil, arith, ltb, leb, eqb}
 use Rattle.std.proofs.lemmas.Bool.Decides.{nat_tests}
 use Rattle.std.proofs.Math.Seq.{take-add}
 use Rattle.tas_model.proofs.Tests.{on_cond}
@@ -29,8 +29,8 @@ abbrev L : Endpoint → Option Outcome → Type 0
 L e o = LeavesMoved 0 0 e o
 
 -- only the sending side, or the reason, changes
-with_tx : (e : Endpoint) (tx : Sending) (reply : Reply) → Valid e → tx.out ≡ e.tx.out → tx.una ≡ e.tx.una → tx.wl1 ≡ e.tx.wl1 → tx.wl2 ≡ e.tx.wl2 → IsSilent reply → M e (record { state = record e { tx = tx }; reply = reply })
-with_tx e tx reply v out una wl1 wl2 silent = moves_sending 0 0 e tx e.rate e.reason reply v out una wl1 wl2 (omega arith) silent
+with_tx : (e : Endpoint) (tx : Sending) (reply : Reply) → Valid e → tx.out ≡ e.tx.out → (e.tx.shut ≡ true → tx.shut ≡ true) → tx.una ≡ e.tx.una → tx.wl1 ≡ e.tx.wl1 → tx.wl2 ≡ e.tx.wl2 → IsSilent reply → M e (record { state = record e { tx = tx }; reply = reply })
+with_tx e tx reply v out shut una wl1 wl2 silent = moves_sending 0 0 e tx e.rate e.reason reply v out shut una wl1 wl2 (omega arith) silent
 
 -- ----- the calls of an application
 accept_moves : (e : Endpoint) (c : Column) → Valid e → L e (accept_in c e)
@@ -43,9 +43,9 @@ ready_moves e Running v = moves_nothing e _ v (refl, refl)
 ready_moves e Opening v = moves_nothing e _ v (refl, refl)
 ready_moves e (Over why) v = moves_nothing e _ v (refl, refl)
 
-accepted_moves : (e : Endpoint) (bytes : List ℕ) → Valid e → M e (record { state = record e { tx = record (e.tx) { out = e.tx.out ++ bytes } }; reply = replies.Took bytes })
-accepted_moves e bytes v =
-    record { una = omega (arith, v.tx.una, v.tx.nxt); read = omega arith; wl1 = omega arith; wl2 = omega arith; out = refl; bytes = sym (append-nil (take e.rx.read e.rx.got)); bucket = λ s. (s, omega arith) }
+accepted_moves : (e : Endpoint) (bytes : List ℕ) → e.tx.shut ≡ false → Valid e → M e (record { state = record e { tx = record (e.tx) { out = e.tx.out ++ bytes } }; reply = replies.Took bytes })
+accepted_moves e bytes going v =
+    record { una = omega (arith, v.tx.una, v.tx.nxt); read = omega arith; wl1 = omega arith; wl2 = omega arith; iss = refl; shut = λ s. absurd (true≢false (sym s ∙ going)); out = refl; bytes = sym (append-nil (take e.rx.read e.rx.got)); bucket = λ s. (s, omega arith) }
 
 send_moves : (e : Endpoint) (c : Column) (offered : ℕ) (bytes : List ℕ) → Valid e → L e (send_in c e offered bytes)
 send_moves e Opening offered bytes v = moves_nothing e _ v (refl, refl)
@@ -53,7 +53,7 @@ send_moves e (Over why) offered bytes v = moves_nothing e _ v (refl, refl)
 send_moves e Running offered bytes v =
     on_cond (L e) e.tx.shut _ _ (λ t. moves_nothing e _ v (refl, refl))
     (λ f. on_cond (L e) (eqb (min offered (send_room e)) 0 && not (eqb offered 0)) _ _ (λ t. moves_nothing e _ v (refl, refl))
-    (λ g. on_cond (L e) (eqb (length bytes) (min offered (send_room e))) _ _ (λ t. accepted_moves e bytes v) (λ h. tt)))
+    (λ g. on_cond (L e) (eqb (length bytes) (min offered (send_room e))) _ _ (λ t. accepted_moves e bytes f v) (λ h. tt)))
 
 given_moves : (e : Endpoint) (most : ℕ) → Valid e → M e (recv_given e most)
 given_moves e most v = record {
@@ -61,6 +61,8 @@ given_moves e most v = record {
   read = omega (arith, v.rx.read);
   wl1 = omega arith;
   wl2 = omega arith;
+  iss = refl;
+  shut = λ s. (s, refl);
   out = sym (append-nil e.tx.out);
   bytes = take-add e.rx.read (min most (unread e.rx)) e.rx.got;
   bucket = λ s. (s, omega arith);
@@ -84,12 +86,12 @@ recv_moves e (Over _) most v = moves_nothing e _ v (refl, refl)
 shut_moves : (e : Endpoint) (c : Column) → Valid e → M e (shut_in c e)
 shut_moves e Opening v = moves_nothing e _ v (refl, refl)
 shut_moves e (Over why) v = moves_nothing e _ v (refl, refl)
-shut_moves e Running v = on_cond (M e) e.tx.shut _ _ (λ t. moves_nothing e _ v (refl, refl)) (λ f. with_tx e (record (e.tx) { shut = true }) _ v refl refl refl refl (refl, refl))
+shut_moves e Running v = on_cond (M e) e.tx.shut _ _ (λ t. moves_nothing e _ v (refl, refl)) (λ f. with_tx e (record (e.tx) { shut = true }) _ v refl (λ s. refl) refl refl refl (refl, refl))
 
 close_moves : (e : Endpoint) (c : Column) → Valid e → M e (close_in c e)
 close_moves e Opening v = moves_reason e (Some reasons.Aborted) _ v (refl, refl)
 close_moves e (Over why) v = moves_nothing e _ v (refl, refl)
-close_moves e Running v = with_tx e (record (e.tx) { shut = true }) _ v refl refl refl refl (refl, refl)
+close_moves e Running v = with_tx e (record (e.tx) { shut = true }) _ v refl (λ s. refl) refl refl refl (refl, refl)
 
 abort_silent : (e : Endpoint) → IsSilent (abort_reply e)
 abort_silent e = on_cond IsSilent (tells_abort (phase e)) _ _ (λ t. (refl, refl)) (λ f. (refl, refl))
@@ -107,16 +109,16 @@ G paid e (Some g) = Moves 0 paid e (record { state = g.after; reply = replies.Se
 running_moves : (e : Endpoint) → Valid e → G (data_len e) e (going_running e)
 running_moves e v =
     on_cond (G (data_len e) e) (ltb 0 (data_len e)) _ _
-    (λ t. moves_sending 0 (data_len e) e (past e.tx (data_len e)) (record (e.rate) { tokens = e.rate.tokens - data_len e }) e.reason _ v refl refl refl refl (omega arith) (refl, refl))
+    (λ t. moves_sending 0 (data_len e) e (past e.tx (data_len e)) (record (e.rate) { tokens = e.rate.tokens - data_len e }) e.reason _ v refl (λ s. s) refl refl refl (omega arith) (refl, refl))
     (λ f. let none : data_len e ≡ 0 = grind (arith, nat_tests) in
     on_cond (G (data_len e) e) (e.tx.probe && eqb e.tx.window 0 && eqb e.tx.nxt e.tx.una && ltb 0 (waiting e.tx)) _ _
-    (λ t. moves_sending 0 (data_len e) e (record (e.tx) { probe = false; max = max e.tx.max (e.tx.nxt + 1) }) e.rate e.reason _ v refl refl refl refl (omega (arith, none)) (refl, refl))
+    (λ t. moves_sending 0 (data_len e) e (record (e.tx) { probe = false; max = max e.tx.max (e.tx.nxt + 1) }) e.rate e.reason _ v refl (λ s. s) refl refl refl (omega (arith, none)) (refl, refl))
     (λ g. on_cond (G (data_len e) e) (e.tx.shut && eqb e.tx.nxt (1 + length e.tx.out)) _ _
-    (λ t. moves_sending 0 (data_len e) e (past e.tx 1) e.rate e.reason _ v refl refl refl refl (omega (arith, none)) (refl, refl)) (λ h. tt)))
+    (λ t. moves_sending 0 (data_len e) e (past e.tx 1) e.rate e.reason _ v refl (λ s. s) refl refl refl (omega (arith, none)) (refl, refl)) (λ h. tt)))
 
 going_moves : (e : Endpoint) (c : Column) → Valid e → G (data_in c e) e (going_in c e)
 going_moves e (Over why) v = tt
-going_moves e Opening v = on_cond (G 0 e) (eqb e.tx.nxt 0) _ _ (λ t. moves_sending 0 0 e (past e.tx 1) e.rate e.reason _ v refl refl refl refl (omega arith) (refl, refl)) (λ f. tt)
+going_moves e Opening v = on_cond (G 0 e) (eqb e.tx.nxt 0) _ _ (λ t. moves_sending 0 0 e (past e.tx 1) e.rate e.reason _ v refl (λ s. s) refl refl refl (omega arith) (refl, refl)) (λ f. tt)
 going_moves e Running v = running_moves e v
 
 emit_moves : (paid : ℕ) (e : Endpoint) (o : Option Going) → G paid e o → LeavesMoved 0 paid e (emitted o)
@@ -127,21 +129,21 @@ emit_moves paid e (Some x) g = g
 abbrev T : Endpoint → Outcome → Type 0
 T e o = Moves e.rate.fill 0 e o
 
-with_timer : (e : Endpoint) (tx : Sending) (timeouts : ℕ) (reason : Option Reason) (reply : Reply) → Valid e → tx.out ≡ e.tx.out → tx.una ≡ e.tx.una → tx.wl1 ≡ e.tx.wl1 → tx.wl2 ≡ e.tx.wl2 → IsSilent reply
+with_timer : (e : Endpoint) (tx : Sending) (timeouts : ℕ) (reason : Option Reason) (reply : Reply) → Valid e → tx.out ≡ e.tx.out → (e.tx.shut ≡ true → tx.shut ≡ true) → tx.una ≡ e.tx.una → tx.wl1 ≡ e.tx.wl1 → tx.wl2 ≡ e.tx.wl2 → IsSilent reply
     → T e (record { state = record e { tx = tx; rate = record (filled e.rate) { timeouts = timeouts }; reason = reason }; reply = reply })
-with_timer e tx timeouts reason reply v out una wl1 wl2 silent = moves_sending e.rate.fill 0 e tx (record (filled e.rate) { timeouts = timeouts }) reason reply v out una wl1 wl2 (omega arith) silent
+with_timer e tx timeouts reason reply v out shut una wl1 wl2 silent = moves_sending e.rate.fill 0 e tx (record (filled e.rate) { timeouts = timeouts }) reason reply v out shut una wl1 wl2 (omega arith) silent
 
 ticked_moves : (e : Endpoint) → Valid e → T e (ticked (record e { rate = filled e.rate }))
 ticked_moves e v =
-    on_cond (T e) (not (is_armed e.tx)) _ _ (λ t. with_timer e (record (e.tx) { age = 0 }) e.rate.timeouts e.reason _ v refl refl refl refl (refl, refl))
-    (λ f. on_cond (T e) (ltb (e.tx.age + 1) (patience e)) _ _ (λ t. with_timer e (record (e.tx) { age = e.tx.age + 1 }) e.rate.timeouts e.reason _ v refl refl refl refl (refl, refl))
-    (λ g. on_cond (T e) (eqb (e.tx.tries + 1) 9) _ _ (λ t. with_timer e (record (e.tx) { tries = e.tx.tries + 1; age = 0 }) e.rate.timeouts (Some reasons.TimedOut) _ v refl refl refl refl (refl, refl))
-    (λ h. on_cond (T e) (probes e) _ _ (λ t. with_timer e (record (e.tx) { tries = e.tx.tries + 1; age = 0; nxt = e.tx.una; probe = true }) e.rate.timeouts e.reason _ v refl refl refl refl (refl, refl))
-    (λ k. with_timer e (record (e.tx) { tries = e.tx.tries + 1; age = 0; nxt = e.tx.una }) _ e.reason _ v refl refl refl refl (refl, refl)))))
+    on_cond (T e) (not (is_armed e.tx)) _ _ (λ t. with_timer e (record (e.tx) { age = 0 }) e.rate.timeouts e.reason _ v refl (λ s. s) refl refl refl (refl, refl))
+    (λ f. on_cond (T e) (ltb (e.tx.age + 1) (patience e)) _ _ (λ t. with_timer e (record (e.tx) { age = e.tx.age + 1 }) e.rate.timeouts e.reason _ v refl (λ s. s) refl refl refl (refl, refl))
+    (λ g. on_cond (T e) (eqb (e.tx.tries + 1) 9) _ _ (λ t. with_timer e (record (e.tx) { tries = e.tx.tries + 1; age = 0 }) e.rate.timeouts (Some reasons.TimedOut) _ v refl (λ s. s) refl refl refl (refl, refl))
+    (λ h. on_cond (T e) (probes e) _ _ (λ t. with_timer e (record (e.tx) { tries = e.tx.tries + 1; age = 0; nxt = e.tx.una; probe = true }) e.rate.timeouts e.reason _ v refl (λ s. s) refl refl refl (refl, refl))
+    (λ k. with_timer e (record (e.tx) { tries = e.tx.tries + 1; age = 0; nxt = e.tx.una }) _ e.reason _ v refl (λ s. s) refl refl refl (refl, refl)))))
 
 waited_moves : (e : Endpoint) (tick : ℕ) → Valid e → T e (waited (record e { rate = filled e.rate }) tick)
 waited_moves e tick v =
-    on_cond (T e) (leb (4 * e.params.rto) (tick - e.entered)) _ _ (λ t. with_timer e e.tx e.rate.timeouts (Some reasons.Done) _ v refl refl refl refl (refl, refl)) (λ f. with_timer e e.tx e.rate.timeouts e.reason _ v refl refl refl refl (refl, refl))
+    on_cond (T e) (leb (4 * e.params.rto) (tick - e.entered)) _ _ (λ t. with_timer e e.tx e.rate.timeouts (Some reasons.Done) _ v refl (λ s. s) refl refl refl (refl, refl)) (λ f. with_timer e e.tx e.rate.timeouts e.reason _ v refl (λ s. s) refl refl refl (refl, refl))
 
 tick_moves : (ph : Phase) (e : Endpoint) (tick : ℕ) → Valid e → LeavesMoved e.rate.fill 0 e (tick_in ph (record e { rate = filled e.rate }) tick)
 tick_moves phases.Closed e tick v = tt
@@ -150,7 +152,7 @@ tick_moves _ e tick v = ticked_moves e v
 
 control_moves : (e : Endpoint) (c : Column) → Valid e → L e (control_in c e)
 unfolding control
-control_moves e Running v = moves_sending 0 0 e e.tx (controlled e.rate (e.tx.max - e.tx.una)) e.reason _ v refl refl refl refl (omega arith) (refl, refl)
+control_moves e Running v = moves_sending 0 0 e e.tx (controlled e.rate (e.tx.max - e.tx.una)) e.reason _ v refl (λ s. s) refl refl refl (omega arith) (refl, refl)
 control_moves e Opening v = tt
 control_moves e (Over why) v = tt
 

@@ -37,12 +37,12 @@ stands_drop p at k xs le x =
     let front : drop k (take (k + m) (drop at p)) ≡ drop k xs = ap (drop k) (ap (λ (n : ℕ). take n (drop at p)) all ∙ x) in
     rw (length-drop k xs, ← front, drop-take k m (drop at p), drop-drop k at p) refl
 
-stands_nil : (p : List ℕ) (at : ℕ) (xs : List ℕ) → length xs ≡ 0 → StandsIn p at xs
+pub stands_nil : (p : List ℕ) (at : ℕ) (xs : List ℕ) → length xs ≡ 0 → StandsIn p at xs
 stands_nil p at [] none = refl
 stands_nil p at (x ∷ xs) none = absurd (omega arith)
 
 -- also where more is dropped than there is
-stands_rest : (p : List ℕ) (at k n : ℕ) (xs : List ℕ) → at + k ≡ n → StandsIn p at xs → StandsIn p n (drop k xs)
+pub stands_rest : (p : List ℕ) (at k n : ℕ) (xs : List ℕ) → at + k ≡ n → StandsIn p at xs → StandsIn p n (drop k xs)
 stands_rest p at k n xs place x = subst (λ (m : ℕ). StandsIn p m (drop k xs)) place (by_size (leb k (length xs)) refl)
   where
     by_size : (b : Bool) → leb k (length xs) ≡ b → StandsIn p (at + k) (drop k xs)

@@ -6,8 +6,8 @@ pub mod ApplicationCalls
 pub mod NextSegment
 pub mod Timers
 pub mod LegalHistory
-pub mod Outputs
 pub mod OneStream
+pub mod Outputs
 pub mod Valid
 pub mod BucketLaw
 pub mod BadSegment

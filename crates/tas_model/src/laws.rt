@@ -1,17 +1,18 @@
-ghost use Rattle.std.specs.Prelude.{◌≡◌, ℕ, ◌+◌, ◌*◌, ◌≤◌, List, [], ◌∷◌, ◌++◌, length, take, min, max, Option, Some, None, IsSome, true, false};
+ghost use Rattle.std.specs.Prelude.{◌≡◌, ℕ, ◌+◌, ◌*◌, ◌^◌, ◌<◌, ◌≤◌, List, [], ◌∷◌, ◌++◌, length, take, min, max, Option, Some, None, IsSome, true, false};
 ghost use Rattle.tas_model.specs.declared.entry.Call.{Call};
 ghost use Rattle.tas_model.specs.declared.entry.Call.TheVariants as calls;
 ghost use Rattle.tas_model.specs.declared.entry.Caller.{Caller};
 ghost use Rattle.tas_model.specs.declared.entry.Reply.TheVariants as replies;
 ghost use Rattle.tas_model.specs.declared.entry.Entry.{Entry};
+ghost use Rattle.tas_model.specs.declared.entry.FrameId.{FrameId};
 ghost use Rattle.tas_model.specs.declared.entry.HostParams.{HostParams};
 ghost use Rattle.tas_model.specs.declared.entry.Seg.{Seg};
 ghost use Rattle.tas_model.specs.Endpoint.{Endpoint, phase, wnd, next_place, send_room};
-ghost use Rattle.tas_model.specs.Segments.{seg_len, is_rst, is_syn, is_ack};
-ghost use Rattle.tas_model.specs.Receive.{rx, verdict, place_of_seq, is_acceptable};
+ghost use Rattle.tas_model.specs.Segments.{peer_first, seg_len, is_rst, is_syn, is_ack};
+ghost use Rattle.tas_model.specs.Receive.{is_heard, rx, verdict, place_of_seq, is_acceptable};
 ghost use Rattle.tas_model.specs.LegalHistory.{step, Gives, Legal, MayFollow, Offers, shown, last_tick, extended_by, moved, replay};
-ghost use Rattle.tas_model.specs.Outputs.{AcksInOrder, accepted, bytes_read};
-ghost use Rattle.tas_model.specs.OneStream.{OneStream, IsPrefixOf, IsSynchronized};
+ghost use Rattle.tas_model.specs.Outputs.{AcksInOrder, AllSay, SaysPart, accepted, bytes_read, sent};
+ghost use Rattle.tas_model.specs.OneStream.{OneStream, IsOfStream, IsPrefixOf, IsSynchronized};
 ghost use Rattle.tas_model.specs.Valid.{Valid, InRange, PlacesWithin};
 ghost use Rattle.tas_model.specs.BadSegment.{IsDropped};
 ghost use Rattle.tas_model.specs.InOrder.{FollowsInOrder, in_order_outcome};
@@ -50,10 +51,16 @@ pub fn read_is_a_prefix()
     ensures of_stream { (params : HostParams) (stream : List ℕ) (h : List Entry) → InRange params → Legal params h → OneStream params stream h → IsPrefixOf (bytes_read h) stream }
 {}
 
-/// What is to be sent is what the application's Sends took, and each takes as much as there is room for.
+/// What is sent is what the application's Sends took: each takes as much as there is room for, and no segment says anything else.
 pub fn accepted_is_what_is_sent()
     ensures out { (params : HostParams) (h : List Entry) → InRange params → Legal params h → (replay params h).tx.out ≡ accepted h }
     ensures fits { (e : Endpoint) (tick offered : ℕ) (bytes : List ℕ) → Gives (step e tick (calls.Send offered) (replies.Took bytes)) (replies.Took bytes) → length bytes ≡ min offered (send_room e) }
+    ensures sent { (params : HostParams) (h : List Entry) → InRange params → Legal params h → AllSay (replay params h).iss (accepted h) (sent h) }
+{}
+
+/// What a segment says of a stream is heard as that stream: where the stream is shorter than 2^31, and the endpoint has received no more than it, no two places are confused.
+pub fn what_is_said_is_heard()
+    ensures { (e : Endpoint) (stream : List ℕ) (frame : FrameId) (seg : Seg) → peer_first e < 2 ^ 32 → length stream + 2 < 2 ^ 31 → next_place e.rx ≤ length stream + 2 → (is_heard seg ≡ true → SaysPart (peer_first e) stream seg) → IsOfStream stream e (calls.Rx frame seg) }
 {}
 
 /// Each segment that was sent with ACK and without RST acknowledges the next place that was expected, and no other.

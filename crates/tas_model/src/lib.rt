@@ -15,6 +15,6 @@ pub use laws::{
     accepted_is_what_is_sent, acknowledges_what_is_in_order, bad_segments_change_nothing,
     bucket_bounds_data, data_in_order_is_received, endpoints_are_valid, one_call_more,
     one_entry_more, places_grow_slowly, read_is_a_prefix, received_is_a_prefix,
-    worked_histories_are_legal,
+    what_is_said_is_heard, worked_histories_are_legal,
 };
 pub use recorded::Recorded;

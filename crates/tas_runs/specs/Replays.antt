@@ -16,9 +16,9 @@ items_found local loose (Ok c) = items_of c.form local loose c.records
 abbrev pub items_in : (local : ℕ) → (bytes : List ℕ) → (loose : Bool) → List Item
 items_in local bytes loose = items_found local loose (capture_of bytes)
 
--- The parameters of a replay's flows. Every port listens without a bound on its backlog: the number given is that of the slots, which are used up first.
+-- The parameters of a replay's flows. Every port listens without a bound on its backlog, so that the number given for it, which is that of a host that names none, is never looked at.
 abbrev pub replay_params : (local : ℕ) → HostParams
-replay_params local = record { addr = local; iss = 0; ring = 65535; mss = 1460; rto = 100; slots = 1024; backlog = 1024; fixed = true }
+replay_params local = record { addr = local; iss = 0; ring = 65535; mss = 1460; rto = 100; slots = 1024; backlog = 16; fixed = true }
 
 -- a replay begins without flows and with an empty log
 abbrev pub at_start : (local : ℕ) → Host

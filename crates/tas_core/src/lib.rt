@@ -1,0 +1,9 @@
+//! What the workers of a host share: today the host's log.
+#![tactic(auto)]
+
+mod log;
+#[cfg(test)]
+mod tests;
+
+pub use log::HostLog;
+pub use tas_runs::{LogEvent, LogLine};
