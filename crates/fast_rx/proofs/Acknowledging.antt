@@ -1,12 +1,12 @@
 -- The order in which an acknowledgement is taken.
-use Rattle.std.proofs.Common.{◌≡◌, ℕ, ◌+◌, ◌-◌, ◌<◌, ◌≤◌, Some, Bool, true, false, cond, ltb, eqb, leb, ◌&&◌, ◌||◌, length, min, max, drop, refl, sym, ◌∙◌, ap, subst, arith, length-drop}
+use Rattle.std.proofs.Common.{◌≡◌, ℕ, ◌+◌, Some, Bool, true, false, cond, ltb, eqb, length, min, max, refl, sym, ap, arith, length-drop}
 use Rattle.std.proofs.lemmas.Bool.Decides.{nat_tests}
 use Rattle.tas_model.proofs.Tests.{on_cond}
 use Rattle.payload_ring.specs.Window.{end_of}
 use Rattle.tas_model.specs.declared.entry.Phase.{Phase}
 use Rattle.tas_model.specs.declared.entry.Reason.TheVariants as reasons
 use Rattle.tas_model.specs.Endpoint.{Endpoint, Sending, Rate, is_fin_acked}
-use Rattle.tas_model.specs.Receive.{is_duplicate, after_duplicate, after_advance, with_window, moves_window, sending_after, closes, begins_wait}
+use Rattle.tas_model.specs.Receive.{is_duplicate, after_duplicate, after_advance, moves_window, sending_after, closes, begins_wait}
 use Rattle.flow_state.specs.declared.parts.Parts.{Parts}
 use Rattle.flow_state.specs.Stands.{Stands, acked_bytes}
 

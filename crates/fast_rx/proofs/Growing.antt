@@ -1,5 +1,5 @@
 -- The parts after bytes were received.
-use Rattle.std.proofs.Common.{◌≡◌, ℕ, ◌+◌, ◌-◌, ◌<◌, ◌≤◌, Bool, true, false, cond, leb, List, [], ◌∷◌, ◌++◌, length, take, drop, max, min, Option, Some, None, unwrap_or, refl, sym, ◌∙◌, ap, subst, arith, length-append, length-drop, length-take, eqb}
+use Rattle.std.proofs.Common.{◌≡◌, ℕ, ◌+◌, ◌-◌, ◌<◌, ◌≤◌, Bool, true, false, cond, leb, List, [], ◌∷◌, ◌++◌, length, take, drop, max, min, Option, Some, None, unwrap_or, refl, sym, ◌∙◌, ap, subst, arith, length-append, length-drop, eqb}
 use Rattle.std.proofs.lemmas.Bool.Decides.{nat_tests}
 use Rattle.std.proofs.lemmas.List.{drop-append-le, drop-drop, drop-take, append-nil}
 use Rattle.tas_model.proofs.Tests.{on_cond}

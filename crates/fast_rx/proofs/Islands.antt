@@ -1,9 +1,9 @@
 -- The parts after bytes past a gap were joined to those that are kept.
-use Rattle.std.proofs.Common.{◌≡◌, ℕ, ◌+◌, ◌-◌, ◌<◌, ◌≤◌, Bool, true, false, cond, leb, List, [], ◌∷◌, ◌++◌, length, take, drop, max, min, Option, Some, None, refl, sym, ◌∙◌, ap, subst, arith, length-append, length-drop, length-take}
+use Rattle.std.proofs.Common.{◌≡◌, ℕ, ◌+◌, ◌-◌, ◌<◌, ◌≤◌, Bool, true, false, cond, leb, List, ◌++◌, length, take, drop, max, min, Option, Some, refl, sym, ◌∙◌, ap, subst, arith, length-append, length-drop, length-take}
 use Rattle.std.proofs.lemmas.Bool.Decides.{nat_tests}
 use Rattle.std.proofs.lemmas.List.{take_all}
-use Rattle.payload_ring.specs.Window.{Window, Holds, overlaid}
-use Rattle.tas_model.specs.Endpoint.{Endpoint, Receiving, Island}
+use Rattle.payload_ring.specs.Window.{overlaid}
+use Rattle.tas_model.specs.Endpoint.{Endpoint, Island}
 use Rattle.tas_model.specs.Reassembly.{meets, joined, kept_apart}
 use Rattle.tas_model.specs.Valid.{ValidReceiving, IsPastGap, PastGap}
 use Rattle.flow_state.specs.declared.parts.Parts.{Parts}

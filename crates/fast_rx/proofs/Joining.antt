@@ -1,9 +1,9 @@
 -- Bytes past a gap, and those that they are joined to.
-use Rattle.std.proofs.Common.{◌≡◌, ℕ, ◌+◌, ◌-◌, ◌<◌, ◌≤◌, List, [], ◌∷◌, ◌++◌, length, take, drop, max, min, Some, refl, sym, ◌∙◌, ap, subst, arith, length-append, length-drop, length-take}
+use Rattle.std.proofs.Common.{◌≡◌, ℕ, ◌+◌, ◌-◌, ◌<◌, ◌≤◌, List, [], ◌∷◌, ◌++◌, length, take, drop, min, refl, sym, ◌∙◌, ap, subst, arith, length-append, length-drop, length-take}
 use Rattle.std.proofs.lemmas.List.{drop-drop, take_at, drop_at, take-append-drop}
 use Rattle.std.proofs.Math.Seq.{take-add}
 use Rattle.payload_ring.specs.Window.{overlaid}
-use Rattle.payload_ring.proofs.Windows.{taken-overlaid, dropped-overlaid, take-overlaid, drop-overlaid}
+use Rattle.payload_ring.proofs.Windows.{dropped-overlaid, take-overlaid, drop-overlaid}
 
 -- these bytes stand in the cells from the offset on
 abbrev pub StandsAt : (cells : List ℕ) (from : ℕ) (bytes : List ℕ) → Type 0

@@ -1,12 +1,11 @@
 -- What a segment's payload and FIN do, by the tests of the code, and which rule a segment meets.
-use Rattle.std.proofs.Common.{◌≡◌, ℕ, ◌+◌, ◌-◌, ◌≤◌, Bool, true, false, cond, leb, eqb, not, ◌&&◌, List, [], ◌∷◌, ◌++◌, length, max, Option, Some, None, refl, sym, ◌∙◌, ap, subst, arith}
-use Rattle.std.proofs.lemmas.Bool.Decides.{nat_tests}
+use Rattle.std.proofs.Common.{◌≡◌, ℕ, ◌+◌, ◌-◌, Bool, true, false, cond, leb, eqb, not, ◌&&◌, List, [], ◌∷◌, ◌++◌, length, max, Option, Some, None, refl, sym, ◌∙◌, ap, arith}
 use Rattle.tas_model.proofs.Tests.{on_cond}
 use Rattle.tas_model.specs.declared.entry.Phase.{Phase}
 use Rattle.tas_model.specs.declared.entry.Phase.TheVariants as phases
 use Rattle.tas_model.specs.declared.entry.Seg.{Seg}
 use Rattle.tas_model.specs.Endpoint.{Endpoint, Receiving, Island, phase, phase_by, is_fin_acked, next_place}
-use Rattle.tas_model.specs.Segments.{Outcome, is_fin}
+use Rattle.tas_model.specs.Segments.{is_fin}
 use Rattle.tas_model.specs.OneStream.{IsSynchronized}
 use Rattle.tas_model.specs.Reassembly.{with_data, with_part, grown, bridged, kept_apart, trimmed}
 use Rattle.tas_model.specs.Receive.{rx, rx_in, rx_later, by_verdict, verdict, after_data, takes_fin, with_fin, is_fin_wait_2}

@@ -1,5 +1,5 @@
 -- What stands past a gap, by its distance from the end of what is in order and its length, when more comes in order.
-use Rattle.std.specs.Prelude.{ℕ, ◌+◌, ◌-◌, nat_le, nat_lt, Option, Some, None, if◌then◌else◌}
+use Rattle.std.specs.Prelude.{ℕ, ◌+◌, ◌-◌, nat_le, Option, Some, None, if◌then◌else◌}
 
 -- how many bytes of it are in order, once `count` more bytes are
 abbrev pub bridge : Option (ℕ × ℕ) → (count : ℕ) → ℕ

@@ -1,5 +1,5 @@
 -- What the code's judgements of a segment mean in the model.
-use Rattle.std.specs.Prelude.{ℕ, ◌^◌, ◌<◌, ⊤}
+use Rattle.std.specs.Prelude.{◌^◌, ◌<◌, ⊤}
 use Rattle.tas_model.specs.Receive.{Verdict, AckVerdict}
 use Rattle.tas_model.specs.Receive as model
 use Rattle.fast_rx.specs.declared.hearing.Hearing.{Hearing}

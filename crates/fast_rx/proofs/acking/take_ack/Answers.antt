@@ -1,7 +1,7 @@
-use Rattle.std.proofs.Common.{◌≡◌, ℕ, ◌+◌, Bool, refl, cond, eqb, length, max, sym, ◌∙◌, ap, subst, arith}
+use Rattle.std.proofs.Common.{◌≡◌, ℕ, ◌+◌, Bool, refl, cond, eqb, ◌∙◌, ap, subst}
 use Rattle.tas_model.specs.declared.entry.Phase.{Phase}
-use Rattle.tas_model.specs.Endpoint.{Endpoint, Sending, Rate, phase, is_fin_acked}
-use Rattle.tas_model.specs.Receive.{after_ack, after_advance, with_window, moves_window, is_duplicate, rate_after, sending_after}
+use Rattle.tas_model.specs.Endpoint.{Sending, Rate, is_fin_acked}
+use Rattle.tas_model.specs.Receive.{after_advance, with_window, moves_window, is_duplicate, rate_after, sending_after}
 use Rattle.tas_model.proofs.ValidSteps.{good_tells}
 use Rattle.flow_state.specs.Stands.{Stands}
 use Rattle.fast_rx.proofs.Acknowledging.{in_order, counted_twice, fin_after, end_is, settled}

@@ -1,8 +1,4 @@
-use Rattle.std.proofs.Common.{◌≡◌, ℕ, ◌+◌, sym, ◌∙◌, ap, refl}
-use Rattle.payload_ring.specs.Window.{Window, end_of}
-use Rattle.tas_num.specs.declared.seq.Seq.{Seq}
-use Rattle.tas_model.specs.Segments.{seq_at}
-use Rattle.flow_state.specs.Stands.{Stands}
+use Rattle.std.proofs.Common.{refl}
 use Rattle.fast_rx.proofs.Growing.{grown_stands}
 use Rattle.fast_rx.proofs.keeping.grow.Goals as goal
 

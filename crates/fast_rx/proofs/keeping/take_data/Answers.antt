@@ -1,6 +1,4 @@
-use Rattle.std.proofs.Common.{◌≡◌, ℕ, ◌+◌, ◌-◌, ◌<◌, List, length, max, sym, ◌∙◌, ap, subst, arith, rules}
-use Rattle.std.proofs.lemmas.Bool.Decides.{nat_tests}
-use Rattle.payload_ring.specs.Window.{end_of}
+use Rattle.std.proofs.Common.{◌≡◌, ℕ, ◌+◌, ◌-◌, ◌<◌, length, max, sym, ◌∙◌, ap, subst, arith, rules}
 use Rattle.tas_model.specs.Endpoint.{Receiving}
 use Rattle.tas_model.specs.Reassembly.{with_data, with_part, trimmed, grown, kept_apart}
 use Rattle.flow_state.specs.Stands.{Stands}

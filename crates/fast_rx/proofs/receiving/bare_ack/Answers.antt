@@ -1,4 +1,4 @@
-use Rattle.std.proofs.Common.{◌≡◌, ℕ, Bool, true, cond, sym, ◌∙◌, ap, subst, rules}
+use Rattle.std.proofs.Common.{◌≡◌, Bool, true, cond, sym, ◌∙◌, ap, subst, rules}
 use Rattle.tas_model.specs.declared.entry.Seg.{Seg}
 use Rattle.tas_model.specs.Segments.{Outcome, is_ack, unchanged, acks}
 use Rattle.tas_model.specs.Receive.{bare_ack, ack_verdict, place_of_ack, Good}

@@ -1,4 +1,4 @@
-use Rattle.std.proofs.Common.{◌≡◌, sym, subst}
+use Rattle.std.proofs.Common.{sym, subst}
 use Rattle.tas_model.specs.Receive.{by_verdict}
 use Rattle.flow_state.specs.Made.{IsOutcome}
 use Rattle.flow_state.specs.Calls.{seg_of}

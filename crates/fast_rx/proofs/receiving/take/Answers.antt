@@ -1,6 +1,6 @@
-use Rattle.std.proofs.Common.{◌≡◌, ℕ, Bool, true, cond, sym, ◌∙◌, ap, subst, rules}
+use Rattle.std.proofs.Common.{◌≡◌, sym, ◌∙◌, ap, subst}
 use Rattle.tas_model.specs.declared.entry.Seg.{Seg}
-use Rattle.tas_model.specs.Segments.{Outcome, is_ack, unchanged, acks}
+use Rattle.tas_model.specs.Segments.{Outcome}
 use Rattle.tas_model.specs.Receive.{taken, ack_verdict, place_of_ack, Good}
 use Rattle.flow_state.specs.Made.{IsOutcome}
 use Rattle.flow_state.specs.Calls.{seg_of}

@@ -1,5 +1,4 @@
 use Rattle.std.proofs.Common.{◌≡◌, ℕ, Bool, true, false, cond, sym, ◌∙◌, ap, subst, rules}
-use Rattle.tas_model.specs.declared.entry.Reply.{Reply}
 use Rattle.tas_model.specs.declared.entry.Reply.TheVariants as replies
 use Rattle.tas_model.specs.declared.entry.Seg.{Seg}
 use Rattle.tas_model.specs.Endpoint.{Endpoint, wnd}

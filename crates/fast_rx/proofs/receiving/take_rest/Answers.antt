@@ -1,5 +1,4 @@
 use Rattle.std.proofs.Common.{◌≡◌, ℕ, ◌+◌, ◌-◌, ◌≤◌, Bool, true, false, leb, eqb, ◌&&◌, length, refl, sym, ◌∙◌, ap, subst, arith, length-drop}
-use Rattle.payload_ring.specs.Window.{end_of}
 use Rattle.tas_model.specs.declared.entry.Seg.{Seg}
 use Rattle.tas_model.specs.Endpoint.{Endpoint, Receiving}
 use Rattle.tas_model.specs.Reassembly.{with_data}
