@@ -1,6 +1,5 @@
 -- What SYN-SENT tells of an endpoint, and the state that the peer's SYN leads to.
-use Rattle.std.proofs.Common.{◌≡◌, ℕ, Bool, true, false, cond, Option, Some, None, refl, sym, subst, eqb}
-use Rattle.tas_model.specs.declared.entry.Phase.{Phase}
+use Rattle.std.proofs.Common.{◌≡◌, ℕ, Bool, true, false, cond, Option, Some, None, refl}
 use Rattle.tas_model.specs.declared.entry.Phase.TheVariants as phases
 use Rattle.tas_model.specs.declared.entry.Reason.{Reason}
 use Rattle.tas_model.specs.Endpoint.{phase_by}

@@ -1,6 +1,6 @@
 -- What a host keeps of the flows that are being opened: who listens, which flows wait for Accept, and which numbers are given next.
-use Rattle.std.specs.Prelude.{◌≡◌, ℕ, ◌+◌, ◌%◌, ◌^◌, ◌<◌, ◌≤◌, ◌==◌, ◌&&◌, not, Bool, true, false, List, [], length, map, nat_lt, Option, Some, None, if◌then◌else◌}
-use Rattle.std.specs.List.{list_any, filter, find, slice_get}
+use Rattle.std.specs.Prelude.{ℕ, ◌+◌, ◌%◌, ◌^◌, ◌==◌, ◌&&◌, not, Bool, true, List, [], length, map, nat_lt, Option, if◌then◌else◌}
+use Rattle.std.specs.List.{list_any, filter, find}
 use Rattle.std.specs.Option.{option_map}
 use Rattle.tas_num.specs.declared.seq.Seq.{Seq}
 use Rattle.tas_model.specs.declared.entry.HostParams.{HostParams}

@@ -130,7 +130,7 @@ fn a_connection_is_not_refused_before_its_syn(rt: HostRuntime) -> Result<(), Fai
     assert!(rt; matches!(answer, Some(Answer::Nothing)));
     assert!(rt;
         record
-            .act(Caller::Slow, 1, &CallIn::Tick, &SlowRx)?
+            .act(Caller::Slow, 1, &CallIn::Ready, &SlowRx)?
             .is_none()
     );
     let stale = CallIn::Rx {

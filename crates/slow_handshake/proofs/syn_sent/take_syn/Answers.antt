@@ -1,14 +1,10 @@
-use Rattle.std.proofs.Common.{◌≡◌, ℕ, ◌+◌, ◌-◌, ◌%◌, ◌^◌, Option, refl, sym, ◌∙◌, ap, subst, arith, rules, max, min, List, drop, length, false, Bool, cond, unwrap_or}
+use Rattle.std.proofs.Common.{◌≡◌, ℕ, ◌+◌, ◌%◌, ◌^◌, Option, refl, sym, ◌∙◌, ap, subst, arith, drop, Bool, cond, unwrap_or}
 use Rattle.tas_model.specs.declared.entry.Phase.TheVariants as phases
 use Rattle.tas_num.specs.declared.seq.Seq.{Seq}
-use Rattle.payload_ring.specs.Window.{Holds}
-use Rattle.tas_model.specs.Endpoint.{Endpoint, next_place, first_rate, is_fin_acked}
-use Rattle.tas_model.specs.Segments.{seq_at, seq_of, ack_of}
-use Rattle.tas_model.specs.Receive.{connected}
+use Rattle.tas_model.specs.Endpoint.{next_place, first_rate}
 use Rattle.tas_model.specs.Valid.{IsUnopened}
 use Rattle.tas_model.proofs.ValidCalls.{unopened_peer}
 use Rattle.flow_state.specs.Stands.{Stands, IsPeer, acked_bytes}
-use Rattle.flow_state.specs.Calls.{seg_of}
 use Rattle.slow_handshake.proofs.Connecting.{connected_phase}
 use Rattle.slow_handshake.proofs.syn_sent.take_syn.Goals as goal
 

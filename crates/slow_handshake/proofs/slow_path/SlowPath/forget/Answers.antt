@@ -1,4 +1,4 @@
-use Rattle.std.proofs.Common.{◌≡◌, not, refl, rules, tests}
+use Rattle.std.proofs.Common.{not, refl, rules, tests}
 use Rattle.std.proofs.lemmas.Fn.{filter_same}
 use Rattle.slow_handshake.specs.declared.openings.Listener.{Listener}
 use Rattle.slow_handshake.specs.Openings.{is_owned_by}

@@ -1,4 +1,4 @@
-use Rattle.std.proofs.Common.{◌≡◌, ℕ, List, Option, Some, None, map, refl, sym, ◌∙◌, ap, rules, tests, Bor}
+use Rattle.std.proofs.Common.{◌≡◌, ℕ, List, Option, Some, None, map, sym, ◌∙◌, ap, rules, tests, Bor}
 use Rattle.std.specs.List.{filter, slice_get}
 use Rattle.std.specs.Option.{option_map}
 use Rattle.std.proofs.lemmas.Option.{slice_get-map}
