@@ -1,21 +1,21 @@
 ghost use Rattle.std.specs.Prelude.{◌≡◌, ℕ, ◌≤◌, List, length, map, Ok, IfOk, IfErr};
 ghost use Rattle.tas_runs.specs.Records.{Item};
 ghost use Rattle.tas_runs.specs.Batches.{batches_of};
-ghost use Rattle.tas_runs.specs.Replays.{at_start};
-ghost use Rattle.tas_runs.specs.SerialOrder.{serial_replay, serial_ticks};
+ghost use Rattle.tas_runs.specs.Replays.{at_start, replay_params};
+ghost use Rattle.tas_runs.specs.SerialOrder.{serial_replay, serial_log, serial_ticks};
 ghost use Rattle.capture_items.specs.Items.{item_in};
 ghost use Rattle.capture_items.specs.Numbers.{AreNumbersOf};
 ghost use Rattle.tas_round.specs.Runs.{log_in, Ended, Refuses};
 ghost use Rattle.tas_round.specs.declared.replaying.Mode.{Mode};
 
 use crate::run::{FlowList, HostRun, HostRuns, RunLog};
-use capture_items::{FirstNumbers, Found, InputFault, Item, find_items, next_batch, refused_among};
+use capture_items::{FirstNumbers, Found, InputFault, Item, find_items, next_batch};
 use local_host::LocalHost;
 use pcap_frames::PcapRefused;
 use std::alloc::{AllocError, Global};
 use std::sync::Wait;
 use std::thread::Threads;
-use tas_model::Bytes;
+use tas_model::HostParams;
 use tas_num::Gate;
 
 /// Who does the work of a run.
@@ -79,6 +79,22 @@ pub fn replay<R: Threads + Wait + Sync, G: Gate>(
     Ok(log)
 }
 
+/// The parameters of a replay's host.
+fn params_of(local: u32) -> HostParams
+    ensures { result ≡ replay_params local }
+{
+    HostParams {
+        addr: local,
+        iss: 0,
+        ring: 65535,
+        mss: 1460,
+        rto: 100,
+        slots: 1024,
+        backlog: 16,
+        fixed: true,
+    }
+}
+
 /// The host after all batches of these items.
 fn run_batches(
     alloc: Global,
@@ -90,13 +106,13 @@ fn run_batches(
     requires few { length items.now ≤ 4194304 }
     ensures { IfOk result (Ended local (map item_in items.now)) }
 {
-    let mut host = LocalHost::new(alloc, local);
+    let mut host = LocalHost::new(alloc, params_of(local));
     let mut at = 0;
     let mut tick = 0;
     while at < items.len() {
         let rest = &items[at..];
         let count = next_batch(rest);
-        host.tick(alloc, tick, &rest[..count], numbers)?;
+        host.play(tick, &rest[..count], numbers)?;
         at += count;
         tick += 1;
     }
@@ -110,13 +126,14 @@ fn log_of(
     found: &Found<'_>,
     ending: Ending,
 ) -> Result<RunLog, AllocError>
+    requires few { length found.now.items.items ≤ found.now.records }
+    ensures { (items : List Item) → items ≡ map item_in found.now.items.items → Ended local items ending.entry → IfOk result (λ log. log_in log ≡ serial_log local found.now.records items) }
 {
-    let refused = refused_among(&found.items);
-    let count = found.items.len() as u32;
-    let (log, records) = ending.host.finish(alloc)?;
+    let counts = found.counts();
+    let (log, records) = ending.host.finish()?;
     let mut hosts = Vec::new(alloc);
     hosts.push(HostRun {
-        name: Bytes::copy(alloc, b"local")?,
+        name: String::from_str(alloc, "local")?,
         addr: local,
         log,
         flows: FlowList::of(records),
@@ -126,9 +143,9 @@ fn log_of(
         hosts: HostRuns::of(hosts),
         ticks: ending.ticks,
         stalled: false,
-        records: found.records,
-        frames: count - refused,
-        passed: found.records - count,
-        refused,
+        records: counts.records,
+        frames: counts.frames,
+        passed: counts.passed,
+        refused: counts.refused,
     })
 }

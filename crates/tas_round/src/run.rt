@@ -3,7 +3,6 @@ ghost use Rattle.std.specs.Prelude.{◌≡◌, ◌<◌, length, map, slice_get, 
 use flow_state::FlowRecord;
 use std::marker::Model;
 use tas_core::HostLog;
-use tas_model::Bytes;
 
 /// The flows of a host in the order of their opening, seen as the list of these.
 #[derive(Drop)]
@@ -58,7 +57,7 @@ impl FlowList {
 #[derive(Drop)]
 pub struct HostRun {
     /// Its name, `local` in a replay.
-    pub name: Bytes,
+    pub name: String,
     /// Its address.
     pub addr: u32,
     /// What happened to it outside of every flow.
