@@ -2,7 +2,9 @@
 #![tactic(auto)]
 
 mod entries;
+mod flows;
 mod texts;
 mod writer;
 
+pub use flows::write_flow;
 pub use writer::Writer;
