@@ -1,5 +1,5 @@
 -- Texts of lists, an element at a time.
-use Rattle.std.proofs.Common.{◌≡◌, ℕ, suc, zero, ◌+◌, ◌≤◌, [], ◌∷◌, ◌++◌, List, length, take, drop, flat_map, slice_get, Some, None, Result, Ok, IsErr, refl, ap, subst, sym, ◌∙◌, append_assoc, append-nil, take-append-drop, length-append, arith}
+use Rattle.std.proofs.Common.{◌≡◌, codes, decimal, ℕ, suc, zero, ◌+◌, ◌≤◌, [], ◌∷◌, ◌++◌, List, length, take, drop, flat_map, slice_get, Some, None, Result, Ok, IsErr, refl, ap, subst, sym, ◌∙◌, append_assoc, append-nil, take-append-drop, length-append, arith}
 use Rattle.std.proofs.lemmas.List.{take_all, take_more}
 use Rattle.std.proofs.lemmas.Option.{slice_get_within, get_or_from_slice_get}
 use Rattle.std.proofs.lemmas.List.Concat.{flat_map-append}
@@ -7,7 +7,7 @@ use Rattle.tas_num.specs.declared.outside.IoFault.{IoFault}
 use Rattle.tas_model.specs.declared.entry.Entry.{Entry}
 use Rattle.tas_model.specs.Outputs.{bytes_read, given_bytes}
 use Rattle.tas_runs.specs.declared.log.LogLine.{LogLine}
-use Rattle.tas_runs.specs.Report.{hex_bytes, entry_text, entries_text}
+use Rattle.tas_runs.specs.Report.{hex_bytes, entry_text, entries_text, line, event_text, log_text}
 use Rattle.run_texts.specs.Writes.{Stand, Writes}
 use Rattle.run_texts.proofs.Writing.{wrote_as, wrote_both, stopped_in, wrote_then, hex_bytes-append}
 
@@ -51,3 +51,11 @@ count_more h i x count bytes e before now =
     let sum : length (bytes_read (take (i + 1) h)) ≡ length (bytes_read (take i h)) + length (given_bytes x.reply) = ap length (sym more) ∙ length-append (bytes_read (take i h)) (given_bytes x.reply) in
     let len : length bytes ≡ length (given_bytes x.reply) = ap length now in
     omega (arith, sum, len, before)
+
+-- ----- the log
+abbrev pub log_line : (names : List (List ℕ)) → LogLine → List ℕ
+log_line names l = line (decimal l.tick ++ codes " " ++ event_text names l.event)
+
+pub log_is : (names : List (List ℕ)) (log : List LogLine) → flat_map (log_line names) log ≡ log_text names log
+log_is names [] = refl
+log_is names (l ∷ ls) = ap (λ t. log_line names l ++ t) (log_is names ls)

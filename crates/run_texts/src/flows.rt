@@ -20,14 +20,14 @@ pub fn write_flow<K: Sink>(
     sink: &mut K,
     names: &[&str],
     number: u32,
-    record: &FlowRecord,
+    flow: &FlowRecord,
 ) -> Result<(), IoFault>
-    ensures { Writes (record { held = K.held sink.old; faults = K.faults sink.old; waiting = writer.old }) result (record { held = K.held sink.new; faults = K.faults sink.new; waiting = writer.new }) (flow_lines (map (λ n. n.now) names.now) number (record { id = record.now.id; tuple = record.now.tuple; params = record.now.params; entries = record.now.entries })) }
+    ensures { Writes (record { held = K.held sink.old; faults = K.faults sink.old; waiting = writer.old }) result (record { held = K.held sink.new; faults = K.faults sink.new; waiting = writer.new }) (flow_lines (map (λ n. n.now) names.now) number (record { id = flow.now.id; tuple = flow.now.tuple; params = flow.now.params; entries = flow.now.entries })) }
 {
-    write_ends(writer, sink, number, record)?;
-    write_entries(writer, sink, names, record)?;
-    write_state(writer, sink, record)?;
-    write_read(writer, sink, record)
+    write_ends(writer, sink, number, flow)?;
+    write_entries(writer, sink, names, flow)?;
+    write_state(writer, sink, flow)?;
+    write_read(writer, sink, flow)
 }
 
 /// Writes which flow it is, and its ends.
@@ -35,13 +35,13 @@ fn write_ends<K: Sink>(
     writer: &mut Writer,
     sink: &mut K,
     number: u32,
-    record: &FlowRecord,
+    flow: &FlowRecord,
 ) -> Result<(), IoFault>
-    ensures { Writes (record { held = K.held sink.old; faults = K.faults sink.old; waiting = writer.old }) result (record { held = K.held sink.new; faults = K.faults sink.new; waiting = writer.new }) (line (codes "flow " ++ decimal number ++ codes " slot " ++ decimal record.now.id.slot ++ codes "." ++ decimal record.now.id.generation ++ codes " " ++ tuple_text record.now.tuple)) }
+    ensures { Writes (record { held = K.held sink.old; faults = K.faults sink.old; waiting = writer.old }) result (record { held = K.held sink.new; faults = K.faults sink.new; waiting = writer.new }) (line (codes "flow " ++ decimal number ++ codes " slot " ++ decimal flow.now.id.slot ++ codes "." ++ decimal flow.now.id.generation ++ codes " " ++ tuple_text flow.now.tuple)) }
 {
-    let id = record.id();
+    let id = flow.id();
     let name = FlowName { number, id };
-    let ends = TupleText(record.tuple());
+    let ends = TupleText(flow.tuple());
     writer.put_text(sink, &format_args!("{name} {ends}\n"))
 }
 
@@ -50,25 +50,21 @@ fn write_entries<K: Sink>(
     writer: &mut Writer,
     sink: &mut K,
     names: &[&str],
-    record: &FlowRecord,
+    flow: &FlowRecord,
 ) -> Result<(), IoFault>
-    ensures { Writes (record { held = K.held sink.old; faults = K.faults sink.old; waiting = writer.old }) result (record { held = K.held sink.new; faults = K.faults sink.new; waiting = writer.new }) (entries_text (map (λ n. n.now) names.now) record.now.entries) }
+    ensures { Writes (record { held = K.held sink.old; faults = K.faults sink.old; waiting = writer.old }) result (record { held = K.held sink.new; faults = K.faults sink.new; waiting = writer.new }) (entries_text (map (λ n. n.now) names.now) flow.now.entries) }
 {
-    for i in 0..record.entries() {
-        write_entry(writer, sink, names, &record.entry(i))?;
+    for i in 0..flow.entries() {
+        write_entry(writer, sink, names, &flow.entry(i))?;
     }
     Ok(())
 }
 
 /// Writes the state that the entries lead to, and after CLOSED the reason.
-fn write_state<K: Sink>(
-    writer: &mut Writer,
-    sink: &mut K,
-    record: &FlowRecord,
-) -> Result<(), IoFault>
-    ensures { Writes (record { held = K.held sink.old; faults = K.faults sink.old; waiting = writer.old }) result (record { held = K.held sink.new; faults = K.faults sink.new; waiting = writer.new }) (line (codes "state " ++ state_text (replay record.now.params record.now.entries))) }
+fn write_state<K: Sink>(writer: &mut Writer, sink: &mut K, flow: &FlowRecord) -> Result<(), IoFault>
+    ensures { Writes (record { held = K.held sink.old; faults = K.faults sink.old; waiting = writer.old }) result (record { held = K.held sink.new; faults = K.faults sink.new; waiting = writer.new }) (line (codes "state " ++ state_text (replay flow.now.params flow.now.entries))) }
 {
-    let parts = record.parts();
+    let parts = flow.parts();
     let phase = phase_name(parts.phase);
     match parts.reason {
         Some(reason) => {
@@ -80,28 +76,24 @@ fn write_state<K: Sink>(
 }
 
 /// Writes how many bytes were read, and which.
-fn write_read<K: Sink>(
-    writer: &mut Writer,
-    sink: &mut K,
-    record: &FlowRecord,
-) -> Result<(), IoFault>
-    ensures { Writes (record { held = K.held sink.old; faults = K.faults sink.old; waiting = writer.old }) result (record { held = K.held sink.new; faults = K.faults sink.new; waiting = writer.new }) (line (read_text (bytes_read record.now.entries))) }
+fn write_read<K: Sink>(writer: &mut Writer, sink: &mut K, flow: &FlowRecord) -> Result<(), IoFault>
+    ensures { Writes (record { held = K.held sink.old; faults = K.faults sink.old; waiting = writer.old }) result (record { held = K.held sink.new; faults = K.faults sink.new; waiting = writer.new }) (line (read_text (bytes_read flow.now.entries))) }
 {
-    write_counted(writer, sink, record, count_read(record))
+    write_counted(writer, sink, flow, count_read(flow))
 }
 
 /// Writes the bytes that were read, of which there are so many, behind their count.
 fn write_counted<K: Sink>(
     writer: &mut Writer,
     sink: &mut K,
-    record: &FlowRecord,
+    flow: &FlowRecord,
     count: u128,
 ) -> Result<(), IoFault>
-    requires { count ≡ length (bytes_read record.now.entries) }
-    ensures { Writes (record { held = K.held sink.old; faults = K.faults sink.old; waiting = writer.old }) result (record { held = K.held sink.new; faults = K.faults sink.new; waiting = writer.new }) (line (codes "read " ++ decimal count ++ codes " " ++ hex (bytes_read record.now.entries))) }
+    requires { count ≡ length (bytes_read flow.now.entries) }
+    ensures { Writes (record { held = K.held sink.old; faults = K.faults sink.old; waiting = writer.old }) result (record { held = K.held sink.new; faults = K.faults sink.new; waiting = writer.new }) (line (codes "read " ++ decimal count ++ codes " " ++ hex (bytes_read flow.now.entries))) }
 {
     writer.put_text(sink, &format_args!("read {count} "))?;
-    write_bytes_read(writer, sink, record, count)?;
+    write_bytes_read(writer, sink, flow, count)?;
     writer.put(sink, b"\n")
 }
 
@@ -109,26 +101,26 @@ fn write_counted<K: Sink>(
 fn write_bytes_read<K: Sink>(
     writer: &mut Writer,
     sink: &mut K,
-    record: &FlowRecord,
+    flow: &FlowRecord,
     count: u128,
 ) -> Result<(), IoFault>
-    requires { count ≡ length (bytes_read record.now.entries) }
-    ensures { Writes (record { held = K.held sink.old; faults = K.faults sink.old; waiting = writer.old }) result (record { held = K.held sink.new; faults = K.faults sink.new; waiting = writer.new }) (hex (bytes_read record.now.entries)) }
+    requires { count ≡ length (bytes_read flow.now.entries) }
+    ensures { Writes (record { held = K.held sink.old; faults = K.faults sink.old; waiting = writer.old }) result (record { held = K.held sink.new; faults = K.faults sink.new; waiting = writer.new }) (hex (bytes_read flow.now.entries)) }
 {
     if count == 0 {
         writer.put(sink, b"-")
     } else {
-        write_digits_read(writer, sink, record)
+        write_digits_read(writer, sink, flow)
     }
 }
 
 /// How many bytes were read.
-fn count_read(record: &FlowRecord) -> u128
-    ensures { result ≡ length (bytes_read record.now.entries) }
+fn count_read(flow: &FlowRecord) -> u128
+    ensures { result ≡ length (bytes_read flow.now.entries) }
 {
     let mut count = 0;
-    for i in 0..record.entries() {
-        count += given(record.entry(i).reply).len() as u128;
+    for i in 0..flow.entries() {
+        count += given(flow.entry(i).reply).len() as u128;
     }
     count
 }
@@ -137,12 +129,12 @@ fn count_read(record: &FlowRecord) -> u128
 fn write_digits_read<K: Sink>(
     writer: &mut Writer,
     sink: &mut K,
-    record: &FlowRecord,
+    flow: &FlowRecord,
 ) -> Result<(), IoFault>
-    ensures { Writes (record { held = K.held sink.old; faults = K.faults sink.old; waiting = writer.old }) result (record { held = K.held sink.new; faults = K.faults sink.new; waiting = writer.new }) (hex_bytes (bytes_read record.now.entries)) }
+    ensures { Writes (record { held = K.held sink.old; faults = K.faults sink.old; waiting = writer.old }) result (record { held = K.held sink.new; faults = K.faults sink.new; waiting = writer.new }) (hex_bytes (bytes_read flow.now.entries)) }
 {
-    for i in 0..record.entries() {
-        writer.put_hex(sink, given(record.entry(i).reply))?;
+    for i in 0..flow.entries() {
+        writer.put_hex(sink, given(flow.entry(i).reply))?;
     }
     Ok(())
 }

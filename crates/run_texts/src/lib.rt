@@ -3,8 +3,10 @@
 
 mod entries;
 mod flows;
+mod logs;
 mod texts;
 mod writer;
 
 pub use flows::write_flow;
+pub use logs::write_log;
 pub use writer::Writer;

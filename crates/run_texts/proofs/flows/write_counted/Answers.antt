@@ -8,7 +8,7 @@ pub returns-in_err-put_text : goal.returns-in_err-put_text
 returns-in_err-put_text g c =
     let failed : IsErr c.from_residual.result = search rules in
     let same : c.from_residual.result ≡ c.put_text.result = search rules in
-    let part0 = stopped_at _ _ _ _ _ (hex (bytes_read c.args.record.now.entries)) failed same c.put_text.ensures in
+    let part0 = stopped_at _ _ _ _ _ (hex (bytes_read c.args.flow.now.entries)) failed same c.put_text.ensures in
     stopped _ _ _ _ (10 ∷ []) failed part0
 
 pub returns-in_err-write_bytes_read : goal.returns-in_err-write_bytes_read
