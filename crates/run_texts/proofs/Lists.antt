@@ -1,0 +1,61 @@
+-- Texts of lists, an element at a time.
+use Rattle.std.proofs.Common.{◌≡◌, codes, decimal, ℕ, suc, zero, ◌+◌, ◌≤◌, [], ◌∷◌, ◌++◌, List, length, take, drop, flat_map, slice_get, Some, None, Result, Ok, IsErr, refl, ap, subst, sym, ◌∙◌, append_assoc, append-nil, take-append-drop, length-append, arith}
+use Rattle.std.proofs.lemmas.List.{take_all, take_more}
+use Rattle.std.proofs.lemmas.Option.{slice_get_within, get_or_from_slice_get}
+use Rattle.std.proofs.lemmas.List.Concat.{flat_map-append}
+use Rattle.tas_num.specs.declared.outside.IoFault.{IoFault}
+use Rattle.tas_model.specs.declared.entry.Entry.{Entry}
+use Rattle.tas_model.specs.Outputs.{bytes_read, given_bytes}
+use Rattle.tas_runs.specs.declared.log.LogLine.{LogLine}
+use Rattle.tas_runs.specs.Report.{hex_bytes, entry_text, entries_text, line, event_text, log_text}
+use Rattle.run_texts.specs.Writes.{Stand, Writes}
+use Rattle.run_texts.proofs.Writing.{wrote_as, wrote_both, stopped_in, wrote_then, hex_bytes-append}
+
+-- an element more
+pub taken_more : {X : Type 0} (xs : List X) (i : ℕ) (x : X) → slice_get xs i ≡ Some x → take (i + 1) xs ≡ take i xs ++ x ∷ []
+taken_more xs i x e = take_more xs i x (slice_get_within xs i x e) ∙ ap (λ y. take i xs ++ y ∷ []) (get_or_from_slice_get xs i x x e)
+
+-- the text of an element more
+pub text_more : {X : Type 0} (f : X → List ℕ) (xs : List X) (i : ℕ) (x : X) → slice_get xs i ≡ Some x → flat_map f (take i xs) ++ f x ≡ flat_map f (take (i + 1) xs)
+text_more f xs i x e =
+    sym (ap (flat_map f) (taken_more xs i x e) ∙ (flat_map-append f (take i xs) (x ∷ []) ∙ ap (λ t. flat_map f (take i xs) ++ t) (append-nil (f x))))
+
+-- and of all that are left
+pub text_rest : {X : Type 0} (f : X → List ℕ) (xs : List X) (i : ℕ) → flat_map f (take i xs) ++ flat_map f (drop i xs) ≡ flat_map f xs
+text_rest f xs i = sym (flat_map-append f (take i xs) (drop i xs)) ∙ ap (flat_map f) (take-append-drop i xs)
+
+pub wrote_more : {X : Type 0} (f : X → List ℕ) (xs : List X) (i : ℕ) (x : X) (a b c : Stand) (r : Result (Unit {0}) IoFault) → slice_get xs i ≡ Some x → Writes a (Ok tt) b (flat_map f (take i xs)) → Writes b r c (f x) → Writes a r c (flat_map f (take (i + 1) xs))
+wrote_more f xs i x a b c r e first second = wrote_both a b c r (flat_map f (take i xs)) (f x) (flat_map f (take (i + 1) xs)) (text_more f xs i x e) first second
+
+pub stopped_among : {X : Type 0} (f : X → List ℕ) (xs : List X) (i : ℕ) (x : X) (a b c : Stand) (r q : Result (Unit {0}) IoFault) (all : List ℕ) → flat_map f xs ≡ all → slice_get xs i ≡ Some x → IsErr r → r ≡ q → Writes a (Ok tt) b (flat_map f (take i xs)) → Writes b q c (f x) → Writes a r c all
+stopped_among f xs i x a b c r q all whole e h same first second =
+    let last : Writes b r c (f x) = subst (λ (s : Result (Unit {0}) IoFault). Writes b s c (f x)) (sym same) second in
+    stopped_in a c r (flat_map f (take (i + 1) xs)) (flat_map f (drop (i + 1) xs)) all (text_rest f xs (i + 1) ∙ whole) h (wrote_more f xs i x a b c r e first last)
+
+pub wrote_whole : {X : Type 0} (f : X → List ℕ) (xs : List X) (n : ℕ) (a b : Stand) (r : Result (Unit {0}) IoFault) (all : List ℕ) → flat_map f xs ≡ all → length xs ≤ n → Writes a r b (flat_map f (take n xs)) → Writes a r b all
+wrote_whole f xs n a b r all whole e h = wrote_as a b r (flat_map f (take n xs)) all (ap (flat_map f) (take_all n xs e) ∙ whole) h
+
+-- ----- what they are the texts of
+pub entries_are : (names : List (List ℕ)) (h : List Entry) → flat_map (entry_text names) h ≡ entries_text names h
+entries_are names [] = refl
+entries_are names (x ∷ xs) = ap (λ t. entry_text names x ++ t) (entries_are names xs)
+
+pub digits_are : {X : Type 0} (g : X → List ℕ) (xs : List X) → flat_map (λ x. hex_bytes (g x)) xs ≡ hex_bytes (flat_map g xs)
+digits_are g [] = refl
+digits_are g (x ∷ xs) = ap (λ t. hex_bytes (g x) ++ t) (digits_are g xs) ∙ sym (hex_bytes-append (g x) (flat_map g xs))
+
+-- ----- how many bytes were read
+pub count_more : (h : List Entry) (i : ℕ) (x : Entry) (count : ℕ) (bytes : List ℕ) → slice_get h i ≡ Some x → count ≡ length (bytes_read (take i h)) → bytes ≡ given_bytes x.reply → count + length bytes ≡ length (bytes_read (take (i + 1) h))
+count_more h i x count bytes e before now =
+    let more : bytes_read (take i h) ++ given_bytes x.reply ≡ bytes_read (take (i + 1) h) = text_more (λ (y : Entry). given_bytes y.reply) h i x e in
+    let sum : length (bytes_read (take (i + 1) h)) ≡ length (bytes_read (take i h)) + length (given_bytes x.reply) = ap length (sym more) ∙ length-append (bytes_read (take i h)) (given_bytes x.reply) in
+    let len : length bytes ≡ length (given_bytes x.reply) = ap length now in
+    omega (arith, sum, len, before)
+
+-- ----- the log
+abbrev pub log_line : (names : List (List ℕ)) → LogLine → List ℕ
+log_line names l = line (decimal l.tick ++ codes " " ++ event_text names l.event)
+
+pub log_is : (names : List (List ℕ)) (log : List LogLine) → flat_map (log_line names) log ≡ log_text names log
+log_is names [] = refl
+log_is names (l ∷ ls) = ap (λ t. log_line names l ++ t) (log_is names ls)

@@ -1,0 +1,121 @@
+-- What several writes do, one after the other.
+use Rattle.std.proofs.Common.{◌≡◌, ◌==◌, codes, ℕ, ◌<◌, get_or, ◌+◌, ◌-◌, ◌≤◌, ◌/◌, ◌%◌, false, [], ◌∷◌, ◌++◌, List, take, drop, length, Option, None, Some, Result, Ok, Err, OnOk, OnErr, IsOk, IsErr, take-append-drop, refl, ap, subst, sym, ◌∙◌, length-drop, append_assoc, append-nil, arith, rules}
+use Rattle.std.proofs.Math.Seq.{take-add}
+use Rattle.std.proofs.lemmas.List.{take_all, take_more}
+use Rattle.std.proofs.lemmas.Bool.{false≢true}
+use Rattle.std.specs.Io.KnownBytes.{Appends, Keeps}
+use Rattle.std.proofs.KnownBytes.{Appends-trans, Appends-nil, Appends-kept}
+use Rattle.tas_num.specs.Causes.{Rose}
+use Rattle.tas_num.specs.declared.outside.IoFault.{IoFault}
+use Rattle.tas_num.specs.declared.outside.IoFault.TheVariants.{Failed, OutOfMemory}
+use Rattle.std.specs.Fmt.{digit_glyph}
+use Rattle.tas_runs.specs.Report.{hex_bytes, hex, data_text}
+use Rattle.run_texts.specs.Writes.{Stand, Writes}
+
+-- a count that rose later rose
+pub rose_later : {a b c : ℕ} → a ≤ b → Rose b c → Rose a c
+rose_later low h = grind (arith, low, h)
+
+-- n bytes more behind the first k
+pub appends_more : (a b c : Option (List ℕ)) (bytes : List ℕ) (k n : ℕ) → Appends a b (take k bytes) → Appends b c (take n (drop k bytes)) → Appends a c (take (k + n) bytes)
+appends_more a b c bytes k n first second = subst (Appends a c) (sym (take-add k n bytes)) (Appends-trans a b c (take k bytes) (take n (drop k bytes)) first second)
+
+-- all that is left, as so many bytes of it
+pub whole : (k : ℕ) (bytes : List ℕ) → take (length bytes - k) (drop k bytes) ≡ drop k bytes
+whole k bytes = take_all (length bytes - k) (drop k bytes) (omega (arith, length-drop k bytes))
+
+pub within : (k n : ℕ) (bytes : List ℕ) → k ≤ length bytes → n ≤ length (take (length bytes - k) (drop k bytes)) → k + n ≤ length bytes
+within k n bytes small bound =
+    let left : n ≤ length (drop k bytes) = subst (λ (xs : List ℕ). n ≤ length xs) (whole k bytes) bound in
+    omega (arith, length-drop k bytes)
+
+-- A text, and a text behind it.
+pub wrote_then : (a b c : Stand) (r : Result (Unit {0}) IoFault) (x y : List ℕ) → Writes a (Ok tt) b x → Writes b r c y → Writes a r c (x ++ y)
+wrote_then a b c r x y first second =
+    record {
+      front = first.front ++ second.front;
+      rest = second.rest;
+      whole = append_assoc first.front second.front second.rest ∙ (ap (λ t. first.front ++ t) second.whole ∙ (sym (append_assoc first.front b.waiting y) ∙ (ap (λ t. (first.front ++ t) ++ y) first.waits ∙ (ap (λ t. t ++ y) first.whole ∙ append_assoc a.waiting x y))));
+      grown = Appends-trans a.held b.held c.held first.front second.front first.grown second.grown;
+      waits = second.waits;
+      failed = λ e. rose_later first.later (second.failed e);
+      later = omega (arith, first.later, second.later);
+    }
+
+-- A text that was not written, and whatever was to follow it.
+pub stopped : (a b : Stand) (r : Result (Unit {0}) IoFault) (x y : List ℕ) → IsErr r → Writes a r b x → Writes a r b (x ++ y)
+stopped a b (Err f) x y e first =
+    record {
+      front = first.front;
+      rest = first.rest ++ y;
+      whole = sym (append_assoc first.front first.rest y) ∙ (ap (λ t. t ++ y) first.whole ∙ append_assoc a.waiting x y);
+      grown = first.grown;
+      waits = first.waits;
+      failed = first.failed;
+      later = first.later;
+    }
+stopped a b (Ok x) _ _ e _ = absurd (false≢true e)
+
+-- All that waited went to the sink, or a front of it.
+pub flushed : (a b : Stand) (r : Result (Unit {0}) IoFault) → IsOk r → Appends a.held b.held a.waiting → a.faults ≤ b.faults → b.waiting ≡ [] → Writes a r b []
+flushed a b (Ok u) _ grown later e = record { front = a.waiting; rest = []; whole = refl; grown = grown; waits = e; failed = λ f. absurd (cc f); later = later }
+flushed a b (Err f) h _ _ _ = absurd (false≢true h)
+
+pub broken : (a b : Stand) (r : Result (Unit {0}) IoFault) (n : ℕ) (all : List ℕ) → IsErr r → all ≡ a.waiting → Appends a.held b.held (take n all) → (r ≡ Err Failed → Rose a.faults b.faults) → a.faults ≤ b.faults → Writes a r b []
+broken a b (Err f) n all _ e grown cause later = record { front = take n all; rest = drop n all; whole = take-append-drop n all ∙ (e ∙ sym (append-nil a.waiting)); grown = grown; waits = tt; failed = cause; later = later }
+broken a b (Ok u) n all h _ _ _ _ = absurd (false≢true h)
+
+-- Bytes that were put behind those that wait.
+pub kept : (held : Option (List ℕ)) (faults : ℕ) (old new bytes : List ℕ) (r : Result (Unit {0}) IoFault) → OnOk r (new ≡ old ++ bytes) → OnErr r (r ≡ Err OutOfMemory) → Writes (record { held = held; faults = faults; waiting = old }) r (record { held = held; faults = faults; waiting = new }) bytes
+kept held faults old new bytes r more cause = record { front = []; rest = old ++ bytes; whole = refl; grown = Appends-nil held; waits = more; failed = λ e. by_result r e cause; later = omega arith }
+  where
+    by_result : (r : Result (Unit {0}) IoFault) → r ≡ Err Failed → OnErr r (r ≡ Err OutOfMemory) → Rose faults faults
+    by_result (Ok u) e _ = absurd (cc e)
+    by_result (Err f) e h = absurd (cc (e, h))
+
+-- ----- digits
+pub hex_bytes-append : (xs ys : List ℕ) → hex_bytes (xs ++ ys) ≡ hex_bytes xs ++ hex_bytes ys
+hex_bytes-append [] ys = refl
+hex_bytes-append (x ∷ xs) ys = ap (λ t. digit_glyph false (x / 16) ∷ digit_glyph false (x % 16) ∷ t) (hex_bytes-append xs ys)
+
+-- two digits more
+pub digits_more : (old before after bytes : List ℕ) (i high low : ℕ) → i < length bytes → before ≡ old ++ hex_bytes (take i bytes) → high ≡ digit_glyph false (get_or bytes i 0 / 16) → low ≡ digit_glyph false (get_or bytes i 0 % 16) → after ≡ before ++ high ∷ low ∷ [] → after ≡ old ++ hex_bytes (take (i + 1) bytes)
+digits_more old before after bytes i high low inside first h l more =
+    let b : ℕ = get_or bytes i 0 in
+    let front : List ℕ = hex_bytes (take i bytes) in
+    let pair : hex_bytes (b ∷ []) ≡ high ∷ low ∷ [] = cc (h, l) in
+    let all : hex_bytes (take (i + 1) bytes) ≡ front ++ high ∷ low ∷ [] = ap hex_bytes (take_more bytes i 0 inside) ∙ (hex_bytes-append (take i bytes) (b ∷ []) ∙ ap (λ t. front ++ t) pair) in
+    more ∙ (ap (λ t. t ++ high ∷ low ∷ []) first ∙ (append_assoc old front (high ∷ low ∷ []) ∙ ap (λ t. old ++ t) (sym all)))
+
+-- a piece more
+pub hex_more : (bytes : List ℕ) (from to : ℕ) → from ≤ to → hex_bytes (take from bytes) ++ hex_bytes (take (to - from) (drop from bytes)) ≡ hex_bytes (take to bytes)
+hex_more bytes from to order =
+    let sum : from + (to - from) ≡ to = omega (arith, order) in
+    sym (hex_bytes-append (take from bytes) (take (to - from) (drop from bytes))) ∙ ap hex_bytes (sym (take-add from (to - from) bytes) ∙ ap (λ n. take n bytes) sum)
+
+-- and all that is left
+pub hex_rest : (bytes : List ℕ) (to : ℕ) → hex_bytes (take to bytes) ++ hex_bytes (drop to bytes) ≡ hex_bytes bytes
+hex_rest bytes to = sym (hex_bytes-append (take to bytes) (drop to bytes)) ∙ ap hex_bytes (take-append-drop to bytes)
+
+-- ----- the same, where the whole text is spelled in another way
+pub wrote_as : (a b : Stand) (r : Result (Unit {0}) IoFault) (x y : List ℕ) → x ≡ y → Writes a r b x → Writes a r b y
+wrote_as a b r x y e = subst (Writes a r b) e
+
+pub wrote_both : (a b c : Stand) (r : Result (Unit {0}) IoFault) (x y z : List ℕ) → x ++ y ≡ z → Writes a (Ok tt) b x → Writes b r c y → Writes a r c z
+wrote_both a b c r x y z e first second = wrote_as a c r (x ++ y) z e (wrote_then a b c r x y first second)
+
+pub stopped_in : (a b : Stand) (r : Result (Unit {0}) IoFault) (x y z : List ℕ) → x ++ y ≡ z → IsErr r → Writes a r b x → Writes a r b z
+stopped_in a b r x y z e h first = wrote_as a b r (x ++ y) z e (stopped a b r x y h first)
+
+-- ----- bytes that are there
+pub some_data : (bytes : List ℕ) → (length bytes == 0) ≡ false → codes " data " ++ hex_bytes bytes ≡ data_text bytes
+some_data [] h = absurd (false≢true (sym h))
+some_data (b ∷ bs) h = refl
+
+pub some_hex : (bytes : List ℕ) → (length bytes == 0) ≡ false → hex_bytes bytes ≡ hex bytes
+some_hex [] h = absurd (false≢true (sym h))
+some_hex (b ∷ bs) h = refl
+
+-- the same, where the failure is handed on
+pub stopped_at : (a b : Stand) (r q : Result (Unit {0}) IoFault) (x y : List ℕ) → IsErr r → r ≡ q → Writes a q b x → Writes a r b (x ++ y)
+stopped_at a b r q x y h e first = stopped a b r x y h (subst (λ (s : Result (Unit {0}) IoFault). Writes a s b x) (sym e) first)

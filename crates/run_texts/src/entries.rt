@@ -1,0 +1,197 @@
+ghost use Rattle.std.specs.Prelude.{◌≡◌, ℕ, ◌++◌, ◌∷◌, [], List, map, codes, decimal};
+ghost use Rattle.tas_runs.specs.Report.{line, hex, data_text, seg_text, call_text, reply_text, entry_text, update_text, frame_text};
+ghost use Rattle.tas_model.specs.declared.entry.Call.TheVariants as calls;
+ghost use Rattle.tas_model.specs.declared.entry.Reply.TheVariants as replies;
+ghost use Rattle.flow_state.specs.Views.{seen_seg, seen_call, seen_reply, seen_entry};
+ghost use Rattle.run_texts.specs.Writes.{Stand, Writes};
+
+use crate::texts::{
+    EntryStart, FrameText, HeadText, PassiveText, UpdateText, WindowText, reason_name,
+};
+use crate::writer::Writer;
+use flow_state::{CallView, EntryView, ReplyView, SegView};
+use tas_model::{FrameId, Head};
+use tas_num::{IoFault, Seq, Sink};
+
+/// Writes the line of an entry.
+pub fn write_entry<K: Sink>(
+    writer: &mut Writer,
+    sink: &mut K,
+    names: &[&str],
+    entry: &EntryView<'_>,
+) -> Result<(), IoFault>
+    ensures { Writes (record { held = K.held sink.old; faults = K.faults sink.old; waiting = writer.old }) result (record { held = K.held sink.new; faults = K.faults sink.new; waiting = writer.new }) (entry_text (map (λ n. n.now) names.now) (seen_entry entry.now)) }
+{
+    let start = EntryStart {
+        tick: entry.tick,
+        caller: entry.caller,
+        number: entry.number,
+    };
+    writer.put_text(sink, &start)?;
+    write_call(writer, sink, names, &entry.call)?;
+    writer.put(sink, b" = ")?;
+    write_reply(writer, sink, &entry.reply)?;
+    writer.put(sink, b"\n")
+}
+
+/// Writes what was asked.
+fn write_call<K: Sink>(
+    writer: &mut Writer,
+    sink: &mut K,
+    names: &[&str],
+    call: &CallView<'_>,
+) -> Result<(), IoFault>
+    ensures { Writes (record { held = K.held sink.old; faults = K.faults sink.old; waiting = writer.old }) result (record { held = K.held sink.new; faults = K.faults sink.new; waiting = writer.new }) (call_text (map (λ n. n.now) names.now) (seen_call call.now)) }
+{
+    match call {
+        CallView::Connect { iss } => {
+            let iss = iss.0;
+            writer.put_text(sink, &format_args!("connect iss {iss}"))
+        }
+        CallView::Passive { frame, iss, seg } => write_passive(
+            writer, sink, names, *frame, *iss, seg,
+        ),
+        CallView::Rx { frame, seg } => write_rx(writer, sink, names, *frame, seg),
+        CallView::Emit => writer.put(sink, b"emit"),
+        CallView::Tick => writer.put(sink, b"tick"),
+        CallView::Control => writer.put(sink, b"control"),
+        CallView::Accept => writer.put(sink, b"accept"),
+        CallView::Ready => writer.put(sink, b"ready"),
+        CallView::Send { offered } => writer.put_text(sink, &format_args!("send {offered}")),
+        CallView::Recv { most } => writer.put_text(sink, &format_args!("recv {most}")),
+        CallView::Shut => writer.put(sink, b"shut"),
+        CallView::Close => writer.put(sink, b"close"),
+        CallView::Abort => writer.put(sink, b"abort"),
+    }
+}
+
+/// Writes the SYN that a listener took, and the number that it answered with.
+fn write_passive<K: Sink>(
+    writer: &mut Writer,
+    sink: &mut K,
+    names: &[&str],
+    frame: FrameId,
+    iss: Seq,
+    seg: &SegView<'_>,
+) -> Result<(), IoFault>
+    ensures { Writes (record { held = K.held sink.old; faults = K.faults sink.old; waiting = writer.old }) result (record { held = K.held sink.new; faults = K.faults sink.new; waiting = writer.new }) (call_text (map (λ n. n.now) names.now) (calls.Passive frame iss (seen_seg seg.now))) }
+{
+    writer.put_text(sink, &PassiveText { names, frame, iss })?;
+    write_seg(writer, sink, seg)
+}
+
+/// Writes a received segment and which frame it came in.
+fn write_rx<K: Sink>(
+    writer: &mut Writer,
+    sink: &mut K,
+    names: &[&str],
+    frame: FrameId,
+    seg: &SegView<'_>,
+) -> Result<(), IoFault>
+    ensures { Writes (record { held = K.held sink.old; faults = K.faults sink.old; waiting = writer.old }) result (record { held = K.held sink.new; faults = K.faults sink.new; waiting = writer.new }) (call_text (map (λ n. n.now) names.now) (calls.Rx frame (seen_seg seg.now))) }
+{
+    let frame = FrameText { names, frame };
+    writer.put_text(sink, &format_args!("rx {frame} "))?;
+    write_seg(writer, sink, seg)
+}
+
+/// Writes what was answered.
+fn write_reply<K: Sink>(
+    writer: &mut Writer,
+    sink: &mut K,
+    reply: &ReplyView<'_>,
+) -> Result<(), IoFault>
+    ensures { Writes (record { held = K.held sink.old; faults = K.faults sink.old; waiting = writer.old }) result (record { held = K.held sink.new; faults = K.faults sink.new; waiting = writer.new }) (reply_text (seen_reply reply.now)) }
+{
+    match reply {
+        ReplyView::Ok => writer.put(sink, b"ok"),
+        ReplyView::Nothing => writer.put(sink, b"none"),
+        ReplyView::Sent { seg } => write_seg(writer, sink, seg),
+        ReplyView::Took { bytes } => write_took(writer, sink, bytes),
+        ReplyView::Got { bytes, update } => write_got(writer, sink, bytes, *update),
+        ReplyView::End => writer.put(sink, b"end"),
+        ReplyView::NotYet => writer.put(sink, b"notyet"),
+        ReplyView::NotOpen => writer.put(sink, b"notopen"),
+        ReplyView::Shut => writer.put(sink, b"shut"),
+        ReplyView::Closed { reason } => {
+            let name = reason_name(*reason);
+            writer.put_text(sink, &format_args!("closed {name}"))
+        }
+        ReplyView::Quiet => writer.put(sink, b"quiet"),
+        ReplyView::Resend => writer.put(sink, b"resend"),
+        ReplyView::Probe => writer.put(sink, b"probe"),
+        ReplyView::Expired => writer.put(sink, b"done"),
+        ReplyView::TimedOut => writer.put(sink, b"timedout"),
+        ReplyView::Window { cwnd, ssthresh } => writer.put_text(
+            sink,
+            &WindowText {
+                cwnd: *cwnd,
+                ssthresh: *ssthresh,
+            },
+        ),
+    }
+}
+
+/// Writes the bytes that a Send took.
+fn write_took<K: Sink>(writer: &mut Writer, sink: &mut K, bytes: &[u8]) -> Result<(), IoFault>
+    ensures { Writes (record { held = K.held sink.old; faults = K.faults sink.old; waiting = writer.old }) result (record { held = K.held sink.new; faults = K.faults sink.new; waiting = writer.new }) (reply_text (replies.Took bytes.now)) }
+{
+    writer.put(sink, b"took ")?;
+    write_hex(writer, sink, bytes)
+}
+
+/// Writes the bytes that a Recv gave, and the update that it sent.
+fn write_got<K: Sink>(
+    writer: &mut Writer,
+    sink: &mut K,
+    bytes: &[u8],
+    update: Option<Head>,
+) -> Result<(), IoFault>
+    ensures { Writes (record { held = K.held sink.old; faults = K.faults sink.old; waiting = writer.old }) result (record { held = K.held sink.new; faults = K.faults sink.new; waiting = writer.new }) (reply_text (replies.Got bytes.now update)) }
+{
+    writer.put(sink, b"got ")?;
+    write_hex(writer, sink, bytes)?;
+    writer.put_text(sink, &UpdateText(update))
+}
+
+/// Writes a segment.
+fn write_seg<K: Sink>(writer: &mut Writer, sink: &mut K, seg: &SegView<'_>) -> Result<(), IoFault>
+    ensures { Writes (record { held = K.held sink.old; faults = K.faults sink.old; waiting = writer.old }) result (record { held = K.held sink.new; faults = K.faults sink.new; waiting = writer.new }) (seg_text (seen_seg seg.now)) }
+{
+    write_segment(writer, sink, seg.head, seg.bytes)
+}
+
+/// Writes a segment's header and its payload.
+pub fn write_segment<K: Sink>(
+    writer: &mut Writer,
+    sink: &mut K,
+    head: Head,
+    bytes: &[u8],
+) -> Result<(), IoFault>
+    ensures { Writes (record { held = K.held sink.old; faults = K.faults sink.old; waiting = writer.old }) result (record { held = K.held sink.new; faults = K.faults sink.new; waiting = writer.new }) (seg_text (record { head = head; bytes = bytes.now })) }
+{
+    writer.put_text(sink, &HeadText(head))?;
+    write_data(writer, sink, bytes)
+}
+
+/// Writes the payload of a segment, where it has one.
+fn write_data<K: Sink>(writer: &mut Writer, sink: &mut K, bytes: &[u8]) -> Result<(), IoFault>
+    ensures { Writes (record { held = K.held sink.old; faults = K.faults sink.old; waiting = writer.old }) result (record { held = K.held sink.new; faults = K.faults sink.new; waiting = writer.new }) (data_text bytes.now) }
+{
+    if bytes.is_empty() {
+        return Ok(());
+    }
+    writer.put(sink, b" data ")?;
+    writer.put_hex(sink, bytes)
+}
+
+/// Writes bytes, or `-` for none.
+fn write_hex<K: Sink>(writer: &mut Writer, sink: &mut K, bytes: &[u8]) -> Result<(), IoFault>
+    ensures { Writes (record { held = K.held sink.old; faults = K.faults sink.old; waiting = writer.old }) result (record { held = K.held sink.new; faults = K.faults sink.new; waiting = writer.new }) (hex bytes.now) }
+{
+    if bytes.is_empty() {
+        writer.put(sink, b"-")
+    } else {
+        writer.put_hex(sink, bytes)
+    }
+}

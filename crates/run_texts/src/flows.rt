@@ -1,0 +1,150 @@
+ghost use Rattle.std.specs.Prelude.{◌≡◌, ℕ, ◌+◌, ◌*◌, ◌^◌, ◌<◌, ◌≤◌, ◌++◌, ◌∷◌, [], List, length, map, take, flat_map, codes, decimal};
+ghost use Rattle.tas_model.specs.Endpoint.{Endpoint, phase as phase_of};
+ghost use Rattle.tas_model.specs.LegalHistory.{replay};
+ghost use Rattle.tas_model.specs.Outputs.{given_bytes, bytes_read};
+ghost use Rattle.tas_runs.specs.Logs.{Flow};
+ghost use Rattle.tas_runs.specs.Report.{line, hex, hex_bytes, read_text, state_text, tuple_text, entries_text, flow_lines};
+ghost use Rattle.flow_state.specs.Views.{seen_entry, seen_reply};
+ghost use Rattle.run_texts.specs.Writes.{Stand, Writes};
+
+use crate::entries::write_entry;
+use crate::texts::{FlowName, TupleText, phase_name, reason_name};
+use crate::writer::Writer;
+use flow_state::{FlowRecord, ReplyView};
+use tas_model::{Phase, Reason};
+use tas_num::{IoFault, Sink};
+
+/// Writes the lines of a flow: its ends, its entries, its state and the bytes that were read. `number` is its opening number, from 0 on.
+pub fn write_flow<K: Sink>(
+    writer: &mut Writer,
+    sink: &mut K,
+    names: &[&str],
+    number: u32,
+    flow: &FlowRecord,
+) -> Result<(), IoFault>
+    ensures { Writes (record { held = K.held sink.old; faults = K.faults sink.old; waiting = writer.old }) result (record { held = K.held sink.new; faults = K.faults sink.new; waiting = writer.new }) (flow_lines (map (λ n. n.now) names.now) number (record { id = flow.now.id; tuple = flow.now.tuple; params = flow.now.params; entries = flow.now.entries })) }
+{
+    write_ends(writer, sink, number, flow)?;
+    write_entries(writer, sink, names, flow)?;
+    write_state(writer, sink, flow)?;
+    write_read(writer, sink, flow)
+}
+
+/// Writes which flow it is, and its ends.
+fn write_ends<K: Sink>(
+    writer: &mut Writer,
+    sink: &mut K,
+    number: u32,
+    flow: &FlowRecord,
+) -> Result<(), IoFault>
+    ensures { Writes (record { held = K.held sink.old; faults = K.faults sink.old; waiting = writer.old }) result (record { held = K.held sink.new; faults = K.faults sink.new; waiting = writer.new }) (line (codes "flow " ++ decimal number ++ codes " slot " ++ decimal flow.now.id.slot ++ codes "." ++ decimal flow.now.id.generation ++ codes " " ++ tuple_text flow.now.tuple)) }
+{
+    let id = flow.id();
+    let name = FlowName { number, id };
+    let ends = TupleText(flow.tuple());
+    writer.put_text(sink, &format_args!("{name} {ends}\n"))
+}
+
+/// Writes the lines of all entries.
+fn write_entries<K: Sink>(
+    writer: &mut Writer,
+    sink: &mut K,
+    names: &[&str],
+    flow: &FlowRecord,
+) -> Result<(), IoFault>
+    ensures { Writes (record { held = K.held sink.old; faults = K.faults sink.old; waiting = writer.old }) result (record { held = K.held sink.new; faults = K.faults sink.new; waiting = writer.new }) (entries_text (map (λ n. n.now) names.now) flow.now.entries) }
+{
+    for i in 0..flow.entries() {
+        write_entry(writer, sink, names, &flow.entry(i))?;
+    }
+    Ok(())
+}
+
+/// Writes the state that the entries lead to, and after CLOSED the reason.
+fn write_state<K: Sink>(writer: &mut Writer, sink: &mut K, flow: &FlowRecord) -> Result<(), IoFault>
+    ensures { Writes (record { held = K.held sink.old; faults = K.faults sink.old; waiting = writer.old }) result (record { held = K.held sink.new; faults = K.faults sink.new; waiting = writer.new }) (line (codes "state " ++ state_text (replay flow.now.params flow.now.entries))) }
+{
+    let parts = flow.parts();
+    let phase = phase_name(parts.phase);
+    match parts.reason {
+        Some(reason) => {
+            let reason = reason_name(reason);
+            writer.put_text(sink, &format_args!("state {phase} {reason}\n"))
+        }
+        None => writer.put_text(sink, &format_args!("state {phase}\n")),
+    }
+}
+
+/// Writes how many bytes were read, and which.
+fn write_read<K: Sink>(writer: &mut Writer, sink: &mut K, flow: &FlowRecord) -> Result<(), IoFault>
+    ensures { Writes (record { held = K.held sink.old; faults = K.faults sink.old; waiting = writer.old }) result (record { held = K.held sink.new; faults = K.faults sink.new; waiting = writer.new }) (line (read_text (bytes_read flow.now.entries))) }
+{
+    write_counted(writer, sink, flow, count_read(flow))
+}
+
+/// Writes the bytes that were read, of which there are so many, behind their count.
+fn write_counted<K: Sink>(
+    writer: &mut Writer,
+    sink: &mut K,
+    flow: &FlowRecord,
+    count: u128,
+) -> Result<(), IoFault>
+    requires { count ≡ length (bytes_read flow.now.entries) }
+    ensures { Writes (record { held = K.held sink.old; faults = K.faults sink.old; waiting = writer.old }) result (record { held = K.held sink.new; faults = K.faults sink.new; waiting = writer.new }) (line (codes "read " ++ decimal count ++ codes " " ++ hex (bytes_read flow.now.entries))) }
+{
+    writer.put_text(sink, &format_args!("read {count} "))?;
+    write_bytes_read(writer, sink, flow, count)?;
+    writer.put(sink, b"\n")
+}
+
+/// Writes the bytes that were read, of which there are so many.
+fn write_bytes_read<K: Sink>(
+    writer: &mut Writer,
+    sink: &mut K,
+    flow: &FlowRecord,
+    count: u128,
+) -> Result<(), IoFault>
+    requires { count ≡ length (bytes_read flow.now.entries) }
+    ensures { Writes (record { held = K.held sink.old; faults = K.faults sink.old; waiting = writer.old }) result (record { held = K.held sink.new; faults = K.faults sink.new; waiting = writer.new }) (hex (bytes_read flow.now.entries)) }
+{
+    if count == 0 {
+        writer.put(sink, b"-")
+    } else {
+        write_digits_read(writer, sink, flow)
+    }
+}
+
+/// How many bytes were read.
+fn count_read(flow: &FlowRecord) -> u128
+    ensures { result ≡ length (bytes_read flow.now.entries) }
+{
+    let mut count = 0;
+    for i in 0..flow.entries() {
+        count += given(flow.entry(i).reply).len() as u128;
+    }
+    count
+}
+
+/// Writes the digits of the bytes that were read.
+fn write_digits_read<K: Sink>(
+    writer: &mut Writer,
+    sink: &mut K,
+    flow: &FlowRecord,
+) -> Result<(), IoFault>
+    ensures { Writes (record { held = K.held sink.old; faults = K.faults sink.old; waiting = writer.old }) result (record { held = K.held sink.new; faults = K.faults sink.new; waiting = writer.new }) (hex_bytes (bytes_read flow.now.entries)) }
+{
+    for i in 0..flow.entries() {
+        writer.put_hex(sink, given(flow.entry(i).reply))?;
+    }
+    Ok(())
+}
+
+/// The bytes that a reply gave to the application.
+fn given<'a>(reply: ReplyView<'a>) -> &'a [u8]
+    ensures { result.now ≡ given_bytes (seen_reply reply.entry) }
+{
+    match reply {
+        ReplyView::Got { bytes, .. } => bytes,
+        _ => &[],
+    }
+}

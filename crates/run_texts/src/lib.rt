@@ -1,0 +1,12 @@
+//! The texts of a run: its report, and the capture of the frames that it sent, written to a sink.
+#![tactic(auto)]
+
+mod entries;
+mod flows;
+mod logs;
+mod texts;
+mod writer;
+
+pub use flows::write_flow;
+pub use logs::write_log;
+pub use writer::Writer;

@@ -1,0 +1,171 @@
+ghost use Rattle.std.specs.Prelude.{◌≡◌, ℕ, ◌++◌, ◌∷◌, [], List, map, flat_map, codes, decimal, if◌then◌else◌};
+ghost use Rattle.tas_runs.specs.declared.log.LogEvent.TheVariants as events;
+ghost use Rattle.tas_runs.specs.Report.{line, event_text, log_text, frame_text, seg_text, answer_text};
+ghost use Rattle.run_texts.specs.Writes.{Stand, Writes};
+
+use crate::entries::write_segment;
+use crate::texts::{AnswerText, FrameText, PortText};
+use crate::writer::Writer;
+use tas_model::{FrameId, Head, Seg};
+use tas_num::{IoFault, Sink};
+use tas_runs::{LogEvent, LogLine};
+
+/// Writes the lines of a host's log.
+pub fn write_log<K: Sink>(
+    writer: &mut Writer,
+    sink: &mut K,
+    names: &[&str],
+    log: &[LogLine],
+) -> Result<(), IoFault>
+    ensures { Writes (record { held = K.held sink.old; faults = K.faults sink.old; waiting = writer.old }) result (record { held = K.held sink.new; faults = K.faults sink.new; waiting = writer.new }) (log_text (map (λ n. n.now) names.now) log.now) }
+{
+    for entry in log {
+        write_line(writer, sink, names, entry)?;
+    }
+    Ok(())
+}
+
+/// Writes a line of the log.
+fn write_line<K: Sink>(
+    writer: &mut Writer,
+    sink: &mut K,
+    names: &[&str],
+    entry: &LogLine,
+) -> Result<(), IoFault>
+    ensures { Writes (record { held = K.held sink.old; faults = K.faults sink.old; waiting = writer.old }) result (record { held = K.held sink.new; faults = K.faults sink.new; waiting = writer.new }) (line (decimal entry.now.tick ++ codes " " ++ event_text (map (λ n. n.now) names.now) entry.now.event)) }
+{
+    let tick = entry.tick;
+    writer.put_text(sink, &format_args!("{tick} "))?;
+    write_event(writer, sink, names, &entry.event)?;
+    writer.put(sink, b"\n")
+}
+
+/// Writes what happened outside of every flow.
+fn write_event<K: Sink>(
+    writer: &mut Writer,
+    sink: &mut K,
+    names: &[&str],
+    event: &LogEvent,
+) -> Result<(), IoFault>
+    ensures { Writes (record { held = K.held sink.old; faults = K.faults sink.old; waiting = writer.old }) result (record { held = K.held sink.new; faults = K.faults sink.new; waiting = writer.new }) (event_text (map (λ n. n.now) names.now) event.now) }
+{
+    match event {
+        LogEvent::Listen { app, port, ok } => write_listen(writer, sink, *app, *port, *ok),
+        LogEvent::AcceptNotYet { app, port } => write_accept(writer, sink, *app, *port),
+        LogEvent::ConnectRefused {
+            app,
+            raddr,
+            rport,
+            no_port,
+        } => { write_connect(writer, sink, *app, *raddr, *rport, *no_port) }
+        LogEvent::Stray {
+            frame,
+            tuple: _,
+            seg,
+            answer,
+        } => { write_stray(writer, sink, names, *frame, seg, *answer) }
+        LogEvent::Dropped { frame, backlog } => write_dropped(
+            writer, sink, names, *frame, *backlog,
+        ),
+        LogEvent::Refused { frame, number } => write_refused(writer, sink, names, *frame, *number),
+    }
+}
+
+/// Writes what an application's asking to listen got.
+fn write_listen<K: Sink>(
+    writer: &mut Writer,
+    sink: &mut K,
+    app: u32,
+    port: u16,
+    ok: bool,
+) -> Result<(), IoFault>
+    ensures { Writes (record { held = K.held sink.old; faults = K.faults sink.old; waiting = writer.old }) result (record { held = K.held sink.new; faults = K.faults sink.new; waiting = writer.new }) (event_text [] (events.Listen app port ok)) }
+{
+    let answer = if ok { "ok" } else { "portinuse" };
+    writer.put_text(sink, &format_args!("p{app} listen {port} = {answer}"))
+}
+
+/// Writes that an application found no connection at its listener.
+fn write_accept<K: Sink>(
+    writer: &mut Writer,
+    sink: &mut K,
+    app: u32,
+    port: u16,
+) -> Result<(), IoFault>
+    ensures { Writes (record { held = K.held sink.old; faults = K.faults sink.old; waiting = writer.old }) result (record { held = K.held sink.new; faults = K.faults sink.new; waiting = writer.new }) (event_text [] (events.AcceptNotYet app port)) }
+{
+    writer.put_text(sink, &format_args!("p{app} accept {port} = notyet"))
+}
+
+/// Writes why an application's connect was refused.
+fn write_connect<K: Sink>(
+    writer: &mut Writer,
+    sink: &mut K,
+    app: u32,
+    raddr: u32,
+    rport: u16,
+    no_port: bool,
+) -> Result<(), IoFault>
+    ensures { Writes (record { held = K.held sink.old; faults = K.faults sink.old; waiting = writer.old }) result (record { held = K.held sink.new; faults = K.faults sink.new; waiting = writer.new }) (event_text [] (events.ConnectRefused app raddr rport no_port)) }
+{
+    let remote = PortText {
+        addr: raddr,
+        port: rport,
+    };
+    let want = if no_port { "noport" } else { "noflowslot" };
+    writer.put_text(sink, &format_args!("p{app} connect {remote} = {want}"))
+}
+
+/// Writes a segment of no flow, and what it was answered.
+fn write_stray<K: Sink>(
+    writer: &mut Writer,
+    sink: &mut K,
+    names: &[&str],
+    frame: FrameId,
+    seg: &Seg,
+    answer: Option<Head>,
+) -> Result<(), IoFault>
+    ensures { Writes (record { held = K.held sink.old; faults = K.faults sink.old; waiting = writer.old }) result (record { held = K.held sink.new; faults = K.faults sink.new; waiting = writer.new }) (codes "stray " ++ frame_text (map (λ n. n.now) names.now) frame ++ codes " " ++ seg_text seg.now ++ codes " = " ++ answer_text answer) }
+{
+    let frame = FrameText { names, frame };
+    writer.put_text(sink, &format_args!("stray {frame} "))?;
+    write_seg(writer, sink, seg)?;
+    writer.put(sink, b" = ")?;
+    writer.put_text(sink, &AnswerText(answer))
+}
+
+/// Writes a segment.
+fn write_seg<K: Sink>(writer: &mut Writer, sink: &mut K, seg: &Seg) -> Result<(), IoFault>
+    ensures { Writes (record { held = K.held sink.old; faults = K.faults sink.old; waiting = writer.old }) result (record { held = K.held sink.new; faults = K.faults sink.new; waiting = writer.new }) (seg_text seg.now) }
+{
+    write_segment(writer, sink, seg.head, seg.bytes.as_slice())
+}
+
+/// Writes for want of what a SYN was dropped.
+fn write_dropped<K: Sink>(
+    writer: &mut Writer,
+    sink: &mut K,
+    names: &[&str],
+    frame: FrameId,
+    backlog: bool,
+) -> Result<(), IoFault>
+    ensures { Writes (record { held = K.held sink.old; faults = K.faults sink.old; waiting = writer.old }) result (record { held = K.held sink.new; faults = K.faults sink.new; waiting = writer.new }) (event_text (map (λ n. n.now) names.now) (events.Dropped frame backlog)) }
+{
+    let frame = FrameText { names, frame };
+    let want = if backlog { "backlogfull" } else { "noflowslot" };
+    writer.put_text(sink, &format_args!("dropped {frame} = {want}"))
+}
+
+/// Writes which rule of reading a packet breaks.
+fn write_refused<K: Sink>(
+    writer: &mut Writer,
+    sink: &mut K,
+    names: &[&str],
+    frame: FrameId,
+    number: u8,
+) -> Result<(), IoFault>
+    ensures { Writes (record { held = K.held sink.old; faults = K.faults sink.old; waiting = writer.old }) result (record { held = K.held sink.new; faults = K.faults sink.new; waiting = writer.new }) (event_text (map (λ n. n.now) names.now) (events.Refused frame number)) }
+{
+    let frame = FrameText { names, frame };
+    writer.put_text(sink, &format_args!("refused {frame} = {number}"))
+}
