@@ -9,4 +9,5 @@ mod writer;
 
 pub use flows::write_flow;
 pub use logs::write_log;
+pub use texts::AddrText;
 pub use writer::Writer;

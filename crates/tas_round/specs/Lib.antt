@@ -1,2 +1,4 @@
+pub mod Flows
+pub mod Fronts
 pub mod Hosts
 pub mod Runs

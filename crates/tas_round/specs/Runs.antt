@@ -1,15 +1,5 @@
 -- The log of a run as the definitions of runs have it.
-use Rattle.std.specs.Prelude.{◌≡◌, ℕ, List, length, Err, ⊤}
-use Rattle.tas_num.specs.Captures.{capture_of}
-use Rattle.pcap_frames.specs.Views.{fault_in}
 use Rattle.tas_runs.specs.Logs.{RunLog}
-use Rattle.tas_runs.specs.Records.{Item}
-use Rattle.tas_runs.specs.Batches.{batches_of}
-use Rattle.tas_runs.specs.Replays.{at_start}
-use Rattle.tas_runs.specs.SerialOrder.{serial_ticks}
-use Rattle.tas_round.specs.declared.replaying.Ending.{Ending}
-use Rattle.tas_round.specs.declared.replaying.ReplayFault.{ReplayFault}
-use Rattle.tas_round.specs.declared.replaying.ReplayFault.TheVariants.{OutOfMemory, Pcap}
 use Rattle.tas_round.specs.declared.run.RunLog as code
 
 abbrev pub log_in : code.RunLog → RunLog
@@ -25,12 +15,3 @@ log_in log =
       refused = log.refused;
     }
 
--- the host after all ticks of these items, and how many they are
-pub record Ended (local : ℕ) (items : List Item) (ending : Ending) : Type 0 where
-  pub host : ending.host ≡ serial_ticks items 0 (at_start local) (batches_of items)
-  pub ticks : ending.ticks ≡ length (batches_of items)
-
--- the bytes are no capture, where it isn't want of memory
-abbrev pub Refuses : List ℕ → ReplayFault → Type 0
-Refuses b OutOfMemory = ⊤
-Refuses b (Pcap fault) = capture_of b ≡ Err (fault_in fault)

@@ -13,7 +13,7 @@ pub struct FlowList {
 impl Model for FlowList {
     ghost use Rattle.std.specs.Prelude.{List, map};
     ghost use Rattle.tas_runs.specs.Logs.{Flow};
-    ghost use Rattle.local_host.specs.Live.{flow_in};
+    ghost use Rattle.tas_round.specs.Flows.{flow_in};
 
     ghost Value = { List Flow };
 
@@ -21,7 +21,7 @@ impl Model for FlowList {
 }
 
 impl FlowList {
-    ghost use Rattle.local_host.specs.Live.{flow_in};
+    ghost use Rattle.tas_round.specs.Flows.{flow_in};
 
     /// The list of these records.
     pub(crate) fn of(records: Vec<FlowRecord>) -> FlowList

@@ -1,1 +1,0 @@
-ghost use Rattle.std.specs.Prelude.{◌≡◌, ◌++◌, ◌∷◌, [], List, map, length, IsTrue, OnOk, OnErr};
