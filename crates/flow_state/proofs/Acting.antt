@@ -1,0 +1,155 @@
+-- A record with one entry more.
+use Rattle.std.proofs.Common.{◌≡◌, ℕ, ◌+◌, ◌^◌, ◌<◌, ◌≤◌, cond, List, [], ◌∷◌, ◌++◌, length, take, drop, max, Option, Some, None, refl, sym, ◌∙◌, ap, subst, arith, take-append-drop}
+use Rattle.std.proofs.lemmas.List.{map-append}
+use Rattle.tas_num.specs.declared.seq.Seq.{Seq}
+use Rattle.tas_model.specs.declared.entry.FrameId.{FrameId}
+use Rattle.tas_model.specs.declared.entry.HostParams.{HostParams}
+use Rattle.tas_model.specs.declared.entry.Entry.{Entry}
+use Rattle.tas_model.specs.declared.entry.Caller.{Caller}
+use Rattle.tas_model.specs.declared.entry.Caller.TheVariants.{Slow}
+use Rattle.tas_model.specs.declared.entry.Call.{Call}
+use Rattle.tas_model.specs.declared.entry.Call.TheVariants as calls
+use Rattle.tas_model.specs.declared.entry.Reply.{Reply}
+use Rattle.tas_model.specs.declared.entry.Reply.TheVariants as replies
+use Rattle.tas_model.specs.declared.entry.Seg.{Seg}
+use Rattle.tas_model.specs.Endpoint.{Endpoint}
+use Rattle.tas_model.specs.Segments.{Outcome}
+use Rattle.tas_model.specs.Valid.{Valid, InRange}
+use Rattle.tas_model.specs.LegalHistory.{Legal, shown, opened, extended_by, reply_or, MayFollow, Gives, IsFirst, replay, step, state_or, moved, last_tick, next_number, same_caller}
+use Rattle.tas_model.proofs.ValidCalls.{valid_replay}
+use Rattle.tas_model.proofs.Histories.{legal_push, replay_push, replay_first}
+use Rattle.flow_state.specs.declared.parts.Parts.{Parts}
+use Rattle.flow_state.specs.declared.call.CallIn.{CallIn}
+use Rattle.flow_state.specs.declared.call.Answer.{Answer}
+use Rattle.flow_state.specs.declared.slot.Slot.{Slot}
+use Rattle.flow_state.specs.declared.slot.CallSlot.{CallSlot}
+use Rattle.flow_state.specs.declared.slot.CallSlot.TheVariants as cs
+use Rattle.flow_state.specs.declared.slot.ReplySlot.{ReplySlot}
+use Rattle.flow_state.specs.declared.slot.ReplySlot.TheVariants as rs
+use Rattle.flow_state.specs.declared.counts.CallerCount.{CallerCount}
+use Rattle.flow_state.specs.Calls.{call_of, offer_of, reply_of, answer_of}
+use Rattle.flow_state.specs.Counts.{counted_for, AreCounts}
+use Rattle.flow_state.specs.Flow.{next_entry, reply_to, first_passive, first_connect}
+use Rattle.flow_state.specs.Made.{IsStep, IsMadeWith, IsMadeAt}
+use Rattle.flow_state.specs.Record.{IsRecord}
+use Rattle.flow_state.specs.Slots.{entries_of, entry_of, CallWithin, ReplyWithin, IsWithin, AllWithin}
+use Rattle.flow_state.specs.Stands.{Stands}
+use Rattle.flow_state.proofs.Counting.{counts_push, counts_first}
+use Rattle.flow_state.proofs.Entries.{entries_kept}
+use Rattle.flow_state.proofs.Sending.{step_again, answer_is}
+
+-- what an outcome that is there says
+outcome_of : (e : Endpoint) (after : Parts) (answer : Answer) (out : List ℕ) (o : Option Outcome) → IsStep after answer out o
+    → (p : Outcome) × (o ≡ Some p) × (p.reply ≡ reply_of answer out) × Stands after p.state
+outcome_of e after answer out None is = absurd is
+outcome_of e after answer out (Some p) is = (p, refl, is.reply, is.state)
+
+-- what was made: the entry may follow, it is the one that the step makes, and the answer is its reply
+record Follows (params : HostParams) (h : List Entry) (caller : Caller) (tick : ℕ) (call : CallIn) (after : Parts) (a : Answer) (x : Entry) : Type 0 where
+  legal : Legal params (h ++ x ∷ [])
+  stands : Stands after (replay params (h ++ x ∷ []))
+  exact : h ++ x ∷ [] ≡ extended_by params h caller tick (call_of call) (offer_of call)
+  answer : a ≡ answer_of (reply_to params h tick (call_of call) (offer_of call))
+
+follows : (params : HostParams) (h : List Entry) (caller : Caller) (tick : ℕ) (call : CallIn) (before after : Parts) (arena : List ℕ) (answer : Answer) (slot : Slot) (out : List ℕ)
+    → InRange params → Legal params h → Stands before (replay params h)
+    → IsMadeWith before after arena caller (next_number caller h) (max tick (last_tick 0 h)) call answer slot out
+    → Follows params h caller tick call after answer (next_entry h caller tick (call_of call) (reply_of answer out))
+follows params h caller tick call before after arena answer slot out fits legal stands made =
+    let e : Endpoint = replay params h in
+    let t : ℕ = max tick (last_tick 0 h) in
+    let reply : Reply = reply_of answer out in
+    let x : Entry = next_entry h caller tick (call_of call) reply in
+    let is : (p : Outcome) × (step e t (call_of call) (shown e (offer_of call)) ≡ Some p) × (p.reply ≡ reply) × Stands after p.state =
+    outcome_of e after answer out (step e t (call_of call) (shown e (offer_of call))) (made.makes e (valid_replay params h fits legal) stands).step in
+    let again : step e t (call_of call) reply ≡ Some is.0 = subst (λ (r : Reply). step e t (call_of call) r ≡ Some is.0) is.2 (step_again e t call is.0 is.1) in
+    let gives : Gives (step e t (call_of call) reply) reply = subst (λ (o : Option Outcome). Gives o reply) (sym again) is.2 in
+    let to : Stands after (moved e x) = subst (λ (o : Option Outcome). Stands after (state_or e o)) (sym again) is.3 in
+    let may : MayFollow params h x = record { step = gives; number = refl; tick = omega arith } in
+    let same : reply ≡ reply_to params h tick (call_of call) (offer_of call) = sym (ap (λ (o : Option Outcome). reply_or o replies.Nothing) is.1 ∙ is.2) in
+    record {
+      legal = legal_push params h x legal may;
+      stands = subst (Stands after) (sym (replay_push params h x legal)) to;
+      exact = ap (λ (r : Reply). h ++ next_entry h caller tick (call_of call) r ∷ []) same;
+      answer = sym (answer_is answer out made.bytes) ∙ ap answer_of same;
+    }
+
+call_longer : (n m : ℕ) (c : CallSlot) → n ≤ m → CallWithin n c → CallWithin m c
+call_longer n m (cs.Passive frame iss head bytes) le is = omega arith
+call_longer n m (cs.Rx frame head bytes) le is = omega arith
+call_longer n m _ le is = tt
+
+reply_longer : (n m : ℕ) (r : ReplySlot) → n ≤ m → ReplyWithin n r → ReplyWithin m r
+reply_longer n m (rs.Sent head bytes) le is = omega arith
+reply_longer n m (rs.Took bytes) le is = omega arith
+reply_longer n m (rs.Got bytes update) le is = omega arith
+reply_longer n m _ le is = tt
+
+within_longer : (n m : ℕ) (slots : List Slot) → n ≤ m → AllWithin n slots → AllWithin m slots
+within_longer n m [] le all = tt
+within_longer n m (s ∷ slots) le all =
+    (record { call = call_longer n m s.call le all.0.call; reply = reply_longer n m s.reply le all.0.reply }, within_longer n m slots le all.1)
+
+pub within_push : (n m : ℕ) (slots : List Slot) (s : Slot) → n ≤ m → AllWithin n slots → IsWithin m s → AllWithin m (slots ++ s ∷ [])
+within_push n m [] s le all is = (is, tt)
+within_push n m (x ∷ slots) s le all is = let w : AllWithin m (x ∷ slots) = within_longer n m (x ∷ slots) le all in (w.0, within_push n m slots s le all.1 is)
+
+-- the entries with one slot more, in memory that grew
+pub entries_push : (old new : List ℕ) (slots : List Slot) (s : Slot) (x : Entry) → take (length old) new ≡ old → AllWithin (length old) slots
+    → entry_of new s ≡ x → entries_of new (slots ++ s ∷ []) ≡ entries_of old slots ++ x ∷ []
+entries_push old new slots s x front within is =
+    let whole : old ++ drop (length old) new ≡ new = ap (λ (f : List ℕ). f ++ drop (length old) new) (sym front) ∙ take-append-drop (length old) new in
+    let kept : entries_of new slots ≡ entries_of old slots = subst (λ (n : List ℕ). entries_of n slots ≡ entries_of old slots) whole (entries_kept old (drop (length old) new) slots within) in
+    let last : entries_of new (s ∷ []) ≡ x ∷ [] = ap (λ (y : Entry). y ∷ []) is in
+    map-append (entry_of new) slots (s ∷ []) ∙ (ap (λ (es : List Entry). es ++ entries_of new (s ∷ [])) kept ∙ ap (λ (es : List Entry). entries_of old slots ++ es) last)
+
+-- what one more entry leaves
+pub record Grown (before after : Parts) (old new : List ℕ) (slots slots' : List Slot) (counts : List CallerCount) (caller : Caller) (tick : ℕ) (call : CallIn) (a : Answer) : Type 0 where
+  pub kept : IsRecord after new slots' counts
+  pub exact : entries_of new slots' ≡ extended_by before.params (entries_of old slots) caller tick (call_of call) (offer_of call)
+  pub answer : a ≡ answer_of (reply_to before.params (entries_of old slots) tick (call_of call) (offer_of call))
+
+-- all that the record keeps true, after one more entry
+pub kept_after : (before after : Parts) (old new : List ℕ) (slots slots' : List Slot) (s : Slot) (counts counts' : List CallerCount) (caller : Caller) (tick number t : ℕ) (call : CallIn) (answer : Answer)
+    → IsRecord before old slots counts → after.params ≡ before.params → take (length old) new ≡ old → length old ≤ length new
+    → number ≡ counted_for caller counts → t ≡ max tick (last_tick 0 (entries_of old slots)) → slots' ≡ slots ++ s ∷ []
+    → ((other : Caller) → counted_for other counts' ≡ counted_for other counts + cond (same_caller caller other) 1 0)
+    → IsMadeAt before after new caller number t call answer s → Grown before after old new slots slots' counts' caller tick call answer
+kept_after before after old new slots slots' s counts counts' caller tick number t call answer is same front longer n-is t-is slots-is more made =
+    let h : List Entry = entries_of old slots in
+    let n-is' : number ≡ next_number caller h = n-is ∙ is.counts caller in
+    let made' : IsMadeWith before after new caller (next_number caller h) (max tick (last_tick 0 h)) call answer s made.0 = rw (← n-is', ← t-is) made.1 in
+    let x : Entry = next_entry h caller tick (call_of call) (reply_of answer made.0) in
+    let grown : entries_of new slots' ≡ h ++ x ∷ [] = ap (entries_of new) slots-is ∙ entries_push old new slots s x front is.within made'.entry in
+    let all = follows before.params h caller tick call before after new answer s made.0 is.fits is.legal is.stands made' in
+    let P : HostParams → List Entry → Type 0 = λ p es. Legal p es × Stands after (replay p es) in
+    let there : P after.params (entries_of new slots') =
+    subst (λ (p : HostParams). P p (entries_of new slots')) (sym same) (subst (P before.params) (sym grown) (all.legal, all.stands)) in
+    record {
+      kept = record {
+        fits = subst InRange (sym same) is.fits;
+        legal = there.0;
+        stands = there.1;
+        within = subst (AllWithin (length new)) (sym slots-is) (within_push (length old) (length new) slots s longer is.within made'.within);
+        counts = subst (AreCounts counts') (sym grown) (counts_push counts counts' h x is.counts more);
+      };
+      exact = grown ∙ all.exact;
+      answer = all.answer;
+    }
+
+-- a record with its first entry
+pub opens_record : (p : Parts) (params : HostParams) (arena : List ℕ) (slots : List Slot) (counts : List CallerCount) (s : Slot) (x : Entry)
+    → InRange params → p.params ≡ params → slots ≡ s ∷ [] → entry_of arena s ≡ x → IsWithin (length arena) s → IsFirst x
+    → counts ≡ record { caller = x.caller; made = 1 } ∷ [] → Stands p (opened params x.call) → IsRecord p arena slots counts
+opens_record p params arena slots counts s x fits same one is within first counted stands =
+    let entries : entries_of arena slots ≡ x ∷ [] = ap (entries_of arena) one ∙ ap (λ (y : Entry). y ∷ []) is in
+    let P : HostParams → List Entry → Type 0 = λ q es. Legal q es × Stands p (replay q es) in
+    let begun : P params (x ∷ []) = ((first, tt), subst (Stands p) (sym (replay_first params x)) stands) in
+    let there : P p.params (entries_of arena slots) = subst (λ (q : HostParams). P q (entries_of arena slots)) (sym same) (subst (P params) (sym entries) begun) in
+    record {
+      fits = subst InRange (sym same) fits;
+      legal = there.0;
+      stands = there.1;
+      within = subst (AllWithin (length arena)) (sym one) (within, tt);
+      counts = subst (λ (cs : List CallerCount). AreCounts cs (entries_of arena slots)) (sym counted) (subst (AreCounts (record { caller = x.caller; made = 1 } ∷ [])) (sym entries) (counts_first x.caller x refl));
+    }

@@ -1,0 +1,61 @@
+-- The parts after a Recv.
+use Rattle.std.proofs.Common.{◌≡◌, ℕ, ◌+◌, ◌-◌, ◌<◌, ◌≤◌, List, [], ◌∷◌, ◌++◌, length, take, drop, Option, Some, None, refl, sym, ◌∙◌, ap, subst, arith, length-take, length-drop}
+use Rattle.std.proofs.lemmas.List.{drop-drop, drop-append-le, take-append-le}
+use Rattle.payload_ring.specs.Window.{Window, Holds}
+use Rattle.tas_model.specs.Endpoint.{Endpoint, Island}
+use Rattle.tas_model.specs.ApplicationCalls.{after_recv}
+use Rattle.flow_state.specs.declared.parts.Parts.{Parts}
+use Rattle.flow_state.specs.Stands.{Stands, IsIsland}
+
+-- what stands ahead stands there still when cells come behind it
+ahead_kept : (ahead more bytes : List ℕ) (d : ℕ) → take (length bytes) (drop d ahead) ≡ bytes → take (length bytes) (drop d (ahead ++ more)) ≡ bytes
+ahead_kept ahead more [] d there = refl
+ahead_kept ahead more (b ∷ bs) d there =
+    let all : length (take (length (b ∷ bs)) (drop d ahead)) ≡ length (b ∷ bs) = ap length there in
+    let front : d ≤ length ahead = omega (arith, length-take (length (b ∷ bs)) (drop d ahead), length-drop d ahead) in
+    let inside : length (b ∷ bs) ≤ length (drop d ahead) = omega (arith, length-take (length (b ∷ bs)) (drop d ahead), length-drop d ahead) in
+    ap (take (length (b ∷ bs))) (drop-append-le d ahead more front) ∙ (take-append-le (length (b ∷ bs)) (drop d ahead) more inside ∙ there)
+
+pub island_kept : (kept : Option (ℕ × ℕ)) (ahead more : List ℕ) (end : ℕ) (o : Option Island) → IsIsland kept ahead end o → IsIsland kept (ahead ++ more) end o
+island_kept kept ahead more end None is = is
+island_kept kept ahead more end (Some i) is = (is.0, ahead_kept ahead more i.bytes (i.at - end) is.1)
+
+pub stands_recv : (p : Parts) (e : Endpoint) (n : ℕ) (w : Window) → Stands p e → w ≡ record (p.rx) { base = p.rx.base + n; bytes = drop n p.rx.bytes; ahead = p.rx.ahead ++ take n p.rx.bytes }
+    → Stands (record p { rx = w }) (after_recv e n)
+stands_recv p e n w s is = record {
+  params = s.params;
+  phase = s.phase;
+  reason = s.reason;
+  iss = s.iss;
+  irs = s.irs;
+  una = s.una;
+  nxt = s.nxt;
+  max = s.max;
+  rcv = s.rcv;
+  tx = s.tx;
+  rx = record {
+    size = ap (λ (x : Window). x.size) is ∙ s.rx.size;
+    base = ap (λ (x : Window). x.base) is ∙ ap (λ (b : ℕ). b + n) s.rx.base;
+    bytes = ap (λ (x : Window). x.bytes) is ∙ (ap (drop n) s.rx.bytes ∙ drop-drop n e.rx.read e.rx.got);
+  };
+  island = subst (λ (a : List ℕ). IsIsland p.island a (length e.rx.got) e.rx.island) (sym (ap (λ (x : Window). x.ahead) is)) (island_kept p.island p.rx.ahead (take n p.rx.bytes) (length e.rx.got) e.rx.island s.island);
+  window = s.window;
+  wl1 = s.wl1;
+  wl2 = s.wl2;
+  dup = s.dup;
+  acked = s.acked;
+  fast = s.fast;
+  timeouts = s.timeouts;
+  flight = s.flight;
+  cwnd = s.cwnd;
+  ssthresh = s.ssthresh;
+  tokens = s.tokens;
+  depth = s.depth;
+  fill = s.fill;
+  smss = s.smss;
+  age = s.age;
+  tries = s.tries;
+  probe = s.probe;
+  entered = s.entered;
+  order = s.order;
+}

@@ -1,0 +1,10 @@
+pub mod Calls
+pub mod Stands
+pub mod Slots
+pub mod Made
+pub mod Flow
+pub mod Counts
+pub mod Record
+pub mod Inside
+pub mod App
+pub mod Views

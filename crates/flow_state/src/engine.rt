@@ -1,0 +1,48 @@
+ghost use Rattle.std.specs.Prelude.{◌≡◌, ℕ, ◌+◌, ◌-◌, ◌^◌, ◌<◌, ◌≤◌, ◌↔◌, length, IfSome, IfNone, IsSome};
+ghost use Rattle.tas_model.specs.Endpoint.{Endpoint};
+ghost use Rattle.tas_model.specs.Valid.{Valid};
+ghost use Rattle.flow_state.specs.Stands.{Stands, IsNear};
+ghost use Rattle.flow_state.specs.Calls.{answer_len, reply_room, cost_of, IsSmall, IsTimely};
+ghost use Rattle.flow_state.specs.Made.{Makes};
+
+use crate::call::{Answer, CallIn};
+use crate::parts::Parts;
+
+/// How many bytes a reply to the call, or the call's own payload, may have.
+pub fn cost(parts: &Parts, call: &CallIn<'_>) -> usize
+    ensures { result ≡ cost_of parts.now.smss call.now }
+{
+    match call {
+        CallIn::Passive { seg, .. } | CallIn::Rx { seg, .. } => seg.payload.len(),
+        CallIn::Send { bytes } => bytes.len(),
+        CallIn::Recv { most } => *most as usize,
+        CallIn::Emit => parts.smss as usize,
+        _ => 0,
+    }
+}
+
+/// What answers some of the calls.
+///
+/// Of a received segment the addresses and ports are not read: whoever makes the call gives a flow its own segments. What is promised holds of any segment.
+pub trait Engine {
+    ghost use Rattle.flow_state.specs.declared.parts.Parts.{Parts};
+    ghost use Rattle.flow_state.specs.declared.call.CallIn.{CallIn};
+
+    /// Which calls it answers, at which parts.
+    ghost serves: { Self → Parts → CallIn → Type 0 };
+
+    /// Makes the call at this tick. `Some`: the parts stand for the next endpoint, and the reply's bytes stand first in `out`. `None`: nothing changed.
+    ///
+    /// Accept and Control are calls only past SYN-RECEIVED and before CLOSED, Tick only before CLOSED.
+    fn run(&self, parts: &mut Parts, tick: u32, call: &CallIn<'_>, out: &mut [u8]) -> Option<Answer>
+        requires room { cost_of parts.old.smss call.now ≤ length out.old }
+        requires small { IsSmall call.now }
+        requires timely { IsTimely parts.old.phase call.now }
+        requires near { IsNear parts.old }
+        ensures made { IfSome result (λ answer. (e : Endpoint) → Valid e → Stands parts.old e → Makes e tick call.now parts.new out.new answer) }
+        ensures bytes { IfSome result (λ answer. answer_len answer ≤ reply_room parts.old.smss call.now) }
+        ensures tuple { parts.new.tuple ≡ parts.old.tuple }
+        ensures params { parts.new.params ≡ parts.old.params }
+        ensures unmade { IfNone result (parts.new ≡ parts.old) }
+        ensures serves { IsSome result ↔ serves self.now parts.old call.now };
+}

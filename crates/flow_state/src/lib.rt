@@ -1,0 +1,28 @@
+//! The record of one flow: its endpoint in compact form, and its history.
+#![tactic(auto)]
+
+mod app;
+mod app_end;
+mod app_recv;
+mod app_send;
+mod call;
+mod counts;
+mod engine;
+mod open;
+mod parts;
+mod reading;
+mod record;
+mod slot;
+mod stage;
+mod view;
+
+pub use app::AppCalls;
+pub use call::{Answer, CallIn};
+pub use engine::{Engine, cost};
+pub use parts::Parts;
+pub use record::FlowRecord;
+pub use stage::Stage;
+pub use view::{CallView, EntryView, ReplyView, SegView};
+
+#[cfg(test)]
+mod tests;

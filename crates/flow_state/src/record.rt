@@ -1,0 +1,301 @@
+ghost use Rattle.std.specs.Prelude.{◌≡◌, ℕ, ◌+◌, ◌-◌, ◌^◌, ◌<◌, ◌≤◌, ◌++◌, ◌∷◌, ◌↔◌, [], List, length, take, slice_get, Some, replicate, max, vec_len, vec_capacity, IfOk, IfSome, IfNone, IsSome, OnErr, OnOk, IsOk};
+ghost use Rattle.tas_model.specs.Endpoint.{phase};
+ghost use Rattle.tas_model.specs.LegalHistory.{Legal, replay, extended_by, last_tick};
+ghost use Rattle.tas_model.specs.Valid.{InRange};
+ghost use Rattle.flow_state.specs.Stands.{Stands, IsNear};
+ghost use Rattle.flow_state.specs.Calls.{call_of, offer_of, answer_of, reply_bytes, payload_of, seg_of, cost_of, IsSmall, IsTimely};
+ghost use Rattle.flow_state.specs.Flow.{Flow, reply_to, last_reply, first_passive, first_connect};
+ghost use Rattle.flow_state.specs.Slots.{entries_of};
+ghost use Rattle.flow_state.specs.Made.{IsMadeAt};
+ghost use Rattle.flow_state.specs.Views.{seen_entry};
+
+use crate::call::{Answer, CallIn};
+use crate::counts::{CallerCount, count_one, number_of};
+use crate::engine::{Engine, cost};
+use crate::open::{connect_parts, passive_parts};
+use crate::parts::Parts;
+use crate::slot::{Slot, close_entry, connect_slot, passive_slot};
+use crate::view::{EntryView, entry_view, reply_view};
+use segment_fields::Segment;
+use std::alloc::{AllocError, Global};
+use std::marker::Model;
+use tas_model::{Caller, FlowId, FourTuple, FrameId, HostParams, Recorded};
+use tas_num::Seq;
+
+/// The record of one flow, seen as its history.
+///
+/// The parts hold the present endpoint; the history stands in slots of one size, whose bytes stand in one piece of memory.
+#[derive(Drop)]
+pub struct FlowRecord {
+    id: FlowId,
+    parts: Parts,
+    slots: Vec<Slot>,
+    arena: Vec<u8>,
+    counts: Vec<CallerCount>,
+}
+
+impl Model for FlowRecord {
+    ghost use Rattle.flow_state.specs.Flow.{Flow};
+
+    ghost Value = { Flow };
+
+    ghost use Rattle.flow_state.specs.Inside.{flow_of, IsKept};
+
+    ghost view = { flow_of };
+
+    ghost invariant = { IsKept };
+}
+
+impl Recorded for FlowRecord {
+    ghost id = { λ r. r.id };
+
+    ghost tuple = { λ r. r.tuple };
+
+    ghost params = { λ r. r.params };
+
+    ghost entries = { λ r. r.entries };
+}
+
+impl FlowRecord {
+    /// The record of a flow that a peer's SYN opens, with its first entry. The error is want of memory.
+    pub fn passive(
+        alloc: Global,
+        id: FlowId,
+        tuple: FourTuple,
+        params: &HostParams,
+        iss: Seq,
+        frame: FrameId,
+        seg: &Segment<'_>,
+        tick: u32,
+    ) -> Result<FlowRecord, AllocError>
+        requires ranges { InRange params.now }
+        ensures id { IfOk result (λ r. r.id ≡ id) }
+        ensures tuple { IfOk result (λ r. r.tuple ≡ tuple) }
+        ensures params { IfOk result (λ r. r.params ≡ params.now) }
+        ensures entries { IfOk result (λ r. r.entries ≡ first_passive tick frame iss (seg_of seg.now) ∷ []) }
+    {
+        let parts = passive_parts(alloc, tuple, params, iss, seg)?;
+        let arena = Vec::from_slice(alloc, seg.payload)?;
+        let mut slots = Vec::new(alloc);
+        slots.push(passive_slot(iss, frame, seg, tick))?;
+        let mut counts = Vec::new(alloc);
+        counts.push(CallerCount {
+            caller: Caller::Slow,
+            made: 1,
+        })?;
+        Ok(FlowRecord {
+            id,
+            parts,
+            slots,
+            arena,
+            counts,
+        })
+    }
+
+    /// The record of a flow that its own host opens, with its first entry. The error is want of memory.
+    pub fn connect(
+        alloc: Global,
+        id: FlowId,
+        tuple: FourTuple,
+        params: &HostParams,
+        iss: Seq,
+        caller: Caller,
+        tick: u32,
+    ) -> Result<FlowRecord, AllocError>
+        requires ranges { InRange params.now }
+        ensures id { IfOk result (λ r. r.id ≡ id) }
+        ensures tuple { IfOk result (λ r. r.tuple ≡ tuple) }
+        ensures params { IfOk result (λ r. r.params ≡ params.now) }
+        ensures entries { IfOk result (λ r. r.entries ≡ first_connect caller tick iss ∷ []) }
+    {
+        let parts = connect_parts(alloc, tuple, params, iss)?;
+        let mut slots = Vec::new(alloc);
+        slots.push(connect_slot(caller, iss, tick))?;
+        let mut counts = Vec::new(alloc);
+        counts.push(CallerCount { caller, made: 1 })?;
+        Ok(FlowRecord {
+            id,
+            parts,
+            slots,
+            arena: Vec::new(alloc),
+            counts,
+        })
+    }
+
+    /// Makes both spares at least so much. The error is want of memory, and leaves the record as it was.
+    pub fn reserve(&mut self, entries: usize, bytes: usize) -> Result<(), AllocError>
+        ensures spare_entries { OnOk result (entries ≤ self.new.spare_entries) }
+        ensures spare_bytes { OnOk result (bytes ≤ self.new.spare_bytes) }
+        ensures id { self.new.id ≡ self.old.id }
+        ensures tuple { self.new.tuple ≡ self.old.tuple }
+        ensures params { self.new.params ≡ self.old.params }
+        ensures entries { self.new.entries ≡ self.old.entries }
+        ensures parts { self.new.parts ≡ self.old.parts }
+    {
+        self.slots.reserve(entries)?;
+        self.counts.reserve(entries)?;
+        self.arena.reserve(bytes)
+    }
+
+    /// Which flow it is.
+    pub fn id(&self) -> FlowId
+        ensures { result ≡ self.now.id }
+    {
+        self.id
+    }
+
+    /// The connection's ends.
+    pub fn tuple(&self) -> FourTuple
+        ensures { result ≡ self.now.tuple }
+    {
+        self.parts.tuple
+    }
+
+    /// The host's parameters.
+    pub fn params(&self) -> &HostParams
+        ensures { result.now ≡ self.now.params }
+    {
+        &self.parts.params
+    }
+
+    /// How many entries its history has.
+    pub fn entries(&self) -> usize
+        ensures count { result ≡ length self.now.entries }
+        ensures legal { Legal self.now.params self.now.entries }
+    {
+        self.slots.len()
+    }
+
+    /// The `i`-th entry of its history, counted from 0, the oldest first.
+    pub fn entry(&self, i: usize) -> EntryView<'_>
+        requires { i < length self.now.entries }
+        ensures { slice_get self.now.entries i ≡ Some (seen_entry result) }
+    {
+        entry_view(&self.arena, &self.slots[i])
+    }
+
+    /// The bytes of the last entry's reply.
+    pub fn last_bytes(&self) -> &[u8]
+        ensures { result.now ≡ reply_bytes (last_reply self.now.entries) }
+    {
+        match self.slots.last() {
+            Some(slot) => reply_view(&self.arena, slot.reply).bytes(),
+            None => &[],
+        }
+    }
+
+    /// The present endpoint in its compact form.
+    pub fn parts(&self) -> &Parts
+        ensures parts { result.now ≡ self.now.parts }
+        ensures stands { Stands self.now.parts (replay self.now.params self.now.entries) }
+        ensures phase { self.now.parts.phase ≡ phase (replay self.now.params self.now.entries) }
+        ensures tuple { self.now.parts.tuple ≡ self.now.tuple }
+        ensures params { self.now.parts.params ≡ self.now.params }
+    {
+        &self.parts
+    }
+
+    /// Makes the call by the engine, and appends its entry. The entry's tick is the greater of `tick` and the last entry's. Where the engine does not answer the call, nothing changes. The error is want of memory; then nothing changed either.
+    pub fn act<E: Engine>(
+        &mut self,
+        caller: Caller,
+        tick: u32,
+        call: &CallIn<'_>,
+        engine: &E,
+    ) -> Result<Option<Answer>, AllocError>
+        requires small { IsSmall call.now }
+        requires timely { IsTimely self.old.parts.phase call.now }
+        ensures exact { IfOk result (λ r. IfSome r (λ a. self.new.entries ≡ extended_by self.old.params self.old.entries caller tick (call_of call.now) (offer_of call.now))) }
+        ensures answer { IfOk result (λ r. IfSome r (λ a. a ≡ answer_of (reply_to self.old.params self.old.entries tick (call_of call.now) (offer_of call.now)))) }
+        ensures unmade { IfOk result (λ r. IfNone r (self.new.entries ≡ self.old.entries)) }
+        ensures unmade_parts { IfOk result (λ r. IfNone r (self.new.parts ≡ self.old.parts)) }
+        ensures err { OnErr result (self.new.entries ≡ self.old.entries) }
+        ensures err_parts { OnErr result (self.new.parts ≡ self.old.parts) }
+        ensures serves { IfOk result (λ r. IsSome r ↔ E.serves engine.now self.old.parts call.now) }
+        ensures spare { 1 ≤ self.old.spare_entries → cost_of self.old.parts.smss call.now ≤ self.old.spare_bytes → IsOk result }
+        ensures legal { Legal self.new.params self.new.entries }
+        ensures stands { Stands self.new.parts (replay self.new.params self.new.entries) }
+        ensures id { self.new.id ≡ self.old.id }
+        ensures tuple { self.new.tuple ≡ self.old.tuple }
+        ensures params { self.new.params ≡ self.old.params }
+    {
+        let tick = tick.max(last_tick_of(&self.slots));
+        let number = number_of(&self.counts, caller);
+        self.slots.reserve(1)?;
+        self.counts.reserve(1)?;
+        self.arena.reserve(cost(&self.parts, call))?;
+        let Some((answer, slot)) = answer_at_end(
+            engine,
+            &mut self.parts,
+            &mut self.arena,
+            caller,
+            number,
+            tick,
+            call,
+        ) else {
+            return Ok(None);
+        };
+        count_one(&mut self.counts, caller);
+        match self.slots.push(slot) {
+            Ok(()) => Ok(Some(answer)),
+            Err(_) => unreachable!(),
+        }
+    }
+}
+
+/// Makes the call, and puts the bytes of its entry at the end of memory.
+fn answer_at_end<E: Engine>(
+    engine: &E,
+    parts: &mut Parts,
+    arena: &mut Vec<u8>,
+    caller: Caller,
+    number: u64,
+    tick: u32,
+    call: &CallIn<'_>,
+) -> Option<(Answer, Slot)>
+    requires small { IsSmall call.now }
+    requires timely { IsTimely parts.old.phase call.now }
+    requires near { IsNear parts.old }
+    requires room { vec_len arena.old + cost_of parts.old.smss call.now ≤ vec_capacity arena.old }
+    ensures made { IfSome result (λ r. IsMadeAt parts.old parts.new arena.new.items caller number tick call.now r.0 r.1) }
+    ensures unmade { IfNone result ((parts.new ≡ parts.old) × (arena.new.items ≡ arena.old.items)) }
+    ensures serves { IsSome result ↔ E.serves engine.now parts.old call.now }
+    ensures kept { take (length arena.old.items) arena.new.items ≡ arena.old.items }
+    ensures longer { length arena.old.items ≤ length arena.new.items }
+    ensures params { parts.new.params ≡ parts.old.params }
+    ensures tuple { parts.new.tuple ≡ parts.old.tuple }
+{
+    let start = arena.len();
+    push_zeros(arena, cost(parts, call));
+    let Some(answer) = engine.run(parts, tick, call, &mut arena[start..]) else {
+        arena.truncate(start);
+        return None;
+    };
+    let slot = close_entry(arena, start, call, &answer, caller, number, tick);
+    Some((answer, slot))
+}
+
+/// The tick of the last slot.
+#[tactic(auto, using(crate::proofs::Entries::last_tick_slots))]
+fn last_tick_of(slots: &[Slot]) -> u32
+    ensures { (arena : List ℕ) → result ≡ last_tick 0 (entries_of arena slots.now) }
+{
+    match slots.last() {
+        Some(slot) => slot.tick,
+        None => 0,
+    }
+}
+
+/// Zeros at the end of memory that has room for them.
+fn push_zeros(bytes: &mut Vec<u8>, count: usize)
+    requires { vec_len bytes.old + count ≤ vec_capacity bytes.old }
+    ensures items { bytes.new.items ≡ bytes.old.items ++ replicate count 0 }
+    ensures capacity { vec_capacity bytes.old ≤ vec_capacity bytes.new }
+{
+    for _ in 0..count {
+        match bytes.push(0) {
+            Ok(()) => {}
+            Err(_) => unreachable!(),
+        }
+    }
+}
