@@ -1,0 +1,37 @@
+-- What the Sends of a flow took, once its history has one entry more.
+use Rattle.std.proofs.Common.{◌≡◌, ℕ, ◌≤◌, ◌==◌, ◌&&◌, not, eqb, Bool, true, false, cond, List, [], ◌∷◌, ◌++◌, length, take, min, max, flat_map, Option, Some, None, refl, sym, ap, subst, ◌∙◌, arith, append-nil}
+use Rattle.std.proofs.lemmas.List.Concat.{flat_map-append}
+use Rattle.tas_model.specs.declared.entry.HostParams.{HostParams}
+use Rattle.tas_model.specs.declared.entry.Caller.{Caller}
+use Rattle.tas_model.specs.declared.entry.Call.{Call}
+use Rattle.tas_model.specs.declared.entry.Entry.{Entry}
+use Rattle.tas_model.specs.declared.entry.Reply.TheVariants as replies
+use Rattle.tas_model.specs.Endpoint.{Endpoint}
+use Rattle.tas_model.specs.Outputs.{accepted}
+use Rattle.tas_model.specs.Valid.{InRange}
+use Rattle.tas_model.specs.LegalHistory.{Legal, replay, step, reply_or, shown, taken_bytes, extended_by, last_tick, next_number}
+use Rattle.tas_model.proofs.MovesLaws.{out_is_accepted}
+use Rattle.local_host.specs.Live.{IsPlain}
+use Rattle.local_host.proofs.Taken.{plain_takes_none}
+
+accepted_push : (h : List Entry) (x : Entry) → accepted (h ++ x ∷ []) ≡ accepted h ++ taken_bytes x.reply
+accepted_push h x = flat_map-append (λ (y : Entry). taken_bytes y.reply) h (x ∷ []) ∙ ap (λ (bs : List ℕ). accepted h ++ bs) (append-nil (taken_bytes x.reply))
+
+-- it grows by what the entry's reply took
+pub out_push : (params : HostParams) (h : List Entry) (x : Entry) → InRange params → Legal params h → Legal params (h ++ x ∷ []) → (replay params (h ++ x ∷ [])).tx.out ≡ (replay params h).tx.out ++ taken_bytes x.reply
+out_push params h x fits legal after =
+    out_is_accepted params (h ++ x ∷ []) fits after ∙ (accepted_push h x ∙ ap (λ (bs : List ℕ). bs ++ taken_bytes x.reply) (sym (out_is_accepted params h fits legal)))
+
+-- any call but Send leaves it
+pub out_kept : (params : HostParams) (h : List Entry) (caller : Caller) (tick : ℕ) (call : Call) (offer : List ℕ) → InRange params → Legal params h → Legal params (extended_by params h caller tick call offer) → IsPlain call
+    → (replay params (extended_by params h caller tick call offer)).tx.out ≡ (replay params h).tx.out
+out_kept params h caller tick call offer fits legal after plain =
+    out_push params h (record { caller = caller; number = next_number caller h; tick = max tick (last_tick 0 h); call = call; reply = reply_or (step (replay params h) (max tick (last_tick 0 h)) call (shown (replay params h) offer)) replies.Nothing }) fits legal after
+    ∙ (ap (λ (bs : List ℕ). (replay params h).tx.out ++ bs) (plain_takes_none (replay params h) (max tick (last_tick 0 h)) call (shown (replay params h) offer) plain) ∙ append-nil (replay params h).tx.out)
+
+-- the same of a history that is known by equations
+pub out_still : (params other : HostParams) (h after : List Entry) (caller : Caller) (tick : ℕ) (call : Call) (offer : List ℕ) → other ≡ params → after ≡ extended_by params h caller tick call offer → InRange params → Legal params h → Legal other after → IsPlain call
+    → (replay other after).tx.out ≡ (replay params h).tx.out
+out_still params other h after caller tick call offer same grown fits legal still plain =
+    ap (λ (p : HostParams). (replay p after).tx.out) same ∙ (ap (λ (es : List Entry). (replay params es).tx.out) grown
+    ∙ out_kept params h caller tick call offer fits legal (subst (Legal params) grown (subst (λ (p : HostParams). Legal p after) same still)) plain)

@@ -1,0 +1,5 @@
+//! The one host that a replay of a capture plays: its flows, their timers, the frames that come to them, and the calls of the local application.
+#![tactic(auto)]
+
+mod live;
+mod pending;
