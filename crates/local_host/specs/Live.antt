@@ -1,12 +1,24 @@
 -- How the host's parts of a flow are seen as one flow of a run.
-use Rattle.std.specs.Prelude.{◌≡◌, ℕ, ◌^◌, ◌<◌, List, ◌++◌, length, ⊤}
+use Rattle.std.specs.Prelude.{◌≡◌, ℕ, Bool, true, false, List, [], ◌∷◌, ⊤}
 use Rattle.tas_model.specs.declared.entry.Caller.{Caller}
 use Rattle.tas_model.specs.declared.entry.Call.{Call}
 use Rattle.tas_model.specs.declared.entry.Call.TheVariants as calls
 use Rattle.tas_model.specs.LegalHistory.{replay, extended_by}
-use Rattle.tas_model.specs.Valid.{InRange}
+use Rattle.flow_state.specs.declared.call.Answer.{Answer}
+use Rattle.flow_state.specs.declared.call.Answer.TheVariants as answers
 use Rattle.flow_state.specs.Flow as records
+use Rattle.flow_state.specs.declared.parts.Parts.{Parts}
+use Rattle.flow_state.specs.declared.call.CallIn.{CallIn}
+use Rattle.flow_state.specs.declared.call.CallIn.TheVariants as ins
+use Rattle.flow_state.specs.Calls.{is_closed_phase}
+use Rattle.segment_fields.specs.declared.segment.Segment.{Segment}
+use Rattle.tas_model.specs.declared.entry.FrameId.{FrameId}
+use Rattle.tas_model.specs.declared.entry.FlowId.{FlowId}
+use Rattle.tas_model.specs.declared.entry.FourTuple.{FourTuple}
+use Rattle.tas_model.specs.declared.entry.HostParams.{HostParams}
+use Rattle.tas_model.specs.declared.entry.Entry.{Entry}
 use Rattle.tas_runs.specs.Logs.{Flow}
+use Rattle.tas_runs.specs.Hosts.{Live}
 
 -- what a run leaves of the flow that is recorded
 abbrev pub flow_in : records.Flow → Flow
@@ -24,3 +36,32 @@ called f caller tick call offer = record f { entries = extended_by f.params f.en
 abbrev pub IsPlain : Call → Type 0
 IsPlain (calls.Send offered) = ⊥
 IsPlain _ = ⊤
+
+-- any call but those that end the own stream
+abbrev pub EndsNothing : Call → Type 0
+EndsNothing calls.Shut = ⊥
+EndsNothing calls.Close = ⊥
+EndsNothing _ = ⊤
+
+-- the own stream was ended
+abbrev pub is_ended : records.Flow → Bool
+is_ended r = (replay r.params r.entries).tx.shut
+
+-- how many bytes a Send with this answer took
+abbrev pub took : Answer → ℕ
+took (answers.Took len) = len
+took _ = 0
+
+-- ----- engines
+-- the engine answers Tick wherever that is a step
+abbrev pub IsTimer : (Parts → CallIn → Type 0) → Type 0
+IsTimer serves = (p : Parts) → is_closed_phase p.phase ≡ false → serves p ins.Tick
+
+-- it answers every received segment
+abbrev pub IsReceiver : (Parts → CallIn → Type 0) → Type 0
+IsReceiver serves = (p : Parts) (frame : FrameId) (seg : Segment) → serves p (ins.Rx frame seg)
+
+-- ----- a flow that has just been opened
+abbrev pub opened_live : FlowId → FourTuple → HostParams → (held : Bool) → Entry → Live
+opened_live id tuple params held x =
+    record { flow = record { id = id; tuple = tuple; params = params; entries = x ∷ [] }; indexed = true; held = held; filed = false; seen = []; fin_seen = false }

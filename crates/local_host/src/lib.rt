@@ -1,5 +1,6 @@
 //! The one host that a replay of a capture plays: its flows, their timers, the frames that come to them, and the calls of the local application.
 #![tactic(auto)]
 
+mod calls;
 mod live;
 mod pending;

@@ -1,15 +1,31 @@
-ghost use Rattle.std.specs.Prelude.{◌≡◌, ℕ, ◌++◌, [], take, length, OnOk, IfOk};
+ghost use Rattle.std.specs.Prelude.{◌≡◌, ℕ, ◌∷◌, [], ◌==◌, ◌||◌, ◌&&◌, not, true, false, OnOk, IfOk};
+ghost use Rattle.tas_model.specs.declared.entry.Call.TheVariants as calls;
+ghost use Rattle.tas_model.specs.declared.entry.Caller.TheVariants.{Slow};
 ghost use Rattle.tas_model.specs.Valid.{InRange};
-ghost use Rattle.flow_state.specs.Calls.{call_of, IsTimely};
-ghost use Rattle.tas_runs.specs.Hosts.{is_indexed_as, is_over};
-ghost use Rattle.tas_runs.specs.Upkeep.{swept};
-ghost use Rattle.local_host.specs.Live.{flow_in, out_in, called, IsPlain};
+ghost use Rattle.flow_state.specs.Calls.{seg_of};
+ghost use Rattle.flow_state.specs.Calls.{is_running as is_running_phase};
+ghost use Rattle.flow_state.specs.App.{column_of};
+ghost use Rattle.flow_state.specs.declared.stage.Stage.TheVariants as stages;
+ghost use Rattle.tas_model.specs.ApplicationCalls.{column};
+ghost use Rattle.tas_model.specs.LegalHistory.{replay};
+ghost use Rattle.tas_runs.specs.Records.{Content};
+ghost use Rattle.tas_runs.specs.Hosts.{is_indexed_as, is_over, first_entry};
+ghost use Rattle.tas_runs.specs.Upkeep.{swept, timed};
+ghost use Rattle.tas_runs.specs.Deliveries.{received_serially, is_fast};
+ghost use Rattle.tas_runs.specs.LocalScript.{Accepting, Sending, Shutting, Aborting, Receiving, Leaving, is_served, at_stage, the_app};
+ghost use Rattle.local_host.specs.Live.{opened_live, IsTimer};
 
+use crate::calls::{make, offer};
 use crate::pending::Pending;
-use flow_state::{CallIn, Engine, FlowRecord};
-use std::alloc::AllocError;
+use flow_state::{AppCalls, CallIn, Engine, FlowRecord, Stage};
+use segment_fields::Segment;
+use std::alloc::{AllocError, Global};
 use std::marker::Model;
-use tas_model::{Caller, FourTuple};
+use tas_model::{Caller, FlowId, FourTuple, FrameId, HostParams};
+use tas_num::Seq;
+
+/// The one application of the host.
+const THE_APP: Caller = Caller::App(0);
 
 /// A flow of the host, seen as that flow in the middle of a run.
 #[derive(Drop)]
@@ -69,27 +85,61 @@ impl LiveFlow {
         self.indexed = false;
         self.filed = self.filed || !self.held;
     }
+
+    /// One tick passes, unless it is closed. The error is want of memory.
+    pub fn tick<E: Engine>(&mut self, tick: u32, timers: &E) -> Result<(), AllocError>
+        requires timers { IsTimer (E.serves timers.now) }
+        ensures { OnOk result (self.new ≡ timed Slow tick self.old) }
+    {
+        if self.is_over() {
+            return Ok(());
+        }
+        make(&mut self.record, Caller::Slow, tick, &CallIn::Tick, timers)
+    }
+
+    /// The application accepts it, where it stands and is not held yet. The error is want of memory.
+    pub fn accept(&mut self, tick: u32) -> Result<(), AllocError>
+        ensures { (content : Content) → OnOk result (self.new ≡ at_stage Accepting tick content self.old) }
+    {
+        if !self.held && matches!(stage_of(&self.record), Stage::Running) {
+            make(&mut self.record, THE_APP, tick, &CallIn::Accept, &AppCalls)?;
+            self.held = true;
+        }
+        Ok(())
+    }
+
+    /// The application offers all bytes that wait, where it has the connection. The error is want of memory.
+    pub fn send(&mut self, tick: u32) -> Result<(), AllocError>
+        ensures { (content : Content) → OnOk result (self.new ≡ at_stage Sending tick content self.old) }
+    {
+        if self.is_served() && self.pending.len() > 0 {
+            let taken = offer(&mut self.record, THE_APP, tick, self.pending.as_slice())?;
+            self.pending.drop_front(taken);
+        }
+        Ok(())
+    }
+
+    /// Whether the application has the connection, past its opening.
+    fn is_served(&self) -> bool
+        ensures { result ≡ is_served self.now }
+    {
+        self.held && !matches!(stage_of(&self.record), Stage::Opening)
+    }
+
+    /// The application gives up its socket, where it is closed.
+    pub fn leave(&mut self)
+        ensures { (content : Content) (tick : ℕ) → self.new ≡ at_stage Leaving tick content self.old }
+    {
+        if self.is_over() {
+            self.held = false;
+        }
+    }
 }
 
-/// The record makes a call that is no Send. The error is want of memory.
-fn make<E: Engine>(
-    flow: &mut FlowRecord,
-    caller: Caller,
-    tick: u32,
-    call: &CallIn<'_>,
-    engine: &E,
-) -> Result<(), AllocError>
-    requires ranges { InRange flow.old.params }
-    requires plain { IsPlain (call_of call.now) }
-    requires timely { IsTimely flow.old.parts.phase call.now }
-    requires serves { E.serves engine.now flow.old.parts call.now }
-    ensures made { OnOk result (flow_in flow.new ≡ called (flow_in flow.old) caller tick (call_of call.now) []) }
-    ensures out { OnOk result (out_in flow.new ≡ out_in flow.old) }
-    ensures params { flow.new.params ≡ flow.old.params }
+/// Where a call stands in the table of calls.
+fn stage_of(flow: &FlowRecord) -> Stage
+    ensures column { column_of result ≡ column (replay flow.now.params flow.now.entries) }
+    ensures running { result ≡ stages.Running → is_running_phase flow.now.parts.phase ≡ true }
 {
-    let _entries = flow.entries();
-    match flow.act(caller, tick, call, engine)? {
-        Some(_) => Ok(()),
-        None => unreachable!(),
-    }
+    flow.parts().stage()
 }
