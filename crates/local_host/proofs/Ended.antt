@@ -7,6 +7,8 @@ use Rattle.tas_model.specs.declared.entry.Seg.{Seg}
 use Rattle.tas_model.specs.declared.entry.Call.{Call}
 use Rattle.tas_model.specs.declared.entry.Call.TheVariants as calls
 use Rattle.tas_model.specs.declared.entry.Reply.{Reply}
+use Rattle.tas_model.specs.declared.entry.Reply.TheVariants as replies
+use Rattle.flow_state.specs.Calls.{answer_of}
 use Rattle.tas_model.specs.Endpoint.{Endpoint, Sending, phase, unread, send_room}
 use Rattle.tas_model.specs.Segments.{Outcome, is_ack, is_rst, is_syn, is_fin, seg_len}
 use Rattle.tas_model.specs.Reassembly.{with_data}
@@ -14,10 +16,10 @@ use Rattle.tas_model.specs.Receive.{Verdict, Dropped, Answered, Reset, BareAck, 
 use Rattle.tas_model.specs.Timers.{ticks, tick_in, control, is_armed, patience, probes, expired, ticked, waited}
 use Rattle.tas_model.specs.NextSegment.{Going, going, going_in, going_opening, going_running, data_len, waiting, emitted}
 use Rattle.tas_model.specs.ApplicationCalls.{Column, Opening, Over, Running, column, accept_in, ready_in, send_in, recv_in, recv_open, shut_in, abort_in}
-use Rattle.tas_model.specs.LegalHistory.{step, state_or, taken_bytes, control_in}
+use Rattle.tas_model.specs.LegalHistory.{step, state_or, reply_or, taken_bytes, control_in}
 use Rattle.tas_model.specs.Endpoint.{wnd, next_place}
 use Rattle.tas_model.proofs.Tests.{on_cond}
-use Rattle.local_host.specs.Live.{EndsNothing}
+use Rattle.local_host.specs.Live.{EndsNothing, says_ok}
 
 -- it is ended where it was before
 record S (shut : Bool) (tx : Sending) : Type 0 where
@@ -184,3 +186,25 @@ nothing_ends e tick (calls.Recv most) reply plain = (recv_same (column e) e most
 nothing_ends e tick calls.Shut reply plain = absurd plain
 nothing_ends e tick calls.Close reply plain = absurd plain
 nothing_ends e tick calls.Abort reply plain = (abort_same (column e) e).same
+
+-- ----- Shut
+or_false : (b : Bool) → b ≡ (b || false)
+or_false true = refl
+or_false false = refl
+
+or_true : (b : Bool) → true ≡ (b || true)
+or_true true = refl
+or_true false = refl
+
+record D (before : Bool) (o : Outcome) : Type 0 where
+  same : o.state.tx.shut ≡ (before || says_ok (answer_of o.reply))
+
+shut_ends : (c : Column) (e : Endpoint) → D e.tx.shut (shut_in c e)
+shut_ends Opening e = record { same = or_false e.tx.shut }
+shut_ends (Over why) e = record { same = or_false e.tx.shut }
+shut_ends Running e = on_cond (D e.tx.shut) e.tx.shut _ _ (λ t. record { same = or_false e.tx.shut }) (λ f. record { same = or_true e.tx.shut })
+
+-- After Shut the stream is ended where it was before, and where the answer is Ok.
+pub ends_by_shut : (e : Endpoint) (tick : ℕ) (shown reply : Reply) → (state_or e (step e tick calls.Shut reply)).tx.shut ≡ (e.tx.shut || says_ok (answer_of (reply_or (step e tick calls.Shut shown) replies.Nothing)))
+unfolding step
+ends_by_shut e tick shown reply = (shut_ends (column e) e).same

@@ -1,5 +1,5 @@
 -- What the Sends of a flow took, once its history has one entry more.
-use Rattle.std.proofs.Common.{◌≡◌, ℕ, ◌≤◌, ◌==◌, ◌&&◌, not, eqb, Bool, true, false, cond, List, [], ◌∷◌, ◌++◌, length, take, min, max, flat_map, Option, Some, None, refl, sym, ap, subst, ◌∙◌, arith, append-nil, length-take}
+use Rattle.std.proofs.Common.{◌≡◌, ℕ, ◌≤◌, ◌==◌, ◌&&◌, ◌||◌, not, eqb, Bool, true, false, cond, List, [], ◌∷◌, ◌++◌, length, take, min, max, flat_map, Option, Some, None, refl, sym, ap, subst, ◌∙◌, arith, append-nil, length-take}
 use Rattle.std.proofs.lemmas.List.Concat.{flat_map-append}
 use Rattle.tas_model.specs.declared.entry.HostParams.{HostParams}
 use Rattle.tas_model.specs.declared.entry.Caller.{Caller}
@@ -14,11 +14,11 @@ use Rattle.flow_state.specs.Flow.{reply_to}
 use Rattle.tas_model.specs.Endpoint.{Endpoint}
 use Rattle.tas_model.specs.Outputs.{accepted}
 use Rattle.tas_model.specs.Valid.{InRange}
-use Rattle.tas_model.specs.LegalHistory.{Legal, replay, step, reply_or, shown, taken_bytes, extended_by, last_tick, next_number}
-use Rattle.tas_model.proofs.Histories.{replay_push}
-use Rattle.local_host.proofs.Ended.{nothing_ends}
+use Rattle.tas_model.specs.LegalHistory.{Legal, opened, replay, step, reply_or, shown, taken_bytes, extended_by, last_tick, next_number}
+use Rattle.tas_model.proofs.Histories.{replay_push, replay_first}
+use Rattle.local_host.proofs.Ended.{nothing_ends, ends_by_shut}
 use Rattle.tas_model.proofs.MovesLaws.{out_is_accepted}
-use Rattle.local_host.specs.Live.{IsPlain, EndsNothing, took}
+use Rattle.local_host.specs.Live.{IsPlain, EndsNothing, took, says_ok}
 use Rattle.local_host.proofs.Taken.{plain_takes_none, send_takes, took_tells}
 
 accepted_push : (h : List Entry) (x : Entry) → accepted (h ++ x ∷ []) ≡ accepted h ++ taken_bytes x.reply
@@ -68,3 +68,32 @@ end_kept params other h after caller tick call offer same grown legal plain =
     let x : Entry = record { caller = caller; number = next_number caller h; tick = t; call = call; reply = reply_or (step e t call (shown e offer)) replies.Nothing } in
     ap (λ (p : HostParams). (replay p after).tx.shut) same ∙ (ap (λ (es : List Entry). (replay params es).tx.shut) grown
     ∙ (ap (λ (s : Endpoint). s.tx.shut) (replay_push params h x legal) ∙ nothing_ends e t call x.reply plain))
+
+-- Shut ends it, where its answer is Ok
+pub end_made : (params other : HostParams) (h after : List Entry) (caller : Caller) (tick : ℕ) (offer : List ℕ) (answer : Answer) (done : Bool) → other ≡ params → after ≡ extended_by params h caller tick calls.Shut offer
+    → answer ≡ answer_of (reply_to params h tick calls.Shut offer) → done ≡ says_ok answer → Legal params h
+    → (replay other after).tx.shut ≡ ((replay params h).tx.shut || done)
+end_made params other h after caller tick offer answer done same grown told is legal =
+    let t : ℕ = max tick (last_tick 0 h) in
+    let e : Endpoint = replay params h in
+    let x : Entry = record { caller = caller; number = next_number caller h; tick = t; call = calls.Shut; reply = reply_to params h tick calls.Shut offer } in
+    ap (λ (p : HostParams). (replay p after).tx.shut) same ∙ (ap (λ (es : List Entry). (replay params es).tx.shut) grown
+    ∙ (ap (λ (s : Endpoint). s.tx.shut) (replay_push params h x legal)
+    ∙ (ends_by_shut e t (shown e offer) x.reply ∙ sym (ap (λ (b : Bool). e.tx.shut || b) (is ∙ ap says_ok told)))))
+
+-- ----- a flow that has just been opened
+none_out : (params : HostParams) (call : Call) → (opened params call).tx.out ≡ []
+none_out params (calls.Connect iss) = refl
+none_out params (calls.Passive frame iss seg) = refl
+none_out params _ = refl
+
+none_ended : (params : HostParams) (call : Call) → (opened params call).tx.shut ≡ false
+none_ended params (calls.Connect iss) = refl
+none_ended params (calls.Passive frame iss seg) = refl
+none_ended params _ = refl
+
+pub opened_out : (params : HostParams) (x : Entry) → (replay params (x ∷ [])).tx.out ≡ []
+opened_out params x = ap (λ (e : Endpoint). e.tx.out) (replay_first params x) ∙ none_out params x.call
+
+pub opened_end : (params : HostParams) (x : Entry) → (replay params (x ∷ [])).tx.shut ≡ false
+opened_end params x = ap (λ (e : Endpoint). e.tx.shut) (replay_first params x) ∙ none_ended params x.call

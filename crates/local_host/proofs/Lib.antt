@@ -1,3 +1,4 @@
 pub mod Taken
 pub mod Growth
 pub mod Ended
+pub mod Sent

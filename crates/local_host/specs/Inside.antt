@@ -7,8 +7,8 @@ use Rattle.tas_runs.specs.Hosts.{Live}
 
 -- Of the local stream the bytes that a Send took are those of the endpoint, and the others wait.
 abbrev pub live_of : Inside → Live
-live_of l = record { flow = flow_in l.record; indexed = l.indexed; held = l.held; filed = l.filed; seen = out_in l.record ++ l.pending; fin_seen = l.fin_seen }
+live_of l = record { flow = flow_in l.history; indexed = l.indexed; held = l.held; filed = l.filed; seen = out_in l.history ++ l.pending; fin_seen = l.fin_seen }
 
 -- The parameters are in their ranges, and so few bytes wait that one Send offers them.
 abbrev pub IsKept : Inside → Type 0
-IsKept l = InRange l.record.params × (length l.pending < 2 ^ 32)
+IsKept l = InRange l.history.params × (length l.pending < 2 ^ 32)

@@ -52,6 +52,10 @@ abbrev pub took : Answer → ℕ
 took (answers.Took len) = len
 took _ = 0
 
+abbrev pub says_ok : Answer → Bool
+says_ok answers.Ok = true
+says_ok _ = false
+
 -- ----- engines
 -- the engine answers Tick wherever that is a step
 abbrev pub IsTimer : (Parts → CallIn → Type 0) → Type 0

@@ -1,8 +1,8 @@
-ghost use Rattle.std.specs.Prelude.{◌≡◌, ℕ, ◌^◌, ◌<◌, ◌≤◌, ◌++◌, [], take, length, OnOk, IfOk};
+ghost use Rattle.std.specs.Prelude.{◌≡◌, ℕ, ◌^◌, ◌<◌, ◌≤◌, ◌++◌, ◌||◌, [], take, length, OnOk, IfOk};
 ghost use Rattle.tas_model.specs.declared.entry.Call.TheVariants as calls;
 ghost use Rattle.tas_model.specs.Valid.{InRange};
 ghost use Rattle.flow_state.specs.Calls.{call_of, IsTimely};
-ghost use Rattle.local_host.specs.Live.{flow_in, out_in, called, took, is_ended, IsPlain, EndsNothing};
+ghost use Rattle.local_host.specs.Live.{flow_in, out_in, called, took, says_ok, is_ended, IsPlain, EndsNothing};
 
 use flow_state::{Answer, AppCalls, CallIn, Engine, FlowRecord};
 use std::alloc::AllocError;
@@ -63,4 +63,25 @@ fn taken(answer: Answer) -> usize
         Answer::Took { len } => len as usize,
         _ => 0,
     }
+}
+
+/// The record ends its own stream, and tells whether that was open until now. The error is want of memory.
+pub fn end(flow: &mut FlowRecord, caller: Caller, tick: u32) -> Result<bool, AllocError>
+    requires ranges { InRange flow.old.params }
+    ensures made { OnOk result (flow_in flow.new ≡ called (flow_in flow.old) caller tick calls.Shut []) }
+    ensures out { OnOk result (out_in flow.new ≡ out_in flow.old) }
+    ensures ended { IfOk result (λ now. is_ended flow.new ≡ (is_ended flow.old || now)) }
+    ensures params { flow.new.params ≡ flow.old.params }
+{
+    let _entries = flow.entries();
+    match flow.act(caller, tick, &CallIn::Shut, &AppCalls)? {
+        Some(answer) => Ok(is_ok(answer)),
+        None => unreachable!(),
+    }
+}
+
+fn is_ok(answer: Answer) -> bool
+    ensures { result ≡ says_ok answer }
+{
+    matches!(answer, Answer::Ok)
 }

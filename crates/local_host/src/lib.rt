@@ -4,3 +4,4 @@
 mod calls;
 mod live;
 mod pending;
+mod reading;

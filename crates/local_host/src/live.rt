@@ -16,6 +16,7 @@ ghost use Rattle.tas_runs.specs.LocalScript.{Accepting, Sending, Shutting, Abort
 ghost use Rattle.local_host.specs.Live.{opened_live, IsTimer};
 
 use crate::calls::{make, offer};
+use crate::reading::{is_closed, stage_of};
 use crate::pending::Pending;
 use flow_state::{AppCalls, CallIn, Engine, FlowRecord, Stage};
 use segment_fields::Segment;
@@ -30,7 +31,7 @@ const THE_APP: Caller = Caller::App(0);
 /// A flow of the host, seen as that flow in the middle of a run.
 #[derive(Drop)]
 pub struct LiveFlow {
-    record: FlowRecord,
+    history: FlowRecord,
     /// The index leads frames of its four-tuple to it.
     indexed: bool,
     /// An application holds it: its socket was accepted or connected, and not given up.
@@ -60,7 +61,7 @@ impl LiveFlow {
     pub fn is_indexed_as(&self, tuple: &FourTuple) -> bool
         ensures { result ≡ is_indexed_as tuple.now self.now }
     {
-        let own = self.record.tuple();
+        let own = self.history.tuple();
         self.indexed
             && tuple.laddr == own.laddr
             && tuple.lport == own.lport
@@ -72,7 +73,7 @@ impl LiveFlow {
     pub fn is_over(&self) -> bool
         ensures { result ≡ is_over self.now }
     {
-        self.record.parts().reason.is_some()
+        is_closed(&self.history)
     }
 
     /// Where it is closed it leaves the index, and its slot too where no application holds it.
@@ -91,18 +92,18 @@ impl LiveFlow {
         requires timers { IsTimer (E.serves timers.now) }
         ensures { OnOk result (self.new ≡ timed Slow tick self.old) }
     {
-        if self.is_over() {
+        if is_closed(&self.history) {
             return Ok(());
         }
-        make(&mut self.record, Caller::Slow, tick, &CallIn::Tick, timers)
+        make(&mut self.history, Caller::Slow, tick, &CallIn::Tick, timers)
     }
 
     /// The application accepts it, where it stands and is not held yet. The error is want of memory.
     pub fn accept(&mut self, tick: u32) -> Result<(), AllocError>
         ensures { (content : Content) → OnOk result (self.new ≡ at_stage Accepting tick content self.old) }
     {
-        if !self.held && matches!(stage_of(&self.record), Stage::Running) {
-            make(&mut self.record, THE_APP, tick, &CallIn::Accept, &AppCalls)?;
+        if !self.held && matches!(stage_of(&self.history), Stage::Running) {
+            make(&mut self.history, THE_APP, tick, &CallIn::Accept, &AppCalls)?;
             self.held = true;
         }
         Ok(())
@@ -113,7 +114,7 @@ impl LiveFlow {
         ensures { (content : Content) → OnOk result (self.new ≡ at_stage Sending tick content self.old) }
     {
         if self.is_served() && self.pending.len() > 0 {
-            let taken = offer(&mut self.record, THE_APP, tick, self.pending.as_slice())?;
+            let taken = offer(&mut self.history, THE_APP, tick, self.pending.as_slice())?;
             self.pending.drop_front(taken);
         }
         Ok(())
@@ -123,7 +124,7 @@ impl LiveFlow {
     fn is_served(&self) -> bool
         ensures { result ≡ is_served self.now }
     {
-        self.held && !matches!(stage_of(&self.record), Stage::Opening)
+        self.held && !matches!(stage_of(&self.history), Stage::Opening)
     }
 
     /// The application gives up its socket, where it is closed.
@@ -134,12 +135,4 @@ impl LiveFlow {
             self.held = false;
         }
     }
-}
-
-/// Where a call stands in the table of calls.
-fn stage_of(flow: &FlowRecord) -> Stage
-    ensures column { column_of result ≡ column (replay flow.now.params flow.now.entries) }
-    ensures running { result ≡ stages.Running → is_running_phase flow.now.parts.phase ≡ true }
-{
-    flow.parts().stage()
 }
