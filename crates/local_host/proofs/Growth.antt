@@ -53,10 +53,11 @@ out_sent params other h after caller tick offered n offer answer same grown told
     let count : n ≡ length (taken_bytes r) = many ∙ (ap took told ∙ took_tells r) in
     let front : taken_bytes r ≡ take (length (taken_bytes r)) offer = send_takes (replay params h) (max tick (last_tick 0 h)) offered offer in
     let here : taken_bytes r ≡ take n offer = front ∙ ap (λ (k : ℕ). take k offer) (sym count) in
-    let short : length (taken_bytes r) ≡ min (length (taken_bytes r)) (length offer) = ap length front ∙ length-take (length (taken_bytes r)) offer in
-    (omega (arith, count, short),
-    ap (λ (p : HostParams). (replay p after).tx.out) same ∙ (ap (λ (es : List Entry). (replay params es).tx.out) grown
-    ∙ (out_push params h x fits legal (subst (Legal params) grown (subst (λ (p : HostParams). Legal p after) same still)) ∙ ap (λ (bs : List ℕ). (replay params h).tx.out ++ bs) here)))
+    let short : length (taken_bytes r) ≡ min (length (taken_bytes r)) (length offer) = ap length front ∙ length-take (length (taken_bytes r)) offer in (
+      omega (arith, count, short),
+      ap (λ (p : HostParams). (replay p after).tx.out) same ∙ (ap (λ (es : List Entry). (replay params es).tx.out) grown
+          ∙ (out_push params h x fits legal (subst (Legal params) grown (subst (λ (p : HostParams). Legal p after) same still)) ∙ ap (λ (bs : List ℕ). (replay params h).tx.out ++ bs) here)),
+    )
 
 -- ----- the end of the own stream
 -- any call but Shut and Close leaves it
@@ -97,3 +98,10 @@ opened_out params x = ap (λ (e : Endpoint). e.tx.out) (replay_first params x) �
 
 pub opened_end : (params : HostParams) (x : Entry) → (replay params (x ∷ [])).tx.shut ≡ false
 opened_end params x = ap (λ (e : Endpoint). e.tx.shut) (replay_first params x) ∙ none_ended params x.call
+
+-- the same of a history that is known by an equation
+pub fresh_out : (params : HostParams) (h : List Entry) (x : Entry) → h ≡ x ∷ [] → (replay params h).tx.out ≡ []
+fresh_out params h x is = ap (λ (es : List Entry). (replay params es).tx.out) is ∙ opened_out params x
+
+pub fresh_end : (params : HostParams) (h : List Entry) (x : Entry) → h ≡ x ∷ [] → (replay params h).tx.shut ≡ false
+fresh_end params h x is = ap (λ (es : List Entry). (replay params es).tx.shut) is ∙ opened_end params x

@@ -1,4 +1,4 @@
-ghost use Rattle.std.specs.Prelude.{◌≡◌, ℕ, ◌^◌, ◌<◌, ◌≤◌, ◌++◌, ◌||◌, [], take, length, OnOk, IfOk};
+ghost use Rattle.std.specs.Prelude.{◌≡◌, ℕ, ◌^◌, ◌<◌, ◌≤◌, ◌++◌, ◌||◌, [], take, length, OnOk, OnErr, IfOk};
 ghost use Rattle.tas_model.specs.declared.entry.Call.TheVariants as calls;
 ghost use Rattle.tas_model.specs.Valid.{InRange};
 ghost use Rattle.flow_state.specs.Calls.{call_of, IsTimely};
@@ -23,7 +23,7 @@ pub fn make<E: Engine>(
     requires serves { E.serves engine.now flow.old.parts call.now }
     ensures made { OnOk result (flow_in flow.new ≡ called (flow_in flow.old) caller tick (call_of call.now) []) }
     ensures out { OnOk result (out_in flow.new ≡ out_in flow.old) }
-    ensures ended { OnOk result (is_ended flow.new ≡ is_ended flow.old) }
+    ensures ended { is_ended flow.new ≡ is_ended flow.old }
     ensures params { flow.new.params ≡ flow.old.params }
 {
     let _entries = flow.entries();
@@ -45,7 +45,7 @@ pub fn offer(
     ensures few { IfOk result (λ n. n ≤ length bytes.now) }
     ensures made { OnOk result (flow_in flow.new ≡ called (flow_in flow.old) caller tick (calls.Send (length bytes.now)) bytes.now) }
     ensures out { IfOk result (λ n. out_in flow.new ≡ out_in flow.old ++ take n bytes.now) }
-    ensures ended { OnOk result (is_ended flow.new ≡ is_ended flow.old) }
+    ensures ended { is_ended flow.new ≡ is_ended flow.old }
     ensures params { flow.new.params ≡ flow.old.params }
 {
     let _entries = flow.entries();
@@ -71,6 +71,7 @@ pub fn end(flow: &mut FlowRecord, caller: Caller, tick: u32) -> Result<bool, All
     ensures made { OnOk result (flow_in flow.new ≡ called (flow_in flow.old) caller tick calls.Shut []) }
     ensures out { OnOk result (out_in flow.new ≡ out_in flow.old) }
     ensures ended { IfOk result (λ now. is_ended flow.new ≡ (is_ended flow.old || now)) }
+    ensures err { OnErr result (is_ended flow.new ≡ is_ended flow.old) }
     ensures params { flow.new.params ≡ flow.old.params }
 {
     let _entries = flow.entries();

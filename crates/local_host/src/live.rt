@@ -1,4 +1,4 @@
-ghost use Rattle.std.specs.Prelude.{◌≡◌, ℕ, ◌∷◌, [], ◌==◌, ◌||◌, ◌&&◌, not, true, false, OnOk, IfOk};
+ghost use Rattle.std.specs.Prelude.{◌≡◌, ℕ, ◌+◌, ◌^◌, ◌<◌, ◌∷◌, [], ◌==◌, ◌||◌, ◌&&◌, not, true, false, OnOk, IfOk};
 ghost use Rattle.tas_model.specs.declared.entry.Call.TheVariants as calls;
 ghost use Rattle.tas_model.specs.declared.entry.Caller.TheVariants.{Slow};
 ghost use Rattle.tas_model.specs.Valid.{InRange};
@@ -8,16 +8,16 @@ ghost use Rattle.flow_state.specs.App.{column_of};
 ghost use Rattle.flow_state.specs.declared.stage.Stage.TheVariants as stages;
 ghost use Rattle.tas_model.specs.ApplicationCalls.{column};
 ghost use Rattle.tas_model.specs.LegalHistory.{replay};
-ghost use Rattle.tas_runs.specs.Records.{Content};
+ghost use Rattle.tas_runs.specs.Records.{Content, is_remote};
 ghost use Rattle.tas_runs.specs.Hosts.{is_indexed_as, is_over, first_entry};
 ghost use Rattle.tas_runs.specs.Upkeep.{swept, timed};
 ghost use Rattle.tas_runs.specs.Deliveries.{received_serially, is_fast};
-ghost use Rattle.tas_runs.specs.LocalScript.{Accepting, Sending, Shutting, Aborting, Receiving, Leaving, is_served, at_stage, the_app};
-ghost use Rattle.local_host.specs.Live.{opened_live, IsTimer};
+ghost use Rattle.tas_runs.specs.LocalScript.{Accepting, Sending, Shutting, Aborting, Receiving, Leaving, is_served, resets_here, sees, fresh_bytes as model_fresh, at_stage, the_app};
+ghost use Rattle.local_host.specs.Live.{flow_in, out_in, is_ended, opened_live, IsTimer, IsReceiver};
 
-use crate::calls::{make, offer};
-use crate::reading::{is_closed, stage_of};
+use crate::calls::{end, make, offer};
 use crate::pending::Pending;
+use crate::reading::{first_number, is_closed, is_fast, raised, sent_count, stage_of};
 use flow_state::{AppCalls, CallIn, Engine, FlowRecord, Stage};
 use segment_fields::Segment;
 use std::alloc::{AllocError, Global};
@@ -42,6 +42,8 @@ pub struct LiveFlow {
     pending: Pending,
     /// The capture showed a local FIN.
     fin_seen: bool,
+    /// The application ended the local stream.
+    ended: bool,
 }
 
 impl Model for LiveFlow {
@@ -57,6 +59,58 @@ impl Model for LiveFlow {
 }
 
 impl LiveFlow {
+    /// A flow that the peer's SYN opened. The error is want of memory.
+    pub fn opened_by_syn(
+        alloc: Global,
+        id: FlowId,
+        tuple: FourTuple,
+        params: &HostParams,
+        iss: Seq,
+        frame: FrameId,
+        seg: &Segment<'_>,
+        tick: u32,
+    ) -> Result<LiveFlow, AllocError>
+        requires ranges { InRange params.now }
+        ensures { IfOk result (λ l. l ≡ opened_live id tuple params.now false (first_entry Slow tick (calls.Passive frame iss (seg_of seg.now)))) }
+    {
+        let history = FlowRecord::passive(alloc, id, tuple, params, iss, frame, seg, tick)?;
+        Ok(LiveFlow::fresh(alloc, history, false))
+    }
+
+    /// A flow that the application connects. The error is want of memory.
+    pub fn connected(
+        alloc: Global,
+        id: FlowId,
+        tuple: FourTuple,
+        params: &HostParams,
+        iss: Seq,
+        tick: u32,
+    ) -> Result<LiveFlow, AllocError>
+        requires ranges { InRange params.now }
+        ensures { IfOk result (λ l. l ≡ opened_live id tuple params.now true (first_entry the_app tick (calls.Connect iss))) }
+    {
+        let history = FlowRecord::connect(alloc, id, tuple, params, iss, THE_APP, tick)?;
+        Ok(LiveFlow::fresh(alloc, history, true))
+    }
+
+    /// The flow of a record that has just been made.
+    fn fresh(alloc: Global, history: FlowRecord, held: bool) -> LiveFlow
+        requires ranges { InRange history.params }
+        requires out { out_in history ≡ [] }
+        requires ended { is_ended history ≡ false }
+        ensures { result ≡ record { flow = flow_in history; indexed = true; held = held; filed = false; seen = []; fin_seen = false } }
+    {
+        LiveFlow {
+            history,
+            indexed: true,
+            held,
+            filed: false,
+            pending: Pending::new(alloc),
+            fin_seen: false,
+            ended: false,
+        }
+    }
+
     /// Whether the index leads frames of this four-tuple to it.
     pub fn is_indexed_as(&self, tuple: &FourTuple) -> bool
         ensures { result ≡ is_indexed_as tuple.now self.now }
@@ -135,4 +189,97 @@ impl LiveFlow {
             self.held = false;
         }
     }
+
+    /// The local stream ends, where all of it was seen and no byte waits. The error is want of memory.
+    pub fn shut(&mut self, tick: u32) -> Result<(), AllocError>
+        ensures { (content : Content) → OnOk result (self.new ≡ at_stage Shutting tick content self.old) }
+    {
+        if self.is_served() && self.fin_seen && self.pending.len() == 0 && !self.ended {
+            self.ended = end(&mut self.history, THE_APP, tick)?;
+        }
+        Ok(())
+    }
+
+    /// The application gives the connection up, where a local segment resets it. The error is want of memory.
+    pub fn abort(&mut self, tick: u32, resets: bool) -> Result<(), AllocError>
+        ensures { (content : Content) → resets_here content ≡ resets → OnOk result (self.new ≡ at_stage Aborting tick content self.old) }
+    {
+        if resets && (self.held || matches!(stage_of(&self.history), Stage::Opening)) {
+            make(&mut self.history, THE_APP, tick, &CallIn::Abort, &AppCalls)?;
+        }
+        Ok(())
+    }
+
+    /// The application reads all that came, where the segment is a remote one. The error is want of memory.
+    pub fn read(&mut self, tick: u32, remote: bool) -> Result<(), AllocError>
+        ensures { (content : Content) → is_remote content ≡ remote → OnOk result (self.new ≡ at_stage Receiving tick content self.old) }
+    {
+        if remote && self.is_served() {
+            make(
+                &mut self.history,
+                THE_APP,
+                tick,
+                &CallIn::Recv { most: 65535 },
+                &AppCalls,
+            )?;
+        }
+        Ok(())
+    }
+
+    /// A segment comes to it: by the fast path of core 0 where it is one for that, and else by the slow path. The error is want of memory.
+    pub fn receive<F: Engine, S: Engine>(
+        &mut self,
+        tick: u32,
+        frame: FrameId,
+        seg: &Segment<'_>,
+        fast: &F,
+        slow: &S,
+    ) -> Result<(), AllocError>
+        requires fast { IsReceiver (F.serves fast.now) }
+        requires slow { IsReceiver (S.serves slow.now) }
+        ensures { OnOk result (self.new ≡ received_serially tick frame (seg_of seg.now) self.old) }
+    {
+        let call = CallIn::Rx { frame, seg: *seg };
+        if is_fast(&self.history, seg) {
+            make(&mut self.history, Caller::Core(0), tick, &call, fast)
+        } else {
+            make(&mut self.history, Caller::Slow, tick, &call, slow)
+        }
+    }
+
+    /// A local segment shows bytes of the local stream, or its end. The error is want of memory, also where 2^32 bytes would wait.
+    pub fn see(&mut self, seg: &Segment<'_>) -> Result<(), AllocError>
+        ensures { OnOk result (self.new ≡ sees (seg_of seg.now) self.old) }
+    {
+        let fresh = fresh_bytes(
+            first_number(&self.history),
+            seg,
+            sent_count(&self.history),
+            self.pending.len(),
+        );
+        if self.pending.len() + fresh.len() > 0xffff_ffff {
+            return Err(AllocError);
+        }
+        self.pending.append(fresh)?;
+        self.fin_seen = self.fin_seen || seg.flags.is_fin();
+        Ok(())
+    }
+}
+
+/// The bytes of a local segment from the first place on that is not yet seen, where it has that place. `sent` bytes were taken, and `waiting` more were seen.
+fn fresh_bytes<'a>(iss: Seq, seg: &Segment<'a>, sent: u128, waiting: usize) -> &'a [u8]
+    requires near { sent < 2 ^ 127 }
+    ensures { result.now ≡ model_fresh iss.0 (seg_of seg.now) (sent + waiting) }
+{
+    let seen = sent + waiting as u128;
+    let wanted = seen + 0x1_0000_0001;
+    let first = raised(seen + 1, seg.seq.minus(iss)) + u128::from(seg.flags.is_syn());
+    if first > wanted {
+        return &[];
+    }
+    let known = wanted - first;
+    if known >= seg.payload.len() as u128 {
+        return &[];
+    }
+    &seg.payload[known as usize..]
 }
