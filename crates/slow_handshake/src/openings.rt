@@ -1,3 +1,5 @@
+ghost use Rattle.std.specs.Prelude.{◌≡◌};
+
 use tas_model::FlowId;
 
 /// An application listens on a port.
@@ -13,6 +15,17 @@ pub struct PassiveFlow {
     pub id: FlowId,
     pub port: u16,
     pub ready: bool,
+}
+
+impl PassiveFlow {
+    ghost use Rattle.slow_handshake.specs.Openings.{readied};
+
+    /// Notes that it is past SYN-RECEIVED, where it is this flow.
+    pub fn note_ready(&mut self, id: FlowId)
+        ensures { self.new ≡ readied id self.old }
+    {
+        self.ready = self.ready || self.id == id;
+    }
 }
 
 /// Why an application can't listen.

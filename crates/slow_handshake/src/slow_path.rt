@@ -39,6 +39,15 @@ impl Model for SlowPath {
     ghost invariant = { λ s. (s.ports ≤ 16384) × (length s.flows.items < 2 ^ 32) };
 }
 
+/// The flow is past SYN-RECEIVED, where it stands in the list.
+fn note_ready(flows: &mut Vec<PassiveFlow>, id: FlowId)
+    ensures { flows.new.items ≡ map (readied id) flows.old.items }
+{
+    for flow in flows.iter_mut() {
+        flow.note_ready(id);
+    }
+}
+
 impl SlowPath {
     /// A host of these parameters, on which nothing was opened.
     pub fn new(alloc: Global, params: HostParams) -> SlowPath
@@ -144,11 +153,7 @@ impl SlowPath {
     pub fn became_ready(&mut self, id: FlowId)
         ensures { self.new ≡ record self.old { flows = map (readied id) self.old.flows } }
     {
-        for flow in self.flows.iter_mut() {
-            if flow.id == id {
-                flow.ready = true;
-            }
-        }
+        note_ready(&mut self.flows, id);
     }
 
     /// The flow was accepted, or is closed.
