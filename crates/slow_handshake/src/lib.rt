@@ -4,6 +4,7 @@
 mod openings;
 mod slow_path;
 mod strays;
+mod syn_sent;
 
 pub use openings::{ListenRefused, Listener, NoPort, PassiveFlow, SynAnswer};
 pub use slow_path::SlowPath;

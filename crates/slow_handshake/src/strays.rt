@@ -36,7 +36,7 @@ pub fn stray(seg: &Segment<'_>, listening: bool) -> Option<Head>
 }
 
 /// A reset, which has neither window nor options.
-fn reset(flags: Flags, seq: Seq, ack: Seq) -> Head
+pub fn reset(flags: Flags, seq: Seq, ack: Seq) -> Head
     ensures { result ≡ record { flags = flags.0; seq = seq; ack = ack; window = 0; mss = None } }
 {
     Head {
