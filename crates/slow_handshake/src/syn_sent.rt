@@ -50,28 +50,31 @@ fn refuse(parts: &mut Parts)
     parts.phase = Phase::Closed;
 }
 
+/// The state once both SYNs are acknowledged.
+fn phase_after_syn(ended: bool) -> Phase
+    ensures { result ≡ (if ended then phases.CloseWait else phases.Established) }
+{
+    if ended {
+        Phase::CloseWait
+    } else {
+        Phase::Established
+    }
+}
+
 /// The peer's SYN, which acknowledges the own one.
 fn take_syn(parts: &mut Parts, seg: &Segment<'_>)
     ensures stands { (e : Endpoint) → Valid e → Stands parts.old e → phase e ≡ phases.SynSent → Stands parts.new (connected e (seg_of seg.now)) }
     ensures params { parts.new.params ≡ parts.old.params }
     ensures tuple { parts.new.tuple ≡ parts.old.tuple }
 {
-    let ended = parts.is_ended();
-    let una = parts.iss.plus(1);
+    let nxt = parts.nxt_place().max(1);
+    let phase = phase_after_syn(parts.is_ended());
     parts.begin_rate(seg.mss);
-    parts.phase = if ended {
-        Phase::CloseWait
-    } else {
-        Phase::Established
-    };
+    parts.phase = phase;
     parts.rcv = seg.seq.plus(parts.rcv.minus(parts.irs));
     parts.irs = seg.seq;
-    parts.nxt = if parts.nxt == parts.iss {
-        una
-    } else {
-        parts.nxt
-    };
-    parts.una = una;
+    parts.una = parts.iss.plus(1);
+    parts.nxt = parts.iss.plus((nxt % 0x1_0000_0000) as u32);
     parts.window = u32::from(seg.window);
     parts.wl1 = 0;
     parts.wl2 = 1;
@@ -80,6 +83,7 @@ fn take_syn(parts: &mut Parts, seg: &Segment<'_>)
 }
 
 /// A segment that arrives in SYN-SENT (RFC 9293, section 3.10.7.3): first the acknowledgement is looked at, then the reset, then the SYN.
+#[tactic(auto, unfolding(tas_model::specs::Receive::rx_syn_sent))]
 pub fn receive_in_syn_sent(parts: &mut Parts, seg: &Segment<'_>) -> Answer
     requires { IsNear parts.old }
     ensures made { (out : List ℕ) (e : Endpoint) → Valid e → Stands parts.old e → phase e ≡ phases.SynSent → IsOutcome parts.new result out (rx_syn_sent e (seg_of seg.now)) }
