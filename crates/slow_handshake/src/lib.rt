@@ -9,3 +9,6 @@ mod syn_sent;
 pub use openings::{ListenRefused, Listener, NoPort, PassiveFlow, SynAnswer};
 pub use slow_path::SlowPath;
 pub use strays::stray;
+
+#[cfg(test)]
+mod tests;

@@ -49,17 +49,17 @@ fn note_ready(flows: &mut Vec<PassiveFlow>, id: FlowId)
 }
 
 impl SlowPath {
-    /// A host of these parameters, on which nothing was opened.
-    pub fn new(alloc: Global, params: HostParams) -> SlowPath
-        ensures { result ≡ no_openings params }
+    /// A host of these parameters, on which nothing was opened. The error is want of memory.
+    pub fn new(alloc: Global, params: HostParams) -> Result<SlowPath, AllocError>
+        ensures { IfOk result (λ path. path ≡ no_openings params) }
     {
-        SlowPath {
+        Ok(SlowPath {
             params,
             listeners: Vec::new(alloc),
             flows: Vec::new(alloc),
             ports: 0,
             next_iss: Seq(params.iss),
-        }
+        })
     }
 
     /// The application listens on the port (RFC 9293, section 3.10.1, a passive OPEN). `PortInUse`: a listener has it.
@@ -109,8 +109,9 @@ impl SlowPath {
     }
 
     /// What a SYN meets that comes to no flow, by the port that it goes to. In a replay every port listens without a limit.
-    pub fn syn(&self, seg: &Segment<'_>) -> SynAnswer
-        ensures { result ≡ syn_answer self.now seg.now.dport }
+    pub fn syn(&mut self, seg: &Segment<'_>) -> SynAnswer
+        ensures answer { result ≡ syn_answer self.old seg.now.dport }
+        ensures kept { self.new ≡ self.old }
     {
         if self.params.fixed {
             return SynAnswer::Opens;
