@@ -3,7 +3,7 @@ ghost use Rattle.tas_model.specs.declared.entry.Phase.TheVariants as phases;
 ghost use Rattle.tas_model.specs.declared.entry.Reason.TheVariants as reasons;
 ghost use Rattle.tas_model.specs.declared.entry.Reply.TheVariants as replies;
 ghost use Rattle.tas_model.specs.Endpoint.{Endpoint, phase};
-ghost use Rattle.tas_model.specs.Segments.{is_rst, resets};
+ghost use Rattle.tas_model.specs.Segments.{is_rst, resets, acks};
 ghost use Rattle.tas_model.specs.Receive.{place_of_ack, connected, rx_syn_sent};
 ghost use Rattle.tas_model.specs.Valid.{Valid};
 ghost use Rattle.flow_state.specs.Stands.{Stands, IsNear};
@@ -82,6 +82,20 @@ fn take_syn(parts: &mut Parts, seg: &Segment<'_>)
     parts.tries = 0;
 }
 
+/// The peer's SYN connects, and is acknowledged.
+fn connect(parts: &mut Parts, seg: &Segment<'_>) -> Answer
+    ensures made { (out : List ℕ) (e : Endpoint) → Valid e → Stands parts.old e → phase e ≡ phases.SynSent → IsOutcome parts.new result out (record { state = connected e (seg_of seg.now); reply = acks (connected e (seg_of seg.now)) }) }
+    ensures len { answer_len result ≡ 0 }
+    ensures params { parts.new.params ≡ parts.old.params }
+    ensures tuple { parts.new.tuple ≡ parts.old.tuple }
+{
+    take_syn(parts, seg);
+    Answer::Sent {
+        head: parts.ack_head(),
+        len: 0,
+    }
+}
+
 /// A segment that arrives in SYN-SENT (RFC 9293, section 3.10.7.3): first the acknowledgement is looked at, then the reset, then the SYN.
 #[tactic(auto, unfolding(tas_model::specs::Receive::rx_syn_sent))]
 pub fn receive_in_syn_sent(parts: &mut Parts, seg: &Segment<'_>) -> Answer
@@ -104,9 +118,5 @@ pub fn receive_in_syn_sent(parts: &mut Parts, seg: &Segment<'_>) -> Answer
     if !seg.flags.is_syn() {
         return Answer::Nothing;
     }
-    take_syn(parts, seg);
-    Answer::Sent {
-        head: parts.ack_head(),
-        len: 0,
-    }
+    connect(parts, seg)
 }
