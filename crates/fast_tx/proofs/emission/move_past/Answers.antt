@@ -1,6 +1,10 @@
-use Rattle.std.proofs.Common.{sym, subst}
+use Rattle.std.proofs.Common.{◌≡◌, ◌⊎◌, inl, inr, sym, subst}
+use Rattle.tas_model.specs.Endpoint.{Endpoint}
+use Rattle.tas_model.specs.NextSegment.{past}
+use Rattle.flow_state.specs.declared.parts.Parts.{Parts}
 use Rattle.flow_state.specs.Stands.{Stands}
 use Rattle.fast_tx.specs.declared.piece.Piece.{Piece}
+use Rattle.fast_tx.specs.declared.piece.Piece.TheVariants as pieces
 use Rattle.fast_tx.specs.Going.{going_as}
 use Rattle.fast_tx.proofs.Alike.{nxt_near}
 use Rattle.fast_tx.proofs.Told.{paid}
@@ -10,3 +14,10 @@ pub returns-in-Data-clause-after : goal.returns-in-Data-clause-after
 returns-in-Data-clause-after c e v s =
     subst (λ (x : Piece). Stands c.move_next-in-Data.new.parts (going_as x e).after) (sym c.in-Data.is)
     (c.move_next-in-Data.ensures.after (paid e c.in-Data.len) (c.pay.ensures.after e s) v.tx.nxt (nxt_near e v))
+
+after_end : (piece : Piece) (p : Parts) (e : Endpoint) → (piece ≡ pieces.Syn) ⊎ (piece ≡ pieces.Fin) → Stands p (record e { tx = past e.tx 1 }) → Stands p (going_as piece e).after
+after_end piece p e (inl is) h = subst (λ (x : Piece). Stands p (going_as x e).after) (sym is) h
+after_end piece p e (inr is) h = subst (λ (x : Piece). Stands p (going_as x e).after) (sym is) h
+
+pub returns-in-Syn-clause-after : goal.returns-in-Syn-clause-after
+returns-in-Syn-clause-after c e v s = after_end c.args.piece c.move_next.new.parts e c.in-Syn.is (c.move_next.ensures.after e s v.tx.nxt (nxt_near e v))
