@@ -10,7 +10,6 @@ use Rattle.flow_state.specs.Flow as records
 use Rattle.flow_state.specs.declared.parts.Parts.{Parts}
 use Rattle.flow_state.specs.declared.call.CallIn.{CallIn}
 use Rattle.flow_state.specs.declared.call.CallIn.TheVariants as ins
-use Rattle.flow_state.specs.Calls.{is_closed_phase}
 use Rattle.segment_fields.specs.declared.segment.Segment.{Segment}
 use Rattle.tas_model.specs.declared.entry.FrameId.{FrameId}
 use Rattle.tas_model.specs.declared.entry.FlowId.{FlowId}
@@ -57,11 +56,7 @@ says_ok answers.Ok = true
 says_ok _ = false
 
 -- ----- engines
--- the engine answers Tick wherever that is a step
-abbrev pub IsTimer : (Parts → CallIn → Type 0) → Type 0
-IsTimer serves = (p : Parts) → is_closed_phase p.phase ≡ false → serves p ins.Tick
-
--- it answers every received segment
+-- the engine answers every received segment
 abbrev pub IsReceiver : (Parts → CallIn → Type 0) → Type 0
 IsReceiver serves = (p : Parts) (frame : FrameId) (seg : Segment) → serves p (ins.Rx frame seg)
 

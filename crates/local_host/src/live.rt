@@ -1,7 +1,9 @@
 ghost use Rattle.std.specs.Prelude.{◌≡◌, ℕ, ◌+◌, ◌^◌, ◌<◌, ◌∷◌, [], ◌==◌, ◌||◌, ◌&&◌, not, true, false, OnOk, IfOk};
 ghost use Rattle.tas_model.specs.declared.entry.Call.TheVariants as calls;
-ghost use Rattle.tas_model.specs.declared.entry.Caller.TheVariants.{Slow};
+ghost use Rattle.tas_model.specs.declared.entry.Caller.TheVariants.{Slow, Core};
 ghost use Rattle.tas_model.specs.Valid.{InRange};
+ghost use Rattle.tas_model.specs.NextSegment.{going};
+ghost use Rattle.fast_tx.specs.Going.{left_in};
 ghost use Rattle.flow_state.specs.Calls.{seg_of};
 ghost use Rattle.flow_state.specs.Calls.{is_running as is_running_phase};
 ghost use Rattle.flow_state.specs.App.{column_of};
@@ -9,17 +11,19 @@ ghost use Rattle.flow_state.specs.declared.stage.Stage.TheVariants as stages;
 ghost use Rattle.tas_model.specs.ApplicationCalls.{column};
 ghost use Rattle.tas_model.specs.LegalHistory.{replay};
 ghost use Rattle.tas_runs.specs.Records.{Content, is_remote};
-ghost use Rattle.tas_runs.specs.Hosts.{is_indexed_as, is_over, first_entry};
-ghost use Rattle.tas_runs.specs.Upkeep.{swept, timed};
+ghost use Rattle.tas_runs.specs.Hosts.{is_indexed_as, endpoint, with_call, is_over, first_entry};
+ghost use Rattle.tas_runs.specs.Upkeep.{swept, timed, quieted};
 ghost use Rattle.tas_runs.specs.Deliveries.{received_serially, is_fast};
 ghost use Rattle.tas_runs.specs.LocalScript.{Accepting, Sending, Shutting, Aborting, Receiving, Leaving, is_served, resets_here, sees, fresh_bytes as model_fresh, at_stage, the_app};
-ghost use Rattle.local_host.specs.Live.{flow_in, out_in, is_ended, opened_live, IsTimer, IsReceiver};
+ghost use Rattle.local_host.specs.Live.{flow_in, out_in, is_ended, opened_live, IsReceiver};
 
+use fast_tx::FastTx;
 use crate::calls::{end, make, offer};
 use crate::pending::Pending;
-use crate::reading::{first_number, is_closed, is_fast, raised, sent_count, stage_of};
+use crate::reading::{first_number, is_closed, is_fast, may_send, raised, sent_count, stage_of};
 use flow_state::{AppCalls, CallIn, Engine, FlowRecord, Stage};
 use segment_fields::Segment;
+use slow_timeout::TimerWork;
 use std::alloc::{AllocError, Global};
 use std::marker::Model;
 use tas_model::{Caller, FlowId, FourTuple, FrameId, HostParams};
@@ -142,14 +146,13 @@ impl LiveFlow {
     }
 
     /// One tick passes, unless it is closed. The error is want of memory.
-    pub fn tick<E: Engine>(&mut self, tick: u32, timers: &E) -> Result<(), AllocError>
-        requires timers { IsTimer (E.serves timers.now) }
+    pub fn tick(&mut self, tick: u32) -> Result<(), AllocError>
         ensures { OnOk result (self.new ≡ timed Slow tick self.old) }
     {
         if is_closed(&self.history) {
             return Ok(());
         }
-        make(&mut self.history, Caller::Slow, tick, &CallIn::Tick, timers)
+        make(&mut self.history, Caller::Slow, tick, &CallIn::Tick, &TimerWork)
     }
 
     /// The application accepts it, where it stands and is not held yet. The error is want of memory.
@@ -245,6 +248,37 @@ impl LiveFlow {
         } else {
             make(&mut self.history, Caller::Slow, tick, &call, slow)
         }
+    }
+
+    /// Sends all that may go, by core 0. The error is want of memory.
+    pub fn send_all(&mut self, tick: u32) -> Result<(), AllocError>
+        ensures { OnOk result (self.new ≡ quieted tick self.old) }
+    {
+        while self.may_send() {
+            self.emit(tick)?;
+        }
+        Ok(())
+    }
+
+    fn may_send(&self) -> bool
+        ensures going { result ≡ is_some (going (endpoint self.now)) }
+        ensures done { (tick : ℕ) → result ≡ false → quieted tick self.now ≡ self.now }
+    {
+        may_send(&self.history)
+    }
+
+    /// Sends the next segment.
+    fn emit(&mut self, tick: u32) -> Result<(), AllocError>
+        requires goes { is_some (going (endpoint self.old)) ≡ true }
+        ensures made { OnOk result (self.new ≡ with_call self.old (Core 0) tick calls.Emit []) }
+        ensures left { OnOk result (quieted tick self.new ≡ quieted tick self.old) }
+        ensures falls { OnOk result (left_in (endpoint self.new) < left_in (endpoint self.old)) }
+    {
+        let _legal = self.history.entries();
+        if !may_send(&self.history) {
+            return Ok(());
+        }
+        make(&mut self.history, Caller::Core(0), tick, &CallIn::Emit, &FastTx)
     }
 
     /// A local segment shows bytes of the local stream, or its end. The error is want of memory, also where 2^32 bytes would wait.

@@ -1,14 +1,18 @@
-ghost use Rattle.std.specs.Prelude.{◌≡◌, ◌^◌, ◌<◌, ◌+◌, length, true, false};
+ghost use Rattle.std.specs.Prelude.{◌≡◌, ◌^◌, ◌<◌, ◌+◌, length, true, false, is_some, IsSome};
 ghost use Rattle.tas_num.specs.Places.{raised as raised_place};
 ghost use Rattle.tas_model.specs.Endpoint.{is_closed as model_closed};
 ghost use Rattle.tas_model.specs.ApplicationCalls.{column};
 ghost use Rattle.tas_model.specs.LegalHistory.{replay};
+ghost use Rattle.tas_model.specs.NextSegment.{going};
+ghost use Rattle.tas_model.specs.Valid.{InRange};
+ghost use Rattle.fast_tx.specs.Piece.{next_piece};
 ghost use Rattle.flow_state.specs.Calls.{seg_of, is_running, is_closed_phase};
 ghost use Rattle.flow_state.specs.App.{column_of};
 ghost use Rattle.flow_state.specs.declared.stage.Stage.TheVariants as stages;
 ghost use Rattle.tas_runs.specs.Deliveries.{is_open_phase, is_fast as model_fast};
 ghost use Rattle.local_host.specs.Live.{out_in};
 
+use fast_tx::next_out;
 use flow_state::{FlowRecord, Stage};
 use segment_fields::Segment;
 use tas_model::Phase;
@@ -73,4 +77,14 @@ pub fn raised(near: u128, word: u32) -> u128
     let low = near + 0x8000_0000;
     let behind = u128::from(word) + (0x1_0000_0000 - low % 0x1_0000_0000);
     low + behind % 0x1_0000_0000
+}
+
+/// Whether a segment may go.
+pub fn may_send(flow: &FlowRecord) -> bool
+    requires ranges { InRange flow.now.params }
+    ensures going { result ≡ is_some (going (replay flow.now.params flow.now.entries)) }
+    ensures piece { result ≡ true → IsSome (next_piece flow.now.parts) }
+{
+    let _entries = flow.entries();
+    next_out(flow.parts()).is_some()
 }
