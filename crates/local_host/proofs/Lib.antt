@@ -2,3 +2,4 @@ pub mod Taken
 pub mod Growth
 pub mod Ended
 pub mod Sent
+pub mod Emitting

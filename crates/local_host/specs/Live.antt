@@ -1,5 +1,5 @@
 -- How the host's parts of a flow are seen as one flow of a run.
-use Rattle.std.specs.Prelude.{◌≡◌, ℕ, Bool, true, false, List, [], ◌∷◌, ⊤}
+use Rattle.std.specs.Prelude.{◌≡◌, ℕ, ◌<◌, Bool, true, false, List, [], ◌∷◌, ⊤}
 use Rattle.tas_model.specs.declared.entry.Caller.{Caller}
 use Rattle.tas_model.specs.declared.entry.Call.{Call}
 use Rattle.tas_model.specs.declared.entry.Call.TheVariants as calls
@@ -17,7 +17,9 @@ use Rattle.tas_model.specs.declared.entry.FourTuple.{FourTuple}
 use Rattle.tas_model.specs.declared.entry.HostParams.{HostParams}
 use Rattle.tas_model.specs.declared.entry.Entry.{Entry}
 use Rattle.tas_runs.specs.Logs.{Flow}
-use Rattle.tas_runs.specs.Hosts.{Live}
+use Rattle.tas_runs.specs.Hosts.{Live, endpoint}
+use Rattle.tas_runs.specs.Upkeep.{quieted}
+use Rattle.fast_tx.specs.Going.{left_in}
 
 -- what a run leaves of the flow that is recorded
 abbrev pub flow_in : records.Flow → Flow
@@ -54,6 +56,12 @@ took _ = 0
 abbrev pub says_ok : Answer → Bool
 says_ok answers.Ok = true
 says_ok _ = false
+
+-- ----- emission
+-- What the flow has to send once this segment went leads to the same end, and is less.
+pub record IsNext (tick : ℕ) (before after : Live) : Type 0 where
+  pub same : quieted tick after ≡ quieted tick before
+  pub less : left_in (endpoint after) < left_in (endpoint before)
 
 -- ----- engines
 -- the engine answers every received segment

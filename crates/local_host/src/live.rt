@@ -1,9 +1,8 @@
-ghost use Rattle.std.specs.Prelude.{◌≡◌, ℕ, ◌+◌, ◌^◌, ◌<◌, ◌∷◌, [], ◌==◌, ◌||◌, ◌&&◌, not, true, false, OnOk, IfOk};
+ghost use Rattle.std.specs.Prelude.{◌≡◌, ℕ, ◌+◌, ◌^◌, ◌<◌, ◌∷◌, [], ◌==◌, ◌||◌, ◌&&◌, not, true, false, is_some, OnOk, IfOk};
 ghost use Rattle.tas_model.specs.declared.entry.Call.TheVariants as calls;
 ghost use Rattle.tas_model.specs.declared.entry.Caller.TheVariants.{Slow, Core};
 ghost use Rattle.tas_model.specs.Valid.{InRange};
 ghost use Rattle.tas_model.specs.NextSegment.{going};
-ghost use Rattle.fast_tx.specs.Going.{left_in};
 ghost use Rattle.flow_state.specs.Calls.{seg_of};
 ghost use Rattle.flow_state.specs.Calls.{is_running as is_running_phase};
 ghost use Rattle.flow_state.specs.App.{column_of};
@@ -15,12 +14,12 @@ ghost use Rattle.tas_runs.specs.Hosts.{is_indexed_as, endpoint, with_call, is_ov
 ghost use Rattle.tas_runs.specs.Upkeep.{swept, timed, quieted};
 ghost use Rattle.tas_runs.specs.Deliveries.{received_serially, is_fast};
 ghost use Rattle.tas_runs.specs.LocalScript.{Accepting, Sending, Shutting, Aborting, Receiving, Leaving, is_served, resets_here, sees, fresh_bytes as model_fresh, at_stage, the_app};
-ghost use Rattle.local_host.specs.Live.{flow_in, out_in, is_ended, opened_live, IsReceiver};
+ghost use Rattle.local_host.specs.Live.{flow_in, out_in, is_ended, opened_live, IsNext, IsReceiver};
 
-use fast_tx::FastTx;
 use crate::calls::{end, make, offer};
 use crate::pending::Pending;
 use crate::reading::{first_number, is_closed, is_fast, may_send, raised, sent_count, stage_of};
+use fast_tx::FastTx;
 use flow_state::{AppCalls, CallIn, Engine, FlowRecord, Stage};
 use segment_fields::Segment;
 use slow_timeout::TimerWork;
@@ -152,7 +151,13 @@ impl LiveFlow {
         if is_closed(&self.history) {
             return Ok(());
         }
-        make(&mut self.history, Caller::Slow, tick, &CallIn::Tick, &TimerWork)
+        make(
+            &mut self.history,
+            Caller::Slow,
+            tick,
+            &CallIn::Tick,
+            &TimerWork,
+        )
     }
 
     /// The application accepts it, where it stands and is not held yet. The error is want of memory.
@@ -263,6 +268,7 @@ impl LiveFlow {
     fn may_send(&self) -> bool
         ensures going { result ≡ is_some (going (endpoint self.now)) }
         ensures done { (tick : ℕ) → result ≡ false → quieted tick self.now ≡ self.now }
+        ensures next { (tick : ℕ) → result ≡ true → IsNext tick self.now (with_call self.now (Core 0) tick calls.Emit []) }
     {
         may_send(&self.history)
     }
@@ -270,15 +276,19 @@ impl LiveFlow {
     /// Sends the next segment.
     fn emit(&mut self, tick: u32) -> Result<(), AllocError>
         requires goes { is_some (going (endpoint self.old)) ≡ true }
-        ensures made { OnOk result (self.new ≡ with_call self.old (Core 0) tick calls.Emit []) }
-        ensures left { OnOk result (quieted tick self.new ≡ quieted tick self.old) }
-        ensures falls { OnOk result (left_in (endpoint self.new) < left_in (endpoint self.old)) }
+        ensures { OnOk result (self.new ≡ with_call self.old (Core 0) tick calls.Emit []) }
     {
-        let _legal = self.history.entries();
-        if !may_send(&self.history) {
-            return Ok(());
+        if may_send(&self.history) {
+            make(
+                &mut self.history,
+                Caller::Core(0),
+                tick,
+                &CallIn::Emit,
+                &FastTx,
+            )
+        } else {
+            unreachable!()
         }
-        make(&mut self.history, Caller::Core(0), tick, &CallIn::Emit, &FastTx)
     }
 
     /// A local segment shows bytes of the local stream, or its end. The error is want of memory, also where 2^32 bytes would wait.

@@ -2,7 +2,7 @@ ghost use Rattle.std.specs.Prelude.{◌≡◌, ◌^◌, ◌<◌, ◌+◌, length
 ghost use Rattle.tas_num.specs.Places.{raised as raised_place};
 ghost use Rattle.tas_model.specs.Endpoint.{is_closed as model_closed};
 ghost use Rattle.tas_model.specs.ApplicationCalls.{column};
-ghost use Rattle.tas_model.specs.LegalHistory.{replay};
+ghost use Rattle.tas_model.specs.LegalHistory.{Legal, replay};
 ghost use Rattle.tas_model.specs.NextSegment.{going};
 ghost use Rattle.tas_model.specs.Valid.{InRange};
 ghost use Rattle.fast_tx.specs.Piece.{next_piece};
@@ -84,6 +84,7 @@ pub fn may_send(flow: &FlowRecord) -> bool
     requires ranges { InRange flow.now.params }
     ensures going { result ≡ is_some (going (replay flow.now.params flow.now.entries)) }
     ensures piece { result ≡ true → IsSome (next_piece flow.now.parts) }
+    ensures legal { Legal flow.now.params flow.now.entries }
 {
     let _entries = flow.entries();
     next_out(flow.parts()).is_some()
