@@ -2,8 +2,13 @@
 #![tactic(auto)]
 
 mod acking;
+mod fast;
 mod hearing;
 mod keeping;
 mod receiving;
 
+pub use fast::{FastAnswer, FastRx, Why, fast_rx};
 pub use receiving::receive;
+
+#[cfg(test)]
+mod tests;
