@@ -1,9 +1,12 @@
 -- An entry of the history, by its slot.
-use Rattle.std.proofs.Common.{◌≡◌, ℕ, zero, suc, ◌+◌, ◌-◌, ◌<◌, List, [], ◌∷◌, ◌++◌, length, get_or, slice_get, Some, refl, ap, subst, arith}
-use Rattle.tas_model.specs.declared.entry.Reply.{Reply}
+use Rattle.std.proofs.Common.{◌≡◌, ℕ, zero, suc, ◌-◌, ◌<◌, List, [], ◌∷◌, ◌++◌, length, get_or, slice_get, Some, refl, ap, subst, arith}
 use Rattle.tas_model.specs.declared.entry.Entry.{Entry}
+use Rattle.tas_model.specs.declared.entry.HostParams.{HostParams}
+use Rattle.tas_model.specs.declared.entry.Caller.{Caller}
+use Rattle.tas_model.specs.declared.entry.Call.{Call}
+use Rattle.tas_model.specs.LegalHistory.{extended_by}
 use Rattle.flow_state.specs.declared.slot.Slot.{Slot}
-use Rattle.flow_state.specs.Flow.{last_reply}
+use Rattle.flow_state.specs.Flow.{last_reply, reply_to, next_entry}
 use Rattle.flow_state.specs.Slots.{entries_of, entry_of, reply_in, IsWithin, AllWithin}
 
 pub within_at : (n : ℕ) (slots : List Slot) (i : ℕ) (d : Slot) → i < length slots → AllWithin n slots → IsWithin n (get_or slots i d)
@@ -41,3 +44,6 @@ pub last_reply_push : (h : List Entry) (x : Entry) → last_reply (h ++ x ∷ []
 last_reply_push [] x = refl
 last_reply_push (y ∷ []) x = refl
 last_reply_push (y ∷ z ∷ h) x = last_reply_push (z ∷ h) x
+
+pub last_reply_extended : (params : HostParams) (h : List Entry) (caller : Caller) (tick : ℕ) (call : Call) (offer : List ℕ) → last_reply (extended_by params h caller tick call offer) ≡ reply_to params h tick call offer
+last_reply_extended params h caller tick call offer = last_reply_push h (next_entry h caller tick call (reply_to params h tick call offer))

@@ -1,6 +1,5 @@
 -- A step that is made again with its own reply gives the same: a Send reads from it the bytes that it took.
-use Rattle.std.proofs.Common.{◌≡◌, ℕ, ◌≤◌, Bool, true, false, cond, eqb, not, ◌&&◌, List, ◌++◌, length, take, min, Option, Some, None, refl, sym, ◌∙◌, ap, subst, arith, length-take}
-use Rattle.tas_model.specs.declared.entry.Reply.{Reply}
+use Rattle.std.proofs.Common.{◌≡◌, ℕ, ◌+◌, ◌≤◌, Bool, true, false, cond, eqb, not, ◌&&◌, List, ◌++◌, length, take, min, Option, Some, None, refl, sym, ◌∙◌, ap, subst, arith, length-take}
 use Rattle.tas_model.specs.declared.entry.Reply.TheVariants as replies
 use Rattle.tas_model.specs.Endpoint.{Endpoint, send_room}
 use Rattle.tas_model.specs.Segments.{Outcome, unchanged}
@@ -10,7 +9,7 @@ use Rattle.flow_state.specs.declared.call.CallIn.{CallIn}
 use Rattle.flow_state.specs.declared.call.CallIn.TheVariants as ins
 use Rattle.flow_state.specs.declared.call.Answer.{Answer}
 use Rattle.flow_state.specs.declared.call.Answer.TheVariants as answers
-use Rattle.flow_state.specs.Calls.{call_of, offer_of, reply_of, answer_of, answer_len, reply_room, cost_of}
+use Rattle.flow_state.specs.Calls.{call_of, offer_of, reply_of, answer_of, answer_len, reply_room, cost_of, payload_of}
 
 some_is : {A : Type 0} (x y : A) → ◌≡◌ {A = Option A} (Some x) (Some y) → x ≡ y
 some_is x y h = cc (h)
@@ -65,3 +64,11 @@ room_within_cost mss ins.Emit = omega arith
 room_within_cost mss (ins.Passive frame iss seg) = omega arith
 room_within_cost mss (ins.Rx frame seg) = omega arith
 room_within_cost mss _ = omega arith
+
+pub bytes_within_cost : (mss : ℕ) (call : CallIn) (n : ℕ) → n ≤ reply_room mss call → n + length (payload_of call) ≤ cost_of mss call
+bytes_within_cost mss (ins.Send bytes) n h = omega arith
+bytes_within_cost mss (ins.Recv most) n h = omega arith
+bytes_within_cost mss ins.Emit n h = omega arith
+bytes_within_cost mss (ins.Passive frame iss seg) n h = omega arith
+bytes_within_cost mss (ins.Rx frame seg) n h = omega arith
+bytes_within_cost mss _ n h = omega arith

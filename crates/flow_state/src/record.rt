@@ -189,6 +189,7 @@ impl FlowRecord {
         ensures parts { result.now ≡ self.now.parts }
         ensures stands { Stands self.now.parts (replay self.now.params self.now.entries) }
         ensures phase { self.now.parts.phase ≡ phase (replay self.now.params self.now.entries) }
+        ensures near { IsNear self.now.parts }
         ensures tuple { self.now.parts.tuple ≡ self.now.tuple }
         ensures params { self.now.parts.params ≡ self.now.params }
     {
@@ -213,6 +214,8 @@ impl FlowRecord {
         ensures err_parts { OnErr result (self.new.parts ≡ self.old.parts) }
         ensures serves { IfOk result (λ r. IsSome r ↔ E.serves engine.now self.old.parts call.now) }
         ensures spare { 1 ≤ self.old.spare_entries → cost_of self.old.parts.smss call.now ≤ self.old.spare_bytes → IsOk result }
+        ensures spent_entries { self.old.spare_entries ≤ self.new.spare_entries + 1 }
+        ensures spent_bytes { self.old.spare_bytes ≤ self.new.spare_bytes + cost_of self.old.parts.smss call.now }
         ensures legal { Legal self.new.params self.new.entries }
         ensures stands { Stands self.new.parts (replay self.new.params self.new.entries) }
         ensures id { self.new.id ≡ self.old.id }
@@ -262,6 +265,8 @@ fn answer_at_end<E: Engine>(
     ensures serves { IsSome result ↔ E.serves engine.now parts.old call.now }
     ensures kept { take (length arena.old.items) arena.new.items ≡ arena.old.items }
     ensures longer { length arena.old.items ≤ length arena.new.items }
+    ensures size { vec_len arena.new ≤ vec_len arena.old + cost_of parts.old.smss call.now }
+    ensures capacity { vec_capacity arena.old ≤ vec_capacity arena.new }
     ensures params { parts.new.params ≡ parts.old.params }
     ensures tuple { parts.new.tuple ≡ parts.old.tuple }
 {

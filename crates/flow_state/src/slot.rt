@@ -192,6 +192,8 @@ pub fn close_entry(
     ensures longer { start ≤ length arena.new.items }
     ensures entry { entry_of arena.new.items result ≡ record { caller = caller; number = number; tick = tick; call = call_of call.now; reply = reply_of answer.now (drop start arena.old.items) } }
     ensures within { IsWithin (length arena.new.items) result }
+    ensures size { vec_len arena.new ≡ start + answer_len answer.now + length (payload_of call.now) }
+    ensures capacity { vec_capacity arena.old ≤ vec_capacity arena.new }
 {
     let at = start + answer.bytes();
     arena.truncate(at);

@@ -1,4 +1,4 @@
-ghost use Rattle.std.specs.Prelude.{◌≡◌};
+ghost use Rattle.std.specs.Prelude.{◌≡◌, ◌<◌, bit_or};
 ghost use Rattle.segment_fields.specs.ControlBits.{fin, syn, rst, psh, ack, urg, ece, cwr, has};
 
 use tas_num::Seq;
@@ -25,60 +25,75 @@ impl Flags {
     /// The congestion window was reduced (RFC 3168, section 6.1).
     pub const CWR: Flags = Flags(128);
 
+    /// These flags and those.
+    pub fn with(self, those: Flags) -> Flags
+        ensures { result.0 ≡ bit_or self.0 those.0 }
+    {
+        Flags(self.0 | those.0)
+    }
+
     /// Whether FIN is set.
     pub fn is_fin(self) -> bool
         ensures { result ≡ has self.0 fin }
     {
-        self.0 % 2 == 1
+        self.has(Flags::FIN)
     }
 
     /// Whether SYN is set.
     pub fn is_syn(self) -> bool
         ensures { result ≡ has self.0 syn }
     {
-        self.0 / 2 % 2 == 1
+        self.has(Flags::SYN)
     }
 
     /// Whether RST is set.
     pub fn is_rst(self) -> bool
         ensures { result ≡ has self.0 rst }
     {
-        self.0 / 4 % 2 == 1
+        self.has(Flags::RST)
     }
 
     /// Whether PSH is set.
     pub fn is_psh(self) -> bool
         ensures { result ≡ has self.0 psh }
     {
-        self.0 / 8 % 2 == 1
+        self.has(Flags::PSH)
     }
 
     /// Whether ACK is set.
     pub fn is_ack(self) -> bool
         ensures { result ≡ has self.0 ack }
     {
-        self.0 / 16 % 2 == 1
+        self.has(Flags::ACK)
     }
 
     /// Whether URG is set.
     pub fn is_urg(self) -> bool
         ensures { result ≡ has self.0 urg }
     {
-        self.0 / 32 % 2 == 1
+        self.has(Flags::URG)
     }
 
     /// Whether ECE is set.
     pub fn is_ece(self) -> bool
         ensures { result ≡ has self.0 ece }
     {
-        self.0 / 64 % 2 == 1
+        self.has(Flags::ECE)
     }
 
     /// Whether CWR is set.
     pub fn is_cwr(self) -> bool
         ensures { result ≡ has self.0 cwr }
     {
-        self.0 / 128 % 2 == 1
+        self.has(Flags::CWR)
+    }
+
+    /// Whether one of the bits above is set.
+    fn has(self, bit: Flags) -> bool
+        requires { 0 < bit.0 }
+        ensures { result ≡ has self.0 bit.0 }
+    {
+        self.0 / bit.0 % 2 == 1
     }
 }
 

@@ -88,7 +88,7 @@ fn a_packet_is_written_as_another_program_does(rt: HostRuntime) {
         dport: 40000,
         seq: Seq(0),
         ack: Seq(101),
-        flags: Flags(18),
+        flags: Flags::SYN.with(Flags::ACK),
         window: 65535,
         mss: Some(1460),
         payload: &[],

@@ -2,11 +2,13 @@
 #![tactic(auto)]
 
 mod openings;
+mod rx;
 mod slow_path;
 mod strays;
 mod syn_sent;
 
 pub use openings::{ListenRefused, Listener, NoPort, PassiveFlow, SynAnswer};
+pub use rx::SlowRx;
 pub use slow_path::SlowPath;
 pub use strays::stray;
 

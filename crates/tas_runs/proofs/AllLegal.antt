@@ -7,69 +7,67 @@ use Rattle.tas_model.specs.declared.entry.Caller.{Caller}
 use Rattle.tas_model.specs.declared.entry.Call.{Call}
 use Rattle.tas_model.specs.declared.entry.Call.TheVariants as calls
 use Rattle.tas_model.specs.NextSegment.{Going, going}
-use Rattle.tas_model.specs.LegalHistory.{step, Legal, Offers, shown}
+use Rattle.tas_model.specs.LegalHistory.{step, Offers, shown}
 use Rattle.tas_model.proofs.Grows.{legal_by}
 use Rattle.tas_runs.specs.Records.{Content, Damaged, Remote, Local, Item}
 use Rattle.tas_runs.specs.Hosts.{Live, Host, endpoint, is_over, with_call, change_first, change_at, is_known, is_indexed_as, lowest_free}
 use Rattle.tas_runs.specs.Upkeep.{swept, timed, timed_unless, emits_where, emits}
 use Rattle.tas_runs.specs.Deliveries.{received, opened_by_syn, met_listener, arrived, delivered_content, opens, record_frame}
 use Rattle.tas_runs.specs.LocalScript.{Stage, Beginning, Accepting, Sending, Shutting, Aborting, Receiving, Leaving, sees, pending, connects, opened_by_connect, connected_where, began, is_wanted, is_running, asked, asked_where, given_up, at_stage, served_content, the_app}
+use Rattle.tas_runs.specs.Histories.{HasHistory}
 use Rattle.tas_runs.specs.Rounds.{Each, Action, Timer, Frame, Ask, Emission, Deed, done_by, does, all_swept, Round, Rounds}
 use Rattle.tas_runs.proofs.Steps.{tick_steps, rx_steps, accept_steps, send_steps, shut_steps, abort_steps, recv_steps, emit_steps}
 
 -- ----- lists
-abbrev pub IsLegal : Live → Type 0
-IsLegal l = Legal l.flow.params l.flow.entries
-
 abbrev pub AreLegal : Host → Type 0
-AreLegal host = Each IsLegal host.flows
+AreLegal host = Each HasHistory host.flows
 
 Kept : (Live → Live) → Type 0
-Kept f = (l : Live) → IsLegal l → IsLegal (f l)
+Kept f = (l : Live) → HasHistory l → HasHistory (f l)
 
-pub each_map : (f : Live → Live) → ((l : Live) → IsLegal l → IsLegal (f l)) → (ls : List Live) → Each IsLegal ls → Each IsLegal (map f ls)
+pub each_map : (f : Live → Live) → ((l : Live) → HasHistory l → HasHistory (f l)) → (ls : List Live) → Each HasHistory ls → Each HasHistory (map f ls)
 each_map f kept [] each = tt
 each_map f kept (l ∷ ls) each = (kept l each.0, each_map f kept ls each.1)
 
-each_first : (test : Live → Bool) (f : Live → Live) → ((l : Live) → IsLegal l → IsLegal (f l)) → (ls : List Live) → Each IsLegal ls → Each IsLegal (change_first test f ls)
+each_first : (test : Live → Bool) (f : Live → Live) → ((l : Live) → HasHistory l → HasHistory (f l)) → (ls : List Live) → Each HasHistory ls → Each HasHistory (change_first test f ls)
 each_first test f kept [] each = tt
 each_first test f kept (l ∷ ls) each = by_test (test l) (each_first test f kept ls each.1) where
-  by_test : (b : Bool) → Each IsLegal (change_first test f ls) → Each IsLegal (elim b [ true ↦ f l ∷ ls | false ↦ l ∷ change_first test f ls ])
+  by_test : (b : Bool) → Each HasHistory (change_first test f ls) → Each HasHistory (elim b [ true ↦ f l ∷ ls | false ↦ l ∷ change_first test f ls ])
   by_test true rest = (kept l each.0, each.1)
   by_test false rest = (each.0, rest)
 
-each_at : (n : ℕ) (f : Live → Live) → ((l : Live) → IsLegal l → IsLegal (f l)) → (ls : List Live) → Each IsLegal ls → Each IsLegal (change_at n f ls)
+each_at : (n : ℕ) (f : Live → Live) → ((l : Live) → HasHistory l → HasHistory (f l)) → (ls : List Live) → Each HasHistory ls → Each HasHistory (change_at n f ls)
 each_at n f kept [] each = tt
 each_at zero f kept (l ∷ ls) each = (kept l each.0, each.1)
 each_at (suc n) f kept (l ∷ ls) each = (each.0, each_at n f kept ls each.1)
 
-each_push : (ls : List Live) (l : Live) → Each IsLegal ls → IsLegal l → Each IsLegal (ls ++ l ∷ [])
+each_push : (ls : List Live) (l : Live) → Each HasHistory ls → HasHistory l → Each HasHistory (ls ++ l ∷ [])
 each_push [] l each legal = (legal, tt)
 each_push (m ∷ ls) l each legal = (each.0, each_push ls l each.1 legal)
 
 -- ----- a call
-call_kept : (l : Live) (by : Caller) (t : ℕ) (call : Call) (offer : List ℕ) → IsLegal l → Offers call offer → ((u : ℕ) → IsSome (step (endpoint l) u call (shown (endpoint l) offer)))
-    → IsLegal (with_call l by t call offer)
+call_kept : (l : Live) (by : Caller) (t : ℕ) (call : Call) (offer : List ℕ) → HasHistory l → Offers call offer → ((u : ℕ) → IsSome (step (endpoint l) u call (shown (endpoint l) offer)))
+    → HasHistory (with_call l by t call offer)
 call_kept l by t call offer legal offers steps = legal_by l.flow.params l.flow.entries by t call offer legal offers (steps _)
 
-pub swept_kept : (l : Live) → IsLegal l → IsLegal (swept l)
+pub swept_kept : (l : Live) → HasHistory l → HasHistory (swept l)
 swept_kept l legal = by_over (is_over l) where
-  by_over : (b : Bool) → IsLegal (if b then record l { indexed = false; filed = l.filed || not l.held } else l)
+  by_over : (b : Bool) → HasHistory (if b then record l { indexed = false; filed = l.filed || not l.held } else l)
   by_over true = legal
   by_over false = legal
 
-timed_kept : (by : Caller) (t : ℕ) (l : Live) → IsLegal l → IsLegal (timed by t l)
+timed_kept : (by : Caller) (t : ℕ) (l : Live) → HasHistory l → HasHistory (timed by t l)
 timed_kept by t l legal = by_over (is_over l) refl where
-  by_over : (b : Bool) → is_over l ≡ b → IsLegal (timed_unless b by t l)
+  by_over : (b : Bool) → is_over l ≡ b → HasHistory (timed_unless b by t l)
   by_over true h = legal
   by_over false h = call_kept l by t calls.Tick [] legal tt (λ u. tick_steps (endpoint l) u (shown (endpoint l) []) h)
 
-received_kept : (by : Caller) (t : ℕ) (frame : FrameId) (seg : Seg) (l : Live) → IsLegal l → IsLegal (received by t frame seg l)
+received_kept : (by : Caller) (t : ℕ) (frame : FrameId) (seg : Seg) (l : Live) → HasHistory l → HasHistory (received by t frame seg l)
 received_kept by t frame seg l legal = call_kept l by t (calls.Rx frame seg) [] legal tt (λ u. rx_steps (endpoint l) u frame seg (shown (endpoint l) []))
 
-emits_kept : (by : Caller) (t : ℕ) (l : Live) → IsLegal l → IsLegal (emits by t l)
+emits_kept : (by : Caller) (t : ℕ) (l : Live) → HasHistory l → HasHistory (emits by t l)
 emits_kept by t l legal = by_going (going (endpoint l)) refl where
-  by_going : (o : Option Going) → going (endpoint l) ≡ o → IsLegal (emits_where o by t l)
+  by_going : (o : Option Going) → going (endpoint l) ≡ o → HasHistory (emits_where o by t l)
   by_going None h = legal
   by_going (Some g) h = call_kept l by t calls.Emit [] legal tt (λ u. emit_steps (endpoint l) u (shown (endpoint l) []) g h)
 
@@ -78,7 +76,7 @@ and_right : (a b : Bool) → (a && b) ≡ true → b ≡ true
 and_right true b h = h
 and_right false b h = absurd (true≢false (sym h))
 
-asked_kept : (stage : Stage) (content : Content) (t : ℕ) (l : Live) → is_wanted stage content l ≡ true → IsLegal l → IsLegal (asked stage t l)
+asked_kept : (stage : Stage) (content : Content) (t : ℕ) (l : Live) → is_wanted stage content l ≡ true → HasHistory l → HasHistory (asked stage t l)
 asked_kept Beginning content t l h legal = legal
 asked_kept Accepting content t l h legal = call_kept l the_app t calls.Accept [] legal tt (λ u. accept_steps (endpoint l) u (shown (endpoint l) []) (and_right (not l.held) (is_running l) h))
 asked_kept Sending content t l h legal = call_kept l the_app t (calls.Send (length (pending l))) (pending l) legal refl (λ u. send_steps (endpoint l) u (pending l))
@@ -87,17 +85,17 @@ asked_kept Aborting content t l h legal = call_kept l the_app t calls.Abort [] l
 asked_kept Receiving content t l h legal = call_kept l the_app t (calls.Recv 65535) [] legal tt (λ u. recv_steps (endpoint l) u 65535 (shown (endpoint l) []))
 asked_kept Leaving content t l h legal = legal
 
-asked_where_kept : (stage : Stage) (content : Content) (t : ℕ) (l : Live) (b : Bool) → is_wanted stage content l ≡ b → IsLegal l → IsLegal (asked_where b stage t l)
+asked_where_kept : (stage : Stage) (content : Content) (t : ℕ) (l : Live) (b : Bool) → is_wanted stage content l ≡ b → HasHistory l → HasHistory (asked_where b stage t l)
 asked_where_kept stage content t l true h legal = asked_kept stage content t l h legal
 asked_where_kept stage content t l false h legal = legal
 
-given_up_kept : (l : Live) → IsLegal l → IsLegal (given_up l)
+given_up_kept : (l : Live) → HasHistory l → HasHistory (given_up l)
 given_up_kept l legal = by_over (is_over l) where
-  by_over : (b : Bool) → IsLegal (if b then record l { held = false } else l)
+  by_over : (b : Bool) → HasHistory (if b then record l { held = false } else l)
   by_over true = legal
   by_over false = legal
 
-stage_kept : (stage : Stage) (t : ℕ) (content : Content) (l : Live) → IsLegal l → IsLegal (at_stage stage t content l)
+stage_kept : (stage : Stage) (t : ℕ) (content : Content) (l : Live) → HasHistory l → HasHistory (at_stage stage t content l)
 stage_kept Leaving t content l legal = given_up_kept l legal
 stage_kept stage t content l legal = asked_where_kept stage content t l (is_wanted stage content l) refl legal
 
@@ -110,7 +108,7 @@ listener_kept : (b : Bool) (items : List Item) (t : ℕ) (host : Host) (frame : 
 listener_kept true items t host frame tuple seg each = syn_kept (lowest_free host) items t host frame tuple seg each
 listener_kept false items t host frame tuple seg each = each
 
-arrived_kept : (b : Bool) (take_in : Live → Live) → ((l : Live) → IsLegal l → IsLegal (take_in l)) → (items : List Item) (t : ℕ) (host : Host) (frame : FrameId) (tuple : FourTuple) (seg : Seg) → AreLegal host → AreLegal (arrived b take_in items t host frame tuple seg)
+arrived_kept : (b : Bool) (take_in : Live → Live) → ((l : Live) → HasHistory l → HasHistory (take_in l)) → (items : List Item) (t : ℕ) (host : Host) (frame : FrameId) (tuple : FourTuple) (seg : Seg) → AreLegal host → AreLegal (arrived b take_in items t host frame tuple seg)
 arrived_kept true take_in kept items t host frame tuple seg each = each_first (is_indexed_as tuple) take_in kept host.flows each
 arrived_kept false take_in kept items t host frame tuple seg each = listener_kept (opens seg) items t host frame tuple seg each
 

@@ -20,7 +20,8 @@ use Rattle.tas_runs.specs.Deliveries.{received, opened_by_syn, met_listener, arr
 use Rattle.tas_runs.specs.LocalScript.{Stage, Beginning, Accepting, Sending, Shutting, Aborting, Receiving, Leaving, sees, pending, connects, opened_by_connect, connected_where, began, is_wanted, asked, asked_where, given_up, at_stage, served_content, the_app}
 use Rattle.tas_runs.specs.Rounds.{Each, Action, Timer, Frame, Ask, Emission, Deed, done_by, does, all_swept, Round, Rounds}
 use Rattle.tas_runs.specs.Openings.{Opening, number_shown, number_in, opening_of, openings_of, IsOpened, AreOpened}
-use Rattle.tas_runs.proofs.AllLegal.{IsLegal, AreLegal, done_kept, connected_kept, each_map, swept_kept}
+use Rattle.tas_runs.specs.Histories.{HasHistory}
+use Rattle.tas_runs.proofs.AllLegal.{AreLegal, done_kept, connected_kept, each_map, swept_kept}
 
 -- ----- openings of a list
 abbrev pub openings : List Live → List Opening
@@ -49,14 +50,14 @@ length_is (l ∷ ls) = ap suc (length_is ls)
 
 -- ----- what keeps an opening
 abbrev Keeps : (Live → Live) → Type 0
-Keeps f = (l : Live) → IsLegal l → opening_of (f l).flow ≡ opening_of l.flow
+Keeps f = (l : Live) → HasHistory l → opening_of (f l).flow ≡ opening_of l.flow
 
-map_keeps : (f : Live → Live) → Keeps f → (ls : List Live) → Each IsLegal ls → openings (map f ls) ≡ openings ls
+map_keeps : (f : Live → Live) → Keeps f → (ls : List Live) → Each HasHistory ls → openings (map f ls) ≡ openings ls
 map_keeps f keeps [] each = refl
 map_keeps f keeps (l ∷ ls) each =
     ap (λ (o : Opening). o ∷ openings (map f ls)) (keeps l each.0) ∙ ap (λ (os : List Opening). opening_of l.flow ∷ os) (map_keeps f keeps ls each.1)
 
-first_keeps : (test : Live → Bool) (f : Live → Live) → Keeps f → (ls : List Live) → Each IsLegal ls → openings (change_first test f ls) ≡ openings ls
+first_keeps : (test : Live → Bool) (f : Live → Live) → Keeps f → (ls : List Live) → Each HasHistory ls → openings (change_first test f ls) ≡ openings ls
 first_keeps test f keeps [] each = refl
 first_keeps test f keeps (l ∷ ls) each = by_test (test l) (first_keeps test f keeps ls each.1) where
   by_test : (b : Bool) → openings (change_first test f ls) ≡ openings ls
@@ -64,7 +65,7 @@ first_keeps test f keeps (l ∷ ls) each = by_test (test l) (first_keeps test f 
   by_test true rest = ap (λ (o : Opening). o ∷ openings ls) (keeps l each.0)
   by_test false rest = ap (λ (os : List Opening). opening_of l.flow ∷ os) rest
 
-at_keeps : (n : ℕ) (f : Live → Live) → Keeps f → (ls : List Live) → Each IsLegal ls → openings (change_at n f ls) ≡ openings ls
+at_keeps : (n : ℕ) (f : Live → Live) → Keeps f → (ls : List Live) → Each HasHistory ls → openings (change_at n f ls) ≡ openings ls
 at_keeps n f keeps [] each = refl
 at_keeps zero f keeps (l ∷ ls) each = ap (λ (o : Opening). o ∷ openings ls) (keeps l each.0)
 at_keeps (suc n) f keeps (l ∷ ls) each = ap (λ (os : List Opening). opening_of l.flow ∷ os) (at_keeps n f keeps ls each.1)
@@ -73,32 +74,32 @@ shown_push : (params : HostParams) (h : List Entry) (x : Entry) → Legal params
 shown_push params [] x legal = absurd legal
 shown_push params (y ∷ h) x legal = refl
 
-call_keeps : (by : Caller) (t : ℕ) (call : Call) (offer : List ℕ) (l : Live) → IsLegal l → opening_of (with_call l by t call offer).flow ≡ opening_of l.flow
+call_keeps : (by : Caller) (t : ℕ) (call : Call) (offer : List ℕ) (l : Live) → HasHistory l → opening_of (with_call l by t call offer).flow ≡ opening_of l.flow
 call_keeps by t call offer l legal =
     ap (λ (n : Option ℕ). ofnumber l n) (shown_push l.flow.params l.flow.entries _ legal)
   where
     ofnumber : Live → Option ℕ → Opening
     ofnumber m n = record { id = m.flow.id; tuple = m.flow.tuple; params = m.flow.params; number = n }
 
-swept_keeps : (l : Live) → IsLegal l → opening_of (swept l).flow ≡ opening_of l.flow
+swept_keeps : (l : Live) → HasHistory l → opening_of (swept l).flow ≡ opening_of l.flow
 swept_keeps l legal = by_over (is_over l) where
   by_over : (b : Bool) → opening_of (if b then record l { indexed = false; filed = l.filed || not l.held } else l).flow ≡ opening_of l.flow
   by_over true = refl
   by_over false = refl
 
-timed_keeps : (by : Caller) (t : ℕ) (l : Live) → IsLegal l → opening_of (timed by t l).flow ≡ opening_of l.flow
+timed_keeps : (by : Caller) (t : ℕ) (l : Live) → HasHistory l → opening_of (timed by t l).flow ≡ opening_of l.flow
 timed_keeps by t l legal = by_over (is_over l) where
   by_over : (b : Bool) → opening_of (timed_unless b by t l).flow ≡ opening_of l.flow
   by_over true = refl
   by_over false = call_keeps by t calls.Tick [] l legal
 
-emits_keeps : (by : Caller) (t : ℕ) (l : Live) → IsLegal l → opening_of (emits by t l).flow ≡ opening_of l.flow
+emits_keeps : (by : Caller) (t : ℕ) (l : Live) → HasHistory l → opening_of (emits by t l).flow ≡ opening_of l.flow
 emits_keeps by t l legal = by_going (going (endpoint l)) where
   by_going : (o : Option Going) → opening_of (emits_where o by t l).flow ≡ opening_of l.flow
   by_going None = refl
   by_going (Some g) = call_keeps by t calls.Emit [] l legal
 
-asked_keeps : (stage : Stage) (t : ℕ) (l : Live) → IsLegal l → opening_of (asked stage t l).flow ≡ opening_of l.flow
+asked_keeps : (stage : Stage) (t : ℕ) (l : Live) → HasHistory l → opening_of (asked stage t l).flow ≡ opening_of l.flow
 asked_keeps Beginning t l legal = refl
 asked_keeps Accepting t l legal = call_keeps the_app t calls.Accept [] l legal
 asked_keeps Sending t l legal = call_keeps the_app t (calls.Send _) (pending l) l legal
@@ -107,17 +108,17 @@ asked_keeps Aborting t l legal = call_keeps the_app t calls.Abort [] l legal
 asked_keeps Receiving t l legal = call_keeps the_app t (calls.Recv 65535) [] l legal
 asked_keeps Leaving t l legal = refl
 
-asked_where_keeps : (b : Bool) (stage : Stage) (t : ℕ) (l : Live) → IsLegal l → opening_of (asked_where b stage t l).flow ≡ opening_of l.flow
+asked_where_keeps : (b : Bool) (stage : Stage) (t : ℕ) (l : Live) → HasHistory l → opening_of (asked_where b stage t l).flow ≡ opening_of l.flow
 asked_where_keeps true stage t l legal = asked_keeps stage t l legal
 asked_where_keeps false stage t l legal = refl
 
-given_up_keeps : (l : Live) → IsLegal l → opening_of (given_up l).flow ≡ opening_of l.flow
+given_up_keeps : (l : Live) → HasHistory l → opening_of (given_up l).flow ≡ opening_of l.flow
 given_up_keeps l legal = by_over (is_over l) where
   by_over : (b : Bool) → opening_of (if b then record l { held = false } else l).flow ≡ opening_of l.flow
   by_over true = refl
   by_over false = refl
 
-stage_keeps : (stage : Stage) (t : ℕ) (content : Content) (l : Live) → IsLegal l → opening_of (at_stage stage t content l).flow ≡ opening_of l.flow
+stage_keeps : (stage : Stage) (t : ℕ) (content : Content) (l : Live) → HasHistory l → opening_of (at_stage stage t content l).flow ≡ opening_of l.flow
 stage_keeps Leaving t content l legal = given_up_keeps l legal
 stage_keeps stage t content l legal = asked_where_keeps (is_wanted stage content l) stage t l legal
 
@@ -214,7 +215,7 @@ served_right stage items p t host (Remote tuple seg) right legal = changed_right
 served_right stage items p t host (Local tuple seg) right legal = changed_right items p host tuple (at_stage stage t (Local tuple seg)) (stage_keeps stage t (Local tuple seg)) right legal
 
 flow_right : (n : ℕ) (f : Live → Live) (items : List Item) (p : HostParams) (host : Host) → Keeps f → IsRight items p host
-    → Each IsLegal (change_at n f host.flows) → IsRight items p (record host { flows = change_at n f host.flows })
+    → Each HasHistory (change_at n f host.flows) → IsRight items p (record host { flows = change_at n f host.flows })
 flow_right n f items p host keeps right legal = same_openings items p host (record host { flows = change_at n f host.flows }) right refl legal (at_keeps n f keeps host.flows right.legal)
 
 done_right : (items : List Item) (p : HostParams) (t : ℕ) (host : Host) (by : Caller) (action : Action) → IsRight items p host → AreLegal (done_by items t host by action) → IsRight items p (done_by items t host by action)

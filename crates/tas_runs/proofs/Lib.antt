@@ -10,3 +10,15 @@ pub mod OneRun
 pub mod Sound
 pub mod Runs
 pub mod Loops
+pub mod ClosedStays
+pub mod AllTimed
+pub mod Counts
+pub mod AllBatches
+pub mod Slots
+pub mod Texts
+pub mod Pushes
+pub mod Filed
+pub mod AllGrown
+pub mod AllShown
+pub mod AllAsked
+pub mod CaptureBatches

@@ -1,5 +1,5 @@
 -- Lemmas for programs that meet these definitions by loops over vectors: a search and a write, a write to each, a fold, and the emission of all that may go.
-use Rattle.std.proofs.Common.{map, take, drop, ◌++◌, ◌+◌, ◌||◌, ◌≡◌, ◌∙◌, ℕ, zero, suc, ◌<◌, Bool, true, false, cond, List, [], ◌∷◌, length, set, get_or, nat_lt, position, fold, Option, Some, None, refl, sym, ap, true≢false, arith, tests}
+use Rattle.std.proofs.Common.{map, take, drop, ◌++◌, ◌+◌, ◌||◌, ◌≡◌, ◌∙◌, ℕ, zero, suc, ◌<◌, Bool, true, false, cond, List, [], ◌∷◌, length, set, get_or, nat_lt, position, fold, Some, None, refl, sym, ap, true≢false, arith, tests}
 use Rattle.std.specs.List.{position_or_len, list_any}
 use Rattle.std.proofs.lemmas.List.Sums.{fails_before_first}
 use Rattle.std.proofs.lemmas.List.Quantifiers.{position-Some}

@@ -15,7 +15,7 @@ use Rattle.tas_runs.specs.Hosts.{Live, endpoint, with_call}
 use Rattle.tas_runs.specs.Upkeep.{quieted_within, quieted}
 use Rattle.tas_runs.specs.Rounds.{Each, IsQuiet}
 use Rattle.tas_runs.proofs.Steps.{emit_steps}
-use Rattle.tas_runs.proofs.AllLegal.{IsLegal}
+use Rattle.tas_runs.specs.Histories.{HasHistory}
 
 -- what may still go, at most
 abbrev left_by : (out nxt : ℕ) → Bool → ℕ
@@ -67,14 +67,14 @@ emitted_state : (e : Endpoint) (t : ℕ) (reply : Reply) (g : Going) → going e
 unfolding step
 emitted_state e t reply g h = rw h refl
 
-pub emit_endpoint : (l : Live) (by : Caller) (t : ℕ) (g : Going) → IsLegal l → going (endpoint l) ≡ Some g → endpoint (with_call l by t calls.Emit []) ≡ g.after
+pub emit_endpoint : (l : Live) (by : Caller) (t : ℕ) (g : Going) → HasHistory l → going (endpoint l) ≡ Some g → endpoint (with_call l by t calls.Emit []) ≡ g.after
 emit_endpoint l by t g legal h = replay_push l.flow.params l.flow.entries _ legal ∙ emitted_state (endpoint l) _ _ g h
 
-pub emit_legal : (l : Live) (by : Caller) (t : ℕ) (g : Going) → IsLegal l → going (endpoint l) ≡ Some g → IsLegal (with_call l by t calls.Emit [])
+pub emit_legal : (l : Live) (by : Caller) (t : ℕ) (g : Going) → HasHistory l → going (endpoint l) ≡ Some g → HasHistory (with_call l by t calls.Emit [])
 emit_legal l by t g legal h = legal_by l.flow.params l.flow.entries by t calls.Emit [] legal tt (emit_steps (endpoint l) _ (shown (endpoint l) []) g h)
 
 -- what is left falls at each segment
-pub sent_falls : (t : ℕ) (l : Live) (g : Going) → IsLegal l → going (endpoint l) ≡ Some g → left (endpoint (with_call l (Core 0) t calls.Emit [])) < left (endpoint l)
+pub sent_falls : (t : ℕ) (l : Live) (g : Going) → HasHistory l → going (endpoint l) ≡ Some g → left (endpoint (with_call l (Core 0) t calls.Emit [])) < left (endpoint l)
 sent_falls t l g legal h =
     let lower : left g.after < left (endpoint l) = falls (endpoint l) g h in
     rw (emit_endpoint l (Core 0) t g legal h) lower
@@ -85,31 +85,31 @@ left_small e = by_probe e.tx.probe where
   by_probe true = omega arith
   by_probe false = omega arith
 
-within_quiet : (most t : ℕ) (l : Live) → IsLegal l → left (endpoint l) < most → IsQuiet (quieted_within most t l)
+within_quiet : (most t : ℕ) (l : Live) → HasHistory l → left (endpoint l) < most → IsQuiet (quieted_within most t l)
 within_quiet zero t l legal small = absurd (omega arith)
 within_quiet (suc most) t l legal small = by_going (going (endpoint l)) refl (λ next. within_quiet most t next) where
-  by_going : (o : Option Going) → going (endpoint l) ≡ o → ((next : Live) → IsLegal next → left (endpoint next) < most → IsQuiet (quieted_within most t next))
+  by_going : (o : Option Going) → going (endpoint l) ≡ o → ((next : Live) → HasHistory next → left (endpoint next) < most → IsQuiet (quieted_within most t next))
       → IsQuiet (elim o [ None ↦ l | Some g ↦ quieted_within most t (with_call l (Core 0) t calls.Emit []) ])
   by_going None h rest = h
   by_going (Some g) h rest =
       let lower : left g.after < left (endpoint l) = falls (endpoint l) g h in
       rest (with_call l (Core 0) t calls.Emit []) (emit_legal l (Core 0) t g legal h) (rw (emit_endpoint l (Core 0) t g legal h) (omega arith))
 
-pub quieted_quiet : (t : ℕ) (l : Live) → IsLegal l → IsQuiet (quieted t l)
+pub quieted_quiet : (t : ℕ) (l : Live) → HasHistory l → IsQuiet (quieted t l)
 quieted_quiet t l legal = within_quiet (length (endpoint l).tx.out + 4) t l legal (left_small (endpoint l))
 
-pub all_quiet : (t : ℕ) (ls : List Live) → Each IsLegal ls → Each IsQuiet (map (quieted t) ls)
+pub all_quiet : (t : ℕ) (ls : List Live) → Each HasHistory ls → Each IsQuiet (map (quieted t) ls)
 all_quiet t [] each = tt
 all_quiet t (l ∷ ls) each = (quieted_quiet t l each.0, all_quiet t ls each.1)
 
 -- ----- a loop that sends all that may go
 -- more than enough is enough
-within_same : (most more t : ℕ) (l : Live) → IsLegal l → left (endpoint l) < most → left (endpoint l) < more → quieted_within most t l ≡ quieted_within more t l
+within_same : (most more t : ℕ) (l : Live) → HasHistory l → left (endpoint l) < most → left (endpoint l) < more → quieted_within most t l ≡ quieted_within more t l
 within_same zero more t l legal small large = absurd (omega arith)
 within_same (suc most) zero t l legal small large = absurd (omega arith)
 within_same (suc most) (suc more) t l legal small large = by_going (going (endpoint l)) refl (λ next. within_same most more t next) where
   by_going : (o : Option Going) → going (endpoint l) ≡ o
-      → ((next : Live) → IsLegal next → left (endpoint next) < most → left (endpoint next) < more → quieted_within most t next ≡ quieted_within more t next)
+      → ((next : Live) → HasHistory next → left (endpoint next) < most → left (endpoint next) < more → quieted_within most t next ≡ quieted_within more t next)
       → ◌≡◌ {A = Live} (elim o [ None ↦ l | Some g ↦ quieted_within most t (with_call l (Core 0) t calls.Emit []) ])
       (elim o [ None ↦ l | Some g ↦ quieted_within more t (with_call l (Core 0) t calls.Emit []) ])
   by_going None h rest = refl
@@ -124,7 +124,7 @@ quieted_done t l none =
     ap (λ (n : ℕ). quieted_within n t l) more ∙ rw (none, quieted_within) refl
 
 -- one segment goes, and what is left to send is the same
-pub quieted_next : (t : ℕ) (l : Live) (g : Going) → IsLegal l → going (endpoint l) ≡ Some g → quieted t l ≡ quieted t (with_call l (Core 0) t calls.Emit [])
+pub quieted_next : (t : ℕ) (l : Live) (g : Going) → HasHistory l → going (endpoint l) ≡ Some g → quieted t l ≡ quieted t (with_call l (Core 0) t calls.Emit [])
 quieted_next t l g legal some =
     let next : Live = with_call l (Core 0) t calls.Emit [] in
     let more : length (endpoint l).tx.out + 4 ≡ suc (length (endpoint l).tx.out + 3) = omega arith in

@@ -11,14 +11,13 @@ use Rattle.tas_runs.specs.Rounds.{Each, IsQuiet, Rounds}
 use Rattle.tas_runs.specs.Replays.{replay_params, at_start, IsReplayOf, IsReplayFound, Replay, items_found, items_in}
 use Rattle.tas_runs.specs.Openings.{Opening, opening_of, openings_of, AreOpened}
 use Rattle.tas_runs.specs.Places.{uses, uses_live, uses_flows, uses_hosts, coming, flat}
-use Rattle.tas_runs.specs.Histories.{IsSound, HasSentAll}
-use Rattle.tas_runs.proofs.AllLegal.{IsLegal}
+use Rattle.tas_runs.specs.Histories.{HasHistory, IsSound, HasSentAll}
 use Rattle.tas_runs.proofs.AllOpened.{IsRight, openings, rounds_right}
 use Rattle.tas_runs.proofs.Sound.{sound, params_fit}
 use Rattle.tas_runs.proofs.OneRun.{rounds_add, batches_whole, at_most_once, AreNumbered, AllNumbered, records_numbered}
 
 -- ----- from the host to its log
-flows_sound : (items : List Item) (p : HostParams) (before : List Opening) (ls : List Live) → InRange p → AreOpened items p before (openings ls) → Each IsLegal ls → Each IsSound (flows_of ls)
+flows_sound : (items : List Item) (p : HostParams) (before : List Opening) (ls : List Live) → InRange p → AreOpened items p before (openings ls) → Each HasHistory ls → Each IsSound (flows_of ls)
 flows_sound items p before [] fits opened each = tt
 flows_sound items p before (l ∷ ls) fits opened each =
     (sound l.flow (subst InRange (sym opened.0.params) fits) each.0, flows_sound items p (before ++ opening_of l.flow ∷ []) ls fits opened.1 each.1)

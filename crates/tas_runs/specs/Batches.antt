@@ -1,5 +1,5 @@
 -- The batches that a capture's records come in. A tick of a replay is a batch.
-use Rattle.std.specs.Prelude.{◌==◌, ◌&&◌, not, Bool, false, List, [], ◌∷◌, ◌++◌, length, nat_lt, fold, Option, Some, None, if◌then◌else◌}
+use Rattle.std.specs.Prelude.{◌≡◌, ◌<◌, ◌≤◌, ⊤, ◌==◌, ◌&&◌, not, Bool, false, List, [], ◌∷◌, ◌++◌, length, nat_lt, fold, Option, Some, None, if◌then◌else◌}
 use Rattle.std.specs.List.{list_any}
 use Rattle.tas_model.specs.declared.entry.FourTuple.{FourTuple}
 use Rattle.tas_runs.specs.Records.{Content, Damaged, Remote, Local, Item}
@@ -42,3 +42,25 @@ closed_cut c = elim c.current [ [] ↦ c.done | x ∷ xs ↦ c.done ++ c.current
 -- Each batch is the longest front of the records left.
 unfoldable pub batches_of : List Item → List (List Item)
 batches_of items = closed_cut (fold cut_at (record { done = []; current = [] }) items)
+
+-- ----- what a batch is
+-- no two of these are segments of one flow, nor is one of them of a flow of `earlier`
+abbrev pub NoneClash : (earlier items : List Item) → Type 0
+NoneClash earlier [] = ⊤
+NoneClash earlier (x ∷ xs) = (clashes earlier x ≡ false) × NoneClash (earlier ++ x ∷ []) xs
+
+pub record IsBatch (batch : List Item) : Type 0 where
+  pub some : 0 < length batch
+  pub most : length batch ≤ 64
+  pub flows : NoneClash [] batch
+
+-- the first record of the next batch would not have joined
+abbrev pub EndsBefore : (batch next : List Item) → Type 0
+EndsBefore batch [] = ⊤
+EndsBefore batch (x ∷ xs) = joins batch x ≡ false
+
+-- Each is a batch, and none could have been longer.
+abbrev pub AreBatches : List (List Item) → Type 0
+AreBatches [] = ⊤
+AreBatches (batch ∷ []) = IsBatch batch
+AreBatches (batch ∷ next ∷ batches) = IsBatch batch × EndsBefore batch next × AreBatches (next ∷ batches)

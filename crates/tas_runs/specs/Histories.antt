@@ -5,6 +5,7 @@ use Rattle.tas_model.specs.LegalHistory.{Legal, replay}
 use Rattle.tas_model.specs.Outputs.{AcksInOrder, bytes_read}
 use Rattle.tas_model.specs.OneStream.{OneStream, IsPrefixOf}
 use Rattle.tas_runs.specs.Logs.{Flow}
+use Rattle.tas_runs.specs.Hosts.{Live}
 
 -- The flow has a history of RFC 9293's endpoint. Whatever one stream its peer sends, what was read is a prefix of it; and each segment that acknowledges something acknowledges
 -- the next place that is expected: all bytes that stand in order, and no other.
@@ -12,6 +13,10 @@ pub record IsSound (f : Flow) : Type 0 where
   pub legal : Legal f.params f.entries
   pub reads : (stream : List ℕ) → OneStream f.params stream f.entries → IsPrefixOf (bytes_read f.entries) stream
   pub acknowledges : AcksInOrder f.params f.entries
+
+-- While the run goes on, what a flow has is a history of the endpoint.
+abbrev pub HasHistory : Live → Type 0
+HasHistory l = Legal l.flow.params l.flow.entries
 
 -- its endpoint has nothing that may go
 abbrev pub HasSentAll : Flow → Type 0

@@ -11,6 +11,8 @@ pub mod Replays
 pub mod SerialOrder
 pub mod Places
 pub mod Openings
+pub mod Passing
+pub mod Asking
 pub mod Histories
 pub mod Report
 pub mod SentFrames

@@ -1,5 +1,5 @@
 -- The frames that a run sends, written as a capture.
-use Rattle.std.specs.Prelude.{ℕ, zero, suc, ◌+◌, ◌==◌, List, [], ◌∷◌, ◌++◌, Option, Some, None, if◌then◌else◌}
+use Rattle.std.specs.Prelude.{◌≡◌, ℕ, zero, suc, ◌+◌, ◌==◌, List, [], ◌∷◌, ◌++◌, flat_map, Option, Some, None, if◌then◌else◌}
 use Rattle.tas_num.specs.Captures.{file_header, record_bytes}
 use Rattle.segment_fields.specs.Fields.{Fields}
 use Rattle.segment_fields.specs.Canon.{canon}
@@ -8,7 +8,7 @@ use Rattle.tas_model.specs.declared.entry.Head.{Head}
 use Rattle.tas_model.specs.declared.entry.Seg.{Seg}
 use Rattle.tas_model.specs.declared.entry.Entry.{Entry}
 use Rattle.tas_model.specs.Segments.{bare}
-use Rattle.tas_model.specs.Outputs.{segments_in}
+use Rattle.tas_model.specs.Outputs.{segments_in, sent}
 use Rattle.tas_runs.specs.declared.log.LogLine.{LogLine}
 use Rattle.tas_runs.specs.declared.log.LogEvent.{LogEvent}
 use Rattle.tas_runs.specs.declared.log.LogEvent.TheVariants as events
@@ -37,10 +37,14 @@ segments_bytes t tuple [] = []
 segments_bytes t tuple (seg ∷ segs) = record_bytes t (canon (sent_fields tuple seg)) ++ segments_bytes t tuple segs
 
 -- ----- one tick
+-- what those of a list give that bear this tick, in their order
+abbrev pub given_at : {X Y : Type 0} → (tick_of : X → ℕ) → (gives : X → List Y) → (tick : ℕ) → List X → List Y
+given_at tick_of gives t [] = []
+given_at tick_of gives t (x ∷ xs) = (if tick_of x == t then gives x else []) ++ given_at tick_of gives t xs
+
 -- the segments that a history sent in this tick
 abbrev pub sent_at : (tick : ℕ) → List Entry → List Seg
-sent_at t [] = []
-sent_at t (x ∷ xs) = (if x.tick == t then segments_in x.reply else []) ++ sent_at t xs
+sent_at t h = given_at (λ (x : Entry). x.tick) (λ (x : Entry). segments_in x.reply) t h
 
 -- those of all flows, by their opening
 abbrev pub flows_at : (tick : ℕ) → List Flow → List ℕ
@@ -56,9 +60,11 @@ abbrev pub answer_of : (tick : ℕ) → LogEvent → List ℕ
 answer_of t (events.Stray frame tuple seg answer) = answer_in t tuple answer
 answer_of t _ = []
 
+abbrev pub answer_on : LogLine → List ℕ
+answer_on l = answer_of l.tick l.event
+
 abbrev pub strays_at : (tick : ℕ) → List LogLine → List ℕ
-strays_at t [] = []
-strays_at t (l ∷ ls) = (if l.tick == t then answer_of t l.event else []) ++ strays_at t ls
+strays_at t log = given_at (λ (l : LogLine). l.tick) answer_on t log
 
 -- host by host, those of no flow last
 abbrev pub hosts_at : (tick : ℕ) → List HostRun → List ℕ
@@ -74,3 +80,17 @@ ticks_from (suc count) t hosts = hosts_at t hosts ++ ticks_from count (t + 1) ho
 -- The capture of a run: all that was sent, by tick, host and flow, and in the order of a flow's entries.
 unfoldable pub capture : RunLog → List ℕ
 capture log = file_header ++ ticks_from log.ticks 0 log.hosts
+
+-- ----- nothing is left out
+-- what is given in so many ticks, from this one on
+abbrev pub given_within : {X Y : Type 0} → (tick_of : X → ℕ) → (gives : X → List Y) → (count tick : ℕ) → List X → List Y
+given_within tick_of gives zero t xs = []
+given_within tick_of gives (suc count) t xs = given_at tick_of gives t xs ++ given_within tick_of gives count (t + 1) xs
+
+-- In the ticks of the run the flow sends all its segments, in their order.
+abbrev pub IsShown : (ticks : ℕ) → Flow → Type 0
+IsShown ticks f = given_within (λ (x : Entry). x.tick) (λ (x : Entry). segments_in x.reply) ticks 0 f.entries ≡ sent f.entries
+
+-- And the host gives all its answers to segments of no flow.
+abbrev pub AreAnswersShown : (ticks : ℕ) → List LogLine → Type 0
+AreAnswersShown ticks log = given_within (λ (l : LogLine). l.tick) answer_on ticks 0 log ≡ flat_map answer_on log
