@@ -144,13 +144,13 @@ more_by s r tuple t number list more are = by_same (equal_tuple t tuple) refl wh
       let fresh : list_any (λ m. m == number.0) list ≡ false = sym (are.known number.0) ∙ (ap (λ (q : FourTuple). contains same_known s.known (record { tuple = q; number = number.0 })) exact ∙ more.fresh) in
       let counted : count_in r t ≡ count_in s tuple + 1 = ap (λ (o : Option ℕ). unwrap_or o 0) (more.counts t ∙ ap (λ (b : Bool). cond b (Some (count_in s tuple + 1)) (get equal_tuple s.counts t)) here) in
       let longer : AreOf r t (list ++ number.0 ∷ []) =
-          record {
-            counted = omega (arith, counted, count, length-append list (number.0 ∷ []));
-            known = λ m. more.known (record { tuple = t; number = m }) ∙ (ap (λ (b : Bool). cond (b && number.0 == m) true (contains same_known s.known (record { tuple = t; number = m }))) here ∙ (ap (cond (number.0 == m) true) (are.known m) ∙ sym (list_any-push list number.0 m)));
-            numbers = λ k. ap (option_map (λ (s : Seq). s.0)) (more.numbers (record { tuple = t; place = k }) ∙ ap (λ (b : Bool). cond (b && count_in s tuple == k) (Some number) (get same_turn s.numbers (record { tuple = t; place = k }))) here)
-                ∙ (mapped_cond (count_in s tuple == k) number (get same_turn s.numbers (record { tuple = t; place = k }))
-                ∙ (ap (λ (n : ℕ). cond (n == k) (Some number.0) (number_at s.numbers.entries t k)) count ∙ (ap (cond (length list == k) (Some number.0)) (are.numbers k) ∙ sym (slice_get-push list number.0 k))));
-          }
+      record {
+        counted = omega (arith, counted, count, length-append list (number.0 ∷ []));
+        known = λ m. more.known (record { tuple = t; number = m }) ∙ (ap (λ (b : Bool). cond (b && number.0 == m) true (contains same_known s.known (record { tuple = t; number = m }))) here ∙ (ap (cond (number.0 == m) true) (are.known m) ∙ sym (list_any-push list number.0 m)));
+        numbers = λ k. ap (option_map (λ (s : Seq). s.0)) (more.numbers (record { tuple = t; place = k }) ∙ ap (λ (b : Bool). cond (b && count_in s tuple == k) (Some number) (get same_turn s.numbers (record { tuple = t; place = k }))) here)
+            ∙ (mapped_cond (count_in s tuple == k) number (get same_turn s.numbers (record { tuple = t; place = k }))
+            ∙ (ap (λ (n : ℕ). cond (n == k) (Some number.0) (number_at s.numbers.entries t k)) count ∙ (ap (cond (length list == k) (Some number.0)) (are.numbers k) ∙ sym (slice_get-push list number.0 k))));
+      }
       in
       rw fresh longer
 

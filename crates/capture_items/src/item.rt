@@ -91,7 +91,10 @@ fn read_content(packet: &[u8], local: u32, loose: bool) -> Option<Content<'_>>
     match read(packet, false) {
         Err(rule) if is_other_traffic(rule) => None,
         Err(_) => Some(due(packet, loose)),
-        Ok(segment) if segment.src == local => Some(Content::Local(sender_tuple(&segment), segment)),
+        Ok(segment) if segment.src == local => Some(Content::Local(
+            sender_tuple(&segment),
+            segment,
+        )),
         Ok(segment) if segment.dst == local => Some(due(packet, loose)),
         Ok(_) => None,
     }

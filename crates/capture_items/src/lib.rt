@@ -14,3 +14,6 @@ pub use found::{Found, InputFault, find_items};
 pub use item::{Content, Item, read_item};
 pub use laws::{no_items_have_no_batch, what_is_found_is_replayed};
 pub use numbers::FirstNumbers;
+
+#[cfg(test)]
+mod tests;

@@ -22,7 +22,7 @@ loop-item-preserved c =
           let tuple = w.in-Some.tuple in
           let n = w.in-Some.number.0 in
           let more : (t : FourTuple) → after t ≡ (if same_tuple t tuple then with_new (before t) n else before t) = λ t.
-              numbers_more item_in xs i _ t (number_for t (Some (tuple, w.in-Some.number))) below (w.in-Some.ensures t) ∙ with_one_if (same_tuple t tuple) (before t) n in
+          numbers_more item_in xs i _ t (number_for t (Some (tuple, w.in-Some.number))) below (w.in-Some.ensures t) ∙ with_one_if (same_tuple t tuple) (before t) n in
           record {
             listed = λ t. subst (λ (s : Numbering). AreOf s t (after t)) (sym w.numbering-is) (subst (AreOf w.note.new.self t) (sym (more t)) (w.in_ok-note.ensures.ok t (before t) (c.loop-item.invariant.listed t)));
             few = few;
