@@ -5,7 +5,7 @@ use Rattle.tas_model.specs.declared.entry.Call.TheVariants as calls
 use Rattle.tas_model.specs.NextSegment.{Going, going}
 use Rattle.tas_runs.specs.Hosts.{Live, endpoint, with_call}
 use Rattle.tas_runs.specs.Upkeep.{quieted}
-use Rattle.tas_runs.proofs.AllLegal.{IsLegal}
+use Rattle.tas_model.specs.LegalHistory.{Legal}
 use Rattle.tas_runs.proofs.Quiet.{quieted_next, quieted_done, sent_falls}
 use Rattle.fast_tx.specs.Going.{next_out_of, left_in}
 
@@ -21,7 +21,7 @@ all_is_sent t l none = by_going (going (endpoint l)) refl none where
   by_going (Some g) is h = absurd (true≢false h)
 
 -- Once the next segment went, what is left to send leads to the same end, and is less.
-pub one_is_sent : (t : ℕ) (l : Live) → IsLegal l → is_some (going (endpoint l)) ≡ true
+pub one_is_sent : (t : ℕ) (l : Live) → Legal l.flow.params l.flow.entries → is_some (going (endpoint l)) ≡ true
     → (quieted t (with_call l (Core 0) t calls.Emit []) ≡ quieted t l) × (left_in (endpoint (with_call l (Core 0) t calls.Emit [])) < left_in (endpoint l))
 one_is_sent t l legal some = by_going (going (endpoint l)) refl some where
   by_going : (g : Option Going) → going (endpoint l) ≡ g → is_some g ≡ true

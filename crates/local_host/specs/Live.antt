@@ -19,6 +19,8 @@ use Rattle.tas_model.specs.declared.entry.Entry.{Entry}
 use Rattle.tas_runs.specs.Logs.{Flow}
 use Rattle.tas_runs.specs.Hosts.{Live, endpoint}
 use Rattle.tas_runs.specs.Upkeep.{quieted}
+use Rattle.tas_runs.specs.Records.{Content}
+use Rattle.tas_runs.specs.LocalScript.{Accepting, Sending, Shutting, Aborting, Receiving, Leaving, at_stage}
 use Rattle.fast_tx.specs.Going.{left_in}
 
 -- what a run leaves of the flow that is recorded
@@ -63,12 +65,13 @@ pub record IsNext (tick : ℕ) (before after : Live) : Type 0 where
   pub same : quieted tick after ≡ quieted tick before
   pub less : left_in (endpoint after) < left_in (endpoint before)
 
--- ----- engines
--- the engine answers every received segment
-abbrev pub IsReceiver : (Parts → CallIn → Type 0) → Type 0
-IsReceiver serves = (p : Parts) (frame : FrameId) (seg : Segment) → serves p (ins.Rx frame seg)
-
 -- ----- a flow that has just been opened
 abbrev pub opened_live : FlowId → FourTuple → HostParams → (held : Bool) → Entry → Live
 opened_live id tuple params held x =
     record { flow = record { id = id; tuple = tuple; params = params; entries = x ∷ [] }; indexed = true; held = held; filed = false; seen = []; fin_seen = false }
+
+-- ----- the local application
+-- all that it does for a segment of the flow, in the order of the stages
+abbrev pub asked_all : (tick : ℕ) → Content → Live → Live
+asked_all t content l =
+    at_stage Leaving t content (at_stage Receiving t content (at_stage Aborting t content (at_stage Shutting t content (at_stage Sending t content (at_stage Accepting t content l)))))

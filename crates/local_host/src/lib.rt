@@ -2,6 +2,7 @@
 #![tactic(auto)]
 
 mod calls;
+mod flows;
 mod live;
 mod pending;
 mod reading;

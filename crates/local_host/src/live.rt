@@ -9,19 +9,22 @@ ghost use Rattle.flow_state.specs.App.{column_of};
 ghost use Rattle.flow_state.specs.declared.stage.Stage.TheVariants as stages;
 ghost use Rattle.tas_model.specs.ApplicationCalls.{column};
 ghost use Rattle.tas_model.specs.LegalHistory.{replay};
+ghost use Rattle.tas_runs.specs.Batches.{same_tuple};
 ghost use Rattle.tas_runs.specs.Records.{Content, is_remote};
-ghost use Rattle.tas_runs.specs.Hosts.{is_indexed_as, endpoint, with_call, is_over, first_entry};
+ghost use Rattle.tas_runs.specs.Hosts.{is_indexed_as, is_in_slot, endpoint, with_call, is_over, first_entry};
 ghost use Rattle.tas_runs.specs.Upkeep.{swept, timed, quieted};
 ghost use Rattle.tas_runs.specs.Deliveries.{received_serially, is_fast};
 ghost use Rattle.tas_runs.specs.LocalScript.{Accepting, Sending, Shutting, Aborting, Receiving, Leaving, is_served, resets_here, sees, fresh_bytes as model_fresh, at_stage, the_app};
-ghost use Rattle.local_host.specs.Live.{flow_in, out_in, is_ended, opened_live, IsNext, IsReceiver};
+ghost use Rattle.local_host.specs.Live.{flow_in, out_in, is_ended, opened_live, asked_all, IsNext};
 
 use crate::calls::{end, make, offer};
 use crate::pending::Pending;
 use crate::reading::{first_number, is_closed, is_fast, may_send, raised, sent_count, stage_of};
+use fast_rx::FastRx;
 use fast_tx::FastTx;
-use flow_state::{AppCalls, CallIn, Engine, FlowRecord, Stage};
+use flow_state::{AppCalls, CallIn, FlowRecord, Stage};
 use segment_fields::Segment;
+use slow_handshake::SlowRx;
 use slow_timeout::TimerWork;
 use std::alloc::{AllocError, Global};
 use std::marker::Model;
@@ -118,12 +121,7 @@ impl LiveFlow {
     pub fn is_indexed_as(&self, tuple: &FourTuple) -> bool
         ensures { result ≡ is_indexed_as tuple.now self.now }
     {
-        let own = self.history.tuple();
-        self.indexed
-            && tuple.laddr == own.laddr
-            && tuple.lport == own.lport
-            && tuple.raddr == own.raddr
-            && tuple.rport == own.rport
+        self.indexed && same_tuple(tuple, &self.history.tuple())
     }
 
     /// Whether it is CLOSED.
@@ -234,24 +232,54 @@ impl LiveFlow {
         Ok(())
     }
 
+    /// The calls that the application makes for a segment of the flow, in their order. `remote` says that the segment is a remote one, `resets` that it is a local one with RST. The error is want of memory.
+    pub fn serve(&mut self, tick: u32, remote: bool, resets: bool) -> Result<(), AllocError>
+        ensures { (content : Content) → is_remote content ≡ remote → resets_here content ≡ resets → OnOk result (self.new ≡ asked_all tick content self.old) }
+    {
+        self.accept(tick)?;
+        self.send(tick)?;
+        self.shut(tick)?;
+        self.abort(tick, resets)?;
+        self.read(tick, remote)?;
+        self.leave();
+        Ok(())
+    }
+
+    /// Which flow it is.
+    pub fn id(&self) -> FlowId
+        ensures { result ≡ self.now.flow.id }
+    {
+        self.history.id()
+    }
+
+    /// Whether its record stands in this slot.
+    pub fn is_in_slot(&self, slot: u32) -> bool
+        ensures { result ≡ is_in_slot slot self.now }
+    {
+        !self.filed && self.history.id().slot == slot
+    }
+
+    /// Whether it is of this four-tuple.
+    pub fn is_of(&self, tuple: &FourTuple) -> bool
+        ensures { result ≡ same_tuple tuple.now self.now.flow.tuple }
+    {
+        same_tuple(tuple, &self.history.tuple())
+    }
+
     /// A segment comes to it: by the fast path of core 0 where it is one for that, and else by the slow path. The error is want of memory.
-    pub fn receive<F: Engine, S: Engine>(
+    pub fn receive(
         &mut self,
         tick: u32,
         frame: FrameId,
         seg: &Segment<'_>,
-        fast: &F,
-        slow: &S,
     ) -> Result<(), AllocError>
-        requires fast { IsReceiver (F.serves fast.now) }
-        requires slow { IsReceiver (S.serves slow.now) }
         ensures { OnOk result (self.new ≡ received_serially tick frame (seg_of seg.now) self.old) }
     {
         let call = CallIn::Rx { frame, seg: *seg };
         if is_fast(&self.history, seg) {
-            make(&mut self.history, Caller::Core(0), tick, &call, fast)
+            make(&mut self.history, Caller::Core(0), tick, &call, &FastRx)
         } else {
-            make(&mut self.history, Caller::Slow, tick, &call, slow)
+            make(&mut self.history, Caller::Slow, tick, &call, &SlowRx)
         }
     }
 
@@ -326,4 +354,13 @@ fn fresh_bytes<'a>(iss: Seq, seg: &Segment<'a>, sent: u128, waiting: usize) -> &
         return &[];
     }
     &seg.payload[known as usize..]
+}
+
+fn same_tuple(one: &FourTuple, other: &FourTuple) -> bool
+    ensures { result ≡ same_tuple one.now other.now }
+{
+    one.laddr == other.laddr
+        && one.lport == other.lport
+        && one.raddr == other.raddr
+        && one.rport == other.rport
 }

@@ -1,10 +1,11 @@
-ghost use Rattle.std.specs.Prelude.{◌≡◌, ◌^◌, ◌<◌, ◌+◌, length, true, false, is_some, IsSome};
+ghost use Rattle.std.specs.Prelude.{◌≡◌, ◌^◌, ◌<◌, ◌+◌, length, true, false, None, is_some, IsSome};
 ghost use Rattle.tas_num.specs.Places.{raised as raised_place};
 ghost use Rattle.tas_model.specs.Endpoint.{is_closed as model_closed};
 ghost use Rattle.tas_model.specs.ApplicationCalls.{column};
 ghost use Rattle.tas_model.specs.LegalHistory.{Legal, replay};
 ghost use Rattle.tas_model.specs.NextSegment.{going};
 ghost use Rattle.tas_model.specs.Valid.{InRange};
+ghost use Rattle.fast_rx.specs.Exceptions.{exception};
 ghost use Rattle.fast_tx.specs.Piece.{next_piece};
 ghost use Rattle.flow_state.specs.Calls.{seg_of, is_running, is_closed_phase};
 ghost use Rattle.flow_state.specs.App.{column_of};
@@ -36,7 +37,8 @@ pub fn is_closed(flow: &FlowRecord) -> bool
 
 /// Whether the segment is one for the fast path: an acknowledgement without SYN, FIN, RST and URG, while the connection carries data both ways, or could.
 pub fn is_fast(flow: &FlowRecord, seg: &Segment<'_>) -> bool
-    ensures { result ≡ model_fast (replay flow.now.params flow.now.entries) (seg_of seg.now) }
+    ensures fast { result ≡ model_fast (replay flow.now.params flow.now.entries) (seg_of seg.now) }
+    ensures common { result ≡ true → exception flow.now.parts.phase seg.now ≡ None }
 {
     let flags = seg.flags;
     if flags.is_syn() || flags.is_fin() || flags.is_rst() || flags.is_urg() {
