@@ -3,3 +3,4 @@ pub mod Growth
 pub mod Ended
 pub mod Sent
 pub mod Emitting
+pub mod Places

@@ -3,6 +3,9 @@
 
 mod calls;
 mod flows;
+mod host;
 mod live;
 mod pending;
 mod reading;
+
+pub use host::LocalHost;
