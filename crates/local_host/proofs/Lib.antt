@@ -4,3 +4,4 @@ pub mod Ended
 pub mod Sent
 pub mod Emitting
 pub mod Places
+pub mod Hosting

@@ -272,10 +272,12 @@ impl LocalHost {
     ) -> Result<(), AllocError>
         ensures { (items : List model.Item) → AreNumbersOf items numbers.now → OnOk result (self.new ≡ connected_where (model_connects (seg_of seg.now) && not (is_known self.old tuple)) items tick self.old tuple) }
     {
-        if connects(seg) && self.flows.find(&tuple).is_none() {
-            self.connect(tick, tuple, numbers)
-        } else {
-            Ok(())
+        if !connects(seg) {
+            return Ok(());
+        }
+        match self.flows.find(&tuple) {
+            Some(_) => Ok(()),
+            None => self.connect(tick, tuple, numbers),
         }
     }
 
@@ -324,6 +326,7 @@ impl LocalHost {
     }
 
     /// One tick, in serial order: the slow path, the frames of the batch, the application, and what may go. The error is want of memory.
+    #[tactic(auto, unfolding(tas_runs::specs::SerialOrder::serial_tick))]
     pub fn play(
         &mut self,
         tick: u32,
