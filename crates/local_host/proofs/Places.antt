@@ -1,8 +1,9 @@
 -- A flow at its place among the flows, and the slots that they stand in.
-use Rattle.std.proofs.Common.{◌≡◌, ℕ, zero, suc, ◌+◌, ◌-◌, ◌<◌, ◌≤◌, Bool, true, false, List, [], ◌∷◌, length, set, get_or, position, Option, Some, None, Result, Ok, Err, OnOk, refl, sym, ap, subst, ◌∙◌, true≢false, arith, is_some}
+use Rattle.std.proofs.Common.{◌≡◌, ℕ, zero, suc, ◌+◌, ◌-◌, ◌<◌, ◌≤◌, Bool, true, false, List, [], ◌∷◌, length, set, get_or, slice_get, position, Option, Some, None, Result, Ok, Err, OnOk, refl, sym, ap, subst, ◌∙◌, true≢false, arith, is_some}
 use Rattle.std.specs.List.{list_any, position_or_len}
 use Rattle.std.proofs.lemmas.List.Quantifiers.{position-Some}
-use Rattle.tas_runs.specs.Hosts.{Live, change_first, change_at, free_from, is_in_slot}
+use Rattle.tas_runs.specs.Logs.{Flow}
+use Rattle.tas_runs.specs.Hosts.{Live, change_first, change_at, free_from, is_in_slot, flows_of}
 use Rattle.tas_runs.proofs.Loops.{changed_at, known_found, none_found}
 
 pub ok_by : {T E : Type 0} {P Q : Type 0} (r : Result T E) → (P → Q) → OnOk r P → OnOk r Q
@@ -51,3 +52,9 @@ pub no_slots : (slots slot : ℕ) (flows : List Live) → slots ≤ slot → fre
 no_slots slots slot flows past = ap (λ (n : ℕ). free_from n slot flows) (none_left slots slot past) where
   none_left : (a b : ℕ) → a ≤ b → a - b ≡ 0
   none_left a b h = omega arith
+
+-- the flow that is left of the one at a place
+pub flow_there : (ls : List Live) (i : ℕ) (d : Live) (f : Flow) → i < length ls → f ≡ (get_or ls i d).flow → slice_get (flows_of ls) i ≡ Some f
+flow_there [] i d f below is = absurd (omega arith)
+flow_there (l ∷ ls) zero d f below is = ap (λ (g : Flow). Some g) (sym is)
+flow_there (l ∷ ls) (suc i) d f below is = flow_there ls i d f (omega arith) is

@@ -1,15 +1,16 @@
-ghost use Rattle.std.specs.Prelude.{◌≡◌, ℕ, ◌<◌, ◌+◌, ◌++◌, ◌∷◌, [], length, map, position, Some, None, count_by, OnOk, is_some};
+ghost use Rattle.std.specs.Prelude.{◌≡◌, ℕ, ◌<◌, ◌+◌, ◌++◌, ◌∷◌, [], length, map, position, slice_get, Some, None, count_by, OnOk, is_some};
 ghost use Rattle.std.specs.List.{list_any};
 ghost use Rattle.tas_model.specs.declared.entry.Caller.TheVariants.{Slow};
 ghost use Rattle.flow_state.specs.Calls.{seg_of};
 ghost use Rattle.tas_runs.specs.Records.{Content, is_remote};
-ghost use Rattle.tas_runs.specs.Hosts.{is_indexed_as, is_in_slot, change_at, free_from, next_generation, opened_as};
+ghost use Rattle.tas_runs.specs.Hosts.{is_indexed_as, is_in_slot, change_at, free_from, next_generation, opened_as, flows_of};
 ghost use Rattle.tas_runs.specs.Upkeep.{swept, timed, quieted};
 ghost use Rattle.tas_runs.specs.Deliveries.{received_serially};
 ghost use Rattle.tas_runs.specs.LocalScript.{sees, resets_here};
-ghost use Rattle.local_host.specs.Live.{asked_all};
+ghost use Rattle.local_host.specs.Live.{asked_all, flow_in};
 
 use crate::live::LiveFlow;
+use flow_state::FlowRecord;
 use segment_fields::Segment;
 use std::alloc::{AllocError, Global};
 use std::marker::Model;
@@ -45,6 +46,14 @@ impl Flows {
         ensures { result ≡ length self.now }
     {
         self.flows.len()
+    }
+
+    /// The record of the flow at place `i`.
+    pub fn record(&self, i: usize) -> &FlowRecord
+        requires { i < length self.now }
+        ensures { slice_get (flows_of self.now) i ≡ Some (flow_in result.now) }
+    {
+        self.flows[i].record()
     }
 
     /// The place of the flow that the index has under this four-tuple.

@@ -1,22 +1,24 @@
-ghost use Rattle.std.specs.Prelude.{◌≡◌, ◌++◌, ◌∷◌, [], ◌<◌, ◌^◌, length, ◌&&◌, not, map, OnOk, List, IfOk};
+ghost use Rattle.std.specs.Prelude.{◌≡◌, Some, slice_get, ◌++◌, ◌∷◌, [], ◌<◌, ◌^◌, length, ◌&&◌, not, map, OnOk, List, IfOk};
 ghost use Rattle.tas_model.specs.Valid.{InRange};
 ghost use Rattle.tas_model.specs.declared.entry.Caller.TheVariants.{Slow};
 ghost use Rattle.flow_state.specs.Calls.{seg_of};
 ghost use Rattle.tas_runs.specs.declared.log.LogEvent.TheVariants as events;
 ghost use Rattle.tas_runs.specs.Records as model;
 ghost use Rattle.tas_runs.specs.Records.{is_remote};
-ghost use Rattle.tas_runs.specs.Hosts.{Host, logged, changed, is_known, lowest_free, next_generation};
+ghost use Rattle.tas_runs.specs.Hosts.{Host, logged, changed, is_known, lowest_free, next_generation, flows_of};
 ghost use Rattle.tas_runs.specs.Upkeep.{quieted};
 ghost use Rattle.tas_runs.specs.Deliveries.{next_first_number, record_frame, received_serially, stray_answer, met_listener, opened_by_syn as model_opened_by_syn, opens as model_opens, arrived, delivered_by};
 ghost use Rattle.tas_runs.specs.LocalScript.{began, connected_where, opened_by_connect, connects as model_connects, sees, resets_here};
+ghost use Rattle.tas_runs.specs.Replays.{at_start};
 ghost use Rattle.tas_runs.specs.SerialOrder.{slow_phase, frame_phase, script_phase, emit_phase, served, serial_tick};
 ghost use Rattle.capture_items.specs.Items.{item_in, content_in};
 ghost use Rattle.capture_items.specs.Numbers.{AreNumbersOf};
-ghost use Rattle.local_host.specs.Live.{asked_all};
+ghost use Rattle.local_host.specs.Live.{asked_all, flow_in};
 
 use crate::flows::Flows;
 use crate::live::LiveFlow;
 use capture_items::{Content, FirstNumbers, Item};
+use flow_state::FlowRecord;
 use segment_fields::Segment;
 use slow_handshake::stray;
 use std::alloc::{AllocError, Global};
@@ -57,6 +59,54 @@ impl LocalHost {
             log: HostLog::new(alloc),
             flows: Flows::new(alloc),
         }
+    }
+
+    /// The host of a replay at its start, with this address. It takes no memory.
+    pub fn at_start(alloc: Global, local: u32) -> LocalHost
+        ensures { result ≡ at_start local }
+    {
+        LocalHost::new(
+            alloc,
+            HostParams {
+                addr: local,
+                iss: 0,
+                ring: 65535,
+                mss: 1460,
+                rto: 100,
+                slots: 1024,
+                backlog: 16,
+                fixed: true,
+            },
+        )
+    }
+
+    /// Its parameters.
+    pub fn params(&self) -> &HostParams
+        ensures { result.now ≡ self.now.params }
+    {
+        &self.params
+    }
+
+    /// Its log.
+    pub fn log(&self) -> &HostLog
+        ensures { result.now ≡ self.now.log }
+    {
+        &self.log
+    }
+
+    /// How many flows were opened.
+    pub fn flow_count(&self) -> usize
+        ensures { result ≡ length self.now.flows }
+    {
+        self.flows.len()
+    }
+
+    /// The record of the flow that was opened as number `i`, counted from 0.
+    pub fn flow(&self, i: usize) -> &FlowRecord
+        requires { i < length self.now.flows }
+        ensures { slice_get (flows_of self.now.flows) i ≡ Some (flow_in result.now) }
+    {
+        self.flows.record(i)
     }
 
     fn log_event(&mut self, tick: u32, event: LogEvent) -> Result<(), AllocError>

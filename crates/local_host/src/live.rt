@@ -245,6 +245,13 @@ impl LiveFlow {
         Ok(())
     }
 
+    /// Its record.
+    pub fn record(&self) -> &FlowRecord
+        ensures { flow_in result.now ≡ self.now.flow }
+    {
+        &self.history
+    }
+
     /// Which flow it is.
     pub fn id(&self) -> FlowId
         ensures { result ≡ self.now.flow.id }
