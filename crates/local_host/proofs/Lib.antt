@@ -1,0 +1,7 @@
+pub mod Taken
+pub mod Growth
+pub mod Ended
+pub mod Sent
+pub mod Emitting
+pub mod Places
+pub mod Hosting

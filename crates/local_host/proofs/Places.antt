@@ -1,0 +1,60 @@
+-- A flow at its place among the flows, and the slots that they stand in.
+use Rattle.std.proofs.Common.{◌≡◌, ℕ, zero, suc, ◌+◌, ◌-◌, ◌<◌, ◌≤◌, Bool, true, false, List, [], ◌∷◌, length, set, get_or, slice_get, position, Option, Some, None, Result, Ok, Err, OnOk, refl, sym, ap, subst, ◌∙◌, true≢false, arith, is_some}
+use Rattle.std.specs.List.{list_any, position_or_len}
+use Rattle.std.proofs.lemmas.List.Quantifiers.{position-Some}
+use Rattle.tas_runs.specs.Logs.{Flow}
+use Rattle.tas_runs.specs.Hosts.{Live, change_first, change_at, free_from, is_in_slot, flows_of}
+use Rattle.tas_runs.proofs.Loops.{changed_at, known_found, none_found}
+
+pub ok_by : {T E : Type 0} {P Q : Type 0} (r : Result T E) → (P → Q) → OnOk r P → OnOk r Q
+ok_by (Ok x) f p = f p
+ok_by (Err e) f p = tt
+
+-- a write of what the element there becomes
+pub set_change : {X : Type 0} (f : X → X) (xs : List X) (i : ℕ) (d : X) → i < length xs → set xs i (f (get_or xs i d)) ≡ change_at i f xs
+set_change f [] i d below = absurd (omega arith)
+set_change f (x ∷ xs) zero d below = refl
+set_change {X} f (x ∷ xs) (suc i) d below = ap (λ (zs : List X). x ∷ zs) (set_change f xs i d (omega arith))
+
+-- the same of what was written, where the element was read
+pub wrote_change : {X : Type 0} (f : X → X) (inside xs : List X) (i : ℕ) (old new : X) → inside ≡ xs → i < length xs → old ≡ get_or inside i old → new ≡ f old → set inside i new ≡ change_at i f xs
+wrote_change {X} f inside xs i old new same below read made =
+    let here : old ≡ get_or xs i old = subst (λ (zs : List X). old ≡ get_or zs i old) same read in
+    ap (λ (zs : List X). set zs i new) same ∙ (ap (set xs i) (made ∙ ap f here) ∙ set_change f xs i old below)
+
+-- the flow that is found is the first that passes
+pub found_change : {X : Type 0} (test : X → Bool) (f : X → X) (xs : List X) (i : ℕ) → position test xs ≡ Some i → (i < length xs) × (change_at i f xs ≡ change_first test f xs)
+found_change test f [] i found = absurd (cc (found))
+found_change test f (x ∷ xs) i found =
+    let at = position-Some test (x ∷ xs) i x found in
+    (at.0, sym (set_change f (x ∷ xs) i x at.0) ∙ sym (changed_at test f (x ∷ xs) i x at.0 at.1 at.2))
+
+-- ----- slots
+past_taken : (most slot : ℕ) (flows : List Live) → list_any (is_in_slot slot) flows ≡ true → free_from (suc most) slot flows ≡ free_from most (slot + 1) flows
+past_taken most slot flows taken = rw (taken, free_from) refl
+
+here_free : (most slot : ℕ) (flows : List Live) → list_any (is_in_slot slot) flows ≡ false → free_from (suc most) slot flows ≡ Some slot
+here_free most slot flows free = rw (free, free_from) refl
+
+-- the search goes on past a slot that is taken
+pub slot_taken : (slots slot : ℕ) (flows : List Live) → slot < slots → list_any (is_in_slot slot) flows ≡ true → free_from (slots - slot) slot flows ≡ free_from (slots - (slot + 1)) (slot + 1) flows
+slot_taken slots slot flows below taken =
+    let more : slots - slot ≡ suc (slots - (slot + 1)) = omega arith in
+    ap (λ (n : ℕ). free_from n slot flows) more ∙ past_taken (slots - (slot + 1)) slot flows taken
+
+-- and ends at one that is free
+pub slot_free : (slots slot : ℕ) (flows : List Live) → slot < slots → list_any (is_in_slot slot) flows ≡ false → free_from (slots - slot) slot flows ≡ Some slot
+slot_free slots slot flows below free =
+    let more : slots - slot ≡ suc (slots - (slot + 1)) = omega arith in
+    ap (λ (n : ℕ). free_from n slot flows) more ∙ here_free (slots - (slot + 1)) slot flows free
+
+pub no_slots : (slots slot : ℕ) (flows : List Live) → slots ≤ slot → free_from (slots - slot) slot flows ≡ None
+no_slots slots slot flows past = ap (λ (n : ℕ). free_from n slot flows) (none_left slots slot past) where
+  none_left : (a b : ℕ) → a ≤ b → a - b ≡ 0
+  none_left a b h = omega arith
+
+-- the flow that is left of the one at a place
+pub flow_there : (ls : List Live) (i : ℕ) (d : Live) (f : Flow) → i < length ls → f ≡ (get_or ls i d).flow → slice_get (flows_of ls) i ≡ Some f
+flow_there [] i d f below is = absurd (omega arith)
+flow_there (l ∷ ls) zero d f below is = ap (λ (g : Flow). Some g) (sym is)
+flow_there (l ∷ ls) (suc i) d f below is = flow_there ls i d f (omega arith) is

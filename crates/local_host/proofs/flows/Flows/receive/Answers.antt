@@ -1,0 +1,11 @@
+use Rattle.std.proofs.Common.{◌≡◌, ◌<◌, length, List, sym, subst, ◌∙◌}
+use Rattle.flow_state.specs.Calls.{seg_of}
+use Rattle.tas_runs.specs.Hosts.{Live}
+use Rattle.tas_runs.specs.Deliveries.{received_serially}
+use Rattle.tas_runs.specs.LocalScript.{sees}
+use Rattle.local_host.specs.Live.{asked_all}
+use Rattle.local_host.proofs.Places.{ok_by, wrote_change}
+use Rattle.local_host.proofs.flows.Flows.receive.Goals as goal
+
+pub returns : goal.returns
+returns c = ok_by c.receive.result (λ made. wrote_change (received_serially c.args.tick c.args.frame (seg_of c.args.seg.now)) c.self.inside.flows.items c.args.self.now c.args.i c.index_mut.result.now c.receive.new.self c.self.view_is c.requires c.index_mut.ensures.value made) c.receive.ensures

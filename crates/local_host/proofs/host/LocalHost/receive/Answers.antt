@@ -1,0 +1,33 @@
+use Rattle.std.proofs.Common.{◌≡◌, ℕ, ◌++◌, ◌∷◌, [], ◌&&◌, not, Bool, true, false, List, map, drop, refl, sym, ap, subst, ◌∙◌}
+use Rattle.tas_num.specs.declared.seq.Seq.{Seq}
+use Rattle.tas_model.specs.declared.entry.Seg.{Seg}
+use Rattle.flow_state.specs.Calls.{seg_of}
+use Rattle.tas_runs.specs.Records.{Content, Remote, Local, Item}
+use Rattle.tas_runs.specs.Hosts.{Live, Host, changed, is_known, lowest_free}
+use Rattle.tas_runs.specs.Deliveries.{received_serially, arrived, met_listener, opens, opened_by_syn}
+use Rattle.tas_runs.specs.LocalScript.{sees, connects, connected_where, opened_by_connect}
+use Rattle.tas_runs.specs.SerialOrder.{served, frame_phase, script_phase}
+use Rattle.capture_items.specs.Items.{item_in, content_in}
+use Rattle.local_host.specs.Live.{asked_all}
+use Rattle.local_host.proofs.Places.{ok_by}
+use Rattle.local_host.proofs.Hosting.{changed_found, changed_none, known_is, unknown_is, syn_opened, connect_opened, served_remote, served_local}
+use Rattle.local_host.proofs.host.LocalHost.receive.Goals as goal
+
+pub returns-in-Some : goal.returns-in-Some
+returns-in-Some c = λ items numbers.
+    let host : Host = record { params = c.self.inside.params; log = c.self.inside.log; flows = c.self.inside.flows } in
+    let seg : Seg = seg_of c.args.seg.now in
+    let f : Live → Live = received_serially c.args.tick c.args.frame seg in
+    let found = sym c.find.ensures ∙ c.in-Some.is in
+    ok_by c.receive.result
+    (λ made. subst (λ (h : Host). record host { flows = c.receive.new.self } ≡ arrived (is_known h c.args.tuple) f items c.args.tick h c.args.frame c.args.tuple seg) c.self.view_is
+    (changed_found host c.args.tuple f c.in-Some.i c.receive.new.self found made
+    ∙ ap (λ (b : Bool). arrived b f items c.args.tick host c.args.frame c.args.tuple seg) (sym (known_is c.args.tuple host c.in-Some.i found)))) c.receive.ensures
+
+pub returns-in-None : goal.returns-in-None
+returns-in-None c = λ items numbers.
+    let host : Host = record { params = c.self.inside.params; log = c.self.inside.log; flows = c.self.inside.flows } in
+    let seg : Seg = seg_of c.args.seg.now in
+    let f : Live → Live = received_serially c.args.tick c.args.frame seg in
+    let none : is_known c.args.self.now c.args.tuple ≡ false = subst (λ (h : Host). is_known h c.args.tuple ≡ false) c.self.view_is (unknown_is c.args.tuple host (sym c.find.ensures ∙ c.in-None.is)) in
+    ok_by c.meet_listener.result (λ made. made ∙ ap (λ (b : Bool). arrived b f items c.args.tick c.args.self.now c.args.frame c.args.tuple seg) (sym none)) (c.meet_listener.ensures items numbers)

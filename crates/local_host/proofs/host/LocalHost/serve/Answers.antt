@@ -1,0 +1,25 @@
+use Rattle.std.proofs.Common.{◌≡◌, ℕ, ◌++◌, ◌∷◌, [], ◌&&◌, not, Bool, true, false, List, map, drop, refl, sym, ap, subst, ◌∙◌}
+use Rattle.tas_num.specs.declared.seq.Seq.{Seq}
+use Rattle.tas_model.specs.declared.entry.Seg.{Seg}
+use Rattle.flow_state.specs.Calls.{seg_of}
+use Rattle.tas_runs.specs.Records.{Content, Remote, Local, Item}
+use Rattle.tas_runs.specs.Hosts.{Live, Host, changed, is_known, lowest_free}
+use Rattle.tas_runs.specs.Deliveries.{received_serially, arrived, met_listener, opens, opened_by_syn}
+use Rattle.tas_runs.specs.LocalScript.{sees, connects, connected_where, opened_by_connect}
+use Rattle.tas_runs.specs.SerialOrder.{served, frame_phase, script_phase}
+use Rattle.capture_items.specs.declared.item.Content as code
+use Rattle.capture_items.specs.Items.{item_in, content_in}
+use Rattle.local_host.specs.Live.{asked_all}
+use Rattle.local_host.proofs.Places.{ok_by}
+use Rattle.local_host.proofs.Hosting.{changed_found, changed_none, known_is, unknown_is, syn_opened, connect_opened, remote_done, local_done}
+use Rattle.local_host.proofs.host.LocalHost.serve.Goals as goal
+
+pub returns-in-Remote : goal.returns-in-Remote
+returns-in-Remote c = λ items numbers.
+    ok_by c.ask.result (remote_done items c.args.tick c.args.self.now c.ask.new.self c.args.item.now c.in-Remote.tuple c.in-Remote.field-1 c.in-Remote.is)
+    (c.ask.ensures (Remote c.in-Remote.tuple (seg_of c.in-Remote.field-1)) refl refl)
+
+pub returns-in_ok-begin-in-Local : goal.returns-in_ok-begin-in-Local
+returns-in_ok-begin-in-Local c = λ items numbers.
+    ok_by c.ask-in-Local.result (local_done items c.args.tick c.args.self.now c.begin.new.self c.ask-in-Local.new.self c.args.item.now c.in-Local.tuple c.in-Local.seg c.in-Local.is (c.in_ok-begin-in-Local.ensures items numbers))
+    (c.ask-in-Local.ensures (Local c.in-Local.tuple (seg_of c.in-Local.seg)) refl (sym c.is_rst.ensures))

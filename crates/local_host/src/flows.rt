@@ -1,0 +1,193 @@
+ghost use Rattle.std.specs.Prelude.{◌≡◌, ℕ, ◌<◌, ◌+◌, ◌++◌, ◌∷◌, [], length, map, position, slice_get, Some, None, count_by, OnOk, is_some};
+ghost use Rattle.std.specs.List.{list_any};
+ghost use Rattle.tas_model.specs.declared.entry.Caller.TheVariants.{Slow};
+ghost use Rattle.flow_state.specs.Calls.{seg_of};
+ghost use Rattle.tas_runs.specs.Records.{Content, is_remote};
+ghost use Rattle.tas_runs.specs.Hosts.{is_indexed_as, is_in_slot, change_at, free_from, next_generation, opened_as, flows_of};
+ghost use Rattle.tas_runs.specs.Upkeep.{swept, timed, quieted};
+ghost use Rattle.tas_runs.specs.Deliveries.{received_serially};
+ghost use Rattle.tas_runs.specs.LocalScript.{sees, resets_here};
+ghost use Rattle.local_host.specs.Live.{asked_all, flow_in};
+
+use crate::live::LiveFlow;
+use flow_state::FlowRecord;
+use segment_fields::Segment;
+use std::alloc::{AllocError, Global};
+use std::marker::Model;
+use tas_model::{FourTuple, FrameId};
+
+/// The flows of a host, in the order of their opening, filed ones among them.
+#[derive(Drop)]
+pub struct Flows {
+    flows: Vec<LiveFlow>,
+}
+
+impl Model for Flows {
+    ghost use Rattle.std.specs.Prelude.{List};
+    ghost use Rattle.tas_runs.specs.Hosts.{Live};
+
+    ghost Value = { List Live };
+
+    ghost view = { λ f. f.flows.items };
+}
+
+impl Flows {
+    /// No flows. It takes no memory.
+    pub fn new(alloc: Global) -> Flows
+        ensures { result ≡ [] }
+    {
+        Flows {
+            flows: Vec::new(alloc),
+        }
+    }
+
+    /// How many flows were opened.
+    pub fn len(&self) -> usize
+        ensures { result ≡ length self.now }
+    {
+        self.flows.len()
+    }
+
+    /// The record of the flow at place `i`.
+    pub fn record(&self, i: usize) -> &FlowRecord
+        requires { i < length self.now }
+        ensures { slice_get (flows_of self.now) i ≡ Some (flow_in result.now) }
+    {
+        self.flows[i].record()
+    }
+
+    /// The place of the flow that the index has under this four-tuple.
+    pub fn find(&self, tuple: &FourTuple) -> Option<usize>
+        ensures { result ≡ position (is_indexed_as tuple.now) self.now }
+    {
+        self.flows.iter().position(|flow| flow.is_indexed_as(tuple))
+    }
+
+    /// How many flows of this four-tuple were opened.
+    pub fn opened_as(&self, tuple: &FourTuple) -> usize
+        ensures { result ≡ opened_as tuple.now self.now }
+    {
+        self.flows.iter().filter(|flow| flow.is_of(tuple)).count()
+    }
+
+    /// The lowest free slot of so many.
+    pub fn lowest_free(&self, slots: u32) -> Option<u32>
+        ensures { result ≡ free_from slots 0 self.now }
+    {
+        for slot in 0..slots {
+            if !self.is_taken(slot) {
+                return Some(slot);
+            }
+        }
+        None
+    }
+
+    /// Whether a flow's record stands in the slot.
+    fn is_taken(&self, slot: u32) -> bool
+        ensures { result ≡ list_any (is_in_slot slot) self.now }
+    {
+        self.flows.iter().any(|flow| flow.is_in_slot(slot))
+    }
+
+    /// The next generation of a slot: one more than there were flows in it.
+    pub fn next_generation(&self, slot: u32) -> usize
+        ensures { result ≡ next_generation slot self.now }
+    {
+        1 + self
+            .flows
+            .iter()
+            .filter(|flow| flow.id().slot == slot)
+            .count()
+    }
+
+    /// A flow was opened. The error is want of memory.
+    pub fn push(&mut self, flow: LiveFlow) -> Result<(), AllocError>
+        ensures { OnOk result (self.new ≡ self.old ++ flow ∷ []) }
+    {
+        self.flows.push(flow)?;
+        Ok(())
+    }
+
+    /// Closed flows leave the index, and their slots where no application holds them.
+    pub fn sweep(&mut self)
+        ensures { self.new ≡ map swept self.old }
+    {
+        sweep_all(&mut self.flows);
+    }
+
+    /// One tick passes for each flow that is not closed. The error is want of memory.
+    pub fn pass_time(&mut self, tick: u32) -> Result<(), AllocError>
+        ensures { OnOk result (self.new ≡ map (timed Slow tick) self.old) }
+    {
+        time_all(&mut self.flows, tick)
+    }
+
+    /// Each flow sends all that may go. The error is want of memory.
+    pub fn send_all(&mut self, tick: u32) -> Result<(), AllocError>
+        ensures { OnOk result (self.new ≡ map (quieted tick) self.old) }
+    {
+        empty_all(&mut self.flows, tick)
+    }
+
+    /// A segment comes to the flow at place `i`. The error is want of memory.
+    pub fn receive(
+        &mut self,
+        i: usize,
+        tick: u32,
+        frame: FrameId,
+        seg: &Segment<'_>,
+    ) -> Result<(), AllocError>
+        requires { i < length self.old }
+        ensures { OnOk result (self.new ≡ change_at i (received_serially tick frame (seg_of seg.now)) self.old) }
+    {
+        self.flows[i].receive(tick, frame, seg)
+    }
+
+    /// A local segment of the flow at place `i` shows bytes of its stream. The error is want of memory.
+    pub fn see(&mut self, i: usize, seg: &Segment<'_>) -> Result<(), AllocError>
+        requires { i < length self.old }
+        ensures { OnOk result (self.new ≡ change_at i (sees (seg_of seg.now)) self.old) }
+    {
+        self.flows[i].see(seg)
+    }
+
+    /// The calls that the application makes for a segment of the flow at place `i`. The error is want of memory.
+    pub fn serve(
+        &mut self,
+        i: usize,
+        tick: u32,
+        remote: bool,
+        resets: bool,
+    ) -> Result<(), AllocError>
+        requires { i < length self.old }
+        ensures { (content : Content) → is_remote content ≡ remote → resets_here content ≡ resets → OnOk result (self.new ≡ change_at i (asked_all tick content) self.old) }
+    {
+        self.flows[i].serve(tick, remote, resets)
+    }
+}
+
+fn sweep_all(flows: &mut Vec<LiveFlow>)
+    ensures { flows.new.items ≡ map swept flows.old.items }
+{
+    for flow in flows.iter_mut() {
+        flow.sweep();
+    }
+}
+
+fn time_all(flows: &mut Vec<LiveFlow>, tick: u32) -> Result<(), AllocError>
+    ensures { OnOk result (flows.new.items ≡ map (timed Slow tick) flows.old.items) }
+{
+    for flow in flows.iter_mut() {
+        flow.tick(tick)?;
+    }
+    Ok(())
+}
+
+fn empty_all(flows: &mut Vec<LiveFlow>, tick: u32) -> Result<(), AllocError>
+    ensures { OnOk result (flows.new.items ≡ map (quieted tick) flows.old.items) }
+{
+    for flow in flows.iter_mut() {
+        flow.send_all(tick)?;
+    }
+    Ok(())
+}
