@@ -5,8 +5,10 @@ mod entries;
 mod flows;
 mod logs;
 mod texts;
+mod whole;
 mod writer;
 
 pub use flows::write_flow;
 pub use logs::write_log;
+pub use whole::{Counts, write_counts, write_end, write_host, write_title};
 pub use writer::Writer;
