@@ -12,3 +12,6 @@ pub use flows::write_flow;
 pub use logs::write_log;
 pub use whole::{Counts, write_counts, write_end, write_host, write_title};
 pub use writer::Writer;
+
+#[cfg(test)]
+mod tests;
