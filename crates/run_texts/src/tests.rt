@@ -1,0 +1,105 @@
+use super::*;
+use flow_state::{AppCalls, CallIn, FlowRecord};
+use segment_fields::{Flags, Segment};
+use std::test::*;
+use tas_model::{
+    Bytes, CAPTURE, Caller, FlowId, FourTuple, FrameId, Head, HostParams, NO_FLOW, Seg,
+};
+use tas_num::{Seq, SureSink};
+use tas_runs::{LogEvent, LogLine};
+
+const PARAMS: HostParams = HostParams {
+    addr: 167772162,
+    iss: 0,
+    ring: 65535,
+    mss: 1460,
+    rto: 100,
+    slots: 1024,
+    backlog: 16,
+    fixed: true,
+};
+
+const TUPLE: FourTuple = FourTuple {
+    laddr: 167772162,
+    lport: 80,
+    raddr: 167772161,
+    rport: 40000,
+};
+
+const FRAME: FrameId = FrameId {
+    host: CAPTURE,
+    flow: NO_FLOW,
+    number: 1,
+    copy: 0,
+};
+
+/// The lines of a flow that was opened and asked whether it stands.
+const FLOW_LINES: &str =
+    "flow 0 slot 0.1 10.0.0.2:80 10.0.0.1:40000\n3 s.0 passive r:1 iss 0 S seq 100 ack 0 win 65535 = ok\n3 p0.0 ready = notyet\nstate SYN-RECEIVED\nread 0 -\n";
+
+/// The line of a segment of no flow with two bytes of payload, which got a reset.
+const LOG_LINES: &str = "7 stray r:1 AP seq 5 ack 9 win 512 data 1aff = R seq 9 ack 0 win 0\n";
+
+#[test]
+fn a_new_flow_is_shown(rt: HostRuntime) -> Result<(), Fail> {
+    let id = FlowId {
+        slot: 0,
+        generation: 1,
+    };
+    let syn = Segment {
+        src: 167772161,
+        dst: 167772162,
+        sport: 40000,
+        dport: 80,
+        seq: Seq(100),
+        ack: Seq(0),
+        flags: Flags::SYN,
+        window: 65535,
+        mss: None,
+        payload: &[],
+    };
+    let mut flow = FlowRecord::passive(rt.alloc(), id, TUPLE, &PARAMS, Seq(0), FRAME, &syn, 3)?;
+    let ready = flow.act(Caller::App(0), 0, &CallIn::Ready, &AppCalls)?;
+    assert!(rt; ready.is_some());
+    let mut sink = SureSink::new(rt.alloc());
+    let mut writer = Writer::new(rt.alloc())?;
+    assert!(rt; write_flow(&mut writer, &mut sink, &["local"], 0, &flow).is_ok());
+    assert!(rt; writer.finish(&mut sink).is_ok());
+    assert!(rt; sink.written() == FLOW_LINES.as_bytes());
+    Ok(())
+}
+
+#[test]
+fn a_segment_of_no_flow_is_shown(rt: HostRuntime) -> Result<(), Fail> {
+    let head = Head {
+        flags: 24,
+        seq: Seq(5),
+        ack: Seq(9),
+        window: 512,
+        mss: None,
+    };
+    let answer = Head {
+        flags: 4,
+        seq: Seq(9),
+        ack: Seq(0),
+        window: 0,
+        mss: None,
+    };
+    let bytes = Bytes::copy(rt.alloc(), &[26, 255])?;
+    let mut log = Vec::new(rt.alloc());
+    log.push(LogLine {
+        tick: 7,
+        event: LogEvent::Stray {
+            frame: FRAME,
+            tuple: TUPLE,
+            seg: Seg { head, bytes },
+            answer: Some(answer),
+        },
+    })?;
+    let mut sink = SureSink::new(rt.alloc());
+    let mut writer = Writer::new(rt.alloc())?;
+    assert!(rt; write_log(&mut writer, &mut sink, &["local"], &log).is_ok());
+    assert!(rt; writer.finish(&mut sink).is_ok());
+    assert!(rt; sink.written() == LOG_LINES.as_bytes());
+    Ok(())
+}

@@ -1,0 +1,67 @@
+ghost use Rattle.std.specs.Prelude.{◌≡◌, ℕ, ◌++◌, ◌∷◌, [], List, map, codes, decimal, if◌then◌else◌};
+ghost use Rattle.tas_runs.specs.Report.{line, addr_text};
+ghost use Rattle.run_texts.specs.Writes.{Stand, Writes};
+
+use crate::texts::AddrText;
+use crate::writer::Writer;
+use tas_num::{IoFault, Sink};
+
+/// What became of the records of a capture: how many there were, and how many of them were frames, were passed over, and were refused.
+#[derive(Clone, Copy, PartialEq, Eq, Debug)]
+pub struct Counts {
+    pub records: u64,
+    pub frames: u64,
+    pub passed: u64,
+    pub refused: u64,
+}
+
+/// Writes the first line of a report: whether it is of a replay or of a run of scripts.
+pub fn write_title<K: Sink>(writer: &mut Writer, sink: &mut K, replay: bool) -> Result<(), IoFault>
+    ensures { Writes (record { held = K.held sink.old; faults = K.faults sink.old; waiting = writer.old }) result (record { held = K.held sink.new; faults = K.faults sink.new; waiting = writer.new }) (line (codes "tas " ++ (if replay then codes "replay" else codes "run"))) }
+{
+    if replay {
+        writer.put(sink, b"tas replay\n")
+    } else {
+        writer.put(sink, b"tas run\n")
+    }
+}
+
+/// Writes the first line of a host: its name and its address.
+pub fn write_host<K: Sink>(
+    writer: &mut Writer,
+    sink: &mut K,
+    name: &str,
+    addr: u32,
+) -> Result<(), IoFault>
+    ensures { Writes (record { held = K.held sink.old; faults = K.faults sink.old; waiting = writer.old }) result (record { held = K.held sink.new; faults = K.faults sink.new; waiting = writer.new }) (line (codes "host " ++ name.now ++ codes " " ++ addr_text addr)) }
+{
+    let addr = AddrText(addr);
+    writer.put_text(sink, &format_args!("host {name} {addr}\n"))
+}
+
+/// Writes the counts of a replay.
+pub fn write_counts<K: Sink>(
+    writer: &mut Writer,
+    sink: &mut K,
+    counts: Counts,
+) -> Result<(), IoFault>
+    ensures { Writes (record { held = K.held sink.old; faults = K.faults sink.old; waiting = writer.old }) result (record { held = K.held sink.new; faults = K.faults sink.new; waiting = writer.new }) (line (codes "records " ++ decimal counts.records ++ codes " frames " ++ decimal counts.frames ++ codes " passed " ++ decimal counts.passed ++ codes " refused " ++ decimal counts.refused)) }
+{
+    let Counts {
+        records,
+        frames,
+        passed,
+        refused,
+    } = counts;
+    writer.put_text(
+        sink,
+        &format_args!("records {records} frames {frames} passed {passed} refused {refused}\n"),
+    )
+}
+
+/// Writes the last line of a report: how many ticks there were.
+pub fn write_end<K: Sink>(writer: &mut Writer, sink: &mut K, ticks: u32) -> Result<(), IoFault>
+    ensures { Writes (record { held = K.held sink.old; faults = K.faults sink.old; waiting = writer.old }) result (record { held = K.held sink.new; faults = K.faults sink.new; waiting = writer.new }) (line (codes "end " ++ decimal ticks ++ codes " ticks")) }
+{
+    writer.put_text(sink, &format_args!("end {ticks} ticks\n"))
+}
