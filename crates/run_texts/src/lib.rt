@@ -10,11 +10,8 @@ mod writer;
 
 pub use flows::write_flow;
 pub use logs::write_log;
-<<<<<<< HEAD
-pub use texts::AddrText;
-=======
 pub use whole::{Counts, write_counts, write_end, write_host, write_title};
->>>>>>> 5e125b79334bee8e0fad2c84264b1930d31a6125
+pub use texts::AddrText;
 pub use writer::Writer;
 
 #[cfg(test)]

@@ -1,14 +1,6 @@
-<<<<<<< HEAD
 use Rattle.std.proofs.Common.{sym, subst, inl, inr}
-=======
-use Rattle.std.proofs.Common.{◌≡◌, ◌⊎◌, inl, inr, sym, subst}
-use Rattle.tas_model.specs.Endpoint.{Endpoint}
-use Rattle.tas_model.specs.NextSegment.{past}
-use Rattle.flow_state.specs.declared.parts.Parts.{Parts}
->>>>>>> 28e194d740809924da68fab029ac9cf7f5ee1442
 use Rattle.flow_state.specs.Stands.{Stands}
 use Rattle.fast_tx.specs.declared.piece.Piece.{Piece}
-use Rattle.fast_tx.specs.declared.piece.Piece.TheVariants as pieces
 use Rattle.fast_tx.specs.Going.{going_as}
 use Rattle.fast_tx.proofs.Alike.{nxt_near}
 use Rattle.fast_tx.proofs.Told.{paid}
@@ -19,7 +11,6 @@ returns-in-Data-clause-after c e v s =
     subst (λ (x : Piece). Stands c.move_next-in-Data.new.parts (going_as x e).after) (sym c.in-Data.is)
     (c.move_next-in-Data.ensures.after (paid e c.in-Data.len) (c.pay.ensures.after e s) v.tx.nxt (nxt_near e v))
 
-<<<<<<< HEAD
 pub returns-in-Syn-clause-after : goal.returns-in-Syn-clause-after
 returns-in-Syn-clause-after c e v s =
     let moved = c.move_next.ensures.after e s v.tx.nxt (nxt_near e v) in
@@ -27,11 +18,3 @@ returns-in-Syn-clause-after c e v s =
       | inl syn ↦ subst (λ (x : Piece). Stands c.move_next.new.parts (going_as x e).after) (sym syn) moved
       | inr fin ↦ subst (λ (x : Piece). Stands c.move_next.new.parts (going_as x e).after) (sym fin) moved
     ]
-=======
-after_end : (piece : Piece) (p : Parts) (e : Endpoint) → (piece ≡ pieces.Syn) ⊎ (piece ≡ pieces.Fin) → Stands p (record e { tx = past e.tx 1 }) → Stands p (going_as piece e).after
-after_end piece p e (inl is) h = subst (λ (x : Piece). Stands p (going_as x e).after) (sym is) h
-after_end piece p e (inr is) h = subst (λ (x : Piece). Stands p (going_as x e).after) (sym is) h
-
-pub returns-in-Syn-clause-after : goal.returns-in-Syn-clause-after
-returns-in-Syn-clause-after c e v s = after_end c.args.piece c.move_next.new.parts e c.in-Syn.is (c.move_next.ensures.after e s v.tx.nxt (nxt_near e v))
->>>>>>> 28e194d740809924da68fab029ac9cf7f5ee1442
