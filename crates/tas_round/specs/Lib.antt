@@ -1,4 +1,2 @@
-pub mod Flows
 pub mod Fronts
-pub mod Hosts
 pub mod Runs

@@ -1,8 +1,10 @@
 //! Whole runs: a capture replayed tick by tick, and the report and the capture that show a run.
 #![tactic(auto)]
 
+mod replaying;
 mod report;
 mod run;
 
+pub use replaying::{Mode, ReplayFault, replay};
 pub use report::write_report;
-pub use run::{FlowList, HostRun, HostRuns, RunLog};
+pub use run::{HostRun, RunLog};

@@ -1,15 +1,18 @@
-ghost use Rattle.std.specs.Prelude.{◌≡◌, ℕ, ◌+◌, ◌≤◌, ◌<◌, ◌++◌, [], List, map, length, codes, decimal, string_bytes, Err, IfOk, OnOk, OnErr, IfErr, if◌then◌else◌};
+ghost use Rattle.std.specs.Prelude.{◌≡◌, ℕ, ◌≤◌, ◌++◌, ◌∷◌, [], List, map, length, string_bytes, Err, OnOk, OnErr};
 ghost use Rattle.std.specs.Io.KnownBytes.{Appends};
 ghost use Rattle.tas_num.specs.Causes.{Rose};
-ghost use Rattle.tas_runs.specs.Report.{report, line, names_of, host_text, hosts_text, log_text, flows_text, counts_text, addr_text};
-ghost use Rattle.run_texts.specs.Writes.{Writes};
-ghost use Rattle.tas_round.specs.Hosts.{host_in};
-ghost use Rattle.tas_round.specs.Runs.{log_in};
+ghost use Rattle.tas_runs.specs.Hosts.{flows_of};
+ghost use Rattle.tas_runs.specs.Report.{report, host_text, flows_text, flow_lines, counts_text};
+ghost use Rattle.run_texts.specs.Writes.{Stand, Writes};
+ghost use Rattle.tas_round.specs.Runs.{host_in, log_in};
+ghost use Rattle.local_host.specs.Live.{flow_in};
 ghost use Rattle.tas_round.specs.Fronts.{AppendsFront};
 
-use crate::run::{FlowList, HostRun, HostRuns, RunLog};
-use run_texts::{AddrText, Writer, write_flow, write_log};
-use std::alloc::{AllocError, Global};
+use crate::run::{HostRun, RunLog};
+use flow_state::FlowRecord;
+use local_host::LocalHost;
+use run_texts::{Counts, Writer, write_counts, write_end, write_flow, write_host, write_log, write_title};
+use std::alloc::Global;
 use tas_num::{IoFault, Sink};
 
 /// Writes the report of a run. After a fault a front of it may have been written.
@@ -22,63 +25,33 @@ pub fn write_report<K: Sink>(alloc: Global, log: &RunLog, sink: &mut K) -> Resul
     let Ok(mut writer) = Writer::new(alloc) else {
         return Err(IoFault::OutOfMemory);
     };
-    put_report(alloc, &mut writer, sink, log)?;
+    put_whole(&mut writer, sink, log)
+}
+
+/// Writes the report by way of a writer, and then all that waits in it.
+fn put_whole<K: Sink>(writer: &mut Writer, sink: &mut K, log: &RunLog) -> Result<(), IoFault>
+    ensures writes { Writes (record { held = K.held sink.old; faults = K.faults sink.old; waiting = writer.old }) result (record { held = K.held sink.new; faults = K.faults sink.new; waiting = writer.new }) (report (log_in log.now)) }
+    ensures empty { OnOk result (writer.new ≡ []) }
+{
+    put_report(writer, sink, &[log.host.name.as_str()], log)?;
     writer.finish(sink)
 }
 
-/// Writes the report by way of a writer.
+/// Writes the report by way of a writer. `names` has the name of the host.
+#[tactic(auto, unfolding(tas_runs::specs::Report::report))]
 fn put_report<K: Sink>(
-    alloc: Global,
-    writer: &mut Writer,
-    sink: &mut K,
-    log: &RunLog,
-) -> Result<(), IoFault>
-    ensures { Writes (record { held = K.held sink.old; faults = K.faults sink.old; waiting = writer.old }) result (record { held = K.held sink.new; faults = K.faults sink.new; waiting = writer.new }) (report (log_in log.now)) }
-{
-    let Ok(names) = names(alloc, &log.hosts) else {
-        return Err(IoFault::OutOfMemory);
-    };
-    put_title(writer, sink, log.replay)?;
-    put_hosts(writer, sink, &names, &log.hosts)?;
-    put_counts(writer, sink, log)?;
-    put_end(writer, sink, log.ticks)
-}
-
-/// The names of the hosts.
-fn names(alloc: Global, hosts: &HostRuns) -> Result<Vec<&str>, AllocError>
-    ensures { IfOk result (λ names. map (λ n. n.now) names.items ≡ names_of hosts.now) }
-{
-    let mut names = Vec::new(alloc);
-    for i in 0..hosts.len() {
-        names.push(hosts.item(i).name.as_str())?;
-    }
-    Ok(names)
-}
-
-/// Writes what kind of run it is.
-fn put_title<K: Sink>(writer: &mut Writer, sink: &mut K, replay: bool) -> Result<(), IoFault>
-    ensures { Writes (record { held = K.held sink.old; faults = K.faults sink.old; waiting = writer.old }) result (record { held = K.held sink.new; faults = K.faults sink.new; waiting = writer.new }) (line (codes "tas " ++ (if replay then codes "replay" else codes "run"))) }
-{
-    if replay {
-        writer.put(sink, b"tas replay\n")
-    } else {
-        writer.put(sink, b"tas run\n")
-    }
-}
-
-/// Writes the lines of all hosts.
-fn put_hosts<K: Sink>(
     writer: &mut Writer,
     sink: &mut K,
     names: &[&str],
-    hosts: &HostRuns,
+    log: &RunLog,
 ) -> Result<(), IoFault>
-    ensures { Writes (record { held = K.held sink.old; faults = K.faults sink.old; waiting = writer.old }) result (record { held = K.held sink.new; faults = K.faults sink.new; waiting = writer.new }) (hosts_text (map (λ n. n.now) names.now) hosts.now) }
+    requires { map (λ n. n.now) names.now ≡ string_bytes log.now.host.name ∷ [] }
+    ensures { Writes (record { held = K.held sink.old; faults = K.faults sink.old; waiting = writer.old }) result (record { held = K.held sink.new; faults = K.faults sink.new; waiting = writer.new }) (report (log_in log.now)) }
 {
-    for i in 0..hosts.len() {
-        put_host(writer, sink, names, hosts.item(i))?;
-    }
-    Ok(())
+    write_title(writer, sink, true)?;
+    put_host(writer, sink, names, &log.host)?;
+    put_counts(writer, sink, log)?;
+    write_end(writer, sink, log.ticks)
 }
 
 /// Writes the lines of a host: its name and address, its log, and its flows.
@@ -86,26 +59,13 @@ fn put_host<K: Sink>(
     writer: &mut Writer,
     sink: &mut K,
     names: &[&str],
-    host: &HostRun,
+    run: &HostRun,
 ) -> Result<(), IoFault>
-    ensures { Writes (record { held = K.held sink.old; faults = K.faults sink.old; waiting = writer.old }) result (record { held = K.held sink.new; faults = K.faults sink.new; waiting = writer.new }) (host_text (map (λ n. n.now) names.now) (host_in host.now)) }
+    ensures { Writes (record { held = K.held sink.old; faults = K.faults sink.old; waiting = writer.old }) result (record { held = K.held sink.new; faults = K.faults sink.new; waiting = writer.new }) (host_text (map (λ n. n.now) names.now) (host_in run.now)) }
 {
-    put_name(writer, sink, host.name.as_str(), host.addr)?;
-    write_log(writer, sink, names, host.log.lines())?;
-    put_flows(writer, sink, names, &host.flows)
-}
-
-/// Writes the name and the address of a host.
-fn put_name<K: Sink>(
-    writer: &mut Writer,
-    sink: &mut K,
-    name: &str,
-    addr: u32,
-) -> Result<(), IoFault>
-    ensures { Writes (record { held = K.held sink.old; faults = K.faults sink.old; waiting = writer.old }) result (record { held = K.held sink.new; faults = K.faults sink.new; waiting = writer.new }) (line (codes "host " ++ name.now ++ codes " " ++ addr_text addr)) }
-{
-    let addr = AddrText(addr);
-    writer.put_text(sink, &format_args!("host {name} {addr}\n"))
+    write_host(writer, sink, run.name.as_str(), run.host.params().addr)?;
+    write_log(writer, sink, names, run.host.log().lines())?;
+    put_flows(writer, sink, names, &run.host)
 }
 
 /// Writes the lines of all flows of a host.
@@ -113,34 +73,41 @@ fn put_flows<K: Sink>(
     writer: &mut Writer,
     sink: &mut K,
     names: &[&str],
-    flows: &FlowList,
+    host: &LocalHost,
 ) -> Result<(), IoFault>
-    ensures { Writes (record { held = K.held sink.old; faults = K.faults sink.old; waiting = writer.old }) result (record { held = K.held sink.new; faults = K.faults sink.new; waiting = writer.new }) (flows_text (map (λ n. n.now) names.now) 0 flows.now) }
+    ensures { Writes (record { held = K.held sink.old; faults = K.faults sink.old; waiting = writer.old }) result (record { held = K.held sink.new; faults = K.faults sink.new; waiting = writer.new }) (flows_text (map (λ n. n.now) names.now) 0 (flows_of host.now.flows)) }
 {
-    for i in 0..flows.len() {
-        write_flow(writer, sink, names, i as u32, flows.item(i))?;
+    for i in 0..host.flow_count() {
+        put_flow(writer, sink, names, i, host.flow(i))?;
     }
     Ok(())
 }
 
-/// Writes the counts of a replay.
-fn put_counts<K: Sink>(writer: &mut Writer, sink: &mut K, log: &RunLog) -> Result<(), IoFault>
-    ensures { Writes (record { held = K.held sink.old; faults = K.faults sink.old; waiting = writer.old }) result (record { held = K.held sink.new; faults = K.faults sink.new; waiting = writer.new }) (if log.now.replay then counts_text (log_in log.now) else []) }
+/// Writes the lines of one flow. More flows than a u32 counts are more than memory holds.
+fn put_flow<K: Sink>(
+    writer: &mut Writer,
+    sink: &mut K,
+    names: &[&str],
+    i: usize,
+    flow: &FlowRecord,
+) -> Result<(), IoFault>
+    ensures { Writes (record { held = K.held sink.old; faults = K.faults sink.old; waiting = writer.old }) result (record { held = K.held sink.new; faults = K.faults sink.new; waiting = writer.new }) (flow_lines (map (λ n. n.now) names.now) i (flow_in flow.now)) }
 {
-    if !log.replay {
-        return Ok(());
+    match u32::try_from(i) {
+        Ok(number) => write_flow(writer, sink, names, number, flow),
+        Err(_) => Err(IoFault::OutOfMemory),
     }
-    let (records, frames) = (log.records, log.frames);
-    let (passed, refused) = (log.passed, log.refused);
-    writer.put_text(
-        sink,
-        &format_args!("records {records} frames {frames} passed {passed} refused {refused}\n"),
-    )
 }
 
-/// Writes how many ticks there were.
-fn put_end<K: Sink>(writer: &mut Writer, sink: &mut K, ticks: u32) -> Result<(), IoFault>
-    ensures { Writes (record { held = K.held sink.old; faults = K.faults sink.old; waiting = writer.old }) result (record { held = K.held sink.new; faults = K.faults sink.new; waiting = writer.new }) (line (codes "end " ++ decimal ticks ++ codes " ticks")) }
+/// Writes the counts of a replay.
+fn put_counts<K: Sink>(writer: &mut Writer, sink: &mut K, log: &RunLog) -> Result<(), IoFault>
+    ensures { Writes (record { held = K.held sink.old; faults = K.faults sink.old; waiting = writer.old }) result (record { held = K.held sink.new; faults = K.faults sink.new; waiting = writer.new }) (counts_text (log_in log.now)) }
 {
-    writer.put_text(sink, &format_args!("end {ticks} ticks\n"))
+    let counts = Counts {
+        records: u64::from(log.records),
+        frames: u64::from(log.frames),
+        passed: u64::from(log.passed),
+        refused: u64::from(log.refused),
+    };
+    write_counts(writer, sink, counts)
 }

@@ -1,0 +1,125 @@
+ghost use Rattle.std.specs.Prelude.{◌≡◌, ℕ, ◌≤◌, List, length, map, Ok, IfOk, IfErr};
+ghost use Rattle.tas_runs.specs.Batches.{batches_of};
+ghost use Rattle.tas_runs.specs.Replays.{at_start};
+ghost use Rattle.tas_runs.specs.SerialOrder.{serial_replay, serial_log, serial_ticks};
+ghost use Rattle.capture_items.specs.Items.{item_in};
+ghost use Rattle.capture_items.specs.Numbers.{AreNumbersOf};
+ghost use Rattle.tas_round.specs.Runs.{log_in, Ended, Refuses};
+ghost use Rattle.tas_round.specs.declared.replaying.Mode.{Mode};
+
+use crate::run::{HostRun, RunLog};
+use capture_items::{FirstNumbers, Found, InputFault, Item, find_items, next_batch};
+use local_host::LocalHost;
+use pcap_frames::PcapRefused;
+use std::alloc::{AllocError, Global};
+use std::sync::Wait;
+use std::thread::Threads;
+use tas_num::Gate;
+
+/// Who does the work of a run.
+#[derive(Clone, Copy, PartialEq, Eq, Debug)]
+pub enum Mode {
+    /// One thread, in serial order.
+    Serial,
+    /// So many cores, from 1 to 16. They are not built yet.
+    Cores(u32),
+}
+
+/// Why a capture was not replayed.
+#[derive(Clone, Copy, PartialEq, Eq, Debug)]
+pub enum ReplayFault {
+    /// There was no memory.
+    OutOfMemory,
+    /// The bytes are no capture.
+    Pcap(PcapRefused),
+}
+
+impl From<AllocError> for ReplayFault {
+    ghost use Rattle.tas_round.specs.declared.replaying.ReplayFault.{ReplayFault};
+
+    ghost from_gives = { λ _ fault. fault ≡ ReplayFault.OutOfMemory };
+
+    fn from(_: AllocError) -> ReplayFault {
+        ReplayFault::OutOfMemory
+    }
+}
+
+/// A host after its last tick, and how many ticks there were.
+#[derive(Drop)]
+pub struct Ending {
+    pub host: LocalHost,
+    pub ticks: u32,
+}
+
+/// Replays a capture on the host with the address `local`, tick by tick in serial order. With `loose` no checksum of a frame is looked at.
+pub fn replay<R: Threads + Wait + Sync, G: Gate>(
+    _rt: &R,
+    alloc: Global,
+    local: u32,
+    capture: &[u8],
+    loose: bool,
+    mode: Mode,
+    _gate: &G,
+) -> Result<RunLog, ReplayFault>
+    requires small { length capture.now ≤ 67108864 }
+    requires serial { mode ≡ Mode.Serial }
+    ensures log { IfOk result (λ log. serial_replay local capture.now loose ≡ Ok (log_in log)) }
+    ensures refused { IfErr result (Refuses capture.now) }
+{
+    let found = match find_items(alloc, capture, local, loose) {
+        Ok(found) => found,
+        Err(InputFault::Refused(fault)) => return Err(ReplayFault::Pcap(fault)),
+        Err(InputFault::OutOfMemory) => return Err(ReplayFault::OutOfMemory),
+    };
+    let numbers = FirstNumbers::of_items(alloc, &found.items)?;
+    let ending = run_batches(alloc, local, &found.items, &numbers)?;
+    let log = log_of(alloc, &found, ending)?;
+    Ok(log)
+}
+
+/// The host after all batches of these items.
+fn run_batches(
+    alloc: Global,
+    local: u32,
+    items: &[Item<'_>],
+    numbers: &FirstNumbers,
+) -> Result<Ending, AllocError>
+    requires numbers { AreNumbersOf (map item_in items.now) numbers.now }
+    requires few { length items.now ≤ 4194304 }
+    ensures { IfOk result (Ended local (map item_in items.now)) }
+{
+    let mut host = LocalHost::at_start(alloc, local);
+    let mut at = 0;
+    let mut tick = 0;
+    while at < items.len() {
+        let rest = &items[at..];
+        let count = next_batch(rest);
+        host.play(tick, &rest[..count], numbers)?;
+        at += count;
+        tick += 1;
+    }
+    Ok(Ending { host, ticks: tick })
+}
+
+/// The log of a replay with this ending.
+fn log_of(
+    alloc: Global,
+    found: &Found<'_>,
+    ending: Ending,
+) -> Result<RunLog, AllocError>
+    requires few { length found.now.items.items ≤ found.now.records }
+    ensures { (local : ℕ) → Ended local (map item_in found.now.items.items) ending → IfOk result (λ log. log_in log ≡ serial_log local found.now.records (map item_in found.now.items.items)) }
+{
+    let counts = found.counts();
+    Ok(RunLog {
+        host: HostRun {
+            name: String::from_str(alloc, "local")?,
+            host: ending.host,
+        },
+        ticks: ending.ticks,
+        records: counts.records,
+        frames: counts.frames,
+        passed: counts.passed,
+        refused: counts.refused,
+    })
+}
