@@ -5,3 +5,4 @@ pub mod Sent
 pub mod Emitting
 pub mod Places
 pub mod Hosting
+pub mod Indexing

@@ -1,5 +1,7 @@
-ghost use Rattle.std.specs.Prelude.{◌≡◌, ℕ, ◌<◌, ◌+◌, ◌++◌, ◌∷◌, [], length, map, position, slice_get, Some, None, count_by, OnOk, is_some};
+ghost use Rattle.std.specs.Prelude.{true, false, ◌≡◌, ℕ, ◌<◌, ◌+◌, ◌++◌, ◌∷◌, [], length, map, position, slice_get, Some, None, count_by, cond, OnErr, OnOk, is_some};
 ghost use Rattle.std.specs.List.{list_any};
+ghost use Rattle.std.specs.HashMap.{get};
+ghost use Rattle.capture_items.specs.Numbers.{equal_tuple};
 ghost use Rattle.tas_model.specs.declared.entry.Caller.TheVariants.{Slow};
 ghost use Rattle.flow_state.specs.Calls.{seg_of};
 ghost use Rattle.tas_runs.specs.Records.{Content, is_remote};
@@ -13,13 +15,24 @@ use crate::live::LiveFlow;
 use flow_state::FlowRecord;
 use segment_fields::Segment;
 use std::alloc::{AllocError, Global};
+use std::collections::HashMap;
 use std::marker::Model;
 use tas_model::{FourTuple, FrameId};
 
-/// The flows of a host, in the order of their opening, filed ones among them.
+/// What is known of the flows of a four-tuple.
+#[derive(Clone, Copy)]
+struct Openings {
+    /// The place of the flow that was opened last.
+    latest: usize,
+    /// How many were opened.
+    count: usize,
+}
+
+/// The flows of a host, in the order of their opening, filed ones among them. A flow is found by its four-tuple without a walk over the others.
 #[derive(Drop)]
 pub struct Flows {
     flows: Vec<LiveFlow>,
+    openings: HashMap<FourTuple, Openings>,
 }
 
 impl Model for Flows {
@@ -28,7 +41,13 @@ impl Model for Flows {
 
     ghost Value = { List Live };
 
+    ghost use Rattle.std.specs.HashMap.{get};
+    ghost use Rattle.capture_items.specs.Numbers.{equal_tuple};
+    ghost use Rattle.local_host.specs.Index.{IsIndex};
+
     ghost view = { λ f. f.flows.items };
+
+    ghost invariant = { λ f. IsIndex (get equal_tuple f.openings) f.flows.items };
 }
 
 impl Flows {
@@ -38,6 +57,7 @@ impl Flows {
     {
         Flows {
             flows: Vec::new(alloc),
+            openings: HashMap::new(alloc),
         }
     }
 
@@ -60,14 +80,22 @@ impl Flows {
     pub fn find(&self, tuple: &FourTuple) -> Option<usize>
         ensures { result ≡ position (is_indexed_as tuple.now) self.now }
     {
-        self.flows.iter().position(|flow| flow.is_indexed_as(tuple))
+        let latest = self.openings.get(tuple)?.latest;
+        if self.flows[latest].is_indexed_as(tuple) {
+            Some(latest)
+        } else {
+            None
+        }
     }
 
     /// How many flows of this four-tuple were opened.
     pub fn opened_as(&self, tuple: &FourTuple) -> usize
         ensures { result ≡ opened_as tuple.now self.now }
     {
-        self.flows.iter().filter(|flow| flow.is_of(tuple)).count()
+        match self.openings.get(tuple) {
+            Some(openings) => openings.count,
+            None => 0,
+        }
     }
 
     /// The lowest free slot of so many.
@@ -100,12 +128,22 @@ impl Flows {
             .count()
     }
 
-    /// A flow was opened. The error is want of memory.
-    pub fn push(&mut self, flow: LiveFlow) -> Result<(), AllocError>
+    /// A flow was opened, where none of its four-tuple is indexed. The error is want of memory.
+    pub fn push(&mut self, tuple: FourTuple, flow: LiveFlow) -> Result<(), AllocError>
+        requires own { flow.flow.tuple ≡ tuple }
+        requires fresh { position (is_indexed_as tuple) self.old ≡ None }
         ensures { OnOk result (self.new ≡ self.old ++ flow ∷ []) }
     {
-        self.flows.push(flow)?;
-        Ok(())
+        self.flows.reserve(1)?;
+        let openings = Openings {
+            latest: self.flows.len(),
+            count: 1 + self.opened_as(&tuple),
+        };
+        note_opening(&mut self.openings, tuple, openings)?;
+        match self.flows.push(flow) {
+            Ok(()) => Ok(()),
+            Err(_) => unreachable!(),
+        }
     }
 
     /// Closed flows leave the index, and their slots where no application holds them.
@@ -119,14 +157,22 @@ impl Flows {
     pub fn pass_time(&mut self, tick: u32) -> Result<(), AllocError>
         ensures { OnOk result (self.new ≡ map (timed Slow tick) self.old) }
     {
-        time_all(&mut self.flows, tick)
+        let done = time_all(&mut self.flows, tick);
+        if done.is_err() {
+            forget(&mut self.flows, &mut self.openings);
+        }
+        done
     }
 
     /// Each flow sends all that may go. The error is want of memory.
     pub fn send_all(&mut self, tick: u32) -> Result<(), AllocError>
         ensures { OnOk result (self.new ≡ map (quieted tick) self.old) }
     {
-        empty_all(&mut self.flows, tick)
+        let done = empty_all(&mut self.flows, tick);
+        if done.is_err() {
+            forget(&mut self.flows, &mut self.openings);
+        }
+        done
     }
 
     /// A segment comes to the flow at place `i`. The error is want of memory.
@@ -140,7 +186,11 @@ impl Flows {
         requires { i < length self.old }
         ensures { OnOk result (self.new ≡ change_at i (received_serially tick frame (seg_of seg.now)) self.old) }
     {
-        self.flows[i].receive(tick, frame, seg)
+        let done = self.flows[i].receive(tick, frame, seg);
+        if done.is_err() {
+            forget(&mut self.flows, &mut self.openings);
+        }
+        done
     }
 
     /// A local segment of the flow at place `i` shows bytes of its stream. The error is want of memory.
@@ -148,7 +198,11 @@ impl Flows {
         requires { i < length self.old }
         ensures { OnOk result (self.new ≡ change_at i (sees (seg_of seg.now)) self.old) }
     {
-        self.flows[i].see(seg)
+        let done = self.flows[i].see(seg);
+        if done.is_err() {
+            forget(&mut self.flows, &mut self.openings);
+        }
+        done
     }
 
     /// The calls that the application makes for a segment of the flow at place `i`. The error is want of memory.
@@ -159,11 +213,38 @@ impl Flows {
         remote: bool,
         resets: bool,
     ) -> Result<(), AllocError>
-        requires { i < length self.old }
+        requires place { i < length self.old }
+        requires apart { remote ≡ true → resets ≡ false }
         ensures { (content : Content) → is_remote content ≡ remote → resets_here content ≡ resets → OnOk result (self.new ≡ change_at i (asked_all tick content) self.old) }
     {
-        self.flows[i].serve(tick, remote, resets)
+        let done = self.flows[i].serve(tick, remote, resets);
+        if done.is_err() {
+            forget(&mut self.flows, &mut self.openings);
+        }
+        done
     }
+}
+
+/// The four-tuple has these openings now. The error is want of memory, and leaves all as it was.
+fn note_opening(
+    openings: &mut HashMap<FourTuple, Openings>,
+    tuple: FourTuple,
+    now: Openings,
+) -> Result<(), AllocError>
+    ensures ok { OnOk result ((q : FourTuple) → get equal_tuple openings.new q ≡ cond (equal_tuple tuple q) (Some now) (get equal_tuple openings.old q)) }
+    ensures err { OnErr result ((q : FourTuple) → get equal_tuple openings.new q ≡ get equal_tuple openings.old q) }
+{
+    openings.insert(tuple, now)?;
+    Ok(())
+}
+
+/// After want of memory no flow is kept.
+fn forget(flows: &mut Vec<LiveFlow>, openings: &mut HashMap<FourTuple, Openings>)
+    ensures flows { flows.new.items ≡ [] }
+    ensures openings { (tuple : FourTuple) → get equal_tuple openings.new tuple ≡ None }
+{
+    flows.clear();
+    openings.clear();
 }
 
 fn sweep_all(flows: &mut Vec<LiveFlow>)

@@ -1,11 +1,11 @@
-ghost use Rattle.std.specs.Prelude.{◌≡◌, Some, slice_get, ◌++◌, ◌∷◌, [], ◌<◌, ◌^◌, length, ◌&&◌, not, map, OnOk, List, IfOk};
+ghost use Rattle.std.specs.Prelude.{true, false, ◌≡◌, Some, None, position, slice_get, ◌++◌, ◌∷◌, [], ◌<◌, ◌^◌, length, ◌&&◌, not, map, OnOk, List, IfOk};
 ghost use Rattle.tas_model.specs.Valid.{InRange};
 ghost use Rattle.tas_model.specs.declared.entry.Caller.TheVariants.{Slow};
 ghost use Rattle.flow_state.specs.Calls.{seg_of};
 ghost use Rattle.tas_runs.specs.declared.log.LogEvent.TheVariants as events;
 ghost use Rattle.tas_runs.specs.Records as model;
 ghost use Rattle.tas_runs.specs.Records.{is_remote};
-ghost use Rattle.tas_runs.specs.Hosts.{Host, logged, changed, is_known, lowest_free, next_generation, flows_of};
+ghost use Rattle.tas_runs.specs.Hosts.{Host, is_indexed_as, logged, changed, is_known, lowest_free, next_generation, flows_of};
 ghost use Rattle.tas_runs.specs.Upkeep.{quieted};
 ghost use Rattle.tas_runs.specs.Deliveries.{next_first_number, record_frame, received_serially, stray_answer, met_listener, opened_by_syn as model_opened_by_syn, opens as model_opens, arrived, delivered_by};
 ghost use Rattle.tas_runs.specs.LocalScript.{began, connected_where, opened_by_connect, connects as model_connects, sees, resets_here};
@@ -191,6 +191,7 @@ impl LocalHost {
         seg: &Segment<'_>,
         numbers: &FirstNumbers,
     ) -> Result<(), AllocError>
+        requires fresh { position (is_indexed_as tuple) self.old.flows ≡ None }
         ensures { (items : List model.Item) → AreNumbersOf items numbers.now → OnOk result (self.new ≡ model_opened_by_syn (lowest_free self.old) items tick self.old frame tuple (seg_of seg.now)) }
     {
         match self.flows.lowest_free(self.params.slots) {
@@ -214,7 +215,7 @@ impl LocalHost {
                     seg,
                     tick,
                 )?;
-                self.flows.push(flow)
+                self.flows.push(tuple, flow)
             }
         }
     }
@@ -226,6 +227,7 @@ impl LocalHost {
         tuple: FourTuple,
         numbers: &FirstNumbers,
     ) -> Result<(), AllocError>
+        requires fresh { position (is_indexed_as tuple) self.old.flows ≡ None }
         ensures { (items : List model.Item) → AreNumbersOf items numbers.now → OnOk result (self.new ≡ opened_by_connect (lowest_free self.old) items tick self.old tuple) }
     {
         match self.flows.lowest_free(self.params.slots) {
@@ -242,7 +244,7 @@ impl LocalHost {
                 let id = self.next_id(slot)?;
                 let iss = self.next_number(tuple, numbers);
                 let flow = LiveFlow::connected(self.alloc, id, tuple, &self.params, iss, tick)?;
-                self.flows.push(flow)
+                self.flows.push(tuple, flow)
             }
         }
     }
@@ -256,6 +258,7 @@ impl LocalHost {
         seg: &Segment<'_>,
         numbers: &FirstNumbers,
     ) -> Result<(), AllocError>
+        requires fresh { position (is_indexed_as tuple) self.old.flows ≡ None }
         ensures { (items : List model.Item) → AreNumbersOf items numbers.now → OnOk result (self.new ≡ met_listener (model_opens (seg_of seg.now)) items tick self.old frame tuple (seg_of seg.now)) }
     {
         if opens(seg) {
@@ -348,6 +351,7 @@ impl LocalHost {
         remote: bool,
         resets: bool,
     ) -> Result<(), AllocError>
+        requires apart { remote ≡ true → resets ≡ false }
         ensures { (content : model.Content) → is_remote content ≡ remote → resets_here content ≡ resets → OnOk result (self.new ≡ changed self.old tuple.now (asked_all tick content)) }
     {
         match self.flows.find(tuple) {
