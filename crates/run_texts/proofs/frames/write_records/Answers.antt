@@ -1,7 +1,7 @@
 use Rattle.std.proofs.Common.{rules, ◌≡◌, [], None, length, slice_get, Some, get_or, refl}
 use Rattle.std.proofs.lemmas.Option.{slice_get-get_or}
 use Rattle.run_texts.specs.declared.frames.Frame.{Frame}
-use Rattle.run_texts.specs.Frames.{frame_record}
+use Rattle.run_texts.specs.Frames.{frame_before}
 use Rattle.run_texts.proofs.Lists.{wrote_more, stopped_among}
 use Rattle.run_texts.proofs.frames.write_records.Goals as goal
 
@@ -12,13 +12,13 @@ pub returns-in_err-write_record : goal.returns-in_err-write_record
 returns-in_err-write_record g c =
     let frames = c.args.frames.now in
     let i = c.loop-frame.frame-index in
-    stopped_among frame_record frames i (get_or frames i no_frame) _ _ _ _ _ _ refl (slice_get-get_or frames i no_frame (search rules)) (search rules) (search rules) c.loop-frame.invariant.writes c.write_record.ensures
+    stopped_among (frame_before c.args.ticks) frames i (get_or frames i no_frame) _ _ _ _ _ _ refl (slice_get-get_or frames i no_frame (search rules)) (search rules) (search rules) c.loop-frame.invariant.writes c.write_record.ensures
 
 pub loop-frame-preserved : goal.loop-frame-preserved
 loop-frame-preserved g c =
     let frames = c.args.frames.now in
     let i = c.loop-frame.frame-index in
     record {
-      writes = wrote_more frame_record frames i (get_or frames i no_frame) _ _ _ _ (slice_get-get_or frames i no_frame (search rules)) c.loop-frame.invariant.writes c.in_ok-write_record.ensures;
+      writes = wrote_more (frame_before c.args.ticks) frames i (get_or frames i no_frame) _ _ _ _ (slice_get-get_or frames i no_frame (search rules)) c.loop-frame.invariant.writes c.in_ok-write_record.ensures;
       room = search rules;
     }
