@@ -3,3 +3,4 @@ pub mod Grouped
 pub mod Lists
 pub mod Packets
 pub mod Ticks
+pub mod Ordered

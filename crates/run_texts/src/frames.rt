@@ -45,7 +45,9 @@ pub fn write_frames<K: Sink>(
     flows: &[FlowRecord],
     log: &[LogLine],
 ) -> Result<(), IoFault>
-    ensures { AreShort (map history_of flows.now) → Writes (record { held = K.held sink.old; faults = K.faults sink.old; waiting = writer.old }) result (record { held = K.held sink.new; faults = K.faults sink.new; waiting = writer.new }) (ticks_from ticks 0 (host_of (map history_of flows.now) log.now ∷ [])) }
+    ensures exact { AreShort (map history_of flows.now) → Writes (record { held = K.held sink.old; faults = K.faults sink.old; waiting = writer.old }) result (record { held = K.held sink.new; faults = K.faults sink.new; waiting = writer.new }) (ticks_from ticks 0 (host_of (map history_of flows.now) log.now ∷ [])) }
+    // Whatever was sent, only records of frames are written.
+    ensures records { (frames : List Frame) × Writes (record { held = K.held sink.old; faults = K.faults sink.old; waiting = writer.old }) result (record { held = K.held sink.new; faults = K.faults sink.new; waiting = writer.new }) (flat_map (frame_before ticks) frames) }
 {
     let frames = match sent_frames(alloc, flows, log) {
         Ok(frames) => frames,
