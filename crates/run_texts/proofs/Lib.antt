@@ -1,3 +1,6 @@
 pub mod Writing
 pub mod Grouped
 pub mod Lists
+pub mod Packets
+pub mod Ticks
+pub mod Ordered

@@ -3,12 +3,14 @@
 
 mod entries;
 mod flows;
+mod frames;
 mod logs;
 mod texts;
 mod whole;
 mod writer;
 
 pub use flows::write_flow;
+pub use frames::{Frame, write_capture_header, write_frames};
 pub use logs::write_log;
 pub use whole::{Counts, write_counts, write_end, write_host, write_title};
 pub use texts::AddrText;

@@ -1,0 +1,94 @@
+-- The frames that a host sent, and their records in a capture.
+use Rattle.std.specs.Prelude.{◌≡◌, ℕ, ◌==◌, ◌≤◌, nat_le, nat_lt, List, [], ◌∷◌, ◌++◌, length, map, filter, flat_map, option_to_list, Option, Some, None, ⊤, if◌then◌else◌}
+use Rattle.tas_num.specs.Captures.{record_bytes}
+use Rattle.segment_fields.specs.Canon.{canon}
+use Rattle.tas_model.specs.declared.entry.FourTuple.{FourTuple}
+use Rattle.tas_model.specs.declared.entry.Seg.{Seg}
+use Rattle.tas_model.specs.declared.entry.Entry.{Entry}
+use Rattle.tas_model.specs.Segments.{bare}
+use Rattle.tas_model.specs.Outputs.{segments_in, sent}
+use Rattle.flow_state.specs.declared.view.SegView.{SegView}
+use Rattle.flow_state.specs.Flow as states
+use Rattle.flow_state.specs.Views.{seen_seg}
+use Rattle.tas_runs.specs.declared.log.LogLine.{LogLine}
+use Rattle.tas_runs.specs.declared.log.LogEvent.{LogEvent}
+use Rattle.tas_runs.specs.declared.log.LogEvent.TheVariants as events
+use Rattle.tas_runs.specs.Logs.{Flow, HostRun}
+use Rattle.tas_runs.specs.SentFrames.{sent_fields}
+use Rattle.run_texts.specs.declared.frames.Frame.{Frame}
+
+-- ----- a frame
+-- a segment that the local end of a four-tuple sent in a tick
+pub record Sent : Type 0 where
+  pub tick : ℕ
+  pub tuple : FourTuple
+  pub seg : Seg
+
+abbrev pub seen_frame : Frame → Sent
+seen_frame f = record { tick = f.tick; tuple = f.tuple; seg = seen_seg f.seg }
+
+-- The record of a segment. One is left out that has more bytes than a packet has room for.
+abbrev pub segment_record : (tick : ℕ) → FourTuple → Seg → List ℕ
+segment_record t tuple seg = if nat_le (length seg.bytes) 65491 then record_bytes t (canon (sent_fields tuple seg)) else []
+
+abbrev pub sent_record : Sent → List ℕ
+sent_record s = segment_record s.tick s.tuple s.seg
+
+-- the same, where it was sent in the first ticks
+abbrev pub frame_before : (ticks : ℕ) → Frame → List ℕ
+frame_before ticks f = if nat_lt f.tick ticks then sent_record (seen_frame f) else []
+
+-- ----- what was sent
+abbrev pub segments_of : Option SegView → List Seg
+segments_of seg = map seen_seg (option_to_list seg)
+
+abbrev pub frames_in : (tick : ℕ) → FourTuple → List Seg → List Sent
+frames_in t tuple segs = map (λ (s : Seg). record { tick = t; tuple = tuple; seg = s }) segs
+
+-- those of a flow
+abbrev pub entry_frames : FourTuple → Entry → List Sent
+entry_frames tuple x = frames_in x.tick tuple (segments_in x.reply)
+
+abbrev pub flow_frames : Flow → List Sent
+flow_frames f = flat_map (entry_frames f.tuple) f.entries
+
+-- the answer to a segment of no flow
+abbrev pub event_frames : (tick : ℕ) → LogEvent → List Sent
+event_frames t (events.Stray frame tuple seg answer) = frames_in t tuple (map bare (option_to_list answer))
+event_frames t _ = []
+
+abbrev pub answer_frames : LogLine → List Sent
+answer_frames l = event_frames l.tick l.event
+
+-- all of a host: those of its flows, and then those of no flow
+abbrev pub all_frames : List Flow → List LogLine → List Sent
+all_frames flows log = flat_map flow_frames flows ++ flat_map answer_frames log
+
+-- ----- as the definitions of runs have them
+-- the flow that a record is of
+abbrev pub history_of : states.Flow → Flow
+history_of f = record { id = f.id; tuple = f.tuple; params = f.params; entries = f.entries }
+
+-- a host with these flows and this log
+abbrev pub host_of : List Flow → List LogLine → HostRun
+host_of flows log = record { name = []; addr = 0; log = log; flows = flows }
+
+-- each segment that a flow sent has room in a packet
+abbrev pub AreAllShort : List Seg → Type 0
+AreAllShort [] = ⊤
+AreAllShort (s ∷ ss) = (length s.bytes ≤ 65491) × AreAllShort ss
+
+abbrev pub AreShort : List Flow → Type 0
+AreShort [] = ⊤
+AreShort (f ∷ fs) = AreAllShort (sent f.entries) × AreShort fs
+
+-- ----- their order
+-- the ticks don't fall
+abbrev pub Rises : (low : ℕ) → List Sent → Type 0
+Rises low [] = ⊤
+Rises low (s ∷ ss) = (low ≤ s.tick) × Rises s.tick ss
+
+-- the frames by their ticks, those of one tick in the order that they had
+pub record IsInOrder (all : List Sent) (frames : List Frame) : Type 0 where
+  pub rises : Rises 0 (map seen_frame frames)
+  pub same : (t : ℕ) → filter (λ (s : Sent). s.tick == t) (map seen_frame frames) ≡ filter (λ (s : Sent). s.tick == t) all

@@ -1,0 +1,258 @@
+ghost use Rattle.std.specs.Prelude.{◌≡◌, ℕ, ◌≤◌, ◌++◌, ◌∷◌, [], List, length, map, flat_map, option_to_list, IfOk, OnOk};
+ghost use Rattle.tas_num.specs.Captures.{file_header, record_head, record_bytes};
+ghost use Rattle.tas_runs.specs.SentFrames.{ticks_from};
+ghost use Rattle.tas_model.specs.Segments.{bare as bare_of};
+ghost use Rattle.tas_model.specs.Outputs.{segments_in};
+ghost use Rattle.flow_state.specs.Views.{seen_seg, seen_reply, seen_entry};
+ghost use Rattle.run_texts.specs.Frames.{frame_before, seen_frame, segments_of, frames_in, entry_frames, flow_frames, answer_frames, all_frames, history_of, host_of, AreShort, IsInOrder};
+ghost use Rattle.run_texts.specs.Writes.{Stand, Writes};
+
+use crate::writer::Writer;
+use flow_state::{EntryView, FlowRecord, ReplyView, SegView};
+use pcap_frames::{write_header, write_record_head};
+use segment_fields::{Flags, Segment, write};
+use std::alloc::{AllocError, Global};
+use tas_model::{FourTuple, Head};
+use tas_num::{IoFault, Sink};
+use tas_runs::{LogEvent, LogLine};
+
+/// How many bytes of payload a packet has room for: 65,535 less its headers with an MSS option.
+const MOST_PAYLOAD: usize = 65491;
+
+/// A segment that was sent: in which tick, and between which ends.
+#[derive(Clone, Copy, Debug)]
+pub struct Frame<'a> {
+    pub tick: u32,
+    pub tuple: FourTuple,
+    pub seg: SegView<'a>,
+}
+
+/// Writes the header of a capture.
+pub fn write_capture_header<K: Sink>(writer: &mut Writer, sink: &mut K) -> Result<(), IoFault>
+    ensures { Writes (record { held = K.held sink.old; faults = K.faults sink.old; waiting = writer.old }) result (record { held = K.held sink.new; faults = K.faults sink.new; waiting = writer.new }) file_header }
+{
+    let mut header = [0; 24];
+    write_header(&mut header);
+    writer.put(sink, &header)
+}
+
+/// Writes the frames that were sent in the first `ticks` ticks, as records of a capture: tick by tick, those of the flows in their order, then the answers to segments of no flow.
+pub fn write_frames<K: Sink>(
+    alloc: Global,
+    writer: &mut Writer,
+    sink: &mut K,
+    ticks: u32,
+    flows: &[FlowRecord],
+    log: &[LogLine],
+) -> Result<(), IoFault>
+    ensures exact { AreShort (map history_of flows.now) → Writes (record { held = K.held sink.old; faults = K.faults sink.old; waiting = writer.old }) result (record { held = K.held sink.new; faults = K.faults sink.new; waiting = writer.new }) (ticks_from ticks 0 (host_of (map history_of flows.now) log.now ∷ [])) }
+    // Whatever was sent, only records of frames are written.
+    ensures records { (frames : List Frame) × Writes (record { held = K.held sink.old; faults = K.faults sink.old; waiting = writer.old }) result (record { held = K.held sink.new; faults = K.faults sink.new; waiting = writer.new }) (flat_map (frame_before ticks) frames) }
+{
+    let frames = match sent_frames(alloc, flows, log) {
+        Ok(frames) => frames,
+        Err(_) => return Err(IoFault::OutOfMemory),
+    };
+    let mut packet = match Vec::from_elem(alloc, 0, 65535) {
+        Ok(packet) => packet,
+        Err(_) => return Err(IoFault::OutOfMemory),
+    };
+    write_records(writer, sink, &mut packet, ticks, &frames)
+}
+
+/// The frames that were sent in the first `ticks` ticks, by their tick.
+fn sent_frames<'a>(
+    alloc: Global,
+    flows: &'a [FlowRecord],
+    log: &'a [LogLine],
+) -> Result<Vec<Frame<'a>>, AllocError>
+    ensures { IfOk result (λ frames. IsInOrder (all_frames (map history_of flows.now) log.now) frames.items) }
+{
+    let mut frames = Vec::new(alloc);
+    add_flows(&mut frames, flows)?;
+    add_answers(&mut frames, log)?;
+    frames.sort_by_key(|frame| frame.tick)?;
+    Ok(frames)
+}
+
+/// Adds the segments that the flows sent.
+fn add_flows<'a>(frames: &mut Vec<Frame<'a>>, flows: &'a [FlowRecord]) -> Result<(), AllocError>
+    ensures { OnOk result (map seen_frame frames.new.items ≡ map seen_frame frames.old.items ++ flat_map flow_frames (map history_of flows.now)) }
+{
+    for flow in flows {
+        add_flow(frames, flow)?;
+    }
+    Ok(())
+}
+
+/// Adds the segments that a flow sent.
+fn add_flow<'a>(frames: &mut Vec<Frame<'a>>, flow: &'a FlowRecord) -> Result<(), AllocError>
+    ensures { OnOk result (map seen_frame frames.new.items ≡ map seen_frame frames.old.items ++ flow_frames (history_of flow.now)) }
+{
+    for i in 0..flow.entries() {
+        add_entry(frames, flow.tuple(), flow.entry(i))?;
+    }
+    Ok(())
+}
+
+/// Adds the segment of an entry, where it has one.
+fn add_entry<'a>(
+    frames: &mut Vec<Frame<'a>>,
+    tuple: FourTuple,
+    entry: EntryView<'a>,
+) -> Result<(), AllocError>
+    ensures { OnOk result (map seen_frame frames.new.items ≡ map seen_frame frames.old.items ++ entry_frames tuple (seen_entry entry.entry)) }
+{
+    add_segment(frames, entry.tick, tuple, segment_in(entry.reply))
+}
+
+/// Adds the answers that segments of no flow got.
+fn add_answers<'a>(frames: &mut Vec<Frame<'a>>, log: &'a [LogLine]) -> Result<(), AllocError>
+    ensures { OnOk result (map seen_frame frames.new.items ≡ map seen_frame frames.old.items ++ flat_map answer_frames log.now) }
+{
+    for entry in log {
+        add_answer(frames, entry)?;
+    }
+    Ok(())
+}
+
+/// Adds the answer that a segment of no flow got, where the line is of one.
+fn add_answer<'a>(frames: &mut Vec<Frame<'a>>, entry: &LogLine) -> Result<(), AllocError>
+    ensures { OnOk result (map seen_frame frames.new.items ≡ map seen_frame frames.old.items ++ answer_frames entry.now) }
+{
+    match &entry.event {
+        LogEvent::Stray { tuple, answer, .. } => add_segment(
+            frames,
+            entry.tick,
+            *tuple,
+            answer_in(*answer),
+        ),
+        _ => Ok(()),
+    }
+}
+
+/// Adds a segment, where there is one.
+fn add_segment<'a>(
+    frames: &mut Vec<Frame<'a>>,
+    tick: u32,
+    tuple: FourTuple,
+    seg: Option<SegView<'a>>,
+) -> Result<(), AllocError>
+    ensures { OnOk result (map seen_frame frames.new.items ≡ map seen_frame frames.old.items ++ frames_in tick tuple (segments_of seg.entry)) }
+{
+    match seg {
+        Some(seg) => match frames.push(Frame { tick, tuple, seg }) {
+            Ok(()) => Ok(()),
+            Err(_) => Err(AllocError),
+        },
+        None => Ok(()),
+    }
+}
+
+/// The segment of a reply: the one that is sent, or the update of a Recv.
+fn segment_in<'a>(reply: ReplyView<'a>) -> Option<SegView<'a>>
+    ensures { segments_of result ≡ segments_in (seen_reply reply.entry) }
+{
+    match reply {
+        ReplyView::Sent { seg } => Some(seg),
+        ReplyView::Got {
+            update: Some(head),
+            ..
+        } => Some(bare(head)),
+        _ => None,
+    }
+}
+
+/// An answer as a segment.
+fn answer_in(answer: Option<Head>) -> Option<SegView<'static>>
+    ensures { segments_of result ≡ map bare_of (option_to_list answer) }
+{
+    match answer {
+        Some(head) => Some(bare(head)),
+        None => None,
+    }
+}
+
+/// A segment with no payload.
+fn bare(head: Head) -> SegView<'static>
+    ensures { seen_seg result ≡ bare_of head }
+{
+    SegView { head, bytes: &[] }
+}
+
+/// Writes a record for each frame.
+fn write_records<K: Sink>(
+    writer: &mut Writer,
+    sink: &mut K,
+    packet: &mut [u8],
+    ticks: u32,
+    frames: &[Frame<'_>],
+) -> Result<(), IoFault>
+    requires { length packet.old ≡ 65535 }
+    ensures { Writes (record { held = K.held sink.old; faults = K.faults sink.old; waiting = writer.old }) result (record { held = K.held sink.new; faults = K.faults sink.new; waiting = writer.new }) (flat_map (frame_before ticks) frames.now) }
+{
+    for frame in frames {
+        write_record(writer, sink, packet, ticks, frame)?;
+    }
+    Ok(())
+}
+
+/// Writes a frame as a record.
+fn write_record<K: Sink>(
+    writer: &mut Writer,
+    sink: &mut K,
+    packet: &mut [u8],
+    ticks: u32,
+    frame: &Frame<'_>,
+) -> Result<(), IoFault>
+    requires { length packet.old ≡ 65535 }
+    ensures { Writes (record { held = K.held sink.old; faults = K.faults sink.old; waiting = writer.old }) result (record { held = K.held sink.new; faults = K.faults sink.new; waiting = writer.new }) (frame_before ticks frame.now) }
+{
+    let seg = Segment {
+        src: frame.tuple.laddr,
+        dst: frame.tuple.raddr,
+        sport: frame.tuple.lport,
+        dport: frame.tuple.rport,
+        seq: frame.seg.head.seq,
+        ack: frame.seg.head.ack,
+        flags: Flags(frame.seg.head.flags),
+        window: frame.seg.head.window,
+        mss: frame.seg.head.mss,
+        payload: frame.seg.bytes,
+    };
+    if frame.tick >= ticks || seg.payload.len() > MOST_PAYLOAD {
+        return Ok(());
+    }
+    match write(&seg, packet) {
+        Ok(len) => write_packet(writer, sink, frame.tick, &packet[..len]),
+        Err(_) => unreachable!(),
+    }
+}
+
+/// Writes a packet as a record.
+fn write_packet<K: Sink>(
+    writer: &mut Writer,
+    sink: &mut K,
+    tick: u32,
+    packet: &[u8],
+) -> Result<(), IoFault>
+    requires { length packet.now ≤ 65535 }
+    ensures { Writes (record { held = K.held sink.old; faults = K.faults sink.old; waiting = writer.old }) result (record { held = K.held sink.new; faults = K.faults sink.new; waiting = writer.new }) (record_bytes tick packet.now) }
+{
+    write_head(writer, sink, tick, packet.len() as u32)?;
+    writer.put(sink, packet)
+}
+
+/// Writes what stands before a packet of so many bytes.
+fn write_head<K: Sink>(
+    writer: &mut Writer,
+    sink: &mut K,
+    tick: u32,
+    len: u32,
+) -> Result<(), IoFault>
+    ensures { Writes (record { held = K.held sink.old; faults = K.faults sink.old; waiting = writer.old }) result (record { held = K.held sink.new; faults = K.faults sink.new; waiting = writer.new }) (record_head tick len) }
+{
+    let mut head = [0; 16];
+    write_record_head(tick, len, &mut head);
+    writer.put(sink, &head)
+}
