@@ -13,7 +13,6 @@ pub use flows::write_flow;
 pub use frames::{Frame, write_capture_header, write_frames};
 pub use logs::write_log;
 pub use whole::{Counts, write_counts, write_end, write_host, write_title};
-pub use texts::AddrText;
 pub use writer::Writer;
 
 #[cfg(test)]

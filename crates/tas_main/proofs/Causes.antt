@@ -1,17 +1,88 @@
--- From what the parts of the program found to the causes of its answers.
-use Rattle.std.proofs.Common.{◌≡◌, ◌⊎◌, inl, inr, ℕ, List, Option, Some, None, Ok, IfSome, false, subst, refl}
+-- From what the parts of the program found to what the program promises.
+use Rattle.std.proofs.Common.{◌≡◌, ◌⊎◌, inl, inr, ℕ, ◌<◌, ◌≤◌, List, length, Bool, true, false, Option, Some, None, Result, Ok, Err, IfOk, IfSome, subst, refl, sym, ◌∙◌, arith}
+use Rattle.std.specs.Io.KnownBytes.{Appends, Keeps}
 use Rattle.std.specs.Net.Addr.{ipv4_bits}
-use Rattle.std.specs.declared.net.ipv4_addr.Ipv4Addr.{Ipv4Addr}
-use Rattle.tas_num.specs.Captures.{Capture, capture_of}
-use Rattle.tas_main.specs.Words.{IsReplay}
-use Rattle.tas_main.specs.FirstPath.{is_upload}
-use Rattle.tas_main.specs.Stops.{IsNotBuilt, IsNoUpload}
+use Rattle.tas_num.specs.Captures.{Capture, Fault, capture_of}
+use Rattle.tas_runs.specs.Logs.{RunLog}
+use Rattle.tas_runs.specs.Replays.{Replay}
+use Rattle.tas_runs.specs.SerialOrder.{serial_replay}
+use Rattle.tas_runs.specs.Report.{report}
+use Rattle.tas_runs.proofs.SerialRounds.{serial_is_replay}
+use Rattle.tas_runs.proofs.Runs.{replays_sound}
+use Rattle.tas_round.specs.Fronts.{AppendsFront}
+use Rattle.tas_main.specs.declared.stop.Stop.{Stop}
+use Rattle.tas_main.specs.declared.stop.Stop.TheVariants.{Input, Read, Write, Memory, TooLong, NotBuilt}
+use Rattle.tas_main.specs.Words.{Request, IsReplay}
+use Rattle.tas_main.specs.Stops.{Given, Cause, IsNoCapture, status_of, writes_nothing}
+use Rattle.tas_main.specs.Outputs.{IsRun, IsWhole}
 
 -- a fact of all that was read is one of the input, where that is told
 pub of_input : (input : Option (List ℕ)) (b : List ℕ) (P : List ℕ → Type 0) → IfSome input (λ bytes. b ≡ bytes) → P b → IfSome input P
 of_input None b P same fact = tt
 of_input (Some bytes) b P same fact = subst P same fact
 
-pub not_upload : (words : List (List ℕ)) (input : Option (List ℕ)) (address : Ipv4Addr) (b : List ℕ) (capture : Capture) → IsReplay words address → IfSome input (λ bytes. b ≡ bytes) → capture_of b ≡ Ok capture
-    → is_upload (ipv4_bits address) capture ≡ false → IsNotBuilt words input
-not_upload words input address b capture replay same read none = inr (address, replay, of_input input b (λ (bytes : List ℕ). IsNoUpload bytes address) same (capture, read, none))
+-- a fact of any input
+pub of_any : (input : Option (List ℕ)) (P : List ℕ → Type 0) → ((b : List ℕ) → P b) → IfSome input P
+of_any None P fact = tt
+of_any (Some bytes) P fact = fact bytes
+
+told : (input : Option (List ℕ)) (b : List ℕ) (P : List ℕ → Type 0) → input ≡ Some b → IfSome input P → P b
+told input b P e fact = subst (λ (i : Option (List ℕ)). IfSome i P) e fact
+
+-- ----- the run
+of_ok : (r : Result RunLog Fault) (P : RunLog → Type 0) (log : RunLog) → r ≡ Ok log → IfOk r P → P log
+of_ok r P log e fact = subst (λ (x : Result RunLog Fault). IfOk x P) e fact
+
+pub is_run : (words : List (List ℕ)) (b : List ℕ) (r : Request) (log : RunLog) → IsReplay words r → serial_replay (ipv4_bits r.local) b r.loose ≡ Ok log → IsRun words b r log
+is_run words b r log asked serial =
+    let run : Replay (ipv4_bits r.local) b r.loose log = of_ok (serial_replay (ipv4_bits r.local) b r.loose) (λ (l : RunLog). Replay (ipv4_bits r.local) b r.loose l) log serial (serial_is_replay (ipv4_bits r.local) b r.loose) in
+    record { asked = asked; serial = serial; run = run; sound = replays_sound (ipv4_bits r.local) b r.loose log run }
+
+pub writes_all : (words : List (List ℕ)) (input : Option (List ℕ)) (b : List ℕ) (r : Request) (log : RunLog) (old new : Option (List ℕ)) → IfSome input (λ bytes. b ≡ bytes) → IsReplay words r
+    → serial_replay (ipv4_bits r.local) b r.loose ≡ Ok log → Appends old new (report log) → IfSome input (λ bytes. (r : Request) × (log : RunLog) × IsRun words bytes r log × Appends old new (report log))
+writes_all words input b r log old new same asked serial grown =
+    of_input input b (λ (bytes : List ℕ). (r : Request) × (log : RunLog) × IsRun words bytes r log × Appends old new (report log)) same (r, log, is_run words b r log asked serial, grown)
+
+pub writes_front : (words : List (List ℕ)) (input : Option (List ℕ)) (b : List ℕ) (r : Request) (log : RunLog) (old new : Option (List ℕ)) → IfSome input (λ bytes. b ≡ bytes) → IsReplay words r
+    → serial_replay (ipv4_bits r.local) b r.loose ≡ Ok log → AppendsFront old new (report log) → IfSome input (λ bytes. Keeps old new ⊎ ((r : Request) × (log : RunLog) × IsRun words bytes r log × AppendsFront old new (report log)))
+writes_front words input b r log old new same asked serial grown =
+    of_input input b (λ (bytes : List ℕ). Keeps old new ⊎ ((r : Request) × (log : RunLog) × IsRun words bytes r log × AppendsFront old new (report log))) same (inr (r, log, is_run words b r log asked serial, grown))
+
+pub writes_none : (words : List (List ℕ)) (input : Option (List ℕ)) (old new : Option (List ℕ)) → Keeps old new → IfSome input (λ bytes. Keeps old new ⊎ ((r : Request) × (log : RunLog) × IsRun words bytes r log × AppendsFront old new (report log)))
+writes_none words input old new kept = of_any input (λ (bytes : List ℕ). Keeps old new ⊎ ((r : Request) × (log : RunLog) × IsRun words bytes r log × AppendsFront old new (report log))) (λ b. inl kept)
+
+-- ----- the status
+pub never_zero : (stop : Stop) (P : Type 0) → status_of stop ≡ 0 → P
+never_zero (Input number) P e = absurd (omega (arith, e))
+never_zero Read P e = absurd (omega (arith, e))
+never_zero Write P e = absurd (omega (arith, e))
+never_zero Memory P e = absurd (omega (arith, e))
+never_zero TooLong P e = absurd (omega (arith, e))
+never_zero NotBuilt P e = absurd (omega (arith, e))
+
+abbrev pub EndsEarly : ℕ → Type 0
+EndsEarly status = (status ≡ 3) ⊎ ((status ≡ 4) ⊎ ((status ≡ 7) ⊎ (status ≡ 8)))
+
+not_early : (n : ℕ) → (n ≡ 5) ⊎ (n ≡ 6) → EndsEarly n → ⊥
+not_early n five early = omega (arith, five, early)
+
+pub early_writes_nothing : (stop : Stop) (P : Type 0) → (writes_nothing stop ≡ true → P) → EndsEarly (status_of stop) → P
+early_writes_nothing (Input number) P f early = f refl
+early_writes_nothing Read P f early = f refl
+early_writes_nothing Write P f early = absurd (not_early 5 (inl refl) early)
+early_writes_nothing Memory P f early = absurd (not_early 6 (inr refl) early)
+early_writes_nothing TooLong P f early = f refl
+early_writes_nothing NotBuilt P f early = f refl
+
+no_fault : (b : List ℕ) (number : ℕ) (c : Capture) → capture_of b ≡ Ok c → IsNoCapture b number → ⊥
+no_fault b number c e none = absurd (cc (e, none.1.0))
+
+pub whole_ends_well : (g : Given) (stop : Stop) → Cause g stop → IsWhole g → (status_of stop ≡ 0) ⊎ (status_of stop ≡ 6)
+whole_ends_well g (Input number) cause w = absurd (no_fault w.input number w.found w.reads (told g.input w.input (λ (b : List ℕ). IsNoCapture b number) w.told cause))
+whole_ends_well g Read cause w = absurd (w.read cause)
+whole_ends_well g Write cause w = absurd (w.written cause)
+whole_ends_well g Memory cause w = inr refl
+whole_ends_well g TooLong cause w =
+    let long = told g.input w.input (λ (b : List ℕ). 67108864 < length b) w.told cause in
+    absurd (omega (arith, long, w.short))
+whole_ends_well g NotBuilt cause w = absurd (cause w.request w.asked)

@@ -1,5 +1,5 @@
 -- What the program writes.
-use Rattle.std.specs.Prelude.{◌≡◌, ◌⊎◌, ℕ, ◌++◌, ◌≤◌, List, length, Option, Some, Ok, IfSome, if◌then◌else◌}
+use Rattle.std.specs.Prelude.{◌≡◌, ◌⊎◌, ℕ, ◌≤◌, List, length, Option, Some, Ok, IfSome}
 use Rattle.std.specs.Io.KnownBytes.{Appends, Keeps}
 use Rattle.std.specs.Net.Addr.{ipv4_bits}
 use Rattle.tas_num.specs.Captures.{Capture, capture_of}
@@ -10,13 +10,9 @@ use Rattle.tas_runs.specs.Replays.{Replay}
 use Rattle.tas_runs.specs.SerialOrder.{serial_replay}
 use Rattle.tas_runs.specs.Histories.{IsSound}
 use Rattle.tas_runs.specs.Report.{report}
-use Rattle.tas_runs.specs.SentFrames.{capture}
+use Rattle.tas_round.specs.Fronts.{AppendsFront}
 use Rattle.tas_main.specs.Words.{Request, IsReplay}
 use Rattle.tas_main.specs.Stops.{Given, most_bytes}
-
--- the text of a run that was asked for: its report, or the capture of the frames sent
-abbrev pub text_of : Request → RunLog → List ℕ
-text_of r log = if r.pcap then capture log else report log
 
 -- The log is that of the replay which the words ask for, of all bytes of the input. It is the one in serial order; it is a run of its capture, each frame that comes and each call
 -- of the local script in it once; and each flow in it is sound: it has a history of the endpoint, has read a prefix of every one stream that its peer may have sent, and acknowledged
@@ -27,17 +23,13 @@ pub record IsRun (words : List (List ℕ)) (b : List ℕ) (r : Request) (log : R
   pub run : Replay (ipv4_bits r.local) b r.loose log
   pub sound : Each (λ (h : HostRun). Each IsSound h.flows) log.hosts
 
--- known bytes grow by a front of these
-abbrev pub AppendsFront : Option (List ℕ) → Option (List ℕ) → List ℕ → Type 0
-AppendsFront old new bytes = (front rest : List ℕ) × (front ++ rest ≡ bytes) × Appends old new front
-
 -- The sink grew by exactly the text of the run.
 abbrev pub WritesAll : Given → (old new : Option (List ℕ)) → Type 0
-WritesAll g old new = IfSome g.input (λ b. (r : Request) × (log : RunLog) × IsRun g.words b r log × Appends old new (text_of r log))
+WritesAll g old new = IfSome g.input (λ b. (r : Request) × (log : RunLog) × IsRun g.words b r log × Appends old new (report log))
 
 -- The sink grew by a front of the text of the run, or not at all.
 abbrev pub WritesFront : Given → (old new : Option (List ℕ)) → Type 0
-WritesFront g old new = IfSome g.input (λ b. Keeps old new ⊎ ((r : Request) × (log : RunLog) × IsRun g.words b r log × AppendsFront old new (text_of r log)))
+WritesFront g old new = IfSome g.input (λ b. Keeps old new ⊎ ((r : Request) × (log : RunLog) × IsRun g.words b r log × AppendsFront old new (report log)))
 
 -- The words are a replay's, the input is told and is a capture within its length, and no count of faults rose.
 pub record IsWhole (g : Given) : Type 0 where

@@ -7,7 +7,7 @@ use Rattle.tas_main.specs.declared.words.Progress.TheVariants as progress
 use Rattle.tas_main.specs.declared.words.Request as code_request
 
 abbrev pub options_in : code_options.Options → Options
-options_in o = record { local = option_map (λ text. text.now) o.local; pcap = o.pcap; loose = o.loose }
+options_in o = record { local = option_map (λ text. text.now) o.local; loose = o.loose }
 
 abbrev pub progress_in : code_progress.Progress → Progress
 progress_in progress.Refused = Refused
@@ -15,4 +15,4 @@ progress_in (progress.Reads o) = Reads (options_in o)
 progress_in (progress.WantsAddress o) = WantsAddress (options_in o)
 
 abbrev pub request_in : code_request.Request → Request
-request_in r = record { local = r.local; pcap = r.pcap; loose = r.loose }
+request_in r = record { local = r.local; loose = r.loose }

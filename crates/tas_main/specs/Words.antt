@@ -3,10 +3,9 @@ use Rattle.std.specs.Prelude.{◌≡◌, ℕ, Bool, true, false, List, [], ◌�
 use Rattle.std.specs.Net.Grammar.{IsIpv4Text}
 use Rattle.std.specs.declared.net.ipv4_addr.Ipv4Addr.{Ipv4Addr}
 
--- The options given so far: the text of `--local`, whether the frames sent are wanted in place of the report, and whether checksums are left alone.
+-- The options given so far: the text of `--local`, and whether checksums are left alone.
 pub record Options : Type 0 where
   pub local : Option (List ℕ)
-  pub pcap : Bool
   pub loose : Bool
 
 -- how far the words were read
@@ -16,20 +15,17 @@ pub data Progress : Type 0 where
   WantsAddress : Options → Progress  -- the address of `--local` has to come next
 
 abbrev pub no_options : Options
-no_options = record { local = None; pcap = false; loose = false }
+no_options = record { local = None; loose = false }
 
 abbrev pub with_address : Options → List ℕ → Progress
 with_address o text = if is_some o.local then Refused else Reads (record o { local = Some text })
-
-abbrev pub with_pcap : Options → Progress
-with_pcap o = if o.pcap then Refused else Reads (record o { pcap = true })
 
 abbrev pub with_loose : Options → Progress
 with_loose o = if o.loose then Refused else Reads (record o { loose = true })
 
 -- an option that is a single word
 abbrev pub with_flag : Options → List ℕ → Progress
-with_flag o word = if bytes_eq word (codes "--pcap") then with_pcap o else if bytes_eq word (codes "--loose-sums") then with_loose o else Refused
+with_flag o word = if bytes_eq word (codes "--loose-sums") then with_loose o else Refused
 
 -- an option that may bear its address
 abbrev pub with_option : Options → List ℕ → Progress
@@ -49,11 +45,10 @@ asked (command ∷ words) = if bytes_eq command (codes "replay") then fold after
 -- What the words ask for.
 pub record Request : Type 0 where
   pub local : Ipv4Addr
-  pub pcap : Bool
   pub loose : Bool
 
 -- The words are a replay's, and ask for this.
 pub record IsReplay (words : List (List ℕ)) (r : Request) : Type 0 where
   pub text : List ℕ
-  pub options : asked words ≡ Reads (record { local = Some text; pcap = r.pcap; loose = r.loose })
+  pub options : asked words ≡ Reads (record { local = Some text; loose = r.loose })
   pub address : IsIpv4Text text r.local

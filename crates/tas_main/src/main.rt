@@ -1,11 +1,8 @@
 //! The program: its words, its streams, and the one call that runs it.
 #![tactic(auto)]
 
-mod capture;
-mod first_path;
 mod input;
 mod output;
-mod report;
 mod stop;
 mod streams;
 #[cfg(test)]

@@ -1,7 +1,7 @@
 ghost use Rattle.std.specs.Prelude.{◌≡◌, ℕ, ◌≤◌, ◌++◌, List, take, drop, length, Bool, IsTrue, Ok, Err, IfErr, OnOk, OnErr};
 ghost use Rattle.std.specs.Io.KnownBytes.{Appends};
 ghost use Rattle.tas_num.specs.Causes.{Rose};
-ghost use Rattle.tas_main.specs.Stops.{AppendsFront};
+ghost use Rattle.tas_round.specs.Fronts.{AppendsFront};
 
 use tas_num::{IoFault, Sink};
 

@@ -3,9 +3,10 @@ ghost use Rattle.std.specs.Io.KnownBytes.{Appends, Keeps};
 ghost use Rattle.std.specs.Net.Addr.{ipv4_bits};
 ghost use Rattle.tas_runs.specs.SerialOrder.{serial_replay};
 ghost use Rattle.tas_round.specs.Runs.{log_in};
-ghost use Rattle.tas_main.specs.Requests.{request_in};
+ghost use Rattle.tas_runs.specs.Report.{report};
+ghost use Rattle.tas_round.specs.Fronts.{AppendsFront};
 ghost use Rattle.tas_main.specs.Stops.{given, Cause, status_of, writes_nothing, Unreplayed, Unwritten};
-ghost use Rattle.tas_main.specs.Outputs.{WritesAll, WritesFront, AppendsFront, IsWhole, text_of};
+ghost use Rattle.tas_main.specs.Outputs.{WritesAll, WritesFront, IsWhole};
 ghost use Rattle.tas_main.specs.declared.stop.Stop.{Stop};
 
 use crate::input::read_all;
@@ -16,7 +17,7 @@ use std::alloc::Global;
 use std::sync::Wait;
 use std::thread::Threads;
 use tas_num::{Gate, IoFault, Sink, Source};
-use tas_round::{Mode, ReplayFault, RunLog, replay, write_capture, write_report};
+use tas_round::{Mode, ReplayFault, RunLog, replay, write_report};
 
 /// The most bytes that a capture may have.
 const MOST: u32 = 67_108_864;
@@ -71,7 +72,7 @@ fn serve<R: Threads + Wait + Sync, S: Source, K: Sink, G: Gate>(
     };
     let bytes = read_all(alloc, MOST, source)?;
     let log = replay_of(rt, alloc, &asked, &bytes, gate)?;
-    write_log(alloc, &asked, &log, sink)
+    write_log(alloc, &log, sink)
 }
 
 /// The run that the words ask for, of the capture that these bytes are.
@@ -98,20 +99,14 @@ fn replay_of<R: Threads + Wait + Sync, G: Gate>(
 /// Writes the text of the run that was asked for.
 fn write_log<K: Sink>(
     alloc: Global,
-    asked: &Request,
     log: &RunLog,
     sink: &mut K,
 ) -> Result<(), Stop>
-    ensures ok { OnOk result (Appends (K.held sink.old) (K.held sink.new) (text_of (request_in asked.now) (log_in log.now))) }
-    ensures err { OnErr result (AppendsFront (K.held sink.old) (K.held sink.new) (text_of (request_in asked.now) (log_in log.now))) }
+    ensures ok { OnOk result (Appends (K.held sink.old) (K.held sink.new) (report (log_in log.now))) }
+    ensures err { OnErr result (AppendsFront (K.held sink.old) (K.held sink.new) (report (log_in log.now))) }
     ensures cause { IfErr result (Unwritten (K.faults sink.old) (K.faults sink.new)) }
 {
-    let wrote = if asked.pcap {
-        write_capture(alloc, log, sink)
-    } else {
-        write_report(alloc, log, sink)
-    };
-    match wrote {
+    match write_report(alloc, log, sink) {
         Ok(()) => Ok(()),
         Err(IoFault::Failed) => Err(Stop::Write),
         Err(IoFault::OutOfMemory) => Err(Stop::Memory),

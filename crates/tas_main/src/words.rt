@@ -11,8 +11,6 @@ use std::net::Ipv4Addr;
 pub struct Request {
     /// The address of the host that is replayed.
     pub local: Ipv4Addr,
-    /// Whether the frames sent are wanted as a capture, in place of the report.
-    pub pcap: bool,
     /// Whether checksums are left alone.
     pub loose: bool,
 }
@@ -21,7 +19,6 @@ pub struct Request {
 #[derive(Clone, Copy, Debug)]
 pub struct Options<'a> {
     local: Option<&'a [u8]>,
-    pcap: bool,
     loose: bool,
 }
 
@@ -36,8 +33,8 @@ pub enum Progress<'a> {
     WantsAddress(Options<'a>),
 }
 
-/// What the words ask for: `replay`, and then `--local ADDRESS` or `--local=ADDRESS`, and `--pcap` and `--loose-sums` where they are wanted, in any order and each at
-/// most once. None where the words are of another form.
+/// What the words ask for: `replay`, and then `--local ADDRESS` or `--local=ADDRESS`, and `--loose-sums` where it is wanted, in any order and each at most once. None
+/// where the words are of another form.
 pub fn read_words(words: &[String]) -> Option<Request>
     ensures some { IfSome result (λ r. forms.IsReplay (map string_bytes words.now) (request_in r)) }
     ensures none { IfNone result ((r : forms.Request) → ¬ forms.IsReplay (map string_bytes words.now) r) }
@@ -53,7 +50,6 @@ pub fn read_words(words: &[String]) -> Option<Request>
     };
     Some(Request {
         local,
-        pcap: options.pcap,
         loose: options.loose,
     })
 }
@@ -85,7 +81,6 @@ fn options_of(words: &[String]) -> Progress<'_>
 {
     let mut progress = Progress::Reads(Options {
         local: None,
-        pcap: false,
         loose: false,
     });
     for word in words {
@@ -132,9 +127,6 @@ impl<'a> Options<'a> {
     fn with_flag(self, word: &'a [u8]) -> Progress<'a>
         ensures { progress_in result ≡ forms.with_flag (options_in self.entry) word.now }
     {
-        if word == b"--pcap".as_slice() {
-            return self.with_pcap();
-        }
         if word == b"--loose-sums".as_slice() {
             return self.with_loose();
         }
@@ -149,20 +141,6 @@ impl<'a> Options<'a> {
         }
         Progress::Reads(Options {
             local: Some(text),
-            pcap: self.pcap,
-            loose: self.loose,
-        })
-    }
-
-    fn with_pcap(self) -> Progress<'a>
-        ensures { progress_in result ≡ forms.with_pcap (options_in self.entry) }
-    {
-        if self.pcap {
-            return Progress::Refused;
-        }
-        Progress::Reads(Options {
-            local: self.local,
-            pcap: true,
             loose: self.loose,
         })
     }
@@ -175,7 +153,6 @@ impl<'a> Options<'a> {
         }
         Progress::Reads(Options {
             local: self.local,
-            pcap: self.pcap,
             loose: true,
         })
     }

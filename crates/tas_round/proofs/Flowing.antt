@@ -1,10 +1,11 @@
 -- The lines of flows, a flow at a time.
-use Rattle.std.proofs.Common.{◌≡◌, ℕ, ◌+◌, ◌≤◌, [], ◌∷◌, ◌++◌, List, length, take, drop, slice_get, Some, Result, Ok, IsErr, refl, ap, subst, sym, ◌∙◌, append_assoc, append-nil, take-append-drop, length-take, arith, ◌<◌}
+use Rattle.std.proofs.Common.{◌≡◌, ℕ, suc, ◌+◌, ◌≤◌, [], ◌∷◌, ◌++◌, List, length, take, drop, slice_get, Some, Result, Ok, IsErr, refl, ap, subst, sym, ◌∙◌, append_assoc, append-nil, take-append-drop, length-take, arith, ◌<◌}
 use Rattle.std.proofs.lemmas.List.{take_all}
 use Rattle.std.proofs.lemmas.Option.{slice_get_within}
 use Rattle.tas_num.specs.declared.outside.IoFault.{IoFault}
-use Rattle.tas_runs.specs.Logs.{Flow}
-use Rattle.tas_runs.specs.Report.{flow_lines, flows_text}
+use Rattle.tas_runs.specs.Logs.{Flow, HostRun}
+use Rattle.tas_runs.specs.Hosts.{Live, flows_of}
+use Rattle.tas_runs.specs.Report.{flow_lines, flows_text, host_text, hosts_text, names_of}
 use Rattle.run_texts.specs.Writes.{Stand, Writes}
 use Rattle.run_texts.proofs.Lists.{taken_more}
 use Rattle.run_texts.proofs.Writing.{wrote_both, stopped_in, wrote_as}
@@ -44,3 +45,11 @@ stopped_flow names fs i f a b c r q e failed same first second =
 
 pub wrote_flows : (names : List (List ℕ)) (fs : List Flow) (n : ℕ) (a b : Stand) (r : Result (Unit {0}) IoFault) → length fs ≤ n → Writes a r b (flows_text names 0 (take n fs)) → Writes a r b (flows_text names 0 fs)
 wrote_flows names fs n a b r e h = wrote_as a b r (flows_text names 0 (take n fs)) (flows_text names 0 fs) (ap (flows_text names 0) (take_all n fs e)) h
+
+pub flows_count : (ls : List Live) → length (flows_of ls) ≡ length ls
+flows_count [] = refl
+flows_count (l ∷ ls) = ap suc (flows_count ls)
+
+-- ----- the one host
+pub hosts_one : (a b : Stand) (r : Result (Unit {0}) IoFault) (names : List (List ℕ)) (h : HostRun) → names ≡ h.name ∷ [] → Writes a r b (host_text names h) → Writes a r b (hosts_text (names_of (h ∷ [])) (h ∷ []))
+hosts_one a b r names h e w = subst (λ (ns : List (List ℕ)). Writes a r b (hosts_text ns (h ∷ []))) e (wrote_as a b r (host_text names h) (host_text names h ++ []) (sym (append-nil (host_text names h))) w)

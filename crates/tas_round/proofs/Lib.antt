@@ -1,2 +1,3 @@
 pub mod Flowing
 pub mod Whole
+pub mod Playing

@@ -1,7 +1,8 @@
-ghost use Rattle.std.specs.Prelude.{◌≡◌, ℕ, ◌≤◌, List, length, map, Ok, IfOk, IfErr};
+ghost use Rattle.std.specs.Prelude.{◌≡◌, ℕ, ◌≤◌, ◌<◌, ◌^◌, ◌∷◌, take, drop, List, length, map, Ok, IfOk, IfErr};
+ghost use Rattle.tas_runs.specs.Records as model;
 ghost use Rattle.tas_runs.specs.Batches.{batches_of};
 ghost use Rattle.tas_runs.specs.Replays.{at_start};
-ghost use Rattle.tas_runs.specs.SerialOrder.{serial_replay, serial_log, serial_ticks};
+ghost use Rattle.tas_runs.specs.SerialOrder.{serial_replay, serial_log, serial_tick, serial_ticks};
 ghost use Rattle.capture_items.specs.Items.{item_in};
 ghost use Rattle.capture_items.specs.Numbers.{AreNumbersOf};
 ghost use Rattle.tas_round.specs.Runs.{log_in, Ended, Refuses};
@@ -71,6 +72,7 @@ pub fn replay<R: Threads + Wait + Sync, G: Gate>(
         Err(InputFault::Refused(fault)) => return Err(ReplayFault::Pcap(fault)),
         Err(InputFault::OutOfMemory) => return Err(ReplayFault::OutOfMemory),
     };
+    let _records = found.records;
     let numbers = FirstNumbers::of_items(alloc, &found.items)?;
     let ending = run_batches(alloc, local, &found.items, &numbers)?;
     let log = log_of(alloc, &found, ending)?;
@@ -85,20 +87,35 @@ fn run_batches(
     numbers: &FirstNumbers,
 ) -> Result<Ending, AllocError>
     requires numbers { AreNumbersOf (map item_in items.now) numbers.now }
-    requires few { length items.now ≤ 4194304 }
+    requires few { length items.now < 2 ^ 32 }
     ensures { IfOk result (Ended local (map item_in items.now)) }
 {
     let mut host = LocalHost::at_start(alloc, local);
     let mut at = 0;
     let mut tick = 0;
     while at < items.len() {
-        let rest = &items[at..];
-        let count = next_batch(rest);
-        host.play(tick, &rest[..count], numbers)?;
-        at += count;
+        at += play_batch(&mut host, tick, &items[at..], numbers)?;
         tick += 1;
     }
     Ok(Ending { host, ticks: tick })
+}
+
+/// Plays the first batch of these items as one tick, and answers how many items it has. The error is want of memory.
+fn play_batch(
+    host: &mut LocalHost,
+    tick: u32,
+    rest: &[Item<'_>],
+    numbers: &FirstNumbers,
+) -> Result<usize, AllocError>
+    requires { 0 < length rest.now }
+    ensures batch { IfOk result (λ n. batches_of (map item_in rest.now) ≡ take n (map item_in rest.now) ∷ batches_of (drop n (map item_in rest.now))) }
+    ensures played { (items : List model.Item) → AreNumbersOf items numbers.now → IfOk result (λ n. host.new ≡ serial_tick items tick host.old (map item_in (take n rest.now))) }
+    ensures some { IfOk result (λ n. 0 < n) }
+    ensures inside { IfOk result (λ n. n ≤ length rest.now) }
+{
+    let count = next_batch(rest);
+    host.play(tick, &rest[..count], numbers)?;
+    Ok(count)
 }
 
 /// The log of a replay with this ending.

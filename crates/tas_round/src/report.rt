@@ -1,8 +1,8 @@
-ghost use Rattle.std.specs.Prelude.{◌≡◌, ℕ, ◌≤◌, ◌++◌, ◌∷◌, [], List, map, length, string_bytes, Err, OnOk, OnErr};
+ghost use Rattle.std.specs.Prelude.{◌≡◌, ℕ, ◌≤◌, ◌++◌, ◌∷◌, [], List, map, length, string_bytes, codes, Err, OnOk, OnErr};
 ghost use Rattle.std.specs.Io.KnownBytes.{Appends};
 ghost use Rattle.tas_num.specs.Causes.{Rose};
 ghost use Rattle.tas_runs.specs.Hosts.{flows_of};
-ghost use Rattle.tas_runs.specs.Report.{report, host_text, flows_text, flow_lines, counts_text};
+ghost use Rattle.tas_runs.specs.Report.{report, line, names_of, host_text, hosts_text, log_text, flows_text, flow_lines, counts_text, addr_text};
 ghost use Rattle.run_texts.specs.Writes.{Stand, Writes};
 ghost use Rattle.tas_round.specs.Runs.{host_in, log_in};
 ghost use Rattle.local_host.specs.Live.{flow_in};
@@ -49,9 +49,22 @@ fn put_report<K: Sink>(
     ensures { Writes (record { held = K.held sink.old; faults = K.faults sink.old; waiting = writer.old }) result (record { held = K.held sink.new; faults = K.faults sink.new; waiting = writer.new }) (report (log_in log.now)) }
 {
     write_title(writer, sink, true)?;
-    put_host(writer, sink, names, &log.host)?;
+    put_hosts(writer, sink, names, log)?;
     put_counts(writer, sink, log)?;
     write_end(writer, sink, log.ticks)
+}
+
+/// Writes the lines of the one host.
+fn put_hosts<K: Sink>(
+    writer: &mut Writer,
+    sink: &mut K,
+    names: &[&str],
+    log: &RunLog,
+) -> Result<(), IoFault>
+    requires { map (λ n. n.now) names.now ≡ string_bytes log.now.host.name ∷ [] }
+    ensures { Writes (record { held = K.held sink.old; faults = K.faults sink.old; waiting = writer.old }) result (record { held = K.held sink.new; faults = K.faults sink.new; waiting = writer.new }) (hosts_text (names_of (host_in log.now.host ∷ [])) (host_in log.now.host ∷ [])) }
+{
+    put_host(writer, sink, names, &log.host)
 }
 
 /// Writes the lines of a host: its name and address, its log, and its flows.
@@ -63,9 +76,28 @@ fn put_host<K: Sink>(
 ) -> Result<(), IoFault>
     ensures { Writes (record { held = K.held sink.old; faults = K.faults sink.old; waiting = writer.old }) result (record { held = K.held sink.new; faults = K.faults sink.new; waiting = writer.new }) (host_text (map (λ n. n.now) names.now) (host_in run.now)) }
 {
-    write_host(writer, sink, run.name.as_str(), run.host.params().addr)?;
-    write_log(writer, sink, names, run.host.log().lines())?;
+    put_name(writer, sink, run)?;
+    put_log(writer, sink, names, run)?;
     put_flows(writer, sink, names, &run.host)
+}
+
+/// Writes the name and the address of a host.
+fn put_name<K: Sink>(writer: &mut Writer, sink: &mut K, run: &HostRun) -> Result<(), IoFault>
+    ensures { Writes (record { held = K.held sink.old; faults = K.faults sink.old; waiting = writer.old }) result (record { held = K.held sink.new; faults = K.faults sink.new; waiting = writer.new }) (line (codes "host " ++ string_bytes run.now.name ++ codes " " ++ addr_text run.now.host.params.addr)) }
+{
+    write_host(writer, sink, run.name.as_str(), run.host.params().addr)
+}
+
+/// Writes the log of a host.
+fn put_log<K: Sink>(
+    writer: &mut Writer,
+    sink: &mut K,
+    names: &[&str],
+    run: &HostRun,
+) -> Result<(), IoFault>
+    ensures { Writes (record { held = K.held sink.old; faults = K.faults sink.old; waiting = writer.old }) result (record { held = K.held sink.new; faults = K.faults sink.new; waiting = writer.new }) (log_text (map (λ n. n.now) names.now) run.now.host.log) }
+{
+    write_log(writer, sink, names, run.host.log().lines())
 }
 
 /// Writes the lines of all flows of a host.

@@ -1,8 +1,27 @@
-use Rattle.std.proofs.Common.{rules, ◌≡◌, arith}
+use Rattle.std.proofs.Common.{rules, ◌≡◌, map, drop, arith, [], ◌+◌, ◌≤◌, length}
+use Rattle.tas_round.proofs.Playing.{next_played, next_counted, no_more, no_more_ticks, none_left, still_inside}
+use Rattle.capture_items.specs.Items.{item_in}
 use Rattle.tas_round.proofs.replaying.run_batches.Goals as goal
 
 pub loop-at-preserved : goal.loop-at-preserved
-loop-at-preserved c = ?
+loop-at-preserved c =
+    let xs = c.args.items.now in
+    let n = c.in_ok-at.field-0 in
+    let at = c.loop-at.at in
+    let batch = c.in_ok-at.ensures.batch in
+    let made = c.in_ok-at.ensures.played (map item_in xs) c.requires.numbers in
+    record {
+      played = next_played item_in (map item_in xs) xs at n c.loop-at.tick c.loop-at.host _ _ batch made c.loop-at.invariant.played;
+      ticks = next_counted item_in xs at n c.loop-at.tick _ batch c.loop-at.invariant.ticks;
+      inside = still_inside xs at n c.loop-at.invariant.inside c.in_ok-at.ensures.inside;
+      few = omega (arith, c.in_ok-at.ensures.some, c.loop-at.invariant.few);
+    }
 
 pub returns : goal.returns
-returns c = ?
+returns c =
+    let xs = c.args.items.now in
+    let none : drop c.loop-at.at xs ≡ [] = none_left c.loop-at.at xs c.loop-at-test.false in
+    record {
+      host = no_more item_in (map item_in xs) (drop c.loop-at.at xs) c.loop-at.tick c.loop-at.host _ none c.loop-at.invariant.played;
+      ticks = no_more_ticks item_in (drop c.loop-at.at xs) c.loop-at.tick _ none c.loop-at.invariant.ticks;
+    }

@@ -1,0 +1,36 @@
+use Rattle.std.proofs.Common.{rules, ◌≡◌, ◌∷◌, [], ◌++◌, codes, decimal, IsErr}
+use Rattle.tas_runs.specs.Report.{report, line, names_of, hosts_text, counts_text}
+use Rattle.tas_round.specs.Runs.{host_in, log_in}
+use Rattle.run_texts.proofs.Writing.{stopped, stopped_at, wrote_then}
+use Rattle.tas_round.proofs.report.put_report.Goals as goal
+
+pub returns-in_err-write_title : goal.returns-in_err-write_title
+unfolding report
+returns-in_err-write_title g c =
+    let log = log_in c.args.log.now in
+    let failed : IsErr c.from_residual.result = search rules in
+    let same : c.from_residual.result ≡ c.write_title.result = search rules in
+    let part0 = stopped_at _ _ _ _ _ (hosts_text (names_of log.hosts) log.hosts) failed same c.write_title.ensures in
+    let part1 = stopped _ _ _ _ (counts_text log) failed part0 in
+    stopped _ _ _ _ (line (codes "end " ++ decimal log.ticks ++ codes " ticks")) failed part1
+
+pub returns-in_err-put_hosts : goal.returns-in_err-put_hosts
+unfolding report
+returns-in_err-put_hosts g c =
+    let log = log_in c.args.log.now in
+    let failed : IsErr c.from_residual-in_err-put_hosts.result = search rules in
+    let same : c.from_residual-in_err-put_hosts.result ≡ c.put_hosts.result = search rules in
+    let part0 = stopped_at _ _ _ _ _ (counts_text log) failed same (wrote_then _ _ _ _ _ _ c.in_ok-write_title.ensures c.put_hosts.ensures) in
+    stopped _ _ _ _ (line (codes "end " ++ decimal log.ticks ++ codes " ticks")) failed part0
+
+pub returns-in_err-put_counts : goal.returns-in_err-put_counts
+unfolding report
+returns-in_err-put_counts g c =
+    let log = log_in c.args.log.now in
+    let failed : IsErr c.from_residual-in_err-put_counts.result = search rules in
+    let same : c.from_residual-in_err-put_counts.result ≡ c.put_counts.result = search rules in
+    stopped_at _ _ _ _ _ (line (codes "end " ++ decimal log.ticks ++ codes " ticks")) failed same (wrote_then _ _ _ _ _ _ (wrote_then _ _ _ _ _ _ c.in_ok-write_title.ensures c.in_ok-put_hosts.ensures) c.put_counts.ensures)
+
+pub returns : goal.returns
+unfolding report
+returns g c = wrote_then _ _ _ _ _ _ (wrote_then _ _ _ _ _ _ (wrote_then _ _ _ _ _ _ c.in_ok-write_title.ensures c.in_ok-put_hosts.ensures) c.in_ok-put_counts.ensures) c.write_end.ensures
