@@ -16,7 +16,7 @@ use Rattle.local_host.proofs.host.LocalHost.open_by_syn.Goals as goal
 pub returns-in_ok-flow-in-Some : goal.returns-in_ok-flow-in-Some
 returns-in_ok-flow-in-Some c = λ items numbers.
     let host : Host = record { params = c.self.inside.params; log = c.self.inside.log; flows = c.self.inside.flows } in
-    let free : lowest_free host ≡ Some c.in-Some.slot = sym c.lowest_free.ensures ∙ c.in-Some.is in
+    let free : lowest_free host ≡ Some c.in-Some.slot = sym c.in_ok-free.ensures ∙ c.in-Some.is in
     let is : c.in_ok-id-in-Some.id ≡ record { slot = c.in-Some.slot; generation = next_generation c.in-Some.slot host.flows } =
     subst (λ (h : Host). c.in_ok-id-in-Some.id ≡ record { slot = c.in-Some.slot; generation = next_generation c.in-Some.slot h.flows }) (sym c.self.view_is) c.in_ok-id-in-Some.ensures.id in
     let number : c.next_number-iss.result.0 ≡ next_first_number items host c.args.tuple = subst (λ (h : Host). c.next_number-iss.result.0 ≡ next_first_number items h c.args.tuple) (sym c.self.view_is) (c.next_number-iss.ensures items numbers) in
