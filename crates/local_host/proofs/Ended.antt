@@ -1,5 +1,5 @@
 -- Which calls end a flow's own stream: Shut and Close, and no other.
-use Rattle.std.proofs.Common.{◌≡◌, ℕ, ◌+◌, ◌-◌, ◌*◌, ◌==◌, ◌&&◌, ◌||◌, not, nat_lt, nat_le, length, take, min, max, Bool, true, false, cond, List, [], Option, Some, None, refl, sym, ◌∙◌}
+use Rattle.std.proofs.Common.{◌≡◌, ℕ, ◌+◌, ◌-◌, ◌*◌, ◌==◌, ◌&&◌, ◌||◌, not, nat_lt, nat_le, length, min, Bool, true, false, List, Option, refl, ◌∙◌}
 use Rattle.tas_model.specs.declared.entry.Phase.{Phase}
 use Rattle.tas_model.specs.declared.entry.Phase.TheVariants as phases
 use Rattle.tas_model.specs.declared.entry.Reason.TheVariants as reasons
@@ -14,7 +14,7 @@ use Rattle.tas_model.specs.Segments.{Outcome, is_ack, is_rst, is_syn, is_fin, se
 use Rattle.tas_model.specs.Reassembly.{with_data}
 use Rattle.tas_model.specs.Receive.{Verdict, Dropped, Answered, Reset, BareAck, Taken, AckVerdict, Stray, TooFar, Good, place_of_ack, is_duplicate, after_duplicate, after_advance, moves_window, sending_after, after_ack, after_data, takes_fin, taken, bare_ack, by_verdict, rx, rx_in, rx_later, rx_syn_sent}
 use Rattle.tas_model.specs.Timers.{ticks, tick_in, control, is_armed, patience, probes, expired, ticked, waited}
-use Rattle.tas_model.specs.NextSegment.{Going, going, going_in, going_opening, going_running, data_len, waiting, emitted}
+use Rattle.tas_model.specs.NextSegment.{Going, going, going_in, data_len, waiting, emitted}
 use Rattle.tas_model.specs.ApplicationCalls.{Column, Opening, Over, Running, column, accept_in, ready_in, send_in, recv_in, recv_open, shut_in, abort_in}
 use Rattle.tas_model.specs.LegalHistory.{step, state_or, reply_or, taken_bytes, control_in}
 use Rattle.tas_model.specs.Endpoint.{wnd, next_place}
