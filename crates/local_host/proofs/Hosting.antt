@@ -1,5 +1,5 @@
 -- A host whose flow of a four-tuple changes, and one that opens a flow.
-use Rattle.std.proofs.Common.{◌≡◌, ℕ, suc, ◌+◌, ◌<◌, ◌++◌, ◌&&◌, not, ◌||◌, Bool, true, false, cond, List, [], ◌∷◌, length, get_or, fold, map, drop, position, Option, Some, None, refl, sym, ap, subst, ◌∙◌, true≢false, arith, tests, nat_lt}
+use Rattle.std.proofs.Common.{◌≡◌, ℕ, suc, ◌+◌, ◌<◌, ◌++◌, Bool, true, false, cond, List, [], ◌∷◌, length, get_or, fold, map, drop, position, Option, Some, None, refl, sym, ap, ◌∙◌, arith, tests, nat_lt}
 use Rattle.std.specs.List.{list_any, position_or_len}
 use Rattle.std.proofs.lemmas.List.Sums.{fails_before_first}
 use Rattle.tas_num.specs.declared.seq.Seq.{Seq}
@@ -10,10 +10,10 @@ use Rattle.tas_model.specs.declared.entry.Seg.{Seg}
 use Rattle.tas_model.specs.declared.entry.Entry.{Entry}
 use Rattle.tas_model.specs.declared.entry.Call.TheVariants as calls
 use Rattle.tas_model.specs.declared.entry.Caller.TheVariants.{Slow}
-use Rattle.tas_runs.specs.Records.{Content, Damaged, Remote, Local, Item}
+use Rattle.tas_runs.specs.Records.{Content, Remote, Local, Item}
 use Rattle.tas_runs.specs.Hosts.{Live, Host, change_first, change_at, changed, is_known, is_indexed_as, lowest_free, next_generation, first_entry, opened_in}
-use Rattle.tas_runs.specs.Deliveries.{next_first_number, opened_by_syn, met_listener, arrived}
-use Rattle.tas_runs.specs.LocalScript.{Stage, Beginning, Accepting, Sending, Shutting, Aborting, Receiving, Leaving, at_stage, asked, asked_where, is_wanted, given_up, opened_by_connect, connected_where, the_app, began}
+use Rattle.tas_runs.specs.Deliveries.{next_first_number, opened_by_syn}
+use Rattle.tas_runs.specs.LocalScript.{Stage, Beginning, Accepting, Sending, Shutting, Aborting, Receiving, Leaving, at_stage, asked_where, is_wanted, opened_by_connect, the_app, began}
 use Rattle.tas_runs.specs.SerialOrder.{served}
 use Rattle.std.proofs.lemmas.List.{drop_more}
 use Rattle.segment_fields.specs.declared.segment.Segment.{Segment}

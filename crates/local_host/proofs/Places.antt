@@ -1,10 +1,10 @@
 -- A flow at its place among the flows, and the slots that they stand in.
-use Rattle.std.proofs.Common.{◌≡◌, ℕ, zero, suc, ◌+◌, ◌-◌, ◌<◌, ◌≤◌, Bool, true, false, List, [], ◌∷◌, length, set, get_or, slice_get, position, Option, Some, None, Result, Ok, Err, OnOk, refl, sym, ap, subst, ◌∙◌, true≢false, arith, is_some}
-use Rattle.std.specs.List.{list_any, position_or_len}
+use Rattle.std.proofs.Common.{◌≡◌, ℕ, zero, suc, ◌+◌, ◌-◌, ◌<◌, ◌≤◌, ◌||◌, take, Bool, true, false, List, [], ◌∷◌, length, set, get_or, slice_get, position, Some, None, Result, Ok, Err, OnOk, refl, sym, ap, subst, ◌∙◌, arith}
+use Rattle.std.specs.List.{list_any}
 use Rattle.std.proofs.lemmas.List.Quantifiers.{position-Some}
 use Rattle.tas_runs.specs.Logs.{Flow}
 use Rattle.tas_runs.specs.Hosts.{Live, change_first, change_at, free_from, is_in_slot, flows_of}
-use Rattle.tas_runs.proofs.Loops.{changed_at, known_found, none_found}
+use Rattle.tas_runs.proofs.Loops.{changed_at}
 
 pub ok_by : {T E : Type 0} {P Q : Type 0} (r : Result T E) → (P → Q) → OnOk r P → OnOk r Q
 ok_by (Ok x) f p = f p
@@ -58,3 +58,19 @@ pub flow_there : (ls : List Live) (i : ℕ) (d : Live) (f : Flow) → i < length
 flow_there [] i d f below is = absurd (omega arith)
 flow_there (l ∷ ls) zero d f below is = ap (λ (g : Flow). Some g) (sym is)
 flow_there (l ∷ ls) (suc i) d f below is = flow_there ls i d f (omega arith) is
+
+-- one flow more
+pub any_more : {X : Type 0} (test : X → Bool) (xs : List X) (i : ℕ) (d : X) → i < length xs → list_any test (take (i + 1) xs) ≡ (list_any test (take i xs) || test (get_or xs i d))
+any_more test [] i d below = absurd (omega arith)
+any_more test (x ∷ xs) zero d below = or_none (test x)
+  where
+    or_none : (b : Bool) → (b || false) ≡ b
+    or_none true = refl
+    or_none false = refl
+any_more {X} test (x ∷ xs) (suc i) d below =
+    let next : suc i + 1 ≡ suc (i + 1) = omega arith in
+    ap (λ (n : ℕ). list_any test (take n (x ∷ xs))) next ∙ (ap (λ (b : Bool). test x || b) (any_more test xs i d (omega arith)) ∙ sym (or_grouped (test x) (list_any test (take i xs)) (test (get_or xs i d))))
+  where
+    or_grouped : (a b c : Bool) → ((a || b) || c) ≡ (a || (b || c))
+    or_grouped true b c = refl
+    or_grouped false b c = refl

@@ -4,7 +4,7 @@ use Rattle.std.proofs.lemmas.List.{drop_at}
 use Rattle.tas_model.specs.declared.entry.Call.TheVariants as calls
 use Rattle.tas_runs.specs.Logs.{Flow}
 use Rattle.tas_runs.specs.Hosts.{Live, endpoint, with_call}
-use Rattle.tas_runs.specs.LocalScript.{Sending, pending, is_empty, is_served, asked, asked_where, the_app}
+use Rattle.tas_runs.specs.LocalScript.{Sending, pending, is_empty, is_served, asked_where, the_app}
 use Rattle.local_host.specs.Live.{called}
 
 -- what waits is what was seen and is not yet taken

@@ -20,129 +20,129 @@ use Rattle.tas_model.proofs.Tests.{on_cond}
 use Rattle.local_host.specs.Live.{IsPlain, took}
 
 -- the reply takes no bytes
-record R (reply : Reply) : Type 0 where
+record TakesNone (reply : Reply) : Type 0 where
   none : taken_bytes reply ≡ []
 
-record U (o : Outcome) : Type 0 where
+record OutcomeTakesNone (o : Outcome) : Type 0 where
   none : taken_bytes o.reply ≡ []
 
-of_reply : (o : Outcome) → R o.reply → U o
+of_reply : (o : Outcome) → TakesNone o.reply → OutcomeTakesNone o
 of_reply o r = record { none = r.none }
 
-of_outcome : (o : Outcome) → U o → R o.reply
+of_outcome : (o : Outcome) → OutcomeTakesNone o → TakesNone o.reply
 of_outcome o u = record { none = u.none }
 
 -- ----- received segments
-taken_takes_none : (e : Endpoint) (tick q : ℕ) (seg : Seg) (a : AckVerdict) → U (taken e tick q seg a)
+taken_takes_none : (e : Endpoint) (tick q : ℕ) (seg : Seg) (a : AckVerdict) → OutcomeTakesNone (taken e tick q seg a)
 taken_takes_none e tick q seg Stray = record { none = refl }
 taken_takes_none e tick q seg TooFar = record { none = refl }
-taken_takes_none e tick q seg Good = of_reply _ (on_cond R (is_heard seg) _ _ (λ t. record { none = refl }) (λ f. record { none = refl }))
+taken_takes_none e tick q seg Good = of_reply _ (on_cond TakesNone (is_heard seg) _ _ (λ t. record { none = refl }) (λ f. record { none = refl }))
 
-bare_takes_none : (e : Endpoint) (tick : ℕ) (seg : Seg) (a : AckVerdict) → U (bare_ack e tick seg a)
+bare_takes_none : (e : Endpoint) (tick : ℕ) (seg : Seg) (a : AckVerdict) → OutcomeTakesNone (bare_ack e tick seg a)
 bare_takes_none e tick seg Stray = record { none = refl }
 bare_takes_none e tick seg TooFar = record { none = refl }
 bare_takes_none e tick seg Good = record { none = refl }
 
-verdict_takes_none : (e : Endpoint) (tick : ℕ) (seg : Seg) (d : Verdict) → U (by_verdict e tick seg d)
+verdict_takes_none : (e : Endpoint) (tick : ℕ) (seg : Seg) (d : Verdict) → OutcomeTakesNone (by_verdict e tick seg d)
 verdict_takes_none e tick seg Dropped = record { none = refl }
 verdict_takes_none e tick seg Answered = record { none = refl }
 verdict_takes_none e tick seg Reset = record { none = refl }
-verdict_takes_none e tick seg BareAck = on_cond U (is_ack seg) _ _ (λ t. bare_takes_none e tick seg _) (λ f. record { none = refl })
+verdict_takes_none e tick seg BareAck = on_cond OutcomeTakesNone (is_ack seg) _ _ (λ t. bare_takes_none e tick seg _) (λ f. record { none = refl })
 verdict_takes_none e tick seg (Taken q) = taken_takes_none e tick q seg _
 
-syn_sent_takes_none : (e : Endpoint) (seg : Seg) → U (rx_syn_sent e seg)
+syn_sent_takes_none : (e : Endpoint) (seg : Seg) → OutcomeTakesNone (rx_syn_sent e seg)
 unfolding rx_syn_sent
 syn_sent_takes_none e seg =
-    on_cond U (is_ack seg && not (place_of_ack e seg == 1 && nat_le 1 e.tx.max)) _ _ (λ t. of_reply _ (on_cond R (is_rst seg) _ _ (λ t. record { none = refl }) (λ f. record { none = refl })))
-    (λ f. on_cond U (is_rst seg) _ _ (λ t. record { none = refl }) (λ f. on_cond U (is_syn seg && is_ack seg) _ _ (λ t. record { none = refl }) (λ f. record { none = refl })))
+    on_cond OutcomeTakesNone (is_ack seg && not (place_of_ack e seg == 1 && nat_le 1 e.tx.max)) _ _ (λ t. of_reply _ (on_cond TakesNone (is_rst seg) _ _ (λ t. record { none = refl }) (λ f. record { none = refl })))
+    (λ f. on_cond OutcomeTakesNone (is_rst seg) _ _ (λ t. record { none = refl }) (λ f. on_cond OutcomeTakesNone (is_syn seg && is_ack seg) _ _ (λ t. record { none = refl }) (λ f. record { none = refl })))
 
-phase_takes_none : (ph : Phase) (e : Endpoint) (tick : ℕ) (seg : Seg) → U (rx_in ph e tick seg)
+phase_takes_none : (ph : Phase) (e : Endpoint) (tick : ℕ) (seg : Seg) → OutcomeTakesNone (rx_in ph e tick seg)
 unfolding rx_later
-phase_takes_none phases.Closed e tick seg = of_reply _ (on_cond R (is_rst seg) _ _ (λ t. record { none = refl }) (λ f. on_cond R (is_ack seg) _ _ (λ t. record { none = refl }) (λ f. record { none = refl })))
+phase_takes_none phases.Closed e tick seg = of_reply _ (on_cond TakesNone (is_rst seg) _ _ (λ t. record { none = refl }) (λ f. on_cond TakesNone (is_ack seg) _ _ (λ t. record { none = refl }) (λ f. record { none = refl })))
 phase_takes_none phases.SynSent e tick seg = syn_sent_takes_none e seg
 phase_takes_none _ e tick seg = verdict_takes_none e tick seg _
 
-rx_takes_none : (e : Endpoint) (tick : ℕ) (seg : Seg) → U (rx e tick seg)
+rx_takes_none : (e : Endpoint) (tick : ℕ) (seg : Seg) → OutcomeTakesNone (rx e tick seg)
 unfolding rx
 rx_takes_none e tick seg = phase_takes_none (phase e) e tick seg
 
 -- ----- time
-expired_takes_none : (e : Endpoint) → U (expired e)
-expired_takes_none e = on_cond U (e.tx.tries + 1 == 9) _ _ (λ t. record { none = refl }) (λ f. on_cond U (probes e) _ _ (λ t. record { none = refl }) (λ f. record { none = refl }))
+expired_takes_none : (e : Endpoint) → OutcomeTakesNone (expired e)
+expired_takes_none e = on_cond OutcomeTakesNone (e.tx.tries + 1 == 9) _ _ (λ t. record { none = refl }) (λ f. on_cond OutcomeTakesNone (probes e) _ _ (λ t. record { none = refl }) (λ f. record { none = refl }))
 
-ticked_takes_none : (e : Endpoint) → U (ticked e)
-ticked_takes_none e = on_cond U (not (is_armed e.tx)) _ _ (λ t. record { none = refl }) (λ f. on_cond U (nat_lt (e.tx.age + 1) (patience e)) _ _ (λ t. record { none = refl }) (λ f. expired_takes_none e))
+ticked_takes_none : (e : Endpoint) → OutcomeTakesNone (ticked e)
+ticked_takes_none e = on_cond OutcomeTakesNone (not (is_armed e.tx)) _ _ (λ t. record { none = refl }) (λ f. on_cond OutcomeTakesNone (nat_lt (e.tx.age + 1) (patience e)) _ _ (λ t. record { none = refl }) (λ f. expired_takes_none e))
 
-waited_takes_none : (e : Endpoint) (tick : ℕ) → U (waited e tick)
-waited_takes_none e tick = on_cond U (nat_le (4 * e.params.rto) (tick - e.entered)) _ _ (λ t. record { none = refl }) (λ f. record { none = refl })
+waited_takes_none : (e : Endpoint) (tick : ℕ) → OutcomeTakesNone (waited e tick)
+waited_takes_none e tick = on_cond OutcomeTakesNone (nat_le (4 * e.params.rto) (tick - e.entered)) _ _ (λ t. record { none = refl }) (λ f. record { none = refl })
 
-tick_takes_none : (ph : Phase) (e : Endpoint) (tick : ℕ) → R (reply_or (tick_in ph e tick) replies.Nothing)
+tick_takes_none : (ph : Phase) (e : Endpoint) (tick : ℕ) → TakesNone (reply_or (tick_in ph e tick) replies.Nothing)
 tick_takes_none phases.Closed e tick = record { none = refl }
 tick_takes_none phases.TimeWait e tick = of_outcome _ (waited_takes_none e tick)
 tick_takes_none _ e tick = of_outcome _ (ticked_takes_none e)
 
-ticks_take_none : (e : Endpoint) (tick : ℕ) → R (reply_or (ticks e tick) replies.Nothing)
+ticks_take_none : (e : Endpoint) (tick : ℕ) → TakesNone (reply_or (ticks e tick) replies.Nothing)
 unfolding ticks
 ticks_take_none e tick = tick_takes_none (phase e) _ tick
 
-control_takes_none : (c : Column) (e : Endpoint) → R (reply_or (control_in c e) replies.Nothing)
+control_takes_none : (c : Column) (e : Endpoint) → TakesNone (reply_or (control_in c e) replies.Nothing)
 unfolding control
 control_takes_none Running e = record { none = refl }
 control_takes_none Opening e = record { none = refl }
 control_takes_none (Over why) e = record { none = refl }
 
 -- ----- emission
-emission_takes_none : (g : Option Going) → R (reply_or (emitted g) replies.Nothing)
+emission_takes_none : (g : Option Going) → TakesNone (reply_or (emitted g) replies.Nothing)
 emission_takes_none None = record { none = refl }
 emission_takes_none (Some g) = record { none = refl }
 
 -- ----- the application's calls
-accept_takes_none : (c : Column) (e : Endpoint) → R (reply_or (accept_in c e) replies.Nothing)
+accept_takes_none : (c : Column) (e : Endpoint) → TakesNone (reply_or (accept_in c e) replies.Nothing)
 accept_takes_none Running e = record { none = refl }
 accept_takes_none Opening e = record { none = refl }
 accept_takes_none (Over why) e = record { none = refl }
 
-ready_takes_none : (c : Column) (e : Endpoint) → U (ready_in c e)
+ready_takes_none : (c : Column) (e : Endpoint) → OutcomeTakesNone (ready_in c e)
 ready_takes_none Running e = record { none = refl }
 ready_takes_none Opening e = record { none = refl }
 ready_takes_none (Over why) e = record { none = refl }
 
-empty_takes_none : (reason : Option Rattle.tas_model.specs.declared.entry.Reason.Reason) (ended : Bool) → R (empty_reply reason ended)
+empty_takes_none : (reason : Option Rattle.tas_model.specs.declared.entry.Reason.Reason) (ended : Bool) → TakesNone (empty_reply reason ended)
 empty_takes_none None true = record { none = refl }
 empty_takes_none None false = record { none = refl }
 empty_takes_none (Some why) true = record { none = refl }
 empty_takes_none (Some why) false = record { none = refl }
 
-open_takes_none : (e : Endpoint) (most : ℕ) → U (recv_open e most)
-open_takes_none e most = on_cond U (unread e.rx == 0) _ _ (λ t. of_reply _ (empty_takes_none e.reason e.rx.ended)) (λ f. record { none = refl })
+open_takes_none : (e : Endpoint) (most : ℕ) → OutcomeTakesNone (recv_open e most)
+open_takes_none e most = on_cond OutcomeTakesNone (unread e.rx == 0) _ _ (λ t. of_reply _ (empty_takes_none e.reason e.rx.ended)) (λ f. record { none = refl })
 
-recv_takes_none : (c : Column) (e : Endpoint) (most : ℕ) → U (recv_in c e most)
+recv_takes_none : (c : Column) (e : Endpoint) (most : ℕ) → OutcomeTakesNone (recv_in c e most)
 recv_takes_none Running e most = open_takes_none e most
 recv_takes_none Opening e most = record { none = refl }
 recv_takes_none (Over reasons.Done) e most = open_takes_none e most
 recv_takes_none (Over why) e most = record { none = refl }
 
-shut_takes_none : (c : Column) (e : Endpoint) → U (shut_in c e)
-shut_takes_none Running e = on_cond U e.tx.shut _ _ (λ t. record { none = refl }) (λ f. record { none = refl })
+shut_takes_none : (c : Column) (e : Endpoint) → OutcomeTakesNone (shut_in c e)
+shut_takes_none Running e = on_cond OutcomeTakesNone e.tx.shut _ _ (λ t. record { none = refl }) (λ f. record { none = refl })
 shut_takes_none Opening e = record { none = refl }
 shut_takes_none (Over why) e = record { none = refl }
 
-close_takes_none : (c : Column) (e : Endpoint) → U (close_in c e)
+close_takes_none : (c : Column) (e : Endpoint) → OutcomeTakesNone (close_in c e)
 close_takes_none Running e = record { none = refl }
 close_takes_none Opening e = record { none = refl }
 close_takes_none (Over why) e = record { none = refl }
 
-abort_reply_takes_none : (e : Endpoint) → R (abort_reply e)
-abort_reply_takes_none e = on_cond R (tells_abort (phase e)) _ _ (λ t. record { none = refl }) (λ f. record { none = refl })
+abort_reply_takes_none : (e : Endpoint) → TakesNone (abort_reply e)
+abort_reply_takes_none e = on_cond TakesNone (tells_abort (phase e)) _ _ (λ t. record { none = refl }) (λ f. record { none = refl })
 
-abort_takes_none : (c : Column) (e : Endpoint) → U (abort_in c e)
+abort_takes_none : (c : Column) (e : Endpoint) → OutcomeTakesNone (abort_in c e)
 abort_takes_none Running e = of_reply _ (abort_reply_takes_none e)
 abort_takes_none Opening e = of_reply _ (abort_reply_takes_none e)
 abort_takes_none (Over why) e = record { none = refl }
 
 -- ----- any call
 -- no call but Send takes bytes
-plain_call : (e : Endpoint) (tick : ℕ) (call : Call) (shown : Reply) → IsPlain call → R (reply_or (step e tick call shown) replies.Nothing)
+plain_call : (e : Endpoint) (tick : ℕ) (call : Call) (shown : Reply) → IsPlain call → TakesNone (reply_or (step e tick call shown) replies.Nothing)
 unfolding step
 plain_call e tick (calls.Connect iss) shown plain = record { none = refl }
 plain_call e tick (calls.Passive frame iss seg) shown plain = record { none = refl }

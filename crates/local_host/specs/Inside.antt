@@ -1,5 +1,5 @@
 -- How a flow of the host is seen, and what it keeps true.
-use Rattle.std.specs.Prelude.{◌≡◌, ℕ, ◌^◌, ◌<◌, ◌++◌, length}
+use Rattle.std.specs.Prelude.{◌≡◌, ◌^◌, ◌<◌, ◌++◌, length}
 use Rattle.tas_model.specs.Valid.{InRange}
 use Rattle.local_host.specs.declared.live.LiveFlow.TheInside.{Inside}
 use Rattle.local_host.specs.Live.{flow_in, out_in, is_ended}

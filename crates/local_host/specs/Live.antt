@@ -7,11 +7,6 @@ use Rattle.tas_model.specs.LegalHistory.{replay, extended_by}
 use Rattle.flow_state.specs.declared.call.Answer.{Answer}
 use Rattle.flow_state.specs.declared.call.Answer.TheVariants as answers
 use Rattle.flow_state.specs.Flow as records
-use Rattle.flow_state.specs.declared.parts.Parts.{Parts}
-use Rattle.flow_state.specs.declared.call.CallIn.{CallIn}
-use Rattle.flow_state.specs.declared.call.CallIn.TheVariants as ins
-use Rattle.segment_fields.specs.declared.segment.Segment.{Segment}
-use Rattle.tas_model.specs.declared.entry.FrameId.{FrameId}
 use Rattle.tas_model.specs.declared.entry.FlowId.{FlowId}
 use Rattle.tas_model.specs.declared.entry.FourTuple.{FourTuple}
 use Rattle.tas_model.specs.declared.entry.HostParams.{HostParams}

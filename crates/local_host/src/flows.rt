@@ -1,11 +1,11 @@
-ghost use Rattle.std.specs.Prelude.{true, false, ◌≡◌, ℕ, ◌<◌, ◌+◌, ◌++◌, ◌∷◌, [], length, map, position, slice_get, Some, None, count_by, cond, OnErr, OnOk, is_some};
+ghost use Rattle.std.specs.Prelude.{true, false, ◌≡◌, ℕ, ◌<◌, ◌+◌, ◌++◌, ◌∷◌, [], length, map, position, get_or, ◌||◌, List, slice_get, Some, None, count_by, cond, IfOk, OnErr, OnOk, is_some};
 ghost use Rattle.std.specs.List.{list_any};
 ghost use Rattle.std.specs.HashMap.{get};
 ghost use Rattle.capture_items.specs.Numbers.{equal_tuple};
 ghost use Rattle.tas_model.specs.declared.entry.Caller.TheVariants.{Slow};
 ghost use Rattle.flow_state.specs.Calls.{seg_of};
 ghost use Rattle.tas_runs.specs.Records.{Content, is_remote};
-ghost use Rattle.tas_runs.specs.Hosts.{is_indexed_as, is_in_slot, change_at, free_from, next_generation, opened_as, flows_of};
+ghost use Rattle.tas_runs.specs.Hosts.{Live, is_indexed_as, is_in_slot, change_at, free_from, next_generation, opened_as, flows_of};
 ghost use Rattle.tas_runs.specs.Upkeep.{swept, timed, quieted};
 ghost use Rattle.tas_runs.specs.Deliveries.{received_serially};
 ghost use Rattle.tas_runs.specs.LocalScript.{sees, resets_here};
@@ -98,23 +98,12 @@ impl Flows {
         }
     }
 
-    /// The lowest free slot of so many.
-    pub fn lowest_free(&self, slots: u32) -> Option<u32>
-        ensures { result ≡ free_from slots 0 self.now }
+    /// The lowest free slot of so many. The error is want of memory.
+    pub fn lowest_free(&self, alloc: Global, slots: u32) -> Result<Option<u32>, AllocError>
+        ensures { IfOk result (λ free. free ≡ free_from slots 0 self.now) }
     {
-        for slot in 0..slots {
-            if !self.is_taken(slot) {
-                return Some(slot);
-            }
-        }
-        None
-    }
-
-    /// Whether a flow's record stands in the slot.
-    fn is_taken(&self, slot: u32) -> bool
-        ensures { result ≡ list_any (is_in_slot slot) self.now }
-    {
-        self.flows.iter().any(|flow| flow.is_in_slot(slot))
+        let taken = taken_slots(alloc, &self.flows, slots)?;
+        Ok(first_free(&taken, slots))
     }
 
     /// The next generation of a slot: one more than there were flows in it.
@@ -245,6 +234,42 @@ fn forget(flows: &mut Vec<LiveFlow>, openings: &mut HashMap<FourTuple, Openings>
 {
     flows.clear();
     openings.clear();
+}
+
+/// Which of so many slots a flow's record stands in.
+fn taken_slots(alloc: Global, flows: &[LiveFlow], slots: u32) -> Result<Vec<bool>, AllocError>
+    ensures len { IfOk result (λ taken. length taken.items ≡ slots) }
+    ensures taken { IfOk result (λ taken. (slot : ℕ) → slot < slots → get_or taken.items slot false ≡ list_any (is_in_slot slot) flows.now) }
+{
+    let mut taken = vec![in alloc; false; slots as usize]?;
+    for flow in flows {
+        mark(&mut taken, flow);
+    }
+    Ok(taken)
+}
+
+/// The slot of the flow's record is taken.
+fn mark(taken: &mut [bool], flow: &LiveFlow)
+    ensures len { length taken.new ≡ length taken.old }
+    ensures taken { (slot : ℕ) → slot < length taken.old → get_or taken.new slot false ≡ (get_or taken.old slot false || is_in_slot slot flow.now) }
+{
+    let slot = flow.id().slot;
+    if flow.is_in_slot(slot) && (slot as usize) < taken.len() {
+        taken[slot as usize] = true;
+    }
+}
+
+/// The lowest slot that is not taken.
+fn first_free(taken: &[bool], slots: u32) -> Option<u32>
+    requires { length taken.now ≡ slots }
+    ensures { (flows : List Live) → ((slot : ℕ) → slot < slots → get_or taken.now slot false ≡ list_any (is_in_slot slot) flows) → result ≡ free_from slots 0 flows }
+{
+    for slot in 0..slots {
+        if !taken[slot as usize] {
+            return Some(slot);
+        }
+    }
+    None
 }
 
 fn sweep_all(flows: &mut Vec<LiveFlow>)

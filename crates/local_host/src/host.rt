@@ -194,7 +194,8 @@ impl LocalHost {
         requires fresh { position (is_indexed_as tuple) self.old.flows ≡ None }
         ensures { (items : List model.Item) → AreNumbersOf items numbers.now → OnOk result (self.new ≡ model_opened_by_syn (lowest_free self.old) items tick self.old frame tuple (seg_of seg.now)) }
     {
-        match self.flows.lowest_free(self.params.slots) {
+        let free = self.flows.lowest_free(self.alloc, self.params.slots)?;
+        match free {
             None => self.log_event(
                 tick,
                 LogEvent::Dropped {
@@ -230,7 +231,8 @@ impl LocalHost {
         requires fresh { position (is_indexed_as tuple) self.old.flows ≡ None }
         ensures { (items : List model.Item) → AreNumbersOf items numbers.now → OnOk result (self.new ≡ opened_by_connect (lowest_free self.old) items tick self.old tuple) }
     {
-        match self.flows.lowest_free(self.params.slots) {
+        let free = self.flows.lowest_free(self.alloc, self.params.slots)?;
+        match free {
             None => self.log_event(
                 tick,
                 LogEvent::ConnectRefused {

@@ -1,4 +1,3 @@
-use Rattle.std.proofs.Common.{[]}
 use Rattle.flow_state.specs.Calls.{call_of}
 use Rattle.local_host.proofs.Growth.{out_still, end_kept}
 use Rattle.local_host.proofs.calls.make.Goals as goal

@@ -1,5 +1,4 @@
-use Rattle.std.proofs.Common.{◌≡◌, ◌≤◌, ◌++◌, take, length}
-use Rattle.tas_model.specs.LegalHistory.{replay}
+use Rattle.std.proofs.Common.{length}
 use Rattle.local_host.proofs.Growth.{out_sent, end_kept}
 use Rattle.tas_model.specs.declared.entry.Call.TheVariants as calls
 use Rattle.local_host.proofs.calls.offer.Goals as goal

@@ -1,7 +1,6 @@
 use Rattle.std.proofs.Common.{ℕ, ◌<◌, length, List, subst, set, get_or, ap, ◌∙◌}
-use Rattle.tas_model.specs.declared.entry.Caller.TheVariants.{Slow}
 use Rattle.tas_runs.specs.Hosts.{Live}
-use Rattle.tas_runs.specs.Upkeep.{swept, timed, quieted}
+use Rattle.tas_runs.specs.Upkeep.{swept}
 use Rattle.tas_runs.proofs.Loops.{mapped_at}
 use Rattle.local_host.proofs.flows.sweep_all.Goals as goal
 

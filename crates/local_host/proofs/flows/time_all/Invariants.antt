@@ -1,6 +1,6 @@
 use Rattle.std.proofs.Common.{◌≡◌, map, drop, take, ◌++◌}
 use Rattle.tas_model.specs.declared.entry.Caller.TheVariants.{Slow}
-use Rattle.tas_runs.specs.Upkeep.{swept, timed, quieted}
+use Rattle.tas_runs.specs.Upkeep.{timed}
 use Rattle.local_host.proofs.flows.time_all.Given as goal
 
 abbrev pub invariant-loop-flow : goal.invariant-loop-flow

@@ -1,5 +1,4 @@
 use Rattle.std.proofs.Common.{◌≡◌, List, get_or, ap, subst, ◌∙◌}
-use Rattle.tas_runs.specs.Logs.{Flow}
 use Rattle.tas_runs.specs.Hosts.{Live}
 use Rattle.local_host.specs.Live.{flow_in}
 use Rattle.local_host.proofs.Places.{flow_there}

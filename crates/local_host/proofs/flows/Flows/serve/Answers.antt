@@ -1,19 +1,12 @@
-use Rattle.std.proofs.Common.{◌≡◌, ◌<◌, ◌+◌, ◌++◌, ◌∷◌, [], Bool, true, false, cond, List, length, Option, Some, None, refl, sym, ap, subst, ◌∙◌, position, get_or}
+use Rattle.std.proofs.Common.{◌<◌, List, length, refl, sym, subst, ◌∙◌}
 use Rattle.std.specs.HashMap.{get}
-use Rattle.tas_model.specs.declared.entry.FourTuple.{FourTuple}
-use Rattle.tas_model.specs.declared.entry.Caller.TheVariants.{Slow}
-use Rattle.flow_state.specs.Calls.{seg_of}
 use Rattle.capture_items.specs.Numbers.{equal_tuple}
 use Rattle.tas_runs.specs.Records.{Content}
-use Rattle.tas_runs.specs.Hosts.{Live, is_indexed_as, opened_as, change_at}
-use Rattle.tas_runs.specs.Upkeep.{swept, timed, quieted}
-use Rattle.tas_runs.specs.Deliveries.{received_serially}
-use Rattle.tas_runs.specs.LocalScript.{sees}
+use Rattle.tas_runs.specs.Hosts.{Live}
 use Rattle.local_host.specs.Live.{asked_all}
-use Rattle.local_host.specs.Index.{IsIndex, latest_of, count_of}
-use Rattle.local_host.specs.declared.flows.Openings.{Openings}
+use Rattle.local_host.specs.Index.{IsIndex}
 use Rattle.local_host.proofs.Places.{ok_by, wrote_change}
-use Rattle.local_host.proofs.Indexing.{swept_keeps, timed_keeps, quieted_keeps, received_keeps, sees_keeps, asked_keeps, map_index, change_index, no_index, push_index, latest_found, latest_not_found, none_latest, ok_fact, some_content, content_remote, content_resets}
+use Rattle.local_host.proofs.Indexing.{asked_keeps, change_index, ok_fact, some_content, content_remote, content_resets}
 use Rattle.local_host.proofs.flows.Flows.serve.Goals as goal
 
 pub returns-else-is_err : goal.returns-else-is_err

@@ -1,16 +1,9 @@
-use Rattle.std.proofs.Common.{◌≡◌, ℕ, ◌++◌, ◌∷◌, [], ◌&&◌, not, Bool, true, false, List, map, drop, refl, sym, ap, subst, true≢false, ◌∙◌}
-use Rattle.tas_num.specs.declared.seq.Seq.{Seq}
-use Rattle.tas_model.specs.declared.entry.Seg.{Seg}
+use Rattle.std.proofs.Common.{◌≡◌, ◌&&◌, not, Bool, true, false, refl, sym, ap, subst, true≢false, ◌∙◌}
 use Rattle.flow_state.specs.Calls.{seg_of}
-use Rattle.tas_runs.specs.Records.{Content, Remote, Local, Item}
-use Rattle.tas_runs.specs.Hosts.{Live, Host, changed, is_known, lowest_free}
-use Rattle.tas_runs.specs.Deliveries.{received_serially, arrived, met_listener, opens, opened_by_syn}
-use Rattle.tas_runs.specs.LocalScript.{sees, connects, connected_where, opened_by_connect}
-use Rattle.tas_runs.specs.SerialOrder.{served, frame_phase, script_phase}
-use Rattle.capture_items.specs.Items.{item_in, content_in}
-use Rattle.local_host.specs.Live.{asked_all}
+use Rattle.tas_runs.specs.Hosts.{Host, is_known}
+use Rattle.tas_runs.specs.LocalScript.{connects, connected_where}
 use Rattle.local_host.proofs.Places.{ok_by}
-use Rattle.local_host.proofs.Hosting.{changed_found, changed_none, known_is, unknown_is, syn_opened, connect_opened, served_remote, served_local}
+use Rattle.local_host.proofs.Hosting.{known_is, unknown_is}
 use Rattle.local_host.proofs.host.LocalHost.connect_where.Goals as goal
 
 and_known : (a k : Bool) → k ≡ true → (a && not k) ≡ false

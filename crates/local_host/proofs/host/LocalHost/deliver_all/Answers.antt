@@ -1,16 +1,8 @@
-use Rattle.std.proofs.Common.{◌≡◌, ℕ, ◌++◌, ◌∷◌, [], ◌&&◌, not, Bool, true, false, List, map, drop, refl, sym, ap, subst, ◌∙◌}
-use Rattle.tas_num.specs.declared.seq.Seq.{Seq}
-use Rattle.tas_model.specs.declared.entry.Seg.{Seg}
-use Rattle.flow_state.specs.Calls.{seg_of}
-use Rattle.tas_runs.specs.Records.{Content, Remote, Local, Item}
-use Rattle.tas_runs.specs.Hosts.{Live, Host, changed, is_known, lowest_free}
-use Rattle.tas_runs.specs.Deliveries.{delivered_by, received_serially, arrived, met_listener, opens, opened_by_syn}
-use Rattle.tas_runs.specs.LocalScript.{sees, connects, connected_where, opened_by_connect}
-use Rattle.tas_runs.specs.SerialOrder.{served, frame_phase, script_phase}
-use Rattle.capture_items.specs.Items.{item_in, content_in}
-use Rattle.local_host.specs.Live.{asked_all}
-use Rattle.local_host.proofs.Places.{ok_by}
-use Rattle.local_host.proofs.Hosting.{changed_found, changed_none, known_is, unknown_is, syn_opened, connect_opened, one_less}
+use Rattle.std.proofs.Common.{map}
+use Rattle.tas_runs.specs.Deliveries.{delivered_by, received_serially}
+use Rattle.tas_runs.specs.SerialOrder.{frame_phase}
+use Rattle.capture_items.specs.Items.{item_in}
+use Rattle.local_host.proofs.Hosting.{one_less}
 use Rattle.local_host.proofs.host.LocalHost.deliver_all.Goals as goal
 
 pub loop-item-preserved : goal.loop-item-preserved

@@ -1,22 +1,15 @@
-use Rattle.std.proofs.Common.{◌≡◌, ℕ, ◌++◌, ◌∷◌, [], ◌&&◌, not, Bool, true, false, List, Some, map, drop, refl, sym, ap, subst, ◌∙◌}
-use Rattle.tas_num.specs.declared.seq.Seq.{Seq}
-use Rattle.tas_model.specs.declared.entry.Seg.{Seg}
+use Rattle.std.proofs.Common.{◌≡◌, ◌++◌, ◌∷◌, [], Some, sym, ap, subst, ◌∙◌}
 use Rattle.flow_state.specs.Calls.{seg_of}
-use Rattle.tas_runs.specs.Records.{Content, Remote, Local, Item}
-use Rattle.tas_runs.specs.Hosts.{Live, Host, next_generation, changed, is_known, lowest_free}
-use Rattle.tas_runs.specs.Deliveries.{next_first_number, received_serially, arrived, met_listener, opens, opened_by_syn}
-use Rattle.tas_runs.specs.LocalScript.{sees, connects, connected_where, opened_by_connect}
-use Rattle.tas_runs.specs.SerialOrder.{served, frame_phase, script_phase}
-use Rattle.capture_items.specs.Items.{item_in, content_in}
-use Rattle.local_host.specs.Live.{asked_all}
+use Rattle.tas_runs.specs.Hosts.{Live, Host, next_generation, lowest_free}
+use Rattle.tas_runs.specs.Deliveries.{next_first_number, opened_by_syn}
 use Rattle.local_host.proofs.Places.{ok_by}
-use Rattle.local_host.proofs.Hosting.{changed_found, changed_none, known_is, unknown_is, syn_opened, connect_opened, served_remote, served_local}
+use Rattle.local_host.proofs.Hosting.{syn_opened}
 use Rattle.local_host.proofs.host.LocalHost.open_by_syn.Goals as goal
 
 pub returns-in_ok-flow-in-Some : goal.returns-in_ok-flow-in-Some
 returns-in_ok-flow-in-Some c = λ items numbers.
     let host : Host = record { params = c.self.inside.params; log = c.self.inside.log; flows = c.self.inside.flows } in
-    let free : lowest_free host ≡ Some c.in-Some.slot = sym c.lowest_free.ensures ∙ c.in-Some.is in
+    let free : lowest_free host ≡ Some c.in-Some.slot = sym c.in_ok-free.ensures ∙ c.in-Some.is in
     let is : c.in_ok-id-in-Some.id ≡ record { slot = c.in-Some.slot; generation = next_generation c.in-Some.slot host.flows } =
     subst (λ (h : Host). c.in_ok-id-in-Some.id ≡ record { slot = c.in-Some.slot; generation = next_generation c.in-Some.slot h.flows }) (sym c.self.view_is) c.in_ok-id-in-Some.ensures.id in
     let number : c.next_number-iss.result.0 ≡ next_first_number items host c.args.tuple = subst (λ (h : Host). c.next_number-iss.result.0 ≡ next_first_number items h c.args.tuple) (sym c.self.view_is) (c.next_number-iss.ensures items numbers) in

@@ -1,17 +1,8 @@
-use Rattle.std.proofs.Common.{◌≡◌, ℕ, ◌++◌, ◌∷◌, [], ◌&&◌, not, Bool, true, false, List, map, drop, refl, sym, ap, subst, ◌∙◌}
-use Rattle.tas_num.specs.declared.seq.Seq.{Seq}
-use Rattle.tas_model.specs.declared.entry.Seg.{Seg}
+use Rattle.std.proofs.Common.{refl, sym}
 use Rattle.flow_state.specs.Calls.{seg_of}
-use Rattle.tas_runs.specs.Records.{Content, Remote, Local, Item}
-use Rattle.tas_runs.specs.Hosts.{Live, Host, changed, is_known, lowest_free}
-use Rattle.tas_runs.specs.Deliveries.{received_serially, arrived, met_listener, opens, opened_by_syn}
-use Rattle.tas_runs.specs.LocalScript.{sees, connects, connected_where, opened_by_connect}
-use Rattle.tas_runs.specs.SerialOrder.{served, frame_phase, script_phase}
-use Rattle.capture_items.specs.declared.item.Content as code
-use Rattle.capture_items.specs.Items.{item_in, content_in}
-use Rattle.local_host.specs.Live.{asked_all}
+use Rattle.tas_runs.specs.Records.{Remote, Local}
 use Rattle.local_host.proofs.Places.{ok_by}
-use Rattle.local_host.proofs.Hosting.{changed_found, changed_none, known_is, unknown_is, syn_opened, connect_opened, remote_done, local_done}
+use Rattle.local_host.proofs.Hosting.{remote_done, local_done}
 use Rattle.local_host.proofs.host.LocalHost.serve.Goals as goal
 
 pub returns-in-Remote : goal.returns-in-Remote
