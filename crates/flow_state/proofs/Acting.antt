@@ -1,20 +1,14 @@
 -- A record with one entry more.
-use Rattle.std.proofs.Common.{◌≡◌, ℕ, ◌+◌, ◌^◌, ◌<◌, ◌≤◌, cond, List, [], ◌∷◌, ◌++◌, length, take, drop, max, Option, Some, None, refl, sym, ◌∙◌, ap, subst, arith, take-append-drop}
+use Rattle.std.proofs.Common.{◌≡◌, ℕ, ◌+◌, ◌≤◌, cond, List, [], ◌∷◌, ◌++◌, length, take, drop, max, Option, Some, None, refl, sym, ◌∙◌, ap, subst, arith, take-append-drop}
 use Rattle.std.proofs.lemmas.List.{map-append}
-use Rattle.tas_num.specs.declared.seq.Seq.{Seq}
-use Rattle.tas_model.specs.declared.entry.FrameId.{FrameId}
 use Rattle.tas_model.specs.declared.entry.HostParams.{HostParams}
 use Rattle.tas_model.specs.declared.entry.Entry.{Entry}
 use Rattle.tas_model.specs.declared.entry.Caller.{Caller}
-use Rattle.tas_model.specs.declared.entry.Caller.TheVariants.{Slow}
-use Rattle.tas_model.specs.declared.entry.Call.{Call}
-use Rattle.tas_model.specs.declared.entry.Call.TheVariants as calls
 use Rattle.tas_model.specs.declared.entry.Reply.{Reply}
 use Rattle.tas_model.specs.declared.entry.Reply.TheVariants as replies
-use Rattle.tas_model.specs.declared.entry.Seg.{Seg}
 use Rattle.tas_model.specs.Endpoint.{Endpoint}
 use Rattle.tas_model.specs.Segments.{Outcome}
-use Rattle.tas_model.specs.Valid.{Valid, InRange}
+use Rattle.tas_model.specs.Valid.{InRange}
 use Rattle.tas_model.specs.LegalHistory.{Legal, shown, opened, extended_by, reply_or, MayFollow, Gives, IsFirst, replay, step, state_or, moved, last_tick, next_number, same_caller}
 use Rattle.tas_model.proofs.ValidCalls.{valid_replay}
 use Rattle.tas_model.proofs.Histories.{legal_push, replay_push, replay_first}
@@ -29,7 +23,7 @@ use Rattle.flow_state.specs.declared.slot.ReplySlot.TheVariants as rs
 use Rattle.flow_state.specs.declared.counts.CallerCount.{CallerCount}
 use Rattle.flow_state.specs.Calls.{call_of, offer_of, reply_of, answer_of}
 use Rattle.flow_state.specs.Counts.{counted_for, AreCounts}
-use Rattle.flow_state.specs.Flow.{next_entry, reply_to, first_passive, first_connect}
+use Rattle.flow_state.specs.Flow.{next_entry, reply_to}
 use Rattle.flow_state.specs.Made.{IsStep, IsMadeWith, IsMadeAt}
 use Rattle.flow_state.specs.Record.{IsRecord}
 use Rattle.flow_state.specs.Slots.{entries_of, entry_of, CallWithin, ReplyWithin, IsWithin, AllWithin}

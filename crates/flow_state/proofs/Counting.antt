@@ -1,9 +1,8 @@
 -- The counts of callers.
-use Rattle.std.proofs.Common.{◌≡◌, ℕ, zero, suc, ◌+◌, ◌-◌, ◌^◌, ◌<◌, ◌≤◌, Bool, true, false, cond, eqb, List, [], ◌∷◌, ◌++◌, length, set, get_or, nat_lt, position, Option, Some, None, refl, sym, ◌∙◌, ap, subst, arith, tests, count_by}
+use Rattle.std.proofs.Common.{◌≡◌, ℕ, zero, suc, ◌+◌, ◌<◌, ◌≤◌, Bool, true, false, cond, eqb, List, [], ◌∷◌, ◌++◌, length, set, get_or, nat_lt, position, Some, None, refl, sym, ◌∙◌, ap, arith, tests}
 use Rattle.std.proofs.lemmas.Bool.Decides.{nat_tests}
 use Rattle.std.specs.List.{fold, position_or_len}
 use Rattle.std.proofs.lemmas.List.Sums.{fails_before_first, count_by-le-length}
-use Rattle.std.proofs.lemmas.List.Quantifiers.{position-Some}
 use Rattle.tas_model.specs.declared.entry.Caller.{Caller}
 use Rattle.tas_model.specs.declared.entry.Caller.TheVariants.{Slow, Core, App}
 use Rattle.tas_model.specs.declared.entry.Entry.{Entry}

@@ -1,5 +1,5 @@
 -- The places of a record are far below 2^126.
-use Rattle.std.proofs.Common.{◌≡◌, ℕ, ◌+◌, ◌-◌, ◌*◌, ◌^◌, ◌<◌, ◌≤◌, length, drop, ap, arith, length-drop}
+use Rattle.std.proofs.Common.{◌≡◌, ℕ, ◌+◌, ◌-◌, ◌*◌, ◌^◌, ◌<◌, length, ap, arith, length-drop}
 use Rattle.tas_model.specs.Endpoint.{Endpoint}
 use Rattle.tas_model.specs.Valid.{PlacesWithin}
 use Rattle.flow_state.specs.declared.parts.Parts.{Parts}

@@ -1,7 +1,7 @@
 -- The parts after a Recv.
-use Rattle.std.proofs.Common.{◌≡◌, ℕ, ◌+◌, ◌-◌, ◌<◌, ◌≤◌, List, [], ◌∷◌, ◌++◌, length, take, drop, Option, Some, None, refl, sym, ◌∙◌, ap, subst, arith, length-take, length-drop}
+use Rattle.std.proofs.Common.{◌≡◌, ℕ, ◌+◌, ◌-◌, ◌≤◌, List, [], ◌∷◌, ◌++◌, length, take, drop, Option, Some, None, refl, sym, ◌∙◌, ap, subst, arith, length-take, length-drop}
 use Rattle.std.proofs.lemmas.List.{drop-drop, drop-append-le, take-append-le}
-use Rattle.payload_ring.specs.Window.{Window, Holds}
+use Rattle.payload_ring.specs.Window.{Window}
 use Rattle.tas_model.specs.Endpoint.{Endpoint, Island}
 use Rattle.tas_model.specs.ApplicationCalls.{after_recv}
 use Rattle.flow_state.specs.declared.parts.Parts.{Parts}

@@ -1,6 +1,5 @@
 -- A step that is made again with its own reply gives the same: a Send reads from it the bytes that it took.
 use Rattle.std.proofs.Common.{◌≡◌, ℕ, ◌+◌, ◌≤◌, Bool, true, false, cond, eqb, not, ◌&&◌, List, ◌++◌, length, take, min, Option, Some, None, refl, sym, ◌∙◌, ap, subst, arith, length-take}
-use Rattle.tas_model.specs.declared.entry.Reply.{Reply}
 use Rattle.tas_model.specs.declared.entry.Reply.TheVariants as replies
 use Rattle.tas_model.specs.Endpoint.{Endpoint, send_room}
 use Rattle.tas_model.specs.Segments.{Outcome, unchanged}

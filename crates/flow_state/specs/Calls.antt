@@ -132,6 +132,7 @@ is_running phases.SynReceived = false
 is_running phases.Closed = false
 is_running _ = true
 
+-- CLOSED
 abbrev pub is_closed_phase : Phase → Bool
 is_closed_phase phases.Closed = true
 is_closed_phase _ = false

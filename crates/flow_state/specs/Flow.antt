@@ -1,5 +1,5 @@
 -- What contracts see of a record: its flow's history.
-use Rattle.std.specs.Prelude.{◌≡◌, ℕ, List, [], ◌∷◌, ◌++◌, max}
+use Rattle.std.specs.Prelude.{ℕ, List, [], ◌∷◌, max}
 use Rattle.tas_num.specs.declared.seq.Seq.{Seq}
 use Rattle.tas_model.specs.declared.entry.FlowId.{FlowId}
 use Rattle.tas_model.specs.declared.entry.FourTuple.{FourTuple}
@@ -17,6 +17,7 @@ use Rattle.tas_model.specs.Endpoint.{Endpoint}
 use Rattle.tas_model.specs.LegalHistory.{step, replay, reply_or, shown, next_number, last_tick}
 use Rattle.flow_state.specs.declared.parts.Parts.{Parts}
 
+-- a flow's record
 pub record Flow : Type 0 where
   pub id : FlowId
   pub tuple : FourTuple

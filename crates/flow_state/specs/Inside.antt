@@ -17,5 +17,6 @@ flow_of r = record {
   spare_bytes = vec_capacity r.arena - vec_len r.arena;
 }
 
+-- what it keeps true
 abbrev pub IsKept : Inside → Type 0
 IsKept r = IsRecord r.parts r.arena.items r.slots.items r.counts.items

@@ -1,5 +1,5 @@
 -- When a call was made: the parts stand for the model's next endpoint, and the answer is the model's reply.
-use Rattle.std.specs.Prelude.{◌≡◌, ◌≤◌, ℕ, List, length, take, Option, Some, None}
+use Rattle.std.specs.Prelude.{◌≡◌, ◌≤◌, ℕ, List, length, Option, Some, None}
 use Rattle.tas_model.specs.declared.entry.Caller.{Caller}
 use Rattle.tas_model.specs.Endpoint.{Endpoint}
 use Rattle.tas_model.specs.Segments.{Outcome}
@@ -18,6 +18,7 @@ pub record IsOutcome (after : Parts) (answer : Answer) (out : List ℕ) (o : Out
   pub reply : o.reply ≡ reply_of answer out
   pub state : Stands after o.state
 
+-- the call is a step, and its outcome is what stands afterwards
 abbrev pub IsStep : (after : Parts) (answer : Answer) (out : List ℕ) → Option Outcome → Type 0
 IsStep after answer out None = ⊥
 IsStep after answer out (Some o) = IsOutcome after answer out o
@@ -33,5 +34,6 @@ pub record IsMadeWith (before after : Parts) (arena : List ℕ) (caller : Caller
   pub within : IsWithin (length arena) slot
   pub bytes : answer_len answer ≤ length out
 
+-- the same, whatever memory the reply's bytes stood in first
 abbrev pub IsMadeAt : (before after : Parts) (arena : List ℕ) (caller : Caller) (number tick : ℕ) (call : CallIn) (answer : Answer) (slot : Slot) → Type 0
 IsMadeAt before after arena caller number tick call answer slot = (out : List ℕ) × IsMadeWith before after arena caller number tick call answer slot out

@@ -9,6 +9,7 @@ use Rattle.flow_state.specs.Slots.{AllWithin, entries_of}
 use Rattle.flow_state.specs.Counts.{AreCounts}
 use Rattle.flow_state.specs.Stands.{Stands}
 
+-- The parts stand for the endpoint that the entries lead to, and these are a legal history.
 pub record IsRecord (parts : Parts) (arena : List ℕ) (slots : List Slot) (table : List CallerCount) : Type 0 where
   pub fits : InRange parts.params
   pub legal : Legal parts.params (entries_of arena slots)

@@ -16,12 +16,15 @@ use Rattle.flow_state.specs.declared.slot.Slot.{Slot}
 abbrev pub Holds : List ℕ → ℕ → List ℕ → Type 0
 Holds arena from bytes = take (length bytes) (drop from arena) ≡ bytes
 
+-- the bytes of a span
 abbrev pub bytes_at : List ℕ → Span → List ℕ
 bytes_at arena s = take s.len (drop s.from arena)
 
+-- the span ends at or before the n-th byte
 abbrev pub SpanWithin : ℕ → Span → Type 0
 SpanWithin n s = s.from + s.len ≤ n
 
+-- the call of a slot
 abbrev pub call_in : List ℕ → CallSlot → Call
 call_in arena (cs.Connect iss) = calls.Connect iss
 call_in arena (cs.Passive frame iss head bytes) = calls.Passive frame iss (record { head = head; bytes = bytes_at arena bytes })
@@ -37,6 +40,7 @@ call_in arena cs.Shut = calls.Shut
 call_in arena cs.Close = calls.Close
 call_in arena cs.Abort = calls.Abort
 
+-- the reply of a slot
 abbrev pub reply_in : List ℕ → ReplySlot → Reply
 reply_in arena rs.Ok = replies.Ok
 reply_in arena rs.Nothing = replies.Nothing
@@ -55,28 +59,35 @@ reply_in arena rs.Expired = replies.Expired
 reply_in arena rs.TimedOut = replies.TimedOut
 reply_in arena (rs.Window cwnd ssthresh) = replies.Window cwnd ssthresh
 
+-- the entry of a slot
 abbrev pub entry_of : List ℕ → Slot → Entry
 entry_of arena s = record { caller = s.caller; number = s.number; tick = s.tick; call = call_in arena s.call; reply = reply_in arena s.reply }
 
 -- its bytes stand in the first n of the memory
+-- ----- spans that lie in memory
+-- of a call
 abbrev pub CallWithin : ℕ → CallSlot → Type 0
 CallWithin n (cs.Passive frame iss head bytes) = SpanWithin n bytes
 CallWithin n (cs.Rx frame head bytes) = SpanWithin n bytes
 CallWithin n _ = ⊤
 
+-- of a reply
 abbrev pub ReplyWithin : ℕ → ReplySlot → Type 0
 ReplyWithin n (rs.Sent head bytes) = SpanWithin n bytes
 ReplyWithin n (rs.Took bytes) = SpanWithin n bytes
 ReplyWithin n (rs.Got bytes update) = SpanWithin n bytes
 ReplyWithin n _ = ⊤
 
+-- of a slot
 pub record IsWithin (n : ℕ) (s : Slot) : Type 0 where
   pub call : CallWithin n s.call
   pub reply : ReplyWithin n s.reply
 
+-- of all slots
 abbrev pub AllWithin : ℕ → List Slot → Type 0
 AllWithin n [] = ⊤
 AllWithin n (s ∷ ss) = IsWithin n s × AllWithin n ss
 
+-- the history that the slots mean
 abbrev pub entries_of : List ℕ → List Slot → List Entry
 entries_of arena slots = map (entry_of arena) slots

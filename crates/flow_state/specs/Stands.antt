@@ -20,6 +20,7 @@ abbrev pub IsIsland : Option (ℕ × ℕ) → (ahead : List ℕ) → (end : ℕ)
 IsIsland kept ahead end None = kept ≡ None
 IsIsland kept ahead end (Some i) = (kept ≡ Some (i.at - end, length i.bytes)) × (take (length i.bytes) (drop (i.at - end) ahead) ≡ i.bytes)
 
+-- The parts stand for the endpoint. Numbers are kept modulo 2^32; of the stream that is sent the bytes from the first one not acknowledged on are kept, of the one received those from the first unread one on.
 pub record Stands (p : Parts) (e : Endpoint) : Type 0 where
   pub params : p.params ≡ e.params
   pub phase : p.phase ≡ phase e

@@ -1,5 +1,4 @@
 -- The entry that a view shows.
-use Rattle.std.specs.Prelude.{List}
 use Rattle.tas_model.specs.declared.entry.Call.{Call}
 use Rattle.tas_model.specs.declared.entry.Call.TheVariants as calls
 use Rattle.tas_model.specs.declared.entry.Reply.{Reply}
@@ -13,9 +12,11 @@ use Rattle.flow_state.specs.declared.view.ReplyView.{ReplyView}
 use Rattle.flow_state.specs.declared.view.ReplyView.TheVariants as rv
 use Rattle.flow_state.specs.declared.view.EntryView.{EntryView}
 
+-- its segment, with the payload as a list
 abbrev pub seen_seg : SegView → Seg
 seen_seg s = record { head = s.head; bytes = s.bytes.now }
 
+-- its call
 abbrev pub seen_call : CallView → Call
 seen_call (cv.Connect iss) = calls.Connect iss
 seen_call (cv.Passive frame iss seg) = calls.Passive frame iss (seen_seg seg)
@@ -31,6 +32,7 @@ seen_call cv.Shut = calls.Shut
 seen_call cv.Close = calls.Close
 seen_call cv.Abort = calls.Abort
 
+-- its reply
 abbrev pub seen_reply : ReplyView → Reply
 seen_reply rv.Ok = replies.Ok
 seen_reply rv.Nothing = replies.Nothing
@@ -49,5 +51,6 @@ seen_reply rv.Expired = replies.Expired
 seen_reply rv.TimedOut = replies.TimedOut
 seen_reply (rv.Window cwnd ssthresh) = replies.Window cwnd ssthresh
 
+-- all of it
 abbrev pub seen_entry : EntryView → Entry
 seen_entry x = record { caller = x.caller; number = x.number; tick = x.tick; call = seen_call x.call; reply = seen_reply x.reply }

@@ -2,7 +2,7 @@ ghost use Rattle.std.specs.Prelude.{◌≡◌, ℕ, ◌+◌, ◌^◌, ◌<◌, �
 ghost use Rattle.tas_model.specs.declared.entry.FrameId.{FrameId};
 ghost use Rattle.tas_model.specs.declared.entry.Call.TheVariants as calls;
 ghost use Rattle.tas_num.specs.Control.{refill as model_refill};
-ghost use Rattle.tas_model.specs.Endpoint.{send_mss as model_mss, first_cwnd as model_cwnd};
+ghost use Rattle.tas_model.specs.Endpoint.{Endpoint, first_rate, send_mss as model_mss, first_cwnd as model_cwnd};
 ghost use Rattle.tas_model.specs.LegalHistory.{opened};
 ghost use Rattle.tas_model.specs.Valid.{InRange};
 ghost use Rattle.flow_state.specs.Calls.{seg_of};
@@ -52,6 +52,27 @@ fn refill(mss: u16, cwnd: u32) -> u32
     ensures { result ≡ model_refill mss cwnd }
 {
     (cwnd / 4).max(u32::from(mss))
+}
+
+impl Parts {
+    /// Sets the rate to that of a flow whose peer's SYN was just taken, by the SYN's MSS option (RFC 5681, section 3.1). The bucket is full.
+    pub fn begin_rate(&mut self, theirs: Option<u16>)
+        ensures stands { (e : Endpoint) → Stands self.old e → Stands self.new (record e { rate = first_rate e.params theirs }) }
+        ensures params { self.new.params ≡ self.old.params }
+        ensures tuple { self.new.tuple ≡ self.old.tuple }
+    {
+        let smss = send_mss(&self.params, theirs);
+        let cwnd = first_cwnd(self.params.fixed, smss);
+        self.smss = smss;
+        self.cwnd = cwnd;
+        self.ssthresh = 65535;
+        self.bucket = Bucket {
+            tokens: cwnd,
+            depth: cwnd,
+            fill: refill(smss, cwnd),
+        };
+        self.counters = NO_COUNTS;
+    }
 }
 
 /// The parts of a flow that a peer's SYN opens, whose window and MSS are taken.

@@ -40,6 +40,8 @@ fn syn() -> Segment<'static> {
     }
 }
 
+fn may_change_threads<T: Send>(_item: &T) {}
+
 #[test]
 fn a_new_flow_is_given_up(rt: HostRuntime) -> Result<(), Fail> {
     let id = FlowId {
@@ -69,6 +71,7 @@ fn a_new_flow_is_given_up(rt: HostRuntime) -> Result<(), Fail> {
         )
     );
     assert_eq!(rt; record.entries(), 4);
+    may_change_threads(&record);
     Ok(())
 }
 

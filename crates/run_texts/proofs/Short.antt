@@ -25,7 +25,9 @@ use Rattle.tas_model.specs.OneStream.{StandsIn}
 use Rattle.tas_model.specs.Valid.{Valid, InRange, IsPaced}
 use Rattle.tas_model.proofs.ValidCalls.{valid_replay}
 use Rattle.std.proofs.lemmas.List.Concat.{flat_map-append}
-use Rattle.run_texts.specs.Frames.{AreAllShort}
+use Rattle.tas_runs.specs.Logs.{Flow}
+use Rattle.tas_runs.specs.Rounds.{Each}
+use Rattle.run_texts.specs.Frames.{AreAllShort, AreShort}
 use Rattle.std.proofs.lemmas.List.{take_min}
 use Rattle.std.proofs.lemmas.Bool.Decides.{nat_tests}
 use Rattle.tas_model.proofs.Histories.{legal_induction, along_push, replay_push}
@@ -249,6 +251,6 @@ sent_is_short params h fits legal =
         (given_right (step (replay params es) x.tick x.call x.reply) (replay params es) x.reply may.step (step_right (replay params es) x.tick x.call x.reply))
 
 -- So has each that a host's flows sent, where these have legal histories of parameters in their ranges.
-pub flows_are_short : (flows : List Flow) → AreInRange flows → AreHistories flows → AreShort flows
-flows_are_short [] fit legal = tt
-flows_are_short (f ∷ fs) fit legal = (sent_is_short f.params f.entries fit.0 legal.0, flows_are_short fs fit.1 legal.1)
+pub flows_are_short : (flows : List Flow) → Each (λ (f : Flow). InRange f.params × Legal f.params f.entries) flows → AreShort flows
+flows_are_short [] sound = tt
+flows_are_short (f ∷ fs) sound = (sent_is_short f.params f.entries sound.0.0 sound.0.1, flows_are_short fs sound.1)

@@ -17,7 +17,7 @@ use Rattle.tas_model.specs.Endpoint.{Endpoint, Sending, Receiving, Rate, Island,
 use Rattle.tas_model.specs.Segments.{Outcome, seg_len, is_fin, is_ack, is_syn, is_rst}
 use Rattle.tas_model.specs.Receive.{with_fin, takes_fin, rate_after, ack_verdict, AckVerdict, Stray, TooFar, Good, Verdict, Dropped, Answered, Reset, BareAck, Taken, after_ack, after_data, taken, bare_ack, by_verdict, verdict, rx_later, rx_syn_sent, connected, rx_in, rx, place_of_ack, closes, sending_after, after_duplicate, after_advance, with_window, is_duplicate, moves_window}
 use Rattle.tas_model.specs.Reassembly.{with_data}
-use Rattle.tas_model.specs.ApplicationCalls.{Column, Opening, Over, Running, column, accept_in, ready_in, send_in, recv_in, recv_open, after_recv, shut_in, close_in, abort_in}
+use Rattle.tas_model.specs.ApplicationCalls.{Column, Opening, Over, Running, column, column_by, accept_in, ready_in, send_in, recv_in, recv_open, after_recv, shut_in, close_in, abort_in}
 use Rattle.tas_model.specs.NextSegment.{Going, going, going_in, going_running, emitted, past, waiting, data_len}
 use Rattle.tas_model.specs.Timers.{ticks, tick_in, ticked, waited, expired, aged, is_armed, patience, probes, filled, controlled, control}
 use Rattle.tas_num.specs.Control.{cwnd_after, ssthresh_after}
@@ -121,7 +121,7 @@ connected_keeps e seg fits sent none v =
     record {
       fits = v.fits;
       unopened = tt;
-      tx = record { una = omega arith; nxt = omega (arith, v.tx.nxt); max = v.tx.max; room = omega (arith, v.tx.room); dup = v.tx.dup };
+      tx = record { una = omega arith; nxt = omega (arith, v.tx.nxt); max = v.tx.max; room = omega (arith, v.tx.room); dup = v.tx.dup; opening = λ h. absurd (omega (arith, h)) };
       rx = v.rx;
       rate = first_rate_valid e.params seg.head.mss fits;
       paced = first_rate_paced e.params seg.head.mss fits;
@@ -191,8 +191,16 @@ with_tx e tx una trying s v = record { fits = v.fits; unopened = subst (IsUnopen
 with_rx : (e : Endpoint) (rx : Receiving) → ValidReceiving e.params.ring rx → Valid e → Valid (record e { rx = rx })
 with_rx e rx r v = record { fits = v.fits; unopened = v.unopened; tx = v.tx; rx = r; rate = v.rate; paced = v.paced; trying = v.trying }
 
-shut_keeps : (ring : ℕ) (tx : Sending) → ValidSending ring tx → ValidSending ring (record tx { shut = true })
-shut_keeps ring tx v = record { una = v.una; nxt = v.nxt; max = grow tx.shut v.max; room = v.room; dup = v.dup }
+-- where the connection stands, the SYN is acknowledged
+running_una : (reason : Option Reason) (peer : Option ℕ) (una : ℕ) → column_by reason peer una ≡ Running → una ≡ 0 → ⊥
+running_una (Some why) peer una is none = absurd (cc (is))
+running_una None None una is none = absurd (cc (is))
+running_una None (Some first) una is none =
+    let opening : Opening ≡ Running = subst (λ (n : ℕ). cond (eqb n 0) Opening Running ≡ Running) none is in
+    absurd (cc (opening))
+
+shut_keeps : (ring : ℕ) (tx : Sending) → (tx.una ≡ 0 → ⊥) → ValidSending ring tx → ValidSending ring (record tx { shut = true })
+shut_keeps ring tx began v = record { una = v.una; nxt = v.nxt; max = grow tx.shut v.max; room = v.room; dup = v.dup; opening = λ h. absurd (began h) }
   where
     grow : (b : Bool) → tx.max ≤ length tx.out + 1 + cond b 1 0 → tx.max ≤ length tx.out + 1 + 1
     grow true h = h
@@ -202,7 +210,7 @@ sent_keeps : (ring : ℕ) (tx : Sending) (bytes : List ℕ) → tx.shut ≡ fals
 sent_keeps ring tx bytes going fits v =
     let len : length (tx.out ++ bytes) ≡ length tx.out + length bytes = length-append tx.out bytes in
     let most : tx.max ≤ length tx.out + 1 = grind (arith, v.max) in
-    record { una = v.una; nxt = v.nxt; max = omega (arith, v.max); room = omega (arith, v.room, v.una, v.nxt); dup = v.dup }
+    record { una = v.una; nxt = v.nxt; max = omega (arith, v.max); room = omega (arith, v.room, v.una, v.nxt); dup = v.dup; opening = v.opening }
 
 accept_keeps : (e : Endpoint) (c : Column) → Valid e → LeavesValid (accept_in c e)
 accept_keeps e Running v = v
@@ -243,15 +251,16 @@ recv_keeps e Running most v = recv_open_keeps e most v
 recv_keeps e (Over reasons.Done) most v = recv_open_keeps e most v
 recv_keeps e (Over _) most v = v
 
-shut_in_keeps : (e : Endpoint) (c : Column) → Valid e → V (shut_in c e)
-shut_in_keeps e Opening v = v
-shut_in_keeps e (Over why) v = v
-shut_in_keeps e Running v = on_cond V e.tx.shut _ _ (λ t. v) (λ f. with_tx e (record (e.tx) { shut = true }) refl v.trying (shut_keeps e.params.ring e.tx v.tx) v)
+shut_in_keeps : (e : Endpoint) (c : Column) → column e ≡ c → Valid e → V (shut_in c e)
+shut_in_keeps e Opening is v = v
+shut_in_keeps e (Over why) is v = v
+shut_in_keeps e Running is v =
+    on_cond V e.tx.shut _ _ (λ t. v) (λ f. with_tx e (record (e.tx) { shut = true }) refl v.trying (shut_keeps e.params.ring e.tx (running_una e.reason e.peer e.tx.una is) v.tx) v)
 
-close_keeps : (e : Endpoint) (c : Column) → Valid e → V (close_in c e)
-close_keeps e Opening v = with_reason e reasons.Aborted v
-close_keeps e (Over why) v = v
-close_keeps e Running v = with_tx e (record (e.tx) { shut = true }) refl v.trying (shut_keeps e.params.ring e.tx v.tx) v
+close_keeps : (e : Endpoint) (c : Column) → column e ≡ c → Valid e → V (close_in c e)
+close_keeps e Opening is v = with_reason e reasons.Aborted v
+close_keeps e (Over why) is v = v
+close_keeps e Running is v = with_tx e (record (e.tx) { shut = true }) refl v.trying (shut_keeps e.params.ring e.tx (running_una e.reason e.peer e.tx.una is) v.tx) v
 
 abort_keeps : (e : Endpoint) (c : Column) → Valid e → V (abort_in c e)
 abort_keeps e Opening v = with_reason e reasons.Aborted v
@@ -260,7 +269,7 @@ abort_keeps e Running v = with_reason e reasons.Aborted v
 
 -- ----- sending
 past_keeps : (ring : ℕ) (tx : Sending) (n : ℕ) → tx.nxt + n ≤ length tx.out + 1 + cond tx.shut 1 0 → ValidSending ring tx → ValidSending ring (past tx n)
-past_keeps ring tx n fits v = record { una = omega (arith, v.una); nxt = omega arith; max = omega (arith, v.max, fits); room = v.room; dup = v.dup }
+past_keeps ring tx n fits v = record { una = omega (arith, v.una); nxt = omega arith; max = omega (arith, v.max, fits); room = v.room; dup = v.dup; opening = v.opening }
 
 abbrev G : Option Going → Type 0
 G None = Unit {0}
@@ -281,7 +290,7 @@ running_keeps e v =
     probed : (e.tx.probe && eqb e.tx.window 0 && eqb e.tx.nxt e.tx.una && ltb 0 (waiting e.tx)) ≡ true → ValidSending e.params.ring (record (e.tx) { probe = false; max = max e.tx.max (e.tx.nxt + 1) })
     probed t =
         let some : 0 < waiting e.tx = grind (arith, nat_tests) in
-        record { una = v.tx.una; nxt = omega (arith, v.tx.nxt); max = omega (arith, v.tx.max); room = v.tx.room; dup = v.tx.dup }
+        record { una = v.tx.una; nxt = omega (arith, v.tx.nxt); max = omega (arith, v.tx.max); room = v.tx.room; dup = v.tx.dup; opening = v.tx.opening }
 
     last : (e.tx.shut && eqb e.tx.nxt (1 + length e.tx.out)) ≡ true → e.tx.nxt + 1 ≤ length e.tx.out + 1 + cond e.tx.shut 1 0
     last t = grind (arith, nat_tests)
@@ -304,10 +313,10 @@ filled_keeps : (e : Endpoint) → Valid e → Valid (record e { rate = filled e.
 filled_keeps e v = record { fits = v.fits; unopened = v.unopened; tx = v.tx; rx = v.rx; rate = record { tokens = omega arith; cwnd = v.rate.cwnd; ssthresh = v.rate.ssthresh }; paced = same_pace e.peer e.rate _ refl refl v.paced; trying = v.trying }
 
 aged_keeps : (e : Endpoint) (age : ℕ) → Valid e → Valid (aged e age)
-aged_keeps e age v = with_tx e (record (e.tx) { age = age }) refl v.trying (record { una = v.tx.una; nxt = v.tx.nxt; max = v.tx.max; room = v.tx.room; dup = v.tx.dup }) v
+aged_keeps e age v = with_tx e (record (e.tx) { age = age }) refl v.trying (record { una = v.tx.una; nxt = v.tx.nxt; max = v.tx.max; room = v.tx.room; dup = v.tx.dup; opening = v.tx.opening }) v
 
 back_valid : (ring : ℕ) (tx : Sending) (tries nxt : ℕ) (probe : Bool) → tx.una ≤ nxt → nxt ≤ tx.max → ValidSending ring tx → ValidSending ring (record tx { tries = tries; age = 0; nxt = nxt; probe = probe })
-back_valid ring tx tries nxt probe low high v = record { una = low; nxt = high; max = v.max; room = v.room; dup = v.dup }
+back_valid ring tx tries nxt probe low high v = record { una = low; nxt = high; max = v.max; room = v.room; dup = v.dup; opening = v.opening }
 
 one_try_more : (o : Option Reason) (n : ℕ) → eqb (n + 1) 9 ≡ false → IsTrying o n → IsTrying o (n + 1)
 one_try_more (Some why) n f h = tt
@@ -392,8 +401,8 @@ step_keeps e tick calls.Accept reply fits v = accept_keeps e (column e) v
 step_keeps e tick calls.Ready reply fits v = ready_keeps e (column e) v
 step_keeps e tick (calls.Send offered) reply fits v = send_keeps e (column e) offered (taken_bytes reply) v
 step_keeps e tick (calls.Recv most) reply fits v = recv_keeps e (column e) most v
-step_keeps e tick calls.Shut reply fits v = shut_in_keeps e (column e) v
-step_keeps e tick calls.Close reply fits v = close_keeps e (column e) v
+step_keeps e tick calls.Shut reply fits v = shut_in_keeps e (column e) refl v
+step_keeps e tick calls.Close reply fits v = close_keeps e (column e) refl v
 step_keeps e tick calls.Abort reply fits v = abort_keeps e (column e) v
 
 -- ----- every history
@@ -401,7 +410,7 @@ fresh_valid : (p : HostParams) (iss : ℕ) → InRange p → Valid (fresh p iss)
 fresh_valid p iss fits = record {
   fits = fits;
   unopened = refl;
-  tx = record { una = omega arith; nxt = omega arith; max = omega arith; room = omega arith; dup = omega arith };
+  tx = record { una = omega arith; nxt = omega arith; max = omega arith; room = omega arith; dup = omega arith; opening = λ h. refl };
   rx = record { read = omega arith; room = omega arith; island = tt };
   rate = record { tokens = omega arith; cwnd = omega arith; ssthresh = omega arith };
   paced = tt;
@@ -413,7 +422,7 @@ opened_valid p (calls.Connect iss) fits opens = fresh_valid p iss.0 fits
 opened_valid p (calls.Passive frame iss seg) fits opens = record {
   fits = fits;
   unopened = tt;
-  tx = record { una = omega arith; nxt = omega arith; max = omega arith; room = omega arith; dup = omega arith };
+  tx = record { una = omega arith; nxt = omega arith; max = omega arith; room = omega arith; dup = omega arith; opening = λ h. refl };
   rx = record { read = omega arith; room = omega arith; island = tt };
   rate = first_rate_valid p seg.head.mss fits;
   paced = first_rate_paced p seg.head.mss fits;

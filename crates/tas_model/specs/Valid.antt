@@ -1,5 +1,5 @@
 -- What holds of every endpoint that a history leads to.
-use Rattle.std.specs.Prelude.{ℕ, ◌≡◌, ◌+◌, ◌<◌, ◌≤◌, length, Option, Some, None, if◌then◌else◌, ⊤}
+use Rattle.std.specs.Prelude.{ℕ, ◌≡◌, ◌+◌, ◌<◌, ◌≤◌, false, length, Option, Some, None, if◌then◌else◌, ⊤}
 use Rattle.tas_model.specs.declared.entry.HostParams.{HostParams}
 use Rattle.tas_model.specs.declared.entry.Reason.{Reason}
 use Rattle.tas_model.specs.Segments.{Outcome}
@@ -15,13 +15,14 @@ pub record InRange (p : HostParams) : Type 0 where
   pub backlog : (1 ≤ p.backlog) × (p.backlog ≤ 1024)
 
 -- ----- what is sent
--- SND.UNA =< SND.NXT =< the highest sent, which is at most the FIN's place and no FIN goes before the stream ended. What is not acknowledged fits into the ring.
+-- SND.UNA =< SND.NXT =< the highest sent, which is at most the FIN's place and no FIN goes before the stream ended. What is not acknowledged fits into the ring. No stream ends before the SYN is acknowledged.
 pub record ValidSending (ring : ℕ) (tx : Sending) : Type 0 where
   pub una : tx.una ≤ tx.nxt
   pub nxt : tx.nxt ≤ tx.max
   pub max : tx.max ≤ length tx.out + 1 + (if tx.shut then 1 else 0)
   pub room : unacked tx ≤ ring
   pub dup : tx.dup ≤ 3
+  pub opening : tx.una ≡ 0 → tx.shut ≡ false
 
 -- nothing is acknowledged before the peer's SYN was taken
 abbrev pub IsUnopened : (peer : Option ℕ) (una : ℕ) → Type 0

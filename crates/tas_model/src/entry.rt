@@ -2,7 +2,7 @@ use crate::bytes::Bytes;
 use tas_num::Seq;
 
 /// The two ends of a connection, seen from this one: `l` is local, `r` is remote. Addresses are those of IPv4 (RFC 791, section 3.1) and ports those of TCP (RFC 9293, section 3.1), as numbers.
-#[derive(Clone, Copy, PartialEq, Eq, Debug)]
+#[derive(Clone, Copy, PartialEq, Eq, Hash, Debug)]
 pub struct FourTuple {
     pub laddr: u32,
     pub lport: u16,

@@ -20,3 +20,5 @@ pub mod Pushes
 pub mod Filed
 pub mod AllGrown
 pub mod AllShown
+pub mod AllAsked
+pub mod CaptureBatches

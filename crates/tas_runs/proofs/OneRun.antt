@@ -97,11 +97,11 @@ within_numbered (suc most) form k b = by_next (first_record form k b) (next_numb
 pub records_numbered : (form : Form) (k : ℕ) (b : List ℕ) → AllNumbered k (records_from form k b)
 records_numbered form k b = within_numbered (length b) form k b
 
-abbrev Says : (Item → Type 0) → Option Item → Type 0
+abbrev pub Says : (Item → Type 0) → Option Item → Type 0
 Says P None = Unit {0}
 Says P (Some x) = P x
 
-item_numbered : (form : Form) (local : ℕ) (loose : Bool) (r : Record) → Says (λ (x : Item). x.number ≡ r.number) (item_of form local loose r)
+pub item_numbered : (form : Form) (local : ℕ) (loose : Bool) (r : Record) → Says (λ (x : Item). x.number ≡ r.number) (item_of form local loose r)
 item_numbered form local loose r = by_packet (packet_of form r) where
   by_content : (o : Option Content) → Says (λ (x : Item). x.number ≡ r.number) (elim o [ None ↦ None | Some content ↦ Some (record { number = r.number; content = content }) ])
   by_content None = tt

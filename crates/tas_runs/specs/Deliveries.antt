@@ -1,5 +1,6 @@
 -- What becomes of a frame that comes to a host on which every port listens (RFC 9293, sections 3.10.7.1 and 3.10.7.2).
 use Rattle.std.specs.Prelude.{ℕ, ◌-◌, ◌^◌, ◌&&◌, ◌||◌, not, Bool, true, false, List, [], length, Option, Some, None, if◌then◌else◌}
+use Rattle.segment_fields.specs.ControlBits.{rst, urg}
 use Rattle.tas_model.specs.declared.entry.FourTuple.{FourTuple}
 use Rattle.tas_model.specs.declared.entry.FrameId.{FrameId}
 use Rattle.tas_model.specs.declared.entry.Head.{Head}
@@ -24,7 +25,7 @@ record_frame n = record { host = 2 ^ 32 - 1; flow = 2 ^ 32 - 1; number = n; copy
 abbrev pub received : Caller → (tick : ℕ) → FrameId → Seg → Live → Live
 received by t frame seg l = with_call l by t (calls.Rx frame seg) []
 
--- the phases in which a connection carries data both ways, or could
+-- the phases in which a side may still send data, but for the opening
 abbrev pub is_open_phase : Phase → Bool
 is_open_phase phases.Established = true
 is_open_phase phases.FinWait1 = true
@@ -34,7 +35,7 @@ is_open_phase _ = false
 
 -- A segment for the fast path: ACK is set and none of SYN, FIN, RST and URG, and the connection is open.
 abbrev pub is_fast : Endpoint → Seg → Bool
-is_fast e seg = not (is_syn seg || is_fin seg || is_rst seg || has seg.head.flags 32) && is_ack seg && is_open_phase (phase e)
+is_fast e seg = not (is_syn seg || is_fin seg || is_rst seg || has seg.head.flags urg) && is_ack seg && is_open_phase (phase e)
 
 -- In serial order the fast path of core 0 takes what is for it, and the slow path all else.
 abbrev pub rx_caller : Endpoint → Seg → Caller
@@ -50,7 +51,7 @@ opens seg = is_syn seg && not (is_rst seg) && not (is_ack seg)
 
 -- Of the other segments those with ACK and without RST are answered by a reset, which takes its number from there.
 abbrev pub reset_head : Seg → Head
-reset_head seg = record { flags = 4; seq = seg.head.ack; ack = record { 0 = 0 }; window = 0; mss = None }
+reset_head seg = record { flags = rst; seq = seg.head.ack; ack = record { 0 = 0 }; window = 0; mss = None }
 
 abbrev pub stray_answer : Seg → Option Head
 stray_answer seg = if not (is_rst seg) && is_ack seg then Some (reset_head seg) else None

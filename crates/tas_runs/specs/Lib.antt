@@ -12,6 +12,7 @@ pub mod SerialOrder
 pub mod Places
 pub mod Openings
 pub mod Passing
+pub mod Asking
 pub mod Histories
 pub mod Report
 pub mod SentFrames

@@ -69,10 +69,6 @@ items_of form local loose records = filter_map (item_of form local loose) record
 abbrev pub is_damaged : Item → Bool
 is_damaged x = elim x.content [ Damaged rule ↦ true | _ ↦ false ]
 
-abbrev pub is_local : Content → Bool
-is_local (Local tuple seg) = true
-is_local _ = false
-
 abbrev pub is_remote : Content → Bool
 is_remote (Remote tuple seg) = true
 is_remote _ = false

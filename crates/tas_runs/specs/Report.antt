@@ -1,6 +1,7 @@
 -- The report of a run: its text, line by line. Numbers are decimal without sign or leading zero.
 use Rattle.std.specs.Prelude.{ℕ, ◌+◌, ◌-◌, ◌/◌, ◌%◌, ◌^◌, ◌==◌, false, List, [], ◌∷◌, ◌++◌, length, slice_get, codes, decimal, Option, Some, None, if◌then◌else◌}
 use Rattle.std.specs.Fmt.{digit_glyph}
+use Rattle.segment_fields.specs.ControlBits.{fin, syn, rst, psh, ack, urg, ece, cwr, has}
 use Rattle.tas_model.specs.declared.entry.FourTuple.{FourTuple}
 use Rattle.tas_model.specs.declared.entry.FrameId.{FrameId}
 use Rattle.tas_model.specs.declared.entry.Head.{Head}
@@ -46,11 +47,11 @@ data_text (b ∷ bs) = codes " data " ++ hex_bytes (b ∷ bs)
 
 -- the letter of a bit that is set
 abbrev pub letter : (flags bit : ℕ) → List ℕ → List ℕ
-letter flags bit text = if flags / bit % 2 == 1 then text else []
+letter flags bit text = if has flags bit then text else []
 
 -- CWR, ECE, URG, ACK, PSH, RST, SYN, FIN, in this order
 abbrev pub letters : (flags : ℕ) → List ℕ
-letters f = letter f 128 (codes "C") ++ letter f 64 (codes "E") ++ letter f 32 (codes "U") ++ letter f 16 (codes "A") ++ letter f 8 (codes "P") ++ letter f 4 (codes "R") ++ letter f 2 (codes "S") ++ letter f 1 (codes "F")
+letters f = letter f cwr (codes "C") ++ letter f ece (codes "E") ++ letter f urg (codes "U") ++ letter f ack (codes "A") ++ letter f psh (codes "P") ++ letter f rst (codes "R") ++ letter f syn (codes "S") ++ letter f fin (codes "F")
 
 abbrev pub flags_text : (flags : ℕ) → List ℕ
 flags_text f = if f == 0 then codes "-" else letters f

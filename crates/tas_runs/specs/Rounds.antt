@@ -73,7 +73,7 @@ is_by _ _ = false
 abbrev pub actions_of : List Deed → List Action
 actions_of order = map (λ (deed : Deed). deed.action) order
 
--- the slow path or a core
+-- the slow path or a core, by whatever number
 abbrev pub IsWorker : Caller → Type 0
 IsWorker Slow = ⊤
 IsWorker (Core k) = ⊤

@@ -11,6 +11,7 @@ ghost use Rattle.tas_runs.specs.Places.{uses_hosts, coming, flat};
 ghost use Rattle.tas_runs.specs.Openings.{AreOpened, openings_of};
 ghost use Rattle.tas_runs.specs.Histories.{HasHistory, IsSound, HasSentAll};
 ghost use Rattle.tas_runs.specs.SentFrames.{IsShown, AreAnswersShown};
+ghost use Rattle.tas_runs.specs.Asking.{AreAsked, IsCaptureBatch};
 ghost use Rattle.tas_runs.specs.Passing.{AreTimed, Went, IsUpTo};
 
 /// The run in serial order is a run of its capture.
@@ -77,4 +78,11 @@ pub fn ticks_only_add()
 /// The capture of a run leaves out nothing: its ticks show all segments of each flow, in their order, and all answers to segments of no flow.
 pub fn captures_show_all()
     ensures { (local : ℕ) (bytes : List ℕ) (loose : Bool) (log : RunLog) → Replay local bytes loose log → Each (λ (h : HostRun). Each (IsShown log.ticks) h.flows × AreAnswersShown log.ticks h.log) log.hosts }
+{}
+
+/// In each tick the application makes each call of a flow's script once at most, and in the order of the script.
+pub fn scripts_are_asked_in_order()
+    ensures asked { (items : List Item) (t : ℕ) (batch : List Item) (before after : Host) → IsCaptureBatch batch → Round items t batch before after → AreAsked before.flows after.flows }
+    // That is of every batch of a capture.
+    ensures batches { (local : ℕ) (bytes : List ℕ) (loose : Bool) → Each IsCaptureBatch (batches_of (items_in local bytes loose)) }
 {}

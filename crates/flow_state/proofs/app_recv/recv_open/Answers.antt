@@ -1,4 +1,4 @@
-use Rattle.std.proofs.Common.{◌≡◌, sym, ◌-◌, true, false, length, eqb, ap, arith, length-drop, ℕ}
+use Rattle.std.proofs.Common.{◌≡◌, sym, true, false, length, eqb, ap, arith, length-drop, ℕ}
 use Rattle.std.proofs.lemmas.Bool.Decides.{nat_tests}
 use Rattle.tas_model.specs.Endpoint.{unread}
 use Rattle.flow_state.proofs.app_recv.recv_open.Goals as goal

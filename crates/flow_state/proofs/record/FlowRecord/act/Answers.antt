@@ -1,4 +1,4 @@
-use Rattle.std.proofs.Common.{◌≡◌, ◌+◌, ◌∙◌, cond, List, ℕ, length, sym, ap, subst, arith}
+use Rattle.std.proofs.Common.{◌≡◌, ◌+◌, ◌∙◌, cond, List, length, ap, subst, arith}
 use Rattle.tas_model.specs.LegalHistory.{last_tick, extended_by, same_caller}
 use Rattle.flow_state.specs.Flow.{Flow, reply_to}
 use Rattle.flow_state.specs.Calls.{call_of, offer_of, answer_of}

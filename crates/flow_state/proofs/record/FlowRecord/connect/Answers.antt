@@ -1,4 +1,4 @@
-use Rattle.std.proofs.Common.{◌≡◌, refl, rules}
+use Rattle.std.proofs.Common.{refl, rules}
 use Rattle.flow_state.specs.Flow.{first_connect}
 use Rattle.flow_state.proofs.Acting.{opens_record}
 use Rattle.flow_state.proofs.record.FlowRecord.connect.Goals as goal

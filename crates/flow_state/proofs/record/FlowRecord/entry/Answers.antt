@@ -3,7 +3,7 @@ use Rattle.std.proofs.lemmas.List.{length-map}
 use Rattle.tas_model.specs.declared.entry.Entry.{Entry}
 use Rattle.flow_state.specs.declared.slot.Slot.{Slot}
 use Rattle.flow_state.specs.Flow.{Flow}
-use Rattle.flow_state.specs.Slots.{IsWithin, entry_of, entries_of}
+use Rattle.flow_state.specs.Slots.{IsWithin, entry_of}
 use Rattle.flow_state.specs.Views.{seen_entry}
 use Rattle.flow_state.proofs.Looking.{within_at, entry_at}
 use Rattle.flow_state.proofs.record.FlowRecord.entry.Goals as goal

@@ -1,4 +1,4 @@
-use Rattle.std.proofs.Common.{◌≡◌, List, length, sym, ap, subst, arith}
+use Rattle.std.proofs.Common.{List, length, subst, arith}
 use Rattle.std.proofs.lemmas.List.{length-map}
 use Rattle.tas_model.specs.declared.entry.Entry.{Entry}
 use Rattle.tas_model.specs.declared.entry.HostParams.{HostParams}

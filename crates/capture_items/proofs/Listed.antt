@@ -1,0 +1,191 @@
+-- How the first numbers are kept.
+use Rattle.std.proofs.Common.{◌≡◌, ℕ, zero, suc, ◌+◌, ◌*◌, ◌%◌, ◌^◌, ◌==◌, ◌&&◌, ◌||◌, ◌≤◌, ◌<◌, not, Bool, true, false, cond, List, [], ◌∷◌, ◌++◌, length, map, take, get_or, fold, filter_map, Option, Some, None, if◌then◌else◌, refl, sym, ap, ◌∙◌, subst, true≢false, arith, length-append}
+use Rattle.std.proofs.lemmas.Bool.Decides.{nat_tests}
+use Rattle.std.specs.List.{slice_get, list_any, cons_option}
+use Rattle.std.specs.Map.{lookup}
+use Rattle.std.specs.HashMap.{get}
+use Rattle.std.specs.HashSet.{contains}
+use Rattle.std.specs.Option.{option_map, unwrap_or}
+use Rattle.std.proofs.lemmas.List.Elements.{filter_map-append}
+use Rattle.std.proofs.lemmas.List.Sums.{fold-append}
+use Rattle.std.proofs.lemmas.List.{map_more}
+use Rattle.tas_num.specs.declared.seq.Seq.{Seq}
+use Rattle.tas_model.specs.declared.entry.FourTuple.{FourTuple}
+use Rattle.tas_runs.specs.Records.{Item}
+use Rattle.tas_runs.specs.Batches.{same_tuple}
+use Rattle.tas_runs.specs.FirstNumbers.{with_new, local_syn, local_numbers, first_number}
+use Rattle.capture_items.specs.Numbers.{equal_tuple, same_turn, same_known, number_at, AreNumbersOf, count_in, AreOf}
+use Rattle.capture_items.specs.declared.numbers.Turn.{Turn}
+use Rattle.capture_items.specs.declared.numbers.Known.{Known}
+use Rattle.capture_items.specs.declared.numbers.Numbering.{Numbering}
+
+-- ----- a number is found
+abbrev pub number_or : ℕ → Option ℕ → ℕ
+number_or n (Some seq) = seq
+number_or n None = 64000 * n % 2 ^ 32
+
+pub number_kept : (items : List Item) (kept : List (Turn × Seq)) (tuple : FourTuple) (k n : ℕ) (o : Option Seq) → AreNumbersOf items kept
+    → lookup (same_turn (record { tuple = tuple; place = k })) kept ≡ o → number_or n (option_map (λ (s : Seq). s.0) o) ≡ first_number items tuple k n
+unfolding first_number
+number_kept items kept tuple k n o are found =
+    let kept_so : option_map (λ (s : Seq). s.0) o ≡ slice_get (local_numbers items tuple) k = ap (λ (p : Option Seq). option_map (λ (s : Seq). s.0) p) (sym found) ∙ are tuple k in
+    ap (number_or n) kept_so
+
+-- ----- four-tuples
+-- those of one flow are the same
+both : (a b : Bool) → (a && b) ≡ true → (a ≡ true) × (b ≡ true)
+both true b h = (refl, h)
+both false b h = absurd (true≢false (sym h))
+
+equal : (m n : ℕ) → (m == n) ≡ true → m ≡ n
+equal m n h = grind (arith, nat_tests, h)
+
+same_fields : (a b c d e f g h : ℕ) → a ≡ e → b ≡ f → c ≡ g → d ≡ h
+    → ◌≡◌ {A = FourTuple} (record { laddr = a; lport = b; raddr = c; rport = d }) (record { laddr = e; lport = f; raddr = g; rport = h })
+same_fields a b c d e f g h e1 e2 e3 e4 = cc (e1, e2, e3, e4)
+
+pub tuple_exact : (a b : FourTuple) → equal_tuple a b ≡ true → a ≡ b
+tuple_exact a b h =
+    let first = both _ _ h in
+    let second = both _ _ first.1 in
+    let third = both _ _ second.1 in
+    same_fields _ _ _ _ _ _ _ _ (equal a.laddr b.laddr first.0) (equal a.lport b.lport second.0) (equal a.raddr b.raddr third.0) (equal a.rport b.rport third.1)
+
+self_equal : (n : ℕ) → (n == n) ≡ true
+self_equal n = grind (arith, nat_tests)
+
+pub tuple_itself : (a : FourTuple) → equal_tuple a a ≡ true
+tuple_itself a = rw (self_equal a.laddr, self_equal a.lport, self_equal a.raddr, self_equal a.rport) refl
+
+pub tuple_apart : (a b : FourTuple) → equal_tuple a b ≡ false → equal_tuple b a ≡ false
+tuple_apart a b h = by_same (equal_tuple b a) refl where
+  by_same : (t : Bool) → equal_tuple b a ≡ t → equal_tuple b a ≡ false
+  by_same false e = e
+  by_same true e = absurd (true≢false (sym (tuple_itself a) ∙ (ap (equal_tuple a) (sym (tuple_exact b a e)) ∙ h)))
+
+nested : (a b c d : Bool) → (a && b && c && d) ≡ (a && (b && (c && d)))
+nested true true true d = refl
+nested true true false d = refl
+nested true false c d = refl
+nested false b c d = refl
+
+-- segments are of one flow where their four-tuples are equal
+pub same_equal : (a b : FourTuple) → same_tuple a b ≡ equal_tuple a b
+same_equal a b = nested (a.laddr == b.laddr) (a.lport == b.lport) (a.raddr == b.raddr) (a.rport == b.rport)
+
+-- ----- one number more
+one_less : (m k : ℕ) → (suc m == suc k) ≡ (m == k)
+one_less m k = by_equal (m == k) refl where
+  by_equal : (b : Bool) → (m == k) ≡ b → (suc m == suc k) ≡ b
+  by_equal true e = grind (arith, nat_tests, e)
+  by_equal false e = grind (arith, nat_tests, e)
+
+mapped_cond : (b : Bool) (x : Seq) (o : Option Seq) → option_map (λ (s : Seq). s.0) (cond b (Some x) o) ≡ cond b (Some x.0) (option_map (λ (s : Seq). s.0) o)
+mapped_cond true x o = refl
+mapped_cond false x o = refl
+
+pub slice_get-push : (xs : List ℕ) (n k : ℕ) → slice_get (xs ++ n ∷ []) k ≡ cond (length xs == k) (Some n) (slice_get xs k)
+slice_get-push [] n zero = refl
+slice_get-push [] n (suc k) =
+    let apart : (0 == suc k) ≡ false = grind (arith, nat_tests) in
+    rw apart refl
+slice_get-push (x ∷ xs) n zero =
+    let apart : (length (x ∷ xs) == 0) ≡ false = grind (arith, nat_tests) in
+    rw apart refl
+slice_get-push (x ∷ xs) n (suc k) =
+    let same : (length (x ∷ xs) == suc k) ≡ (length xs == k) = one_less (length xs) k in
+    slice_get-push xs n k ∙ ap (λ (b : Bool). cond b (Some n) (slice_get xs k)) (sym same)
+
+pub list_any-push : (xs : List ℕ) (n m : ℕ) → list_any (λ x. x == m) (xs ++ n ∷ []) ≡ cond (n == m) true (list_any (λ x. x == m) xs)
+list_any-push [] n m = or_false (n == m) where
+  or_false : (b : Bool) → (b || false) ≡ cond b true false
+  or_false true = refl
+  or_false false = refl
+list_any-push (x ∷ xs) n m = ap (λ b. x == m || b) (list_any-push xs n m) ∙ later (x == m) (n == m) (list_any (λ x. x == m) xs) where
+  later : (a b c : Bool) → (a || cond b true c) ≡ cond b true (a || c)
+  later a true c = or_true a where
+    or_true : (a : Bool) → (a || true) ≡ true
+    or_true true = refl
+    or_true false = refl
+  later a false c = refl
+
+-- what one number more changes: it isn't listed yet
+pub record IsMore (s r : Numbering) (tuple : FourTuple) (number : Seq) : Type 0 where
+  pub fresh : contains same_known s.known (record { tuple = tuple; number = number.0 }) ≡ false
+  pub counts : (q : FourTuple) → get equal_tuple r.counts q ≡ cond (equal_tuple tuple q) (Some (count_in s tuple + 1)) (get equal_tuple s.counts q)
+  pub known : (q : Known) → contains same_known r.known q ≡ cond (same_known (record { tuple = tuple; number = number.0 }) q) true (contains same_known s.known q)
+  pub numbers : (q : Turn) → get same_turn r.numbers q ≡ cond (same_turn (record { tuple = tuple; place = count_in s tuple }) q) (Some number) (get same_turn s.numbers q)
+
+more_by : (s r : Numbering) (tuple t : FourTuple) (number : Seq) (list : List ℕ) → IsMore s r tuple number → AreOf s t list → AreOf r t (if equal_tuple t tuple then with_new list number.0 else list)
+more_by s r tuple t number list more are = by_same (equal_tuple t tuple) refl where
+  by_same : (b : Bool) → equal_tuple t tuple ≡ b → AreOf r t (if b then with_new list number.0 else list)
+  by_same false e =
+      let apart : equal_tuple tuple t ≡ false = tuple_apart t tuple e in
+      record {
+        counted = ap (λ (o : Option ℕ). unwrap_or o 0) (more.counts t ∙ ap (λ (b : Bool). cond b (Some (count_in s tuple + 1)) (get equal_tuple s.counts t)) apart) ∙ are.counted;
+        known = λ m. more.known (record { tuple = t; number = m }) ∙ (ap (λ (b : Bool). cond (b && number.0 == m) true (contains same_known s.known (record { tuple = t; number = m }))) apart ∙ are.known m);
+        numbers = λ k. ap (option_map (λ (s : Seq). s.0)) (more.numbers (record { tuple = t; place = k }) ∙ ap (λ (b : Bool). cond (b && count_in s tuple == k) (Some number) (get same_turn s.numbers (record { tuple = t; place = k }))) apart) ∙ are.numbers k;
+      }
+  by_same true e =
+      let exact : t ≡ tuple = tuple_exact t tuple e in
+      let here : equal_tuple tuple t ≡ true = ap (equal_tuple tuple) exact ∙ tuple_itself tuple in
+      let count : count_in s tuple ≡ length list = ap (count_in s) (sym exact) ∙ are.counted in
+      let fresh : list_any (λ m. m == number.0) list ≡ false = sym (are.known number.0) ∙ (ap (λ (q : FourTuple). contains same_known s.known (record { tuple = q; number = number.0 })) exact ∙ more.fresh) in
+      let counted : count_in r t ≡ count_in s tuple + 1 = ap (λ (o : Option ℕ). unwrap_or o 0) (more.counts t ∙ ap (λ (b : Bool). cond b (Some (count_in s tuple + 1)) (get equal_tuple s.counts t)) here) in
+      let longer : AreOf r t (list ++ number.0 ∷ []) =
+      record {
+        counted = omega (arith, counted, count, length-append list (number.0 ∷ []));
+        known = λ m. more.known (record { tuple = t; number = m }) ∙ (ap (λ (b : Bool). cond (b && number.0 == m) true (contains same_known s.known (record { tuple = t; number = m }))) here ∙ (ap (cond (number.0 == m) true) (are.known m) ∙ sym (list_any-push list number.0 m)));
+        numbers = λ k. ap (option_map (λ (s : Seq). s.0)) (more.numbers (record { tuple = t; place = k }) ∙ ap (λ (b : Bool). cond (b && count_in s tuple == k) (Some number) (get same_turn s.numbers (record { tuple = t; place = k }))) here)
+            ∙ (mapped_cond (count_in s tuple == k) number (get same_turn s.numbers (record { tuple = t; place = k }))
+            ∙ (ap (λ (n : ℕ). cond (n == k) (Some number.0) (number_at s.numbers.entries t k)) count ∙ (ap (cond (length list == k) (Some number.0)) (are.numbers k) ∙ sym (slice_get-push list number.0 k))));
+      }
+      in
+      rw fresh longer
+
+pub listed_more : (s r : Numbering) (tuple t : FourTuple) (number : Seq) (list : List ℕ) → IsMore s r tuple number → AreOf s t list → AreOf r t (if same_tuple t tuple then with_new list number.0 else list)
+listed_more s r tuple t number list more are = subst (λ (b : Bool). AreOf r t (if b then with_new list number.0 else list)) (sym (same_equal t tuple)) (more_by s r tuple t number list more are)
+
+-- ----- one item more
+abbrev pub with_one : List ℕ → Option ℕ → List ℕ
+with_one list None = list
+with_one list (Some n) = with_new list n
+
+folded : (o : Option ℕ) (list : List ℕ) → fold with_new list (cons_option o []) ≡ with_one list o
+folded None list = refl
+folded (Some n) list = refl
+
+numbers_push : (items : List Item) (x : Item) (t : FourTuple) → local_numbers (items ++ x ∷ []) t ≡ with_one (local_numbers items t) (local_syn t x.content)
+numbers_push items x t =
+    let f : Item → Option ℕ = λ (y : Item). local_syn t y.content in
+    ap (fold with_new []) (filter_map-append f items (x ∷ [])) ∙ (fold-append with_new [] (filter_map f items) (cons_option (f x) []) ∙ folded (f x) (fold with_new [] (filter_map f items)))
+
+with_one_few : (o : Option ℕ) (list : List ℕ) → length (with_one list o) ≤ length list + 1
+with_one_few None list = omega arith
+with_one_few (Some n) list = by_known (list_any (λ m. m == n) list) where
+  by_known : (b : Bool) → length (if b then list else list ++ n ∷ []) ≤ length list + 1
+  by_known true = omega arith
+  by_known false = omega (arith, length-append list (n ∷ []))
+
+-- one value more that stands for an item
+pub numbers_more : {X : Type 0} (f : X → Item) (xs : List X) (i : ℕ) (d : X) (t : FourTuple) (o : Option ℕ) → i < length xs → o ≡ local_syn t (f (get_or xs i d)).content
+    → local_numbers (map f (take (i + 1) xs)) t ≡ with_one (local_numbers (map f (take i xs)) t) o
+numbers_more f xs i d t o below is =
+    ap (λ (ys : List Item). local_numbers ys t) (map_more f xs i d below)
+    ∙ (numbers_push (map f (take i xs)) (f (get_or xs i d)) t ∙ ap (with_one (local_numbers (map f (take i xs)) t)) (sym is))
+
+pub with_one_if : (b : Bool) (list : List ℕ) (n : ℕ) → with_one list (if b then Some n else None) ≡ (if b then with_new list n else list)
+with_one_if true list n = refl
+with_one_if false list n = refl
+
+-- at most one number an item
+pub numbers_few : {X : Type 0} (f : X → Item) (xs : List X) (i : ℕ) (d : X) (t : FourTuple) (o : Option ℕ) → i < length xs → o ≡ local_syn t (f (get_or xs i d)).content
+    → length (local_numbers (map f (take i xs)) t) ≤ i → length (local_numbers (map f (take (i + 1) xs)) t) ≤ i + 1
+numbers_few f xs i d t o below is few =
+    let more : length (local_numbers (map f (take (i + 1) xs)) t) ≡ length (with_one (local_numbers (map f (take i xs)) t) o) = ap length (numbers_more f xs i d t o below is) in
+    let one = with_one_few o (local_numbers (map f (take i xs)) t) in
+    omega (arith, few, one, more)
+
+pub was_new : (b c : Bool) → b ≡ true → b ≡ not c → c ≡ false
+was_new b true is e = absurd (true≢false (sym is ∙ e))
+was_new b false is e = refl

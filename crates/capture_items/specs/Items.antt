@@ -1,0 +1,26 @@
+-- What the code's values stand for among the records of a capture.
+use Rattle.segment_fields.specs.Fields.{fields_of}
+use Rattle.segment_fields.specs.Refusals.{number_of}
+use Rattle.segment_fields.specs.declared.segment.Segment.{Segment}
+use Rattle.tas_model.specs.declared.entry.FourTuple.{FourTuple}
+use Rattle.flow_state.specs.Calls.{seg_of}
+use Rattle.tas_runs.specs.Records.{Content, Damaged, Remote, Local, Item, sender_tuple, receiver_tuple}
+use Rattle.capture_items.specs.declared.item.Content as code
+use Rattle.capture_items.specs.declared.item.Content.TheVariants as contents
+use Rattle.capture_items.specs.declared.item.Item as code_item
+
+-- a packet that breaks a rule by the rule's number, and a segment with its payload as a list
+abbrev pub content_in : code.Content → Content
+content_in (contents.Damaged rule) = Damaged (number_of rule)
+content_in (contents.Remote tuple segment) = Remote tuple (seg_of segment)
+content_in (contents.Local tuple segment) = Local tuple (seg_of segment)
+
+abbrev pub item_in : code_item.Item → Item
+item_in x = record { number = x.number; content = content_in x.content }
+
+-- the four-tuple of a segment as its sender sees it, and as the host sees it that it goes to
+abbrev pub sends : Segment → FourTuple
+sends s = sender_tuple (fields_of s)
+
+abbrev pub receives : Segment → FourTuple
+receives s = receiver_tuple (fields_of s)

@@ -1,0 +1,19 @@
+//! What the records of a capture are for the one host that a replay plays: frames that come to it, segments that it sent itself, and in which batches they come.
+#![tactic(auto)]
+
+mod batch;
+mod counts;
+mod found;
+mod item;
+mod laws;
+mod numbers;
+
+pub use batch::next_batch;
+pub use counts::{Counts, refused_among};
+pub use found::{Found, InputFault, find_items};
+pub use item::{Content, Item, read_item};
+pub use laws::{no_items_have_no_batch, what_is_found_is_replayed};
+pub use numbers::FirstNumbers;
+
+#[cfg(test)]
+mod tests;

@@ -1,0 +1,120 @@
+ghost use Rattle.std.specs.Prelude.{◌≡◌, ℕ, ◌+◌, ◌<◌, ◌^◌, List, map, IfOk, OnOk, if◌then◌else◌};
+ghost use Rattle.tas_runs.specs.Records as model;
+ghost use Rattle.tas_runs.specs.FirstNumbers.{first_number, with_new, local_syn};
+ghost use Rattle.capture_items.specs.Items.{item_in, content_in};
+ghost use Rattle.capture_items.specs.Numbers.{AreNumbersOf, AreOf, count_in, number_for};
+ghost use Rattle.tas_model.specs.declared.entry.FourTuple.{FourTuple};
+ghost use Rattle.tas_runs.specs.Batches.{same_tuple};
+
+use crate::item::{Content, Item};
+use std::alloc::{AllocError, Global};
+use std::collections::{HashMap, HashSet};
+use std::marker::Model;
+use tas_model::FourTuple;
+use tas_num::Seq;
+
+/// One of the first numbers of a four-tuple, by its place among them, from 0.
+#[derive(Clone, Copy, PartialEq, Eq, Hash, Debug)]
+struct Turn {
+    tuple: FourTuple,
+    place: usize,
+}
+
+/// A number that a local SYN segment of a four-tuple has.
+#[derive(Clone, Copy, PartialEq, Eq, Hash, Debug)]
+struct Known {
+    tuple: FourTuple,
+    number: u32,
+}
+
+/// The first sequence numbers of the local host's flows, which its own SYN segments in a capture have. They are seen as a list, in which each number stands
+/// behind its four-tuple and its place among the different numbers of that four-tuple.
+#[derive(Drop)]
+pub struct FirstNumbers {
+    numbers: HashMap<Turn, Seq>,
+}
+
+impl Model for FirstNumbers {
+    ghost use Rattle.std.specs.Prelude.{List};
+    ghost use Rattle.tas_num.specs.declared.seq.Seq.{Seq};
+    ghost use Rattle.capture_items.specs.declared.numbers.Turn.{Turn};
+
+    ghost Value = { List (Turn × Seq) };
+
+    ghost view = { λ f. f.numbers.entries };
+}
+
+/// The numbers that were met while the items are gone through.
+#[derive(Drop)]
+struct Numbering {
+    numbers: HashMap<Turn, Seq>,
+    known: HashSet<Known>,
+    /// How many different numbers each four-tuple has.
+    counts: HashMap<FourTuple, usize>,
+}
+
+impl Numbering {
+    /// Takes up a number of a four-tuple, which is listed once.
+    fn note(&mut self, tuple: FourTuple, number: Seq) -> Result<(), AllocError>
+        requires small { count_in self.old tuple + 1 < 2 ^ 64 }
+        ensures ok { OnOk result ((t : FourTuple) (list : List ℕ) → AreOf self.old t list → AreOf self.new t (if same_tuple t tuple then with_new list number.0 else list)) }
+    {
+        let is_new = self.known.insert(Known {
+            tuple,
+            number: number.0,
+        })?;
+        if !is_new {
+            return Ok(());
+        }
+        let count = self.counts.get(&tuple).copied().unwrap_or(0);
+        let turn = Turn {
+            tuple,
+            place: count,
+        };
+        self.numbers.insert(turn, number)?;
+        self.counts.insert(tuple, count + 1)?;
+        Ok(())
+    }
+}
+
+/// The four-tuple and the number of a SYN segment that the host sent itself.
+fn local_syn(item: &Item<'_>) -> Option<(FourTuple, Seq)>
+    ensures { (t : FourTuple) → number_for t result ≡ local_syn t (content_in item.now.content) }
+{
+    match item.content {
+        Content::Local(tuple, segment) if segment.flags.is_syn() => Some((tuple, segment.seq)),
+        _ => None,
+    }
+}
+
+impl FirstNumbers {
+    /// The numbers of the local SYN segments among these items.
+    pub fn of_items(alloc: Global, items: &[Item<'_>]) -> Result<FirstNumbers, AllocError>
+        ensures { IfOk result (AreNumbersOf (map item_in items.now)) }
+    {
+        let mut numbering = Numbering {
+            numbers: HashMap::new(alloc),
+            known: HashSet::new(alloc),
+            counts: HashMap::new(alloc),
+        };
+        for item in items {
+            if let Some((tuple, number)) = local_syn(item) {
+                numbering.note(tuple, number)?;
+            }
+        }
+        Ok(FirstNumbers {
+            numbers: numbering.numbers,
+        })
+    }
+
+    /// The first number of a flow of this four-tuple, where `k` flows of the four-tuple were opened before it, and `n` flows of the host.
+    #[tactic(auto, unfolding(tas_runs::specs::FirstNumbers::first_number))]
+    pub fn number(&self, tuple: FourTuple, k: usize, n: u32) -> Seq
+        ensures { (items : List model.Item) → AreNumbersOf items self.now → result.0 ≡ first_number items tuple k n }
+    {
+        match self.numbers.get(&Turn { tuple, place: k }) {
+            Some(number) => *number,
+            None => Seq(n.wrapping_mul(64_000)),
+        }
+    }
+}

@@ -1,0 +1,4 @@
+pub mod Judgements
+pub mod Phases
+pub mod Islands
+pub mod Exceptions

@@ -1,0 +1,72 @@
+-- Facts of ticks.
+use Rattle.std.proofs.Common.{◌≡◌, ℕ, ◌+◌, ◌-◌, ◌≤◌, Bool, true, false, cond, nat_lt, List, length, Option, Some, None, refl, sym, ◌∙◌, ap, subst, arith}
+use Rattle.tas_model.specs.declared.entry.Reason.{Reason}
+use Rattle.tas_model.specs.declared.entry.Phase.{Phase}
+use Rattle.tas_model.specs.declared.entry.Phase.TheVariants as phases
+use Rattle.tas_model.specs.Endpoint.{Endpoint, Rate, phase, phase_by, is_fin_acked}
+use Rattle.tas_model.specs.ApplicationCalls.{Running, column, column_by}
+use Rattle.tas_model.specs.declared.entry.Reply.TheVariants as replies
+use Rattle.tas_model.specs.Timers.{filled, tick_in, ticked, expired, aged, is_armed, patience, control, controlled}
+use Rattle.tas_model.specs.Valid.{Valid, IsPaced}
+use Rattle.flow_state.specs.declared.parts.Parts.{Parts}
+use Rattle.flow_state.specs.declared.call.Answer.{Answer}
+use Rattle.flow_state.specs.declared.call.Answer.TheVariants as answers
+use Rattle.flow_state.specs.Stands.{Stands}
+use Rattle.flow_state.specs.Made.{IsOutcome}
+use Rattle.slow_timeout.specs.Rate.{rate_with}
+use Rattle.flow_state.specs.Calls.{is_closed_phase}
+
+-- a tick out of TIME-WAIT
+pub ticked_in : (ph : Phase) (e : Endpoint) (tick : ℕ) → (ph ≡ phases.TimeWait → ⊥) → is_closed_phase ph ≡ false → tick_in ph e tick ≡ Some (ticked e)
+ticked_in phases.SynSent e tick other live = refl
+ticked_in phases.SynReceived e tick other live = refl
+ticked_in phases.Established e tick other live = refl
+ticked_in phases.FinWait1 e tick other live = refl
+ticked_in phases.FinWait2 e tick other live = refl
+ticked_in phases.CloseWait e tick other live = refl
+ticked_in phases.Closing e tick other live = refl
+ticked_in phases.LastAck e tick other live = refl
+ticked_in phases.TimeWait e tick other live = absurd (other refl)
+ticked_in phases.Closed e tick other live = absurd (cc (live))
+
+no_reason : (r : Option Reason) (peer : Option ℕ) (una : ℕ) (s f d a : Bool) → is_closed_phase (phase_by r peer una s f d a) ≡ false → r ≡ None
+no_reason None peer una s f d a live = refl
+no_reason (Some why) peer una s f d a live = absurd (cc (live))
+
+-- where it is not closed there is no reason
+pub reason_none : (e : Endpoint) → is_closed_phase (phase e) ≡ false → e.reason ≡ None
+reason_none e live = no_reason e.reason e.peer e.tx.una e.tx.shut (is_fin_acked e.tx) e.rx.ended e.rx.ended_first live
+
+paced : (peer : Option ℕ) (r : Rate) → IsPaced peer r → IsPaced peer (filled r)
+paced None r p = p
+paced (Some first) r p = record { mss = p.mss; cwnd = p.cwnd }
+
+-- the bucket's fill keeps an endpoint valid
+pub filled_valid : (e : Endpoint) → Valid e → Valid (record e { rate = filled e.rate })
+filled_valid e v = record {
+  fits = v.fits;
+  unopened = v.unopened;
+  tx = v.tx;
+  rx = v.rx;
+  rate = record { tokens = omega arith; cwnd = v.rate.cwnd; ssthresh = v.rate.ssthresh };
+  paced = paced e.peer e.rate v.paced;
+  trying = v.trying;
+}
+
+-- the control, by its two numbers
+pub control_is : (e : Endpoint) (after : Parts) (cwnd ssthresh : ℕ) (out : List ℕ) → cwnd ≡ (controlled e.rate (e.tx.max - e.tx.una)).cwnd → ssthresh ≡ (controlled e.rate (e.tx.max - e.tx.una)).ssthresh
+    → Stands after (record e { rate = rate_with e.rate cwnd ssthresh }) → IsOutcome after (answers.Window cwnd ssthresh) out (control e)
+unfolding control
+control_is e after cwnd ssthresh out a b s = record {
+  reply = ap (λ (n : ℕ). replies.Window n (controlled e.rate (e.tx.max - e.tx.una)).ssthresh) (sym a) ∙ ap (replies.Window cwnd) (sym b);
+  state = subst (λ (n : ℕ). Stands after (record e { rate = rate_with e.rate n (controlled e.rate (e.tx.max - e.tx.una)).ssthresh })) a (subst (λ (n : ℕ). Stands after (record e { rate = rate_with e.rate cwnd n })) b s);
+}
+
+-- a tick of the timer, by its two tests
+pub still_quiet : (e : Endpoint) (after : Parts) (age : ℕ) (out : List ℕ) → is_armed e.tx ≡ true → nat_lt (e.tx.age + 1) (patience e) ≡ true → age ≡ e.tx.age + 1
+    → Stands after (aged e age) → IsOutcome after answers.Quiet out (ticked e)
+still_quiet e after age out armed early is s = rw (armed, early) (record { reply = refl; state = subst (λ (n : ℕ). Stands after (aged e n)) is s })
+
+pub runs_out : (e : Endpoint) (after : Parts) (answer : Answer) (out : List ℕ) → is_armed e.tx ≡ true → nat_lt (e.tx.age + 1) (patience e) ≡ false
+    → IsOutcome after answer out (expired e) → IsOutcome after answer out (ticked e)
+runs_out e after answer out armed late o = rw (armed, late) o

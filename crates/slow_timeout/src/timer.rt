@@ -1,0 +1,167 @@
+ghost use Rattle.std.specs.Prelude.{◌≡◌, ℕ, ◌+◌, ◌*◌, ◌^◌, ◌≤◌, ◌<◌, List, min, false, Some, None};
+ghost use Rattle.tas_model.specs.declared.entry.Reason.TheVariants as reasons;
+ghost use Rattle.tas_model.specs.Endpoint.{Endpoint};
+ghost use Rattle.tas_model.specs.Timers.{ticks, filled, aged, ticked, waited, expired, is_armed as model_is_armed, patience as model_patience, probes as model_probes};
+ghost use Rattle.tas_model.specs.Valid.{Valid};
+ghost use Rattle.flow_state.specs.Stands.{Stands};
+ghost use Rattle.flow_state.specs.Calls.{answer_len, is_closed_phase};
+ghost use Rattle.flow_state.specs.Made.{IsOutcome, IsStep};
+
+use flow_state::{Answer, Parts};
+use tas_model::{Phase, Reason};
+
+/// One tick of a flow that is not closed: the bucket's fill, then TIME-WAIT or the retransmission timer (RFC 9293, sections 3.8.1 and 3.10.8).
+pub fn tick(parts: &mut Parts, now: u32) -> Answer
+    requires { is_closed_phase parts.old.phase ≡ false }
+    ensures made { (out : List ℕ) (e : Endpoint) → Valid e → Stands parts.old e → IsStep parts.new result out (ticks e now) }
+    ensures len { answer_len result ≡ 0 }
+    ensures tuple { parts.new.tuple ≡ parts.old.tuple }
+    ensures params { parts.new.params ≡ parts.old.params }
+{
+    fill(parts);
+    match parts.phase {
+        Phase::TimeWait => wait(parts, now),
+        _ => run_timer(parts),
+    }
+}
+
+/// The bucket gets its fill.
+fn fill(parts: &mut Parts)
+    ensures after { (e : Endpoint) → Stands parts.old e → Stands parts.new (record e { rate = filled e.rate }) }
+    ensures phase { parts.new.phase ≡ parts.old.phase }
+    ensures tuple { parts.new.tuple ≡ parts.old.tuple }
+    ensures params { parts.new.params ≡ parts.old.params }
+{
+    parts.bucket.tick();
+}
+
+/// A tick of TIME-WAIT, which ends four timeouts after it began.
+fn wait(parts: &mut Parts, now: u32) -> Answer
+    ensures made { (out : List ℕ) (e : Endpoint) → Stands parts.old e → IsOutcome parts.new result out (waited e now) }
+    ensures len { answer_len result ≡ 0 }
+    ensures tuple { parts.new.tuple ≡ parts.old.tuple }
+    ensures params { parts.new.params ≡ parts.old.params }
+{
+    let waited = u64::from(now.saturating_sub(parts.entered));
+    if waited < 4 * u64::from(parts.params.rto) {
+        return Answer::Quiet;
+    }
+    end_wait(parts);
+    Answer::Expired
+}
+
+/// TIME-WAIT is over.
+fn end_wait(parts: &mut Parts)
+    ensures after { (e : Endpoint) → Stands parts.old e → Stands parts.new (record e { reason = Some reasons.Done }) }
+    ensures tuple { parts.new.tuple ≡ parts.old.tuple }
+    ensures params { parts.new.params ≡ parts.old.params }
+{
+    parts.reason = Some(Reason::Done);
+    parts.phase = Phase::Closed;
+}
+
+/// A tick of the retransmission timer.
+fn run_timer(parts: &mut Parts) -> Answer
+    ensures made { (out : List ℕ) (e : Endpoint) → Valid e → Stands parts.old e → e.reason ≡ None → IsOutcome parts.new result out (ticked e) }
+    ensures len { answer_len result ≡ 0 }
+    ensures tuple { parts.new.tuple ≡ parts.old.tuple }
+    ensures params { parts.new.params ≡ parts.old.params }
+{
+    if !is_armed(parts) {
+        set_age(parts, 0);
+        return Answer::Quiet;
+    }
+    let age = parts.age.saturating_add(1);
+    if u64::from(age) < patience(parts) {
+        set_age(parts, age);
+        return Answer::Quiet;
+    }
+    expire(parts)
+}
+
+/// The timer has run for so many ticks.
+fn set_age(parts: &mut Parts, age: u32)
+    ensures after { (e : Endpoint) → Stands parts.old e → Stands parts.new (aged e age) }
+    ensures tuple { parts.new.tuple ≡ parts.old.tuple }
+    ensures params { parts.new.params ≡ parts.old.params }
+{
+    parts.age = age;
+}
+
+/// Whether the timer runs: something sent is not acknowledged, or data waits at a window of 0.
+fn is_armed(parts: &Parts) -> bool
+    ensures { (e : Endpoint) → Valid e → Stands parts.now e → result ≡ model_is_armed e.tx }
+{
+    if parts.una.0 != parts.max.0 {
+        return true;
+    }
+    parts.tx.end() > parts.nxt_place().saturating_sub(1) && parts.window == 0
+}
+
+/// How many ticks the timer runs: twice as many after each time in a row, up to 16 times the first (RFC 6298, section 5.5).
+fn patience(parts: &Parts) -> u64
+    ensures ticks { (e : Endpoint) → Stands parts.now e → result ≡ model_patience e }
+    ensures small { (e : Endpoint) → Valid e → Stands parts.now e → result ≤ 16000 }
+{
+    u64::from(parts.params.rto) * doubled(parts.tries)
+}
+
+/// 2 to the number of times that the timer ran out, up to 16.
+fn doubled(tries: u8) -> u64
+    ensures value { result ≡ 2 ^ min tries 4 }
+    ensures small { result ≤ 16 }
+{
+    match tries {
+        0 => 1,
+        1 => 2,
+        2 => 4,
+        3 => 8,
+        _ => 16,
+    }
+}
+
+/// The timer has run out. The ninth time in a row ends the connection.
+fn expire(parts: &mut Parts) -> Answer
+    ensures made { (out : List ℕ) (e : Endpoint) → Valid e → Stands parts.old e → e.reason ≡ None → IsOutcome parts.new result out (expired e) }
+    ensures len { answer_len result ≡ 0 }
+    ensures tuple { parts.new.tuple ≡ parts.old.tuple }
+    ensures params { parts.new.params ≡ parts.old.params }
+{
+    let tries = parts.tries.saturating_add(1);
+    if tries == 9 {
+        give_up(parts, tries);
+        return Answer::TimedOut;
+    }
+    let probes = is_probing(parts);
+    parts.tries = tries;
+    parts.age = 0;
+    parts.nxt = parts.una;
+    if probes {
+        parts.probe = true;
+        return Answer::Probe;
+    }
+    parts.counters.timeouts = parts.counters.timeouts.saturating_add(1);
+    Answer::Resend
+}
+
+/// The connection is over, after so many timeouts in a row.
+fn give_up(parts: &mut Parts, tries: u8)
+    ensures after { (e : Endpoint) → Stands parts.old e → Stands parts.new (record e { tx = record (e.tx) { tries = tries; age = 0 }; reason = Some reasons.TimedOut }) }
+    ensures tuple { parts.new.tuple ≡ parts.old.tuple }
+    ensures params { parts.new.params ≡ parts.old.params }
+{
+    parts.tries = tries;
+    parts.age = 0;
+    parts.reason = Some(Reason::TimedOut);
+    parts.phase = Phase::Closed;
+}
+
+/// Whether it is the peer's window that bytes wait for.
+fn is_probing(parts: &Parts) -> bool
+    ensures { (e : Endpoint) → Valid e → Stands parts.now e → e.reason ≡ None → result ≡ model_probes e }
+{
+    if parts.window != 0 || !parts.is_running() {
+        return false;
+    }
+    parts.tx.len() > 0
+}
