@@ -1,5 +1,5 @@
 -- Each segment that a history sends has room in a packet.
-use Rattle.std.proofs.Common.{◌≡◌, ℕ, ◌+◌, ◌-◌, ◌*◌, Bool, true, false, cond, not, ◌&&◌, List, [], ◌∷◌, ◌++◌, length, take, drop, min, Option, Some, None, refl, sym, subst, ap, ◌∙◌, ◌≤◌, arith, length-take, ltb, leb, eqb}
+use Rattle.std.proofs.Common.{◌≡◌, ℕ, ◌+◌, ◌-◌, ◌*◌, Bool, true, false, cond, not, ◌&&◌, List, [], ◌∷◌, ◌++◌, length, take, drop, min, Option, Some, None, refl, sym, subst, ◌≤◌, arith, length-take, ltb, leb, eqb}
 use Rattle.tas_model.proofs.Tests.{on_cond}
 use Rattle.tas_model.specs.declared.entry.Reason.{Reason}
 use Rattle.tas_model.specs.declared.entry.Reason.TheVariants as reasons
@@ -12,25 +12,22 @@ use Rattle.tas_model.specs.declared.entry.Seg.{Seg}
 use Rattle.tas_model.specs.declared.entry.Reply.{Reply}
 use Rattle.tas_model.specs.declared.entry.Reply.TheVariants as replies
 use Rattle.tas_model.specs.Endpoint.{Endpoint, Rate, phase, unread, send_room, next_place, wnd}
-use Rattle.tas_model.specs.Segments.{Outcome, has, bare, is_fin, seq_at, seq_of, ack_of, ack_head, acks, resets, stray_reply, is_rst, is_ack, is_syn, seg_len}
+use Rattle.tas_model.specs.Segments.{Outcome, bare, ack_of, ack_head, acks, resets, stray_reply, is_rst, is_ack, is_syn, seg_len}
 use Rattle.tas_model.specs.Receive.{rx, rx_in, rx_later, rx_syn_sent, connected, by_verdict, verdict, Verdict, Dropped, Answered, Reset, BareAck, Taken, AckVerdict, Stray, TooFar, Good, taken, bare_ack, after_ack, after_data, place_of_ack, is_heard}
 use Rattle.tas_model.specs.ApplicationCalls.{column_by, after_recv, empty_reply, abort_reply, tells_abort, ended_by, Column, Opening, Over, Running, column, accept_in, ready_in, send_in, recv_in, recv_open, shut_in, close_in, abort_in}
-use Rattle.tas_model.specs.NextSegment.{Going, going, going_in, emitted, waiting, data_len, past, syn_head, data_seg, fin_seg}
+use Rattle.tas_model.specs.NextSegment.{Going, going, going_in, emitted, waiting, data_len, past, syn_head, data_seg}
 use Rattle.tas_model.specs.Timers.{ticks, tick_in, ticked, is_armed, patience, probes, filled, control}
 use Rattle.tas_model.specs.LegalHistory.{step, control_in, taken_bytes, state_or, moved, replay, Gives, Legal, MayFollow}
 use Rattle.tas_model.specs.declared.entry.Entry.{Entry}
 use Rattle.tas_model.specs.declared.entry.HostParams.{HostParams}
-use Rattle.tas_model.specs.Outputs.{AcksNext, AllAckNext, AcksInOrder, segments_in, sent}
-use Rattle.tas_model.specs.OneStream.{StandsIn}
+use Rattle.tas_model.specs.Outputs.{segments_in, sent}
 use Rattle.tas_model.specs.Valid.{Valid, InRange, IsPaced}
 use Rattle.tas_model.proofs.ValidCalls.{valid_replay}
 use Rattle.std.proofs.lemmas.List.Concat.{flat_map-append}
 use Rattle.tas_runs.specs.Logs.{Flow}
 use Rattle.tas_runs.specs.Rounds.{Each}
 use Rattle.run_texts.specs.Frames.{AreAllShort, AreShort}
-use Rattle.std.proofs.lemmas.List.{take_min}
-use Rattle.std.proofs.lemmas.Bool.Decides.{nat_tests}
-use Rattle.tas_model.proofs.Histories.{legal_induction, along_push, replay_push}
+use Rattle.tas_model.proofs.Histories.{legal_induction}
 
 -- The segment has room in a packet, where the endpoint before it, `b`, is valid.
 abbrev IsRight : (b e : Endpoint) → Seg → Type 0
