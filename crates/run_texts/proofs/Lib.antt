@@ -4,3 +4,4 @@ pub mod Lists
 pub mod Packets
 pub mod Ticks
 pub mod Ordered
+pub mod Short

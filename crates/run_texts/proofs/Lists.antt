@@ -1,5 +1,5 @@
 -- Texts of lists, an element at a time.
-use Rattle.std.proofs.Common.{◌≡◌, codes, decimal, ℕ, suc, zero, ◌+◌, ◌≤◌, [], ◌∷◌, ◌++◌, List, length, take, drop, flat_map, slice_get, Some, None, Result, Ok, IsErr, refl, ap, subst, sym, ◌∙◌, append_assoc, append-nil, take-append-drop, length-append, arith}
+use Rattle.std.proofs.Common.{◌≡◌, codes, decimal, ℕ, ◌+◌, ◌≤◌, [], ◌∷◌, ◌++◌, List, length, take, drop, flat_map, slice_get, Some, Result, Ok, IsErr, refl, ap, subst, sym, ◌∙◌, append-nil, take-append-drop, length-append, arith}
 use Rattle.std.proofs.lemmas.List.{take_all, take_more}
 use Rattle.std.proofs.lemmas.Option.{slice_get_within, get_or_from_slice_get}
 use Rattle.std.proofs.lemmas.List.Concat.{flat_map-append}
@@ -9,7 +9,7 @@ use Rattle.tas_model.specs.Outputs.{bytes_read, given_bytes}
 use Rattle.tas_runs.specs.declared.log.LogLine.{LogLine}
 use Rattle.tas_runs.specs.Report.{hex_bytes, entry_text, entries_text, line, event_text, log_text}
 use Rattle.run_texts.specs.Writes.{Stand, Writes}
-use Rattle.run_texts.proofs.Writing.{wrote_as, wrote_both, stopped_in, wrote_then, hex_bytes-append}
+use Rattle.run_texts.proofs.Writing.{wrote_as, wrote_both, stopped_in, hex_bytes-append}
 
 -- an element more
 pub taken_more : {X : Type 0} (xs : List X) (i : ℕ) (x : X) → slice_get xs i ≡ Some x → take (i + 1) xs ≡ take i xs ++ x ∷ []

@@ -1,5 +1,5 @@
 -- A packet in its record.
-use Rattle.std.proofs.Common.{◌≡◌, ◌≤◌, ◌<◌, nat_lt, ◌++◌, [], ℕ, nat_le, true, cond, List, length, take, drop, refl, ap, sym, ◌∙◌, arith}
+use Rattle.std.proofs.Common.{◌≡◌, ◌≤◌, ◌<◌, nat_lt, ◌++◌, [], ℕ, nat_le, true, cond, List, length, take, ap, sym, ◌∙◌, arith}
 use Rattle.std.proofs.Math.Seq.{take-append_seam}
 use Rattle.std.proofs.lemmas.Grind.{common_steps}
 use Rattle.tas_num.specs.Captures.{record_bytes}

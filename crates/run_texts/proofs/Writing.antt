@@ -1,10 +1,10 @@
 -- What several writes do, one after the other.
-use Rattle.std.proofs.Common.{◌≡◌, ◌==◌, codes, ℕ, ◌<◌, get_or, ◌+◌, ◌-◌, ◌≤◌, ◌/◌, ◌%◌, false, [], ◌∷◌, ◌++◌, List, take, drop, length, Option, None, Some, Result, Ok, Err, OnOk, OnErr, IsOk, IsErr, take-append-drop, refl, ap, subst, sym, ◌∙◌, length-drop, append_assoc, append-nil, arith, rules}
+use Rattle.std.proofs.Common.{◌≡◌, ◌==◌, codes, ℕ, ◌<◌, get_or, ◌+◌, ◌-◌, ◌≤◌, ◌/◌, ◌%◌, false, [], ◌∷◌, ◌++◌, List, take, drop, length, Option, Result, Ok, Err, OnOk, OnErr, IsOk, IsErr, take-append-drop, refl, ap, subst, sym, ◌∙◌, length-drop, append_assoc, append-nil, arith}
 use Rattle.std.proofs.Math.Seq.{take-add}
 use Rattle.std.proofs.lemmas.List.{take_all, take_more}
 use Rattle.std.proofs.lemmas.Bool.{false≢true}
-use Rattle.std.specs.Io.KnownBytes.{Appends, Keeps}
-use Rattle.std.proofs.KnownBytes.{Appends-trans, Appends-nil, Appends-kept}
+use Rattle.std.specs.Io.KnownBytes.{Appends}
+use Rattle.std.proofs.KnownBytes.{Appends-trans, Appends-nil}
 use Rattle.tas_num.specs.Causes.{Rose}
 use Rattle.tas_num.specs.declared.outside.IoFault.{IoFault}
 use Rattle.tas_num.specs.declared.outside.IoFault.TheVariants.{Failed, OutOfMemory}

@@ -1,5 +1,5 @@
 -- The frames that a host sent, and their records in a capture.
-use Rattle.std.specs.Prelude.{◌≡◌, ℕ, ◌==◌, ◌≤◌, nat_le, nat_lt, List, [], ◌∷◌, ◌++◌, length, map, filter, flat_map, option_to_list, Option, Some, None, ⊤, if◌then◌else◌}
+use Rattle.std.specs.Prelude.{◌≡◌, ℕ, ◌==◌, ◌≤◌, nat_le, nat_lt, List, [], ◌∷◌, ◌++◌, length, map, filter, flat_map, option_to_list, Option, ⊤, if◌then◌else◌}
 use Rattle.tas_num.specs.Captures.{record_bytes}
 use Rattle.segment_fields.specs.Canon.{canon}
 use Rattle.tas_model.specs.declared.entry.FourTuple.{FourTuple}

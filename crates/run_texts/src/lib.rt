@@ -4,6 +4,7 @@
 mod entries;
 mod flows;
 mod frames;
+mod laws;
 mod logs;
 mod texts;
 mod whole;
@@ -11,6 +12,7 @@ mod writer;
 
 pub use flows::write_flow;
 pub use frames::{Frame, write_capture_header, write_frames};
+pub use laws::segments_have_room;
 pub use logs::write_log;
 pub use whole::{Counts, write_counts, write_end, write_host, write_title};
 pub use writer::Writer;

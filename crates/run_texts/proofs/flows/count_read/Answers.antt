@@ -1,4 +1,4 @@
-use Rattle.std.proofs.Common.{rules, arith}
+use Rattle.std.proofs.Common.{rules}
 use Rattle.flow_state.specs.Views.{seen_entry}
 use Rattle.run_texts.proofs.Lists.{count_more}
 use Rattle.run_texts.proofs.flows.count_read.Goals as goal

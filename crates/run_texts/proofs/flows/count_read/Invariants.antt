@@ -1,4 +1,4 @@
-use Rattle.std.proofs.Common.{◌≡◌, ◌≤◌, ◌*◌, ◌^◌, take, flat_map, length}
+use Rattle.std.proofs.Common.{◌≡◌, ◌≤◌, ◌*◌, ◌^◌, take, length}
 use Rattle.tas_model.specs.Outputs.{bytes_read}
 use Rattle.run_texts.proofs.flows.count_read.Given as goal
 

@@ -1,4 +1,4 @@
-use Rattle.std.proofs.Common.{rules, ◌≡◌, IsErr, List, ℕ, map, ◌++◌, ◌∷◌, [], codes}
+use Rattle.std.proofs.Common.{rules, ◌≡◌, IsErr, ◌∷◌, []}
 use Rattle.tas_model.specs.Outputs.{bytes_read}
 use Rattle.tas_runs.specs.Report.{hex}
 use Rattle.run_texts.proofs.Writing.{stopped, stopped_at, wrote_then}

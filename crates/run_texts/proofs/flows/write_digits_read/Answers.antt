@@ -3,7 +3,6 @@ use Rattle.tas_model.specs.declared.entry.Entry.{Entry}
 use Rattle.tas_model.specs.Outputs.{given_bytes}
 use Rattle.tas_runs.specs.Report.{hex_bytes}
 use Rattle.flow_state.specs.Views.{seen_entry}
-use Rattle.run_texts.specs.Writes.{Writes}
 use Rattle.run_texts.proofs.Writing.{wrote_as}
 use Rattle.run_texts.proofs.Lists.{wrote_more, stopped_among, wrote_whole, digits_are}
 use Rattle.run_texts.proofs.flows.write_digits_read.Goals as goal

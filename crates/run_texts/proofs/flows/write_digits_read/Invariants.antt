@@ -1,7 +1,7 @@
 use Rattle.std.proofs.Common.{take, flat_map, Ok}
 use Rattle.tas_model.specs.Outputs.{given_bytes}
 use Rattle.tas_runs.specs.Report.{hex_bytes}
-use Rattle.run_texts.specs.Writes.{Stand, Writes}
+use Rattle.run_texts.specs.Writes.{Writes}
 use Rattle.run_texts.proofs.flows.write_digits_read.Given as goal
 
 abbrev pub invariant-loop-i : goal.invariant-loop-i

@@ -1,6 +1,6 @@
 use Rattle.std.proofs.Common.{take, flat_map, map, Ok}
 use Rattle.tas_runs.specs.Report.{entry_text}
-use Rattle.run_texts.specs.Writes.{Stand, Writes}
+use Rattle.run_texts.specs.Writes.{Writes}
 use Rattle.run_texts.proofs.flows.write_entries.Given as goal
 
 abbrev pub invariant-loop-i : goal.invariant-loop-i

@@ -1,4 +1,4 @@
-use Rattle.std.proofs.Common.{rules, ◌≡◌, IsErr, List, ℕ, map, ◌++◌, ◌∷◌, [], codes}
+use Rattle.std.proofs.Common.{rules, ◌≡◌, IsErr, map, ◌++◌, codes}
 use Rattle.tas_model.specs.LegalHistory.{replay}
 use Rattle.tas_model.specs.Outputs.{bytes_read}
 use Rattle.tas_runs.specs.Report.{line, entries_text, state_text, read_text}

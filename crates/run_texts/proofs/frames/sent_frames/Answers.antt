@@ -1,7 +1,5 @@
-use Rattle.std.proofs.Common.{rules, ◌≡◌, List, map, ◌++◌}
+use Rattle.std.proofs.Common.{rules}
 use Rattle.std.proofs.lemmas.List.Sorted.{IsNonDecreasingBy-from_sort_by_key, answers_always}
-use Rattle.run_texts.specs.declared.frames.Frame.{Frame}
-use Rattle.run_texts.specs.Frames.{seen_frame, all_frames, history_of}
 use Rattle.run_texts.proofs.Ordered.{in_order}
 use Rattle.run_texts.proofs.frames.sent_frames.Goals as goal
 

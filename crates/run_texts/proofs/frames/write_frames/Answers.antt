@@ -1,4 +1,4 @@
-use Rattle.std.proofs.Common.{rules, map, flat_map, ap, ◌∙◌}
+use Rattle.std.proofs.Common.{map, flat_map, ap, ◌∙◌}
 use Rattle.run_texts.specs.Frames.{frame_before, history_of}
 use Rattle.run_texts.proofs.Writing.{wrote_as}
 use Rattle.run_texts.proofs.Ticks.{all_in_ticks}

@@ -1,4 +1,4 @@
-use Rattle.std.proofs.Common.{rules, ◌≡◌, IsErr, length}
+use Rattle.std.proofs.Common.{rules, length}
 use Rattle.tas_num.specs.Captures.{record_head}
 use Rattle.run_texts.proofs.Writing.{stopped_at, wrote_then}
 use Rattle.run_texts.proofs.frames.write_packet.Goals as goal

@@ -1,4 +1,4 @@
-use Rattle.std.proofs.Common.{rules, ◌≡◌, [], None, length, slice_get, Some, get_or, refl}
+use Rattle.std.proofs.Common.{rules, [], None, get_or, refl}
 use Rattle.std.proofs.lemmas.Option.{slice_get-get_or}
 use Rattle.run_texts.specs.declared.frames.Frame.{Frame}
 use Rattle.run_texts.specs.Frames.{frame_before}

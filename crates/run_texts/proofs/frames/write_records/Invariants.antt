@@ -1,6 +1,6 @@
 use Rattle.std.proofs.Common.{◌≡◌, take, flat_map, length, Ok}
 use Rattle.run_texts.specs.Frames.{frame_before}
-use Rattle.run_texts.specs.Writes.{Stand, Writes}
+use Rattle.run_texts.specs.Writes.{Writes}
 use Rattle.run_texts.proofs.frames.write_records.Given as goal
 
 abbrev pub invariant-loop-frame : goal.invariant-loop-frame

@@ -1,4 +1,4 @@
-use Rattle.std.proofs.Common.{rules, ◌≡◌, IsErr, List, ℕ, map, ◌++◌, ◌∷◌, [], codes}
+use Rattle.std.proofs.Common.{rules, ◌≡◌, IsErr, map, ◌∷◌, []}
 use Rattle.tas_runs.specs.Report.{event_text}
 use Rattle.run_texts.proofs.Writing.{stopped, stopped_at, wrote_then}
 use Rattle.run_texts.proofs.logs.write_line.Goals as goal

@@ -1,5 +1,5 @@
 use Rattle.std.proofs.Common.{take, flat_map, map, Ok}
-use Rattle.run_texts.specs.Writes.{Stand, Writes}
+use Rattle.run_texts.specs.Writes.{Writes}
 use Rattle.run_texts.proofs.Lists.{log_line}
 use Rattle.run_texts.proofs.logs.write_log.Given as goal
 

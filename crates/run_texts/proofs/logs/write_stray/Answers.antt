@@ -1,4 +1,4 @@
-use Rattle.std.proofs.Common.{rules, ◌≡◌, IsErr, List, ℕ, map, ◌++◌, ◌∷◌, [], codes}
+use Rattle.std.proofs.Common.{rules, ◌≡◌, IsErr, codes}
 use Rattle.tas_runs.specs.Report.{seg_text, answer_text}
 use Rattle.run_texts.proofs.Writing.{stopped, stopped_at, wrote_then}
 use Rattle.run_texts.proofs.logs.write_stray.Goals as goal

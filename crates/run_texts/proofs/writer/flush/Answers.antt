@@ -1,4 +1,4 @@
-use Rattle.std.proofs.Common.{rules, []}
+use Rattle.std.proofs.Common.{rules}
 use Rattle.run_texts.proofs.Writing.{broken}
 use Rattle.run_texts.proofs.writer.flush.Goals as goal
 

@@ -1,5 +1,4 @@
-use Rattle.std.proofs.Common.{rules, ◌≡◌, ℕ, ◌≤◌, ◌++◌, [], List}
-use Rattle.run_texts.specs.Writes.{Stand, Writes}
+use Rattle.std.proofs.Common.{rules, []}
 use Rattle.run_texts.proofs.Writing.{stopped}
 use Rattle.run_texts.proofs.writer.push.Goals as goal
 

@@ -1,4 +1,4 @@
-use Rattle.std.proofs.Common.{rules, List, ℕ, ◌≤◌, ◌-◌, take, drop}
+use Rattle.std.proofs.Common.{rules, List, ℕ, ◌-◌, take, drop}
 use Rattle.tas_runs.specs.Report.{hex_bytes}
 use Rattle.run_texts.proofs.Writing.{wrote_both, stopped_in, hex_more, hex_rest}
 use Rattle.run_texts.proofs.writer.push_hex.Goals as goal

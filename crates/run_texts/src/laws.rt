@@ -1,0 +1,16 @@
+ghost use Rattle.std.specs.Prelude.{List};
+ghost use Rattle.tas_model.specs.declared.entry.Entry.{Entry};
+ghost use Rattle.tas_model.specs.declared.entry.HostParams.{HostParams};
+ghost use Rattle.tas_model.specs.LegalHistory.{Legal};
+ghost use Rattle.tas_model.specs.Outputs.{sent};
+ghost use Rattle.tas_model.specs.Valid.{InRange};
+ghost use Rattle.tas_runs.specs.Logs.{Flow};
+ghost use Rattle.tas_runs.specs.Rounds.{Each};
+ghost use Rattle.run_texts.specs.Frames.{AreAllShort, AreShort};
+
+/// Each segment that a legal history sent has room in a packet.
+#[tactic(auto, using(crate::proofs::Short::sent_is_short, crate::proofs::Short::flows_are_short))]
+pub fn segments_have_room()
+    ensures history { (params : HostParams) (h : List Entry) → InRange params → Legal params h → AreAllShort (sent h) }
+    ensures flows { (flows : List Flow) → Each (λ (f : Flow). InRange f.params × Legal f.params f.entries) flows → AreShort flows }
+{}
