@@ -1,5 +1,5 @@
 -- From what the parts of the program found to what the program promises.
-use Rattle.std.proofs.Common.{◌≡◌, ◌⊎◌, inl, inr, ℕ, ◌<◌, ◌≤◌, List, length, Bool, true, false, Option, Some, None, Result, Ok, Err, IfOk, IfSome, subst, refl, sym, ◌∙◌, arith}
+use Rattle.std.proofs.Common.{◌≡◌, ◌⊎◌, inl, inr, ℕ, ◌<◌, List, length, true, Option, Some, None, Result, Ok, Err, IfOk, OnOk, OnErr, IfSome, subst, refl, arith}
 use Rattle.std.specs.Io.KnownBytes.{Appends, Keeps}
 use Rattle.std.specs.Net.Addr.{ipv4_bits}
 use Rattle.tas_num.specs.Captures.{Capture, Fault, capture_of}
@@ -75,7 +75,7 @@ early_writes_nothing TooLong P f early = f refl
 early_writes_nothing NotBuilt P f early = f refl
 
 no_fault : (b : List ℕ) (number : ℕ) (c : Capture) → capture_of b ≡ Ok c → IsNoCapture b number → ⊥
-no_fault b number c e none = absurd (cc (e, none.1.0))
+no_fault b number c e none = absurd (cc (e, none.1))
 
 pub whole_ends_well : (g : Given) (stop : Stop) → Cause g stop → IsWhole g → (status_of stop ≡ 0) ⊎ (status_of stop ≡ 6)
 whole_ends_well g (Input number) cause w = absurd (no_fault w.input number w.found w.reads (told g.input w.input (λ (b : List ℕ). IsNoCapture b number) w.told cause))
@@ -86,3 +86,12 @@ whole_ends_well g TooLong cause w =
     let long = told g.input w.input (λ (b : List ℕ). 67108864 < length b) w.told cause in
     absurd (omega (arith, long, w.short))
 whole_ends_well g NotBuilt cause w = absurd (cause w.request w.asked)
+
+-- ----- what holds after Ok, and after a stop
+pub on_ok : {P Q : Type 0} (r : Result (Unit {0}) Stop) → OnOk r P → (P → Q) → OnOk r Q
+on_ok (Ok u) h f = f h
+on_ok (Err stop) h f = tt
+
+pub on_err : {P Q : Type 0} (r : Result (Unit {0}) Stop) → OnErr r P → (P → Q) → OnErr r Q
+on_err (Ok u) h f = tt
+on_err (Err stop) h f = f h

@@ -37,7 +37,9 @@ pub fn tas<R: Threads + Wait + Sync, S: Source, K: Sink, F: Sink, G: Gate>(
     ensures headline { result ≡ 0 → WritesAll (given (map string_bytes words.now) (S.left source.old) (S.faults source.old) (S.faults source.new) (K.faults sink.old) (K.faults sink.new)) (K.held sink.old) (K.held sink.new) }
     // Every other status has its cause.
     ensures cause { (result ≡ 0) ⊎ ((stop : Stop) × (result ≡ status_of stop) × Cause (given (map string_bytes words.now) (S.left source.old) (S.faults source.old) (S.faults source.new) (K.faults sink.old) (K.faults sink.new)) stop) }
-    ensures front { WritesFront (given (map string_bytes words.now) (S.left source.old) (S.faults source.old) (S.faults source.new) (K.faults sink.old) (K.faults sink.new)) (K.held sink.old) (K.held sink.new) }
+    // At 5 and 6 by a front of it.
+    ensures front { (result ≡ 5) ⊎ (result ≡ 6) → WritesFront (given (map string_bytes words.now) (S.left source.old) (S.faults source.old) (S.faults source.new) (K.faults sink.old) (K.faults sink.new)) (K.held sink.old) (K.held sink.new) }
+    // At every other status it did not grow.
     ensures nothing { (result ≡ 3) ⊎ ((result ≡ 4) ⊎ ((result ≡ 7) ⊎ (result ≡ 8))) → Keeps (K.held sink.old) (K.held sink.new) }
     // Words of the form and a capture within its length give status 0, or want of memory, where no stream fails.
     ensures complete { IsWhole (given (map string_bytes words.now) (S.left source.old) (S.faults source.old) (S.faults source.new) (K.faults sink.old) (K.faults sink.new)) → (result ≡ 0) ⊎ (result ≡ 6) }
@@ -87,7 +89,15 @@ fn replay_of<R: Threads + Wait + Sync, G: Gate>(
     ensures ok { IfOk result (λ log. serial_replay (ipv4_bits asked.now.local) bytes.now asked.now.loose ≡ Ok (log_in log)) }
     ensures refused { IfErr result (Unreplayed bytes.now) }
 {
-    match replay(rt, alloc, asked.local.to_bits(), bytes, asked.loose, Mode::Serial, gate) {
+    match replay(
+        rt,
+        alloc,
+        asked.local.to_bits(),
+        bytes,
+        asked.loose,
+        Mode::Serial,
+        gate,
+    ) {
         Ok(log) => Ok(log),
         Err(ReplayFault::OutOfMemory) => Err(Stop::Memory),
         Err(ReplayFault::Pcap(fault)) => Err(Stop::Input {
@@ -97,11 +107,7 @@ fn replay_of<R: Threads + Wait + Sync, G: Gate>(
 }
 
 /// Writes the text of the run that was asked for.
-fn write_log<K: Sink>(
-    alloc: Global,
-    log: &RunLog,
-    sink: &mut K,
-) -> Result<(), Stop>
+fn write_log<K: Sink>(alloc: Global, log: &RunLog, sink: &mut K) -> Result<(), Stop>
     ensures ok { OnOk result (Appends (K.held sink.old) (K.held sink.new) (report (log_in log.now))) }
     ensures err { OnErr result (AppendsFront (K.held sink.old) (K.held sink.new) (report (log_in log.now))) }
     ensures cause { IfErr result (Unwritten (K.faults sink.old) (K.faults sink.new)) }

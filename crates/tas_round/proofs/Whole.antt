@@ -1,5 +1,5 @@
 -- A text that was written by way of a writer, from an empty one on.
-use Rattle.std.proofs.Common.{◌≡◌, ℕ, ◌++◌, [], List, Option, Result, Ok, Err, OnOk, IsErr, append-nil, subst, sym, ◌∙◌, ap}
+use Rattle.std.proofs.Common.{◌≡◌, ℕ, ◌++◌, [], List, Result, Ok, append-nil, subst, sym, ◌∙◌, ap}
 use Rattle.std.specs.Io.KnownBytes.{Appends}
 use Rattle.tas_num.specs.declared.outside.IoFault.{IoFault}
 use Rattle.run_texts.specs.Writes.{Stand, Writes}

@@ -119,11 +119,7 @@ fn play_batch(
 }
 
 /// The log of a replay with this ending.
-fn log_of(
-    alloc: Global,
-    found: &Found<'_>,
-    ending: Ending,
-) -> Result<RunLog, AllocError>
+fn log_of(alloc: Global, found: &Found<'_>, ending: Ending) -> Result<RunLog, AllocError>
     requires few { length found.now.items.items ≤ found.now.records }
     ensures { (local : ℕ) → Ended local (map item_in found.now.items.items) ending → IfOk result (λ log. log_in log ≡ serial_log local found.now.records (map item_in found.now.items.items)) }
 {

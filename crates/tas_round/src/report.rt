@@ -11,7 +11,9 @@ ghost use Rattle.tas_round.specs.Fronts.{AppendsFront};
 use crate::run::{HostRun, RunLog};
 use flow_state::FlowRecord;
 use local_host::LocalHost;
-use run_texts::{Counts, Writer, write_counts, write_end, write_flow, write_host, write_log, write_title};
+use run_texts::{
+    Counts, Writer, write_counts, write_end, write_flow, write_host, write_log, write_title,
+};
 use std::alloc::Global;
 use tas_num::{IoFault, Sink};
 

@@ -1,5 +1,4 @@
-use Rattle.std.proofs.Common.{◌≡◌, ◌+◌, ◌-◌, ◌≤◌, length, take, drop, arith, rules, subst, ap, sym, ◌∙◌, length-drop}
-use Rattle.std.proofs.lemmas.List.{take_all}
+use Rattle.std.proofs.Common.{◌≡◌, ◌-◌, length, take, drop, rules, subst}
 use Rattle.std.specs.Io.KnownBytes.{Appends}
 use Rattle.tas_main.proofs.Writing.{appends_more, appends_front, whole, within}
 use Rattle.tas_main.proofs.output.write_all.Goals as goal

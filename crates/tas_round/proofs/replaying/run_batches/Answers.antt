@@ -1,4 +1,4 @@
-use Rattle.std.proofs.Common.{rules, ◌≡◌, map, drop, arith, [], ◌+◌, ◌≤◌, length}
+use Rattle.std.proofs.Common.{◌≡◌, map, drop, arith, []}
 use Rattle.tas_round.proofs.Playing.{next_played, next_counted, no_more, no_more_ticks, none_left, still_inside}
 use Rattle.capture_items.specs.Items.{item_in}
 use Rattle.tas_round.proofs.replaying.run_batches.Goals as goal

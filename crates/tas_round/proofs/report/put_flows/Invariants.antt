@@ -1,7 +1,7 @@
 use Rattle.std.proofs.Common.{take, map, Ok}
 use Rattle.tas_runs.specs.Hosts.{flows_of}
 use Rattle.tas_runs.specs.Report.{flows_text}
-use Rattle.run_texts.specs.Writes.{Stand, Writes}
+use Rattle.run_texts.specs.Writes.{Writes}
 use Rattle.tas_round.proofs.report.put_flows.Given as goal
 
 abbrev pub invariant-loop-i : goal.invariant-loop-i

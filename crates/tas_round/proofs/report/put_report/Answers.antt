@@ -1,6 +1,6 @@
-use Rattle.std.proofs.Common.{rules, ◌≡◌, ◌∷◌, [], ◌++◌, codes, decimal, IsErr}
+use Rattle.std.proofs.Common.{rules, ◌≡◌, ◌++◌, codes, decimal, IsErr}
 use Rattle.tas_runs.specs.Report.{report, line, names_of, hosts_text, counts_text}
-use Rattle.tas_round.specs.Runs.{host_in, log_in}
+use Rattle.tas_round.specs.Runs.{log_in}
 use Rattle.run_texts.proofs.Writing.{stopped, stopped_at, wrote_then}
 use Rattle.tas_round.proofs.report.put_report.Goals as goal
 
