@@ -50,14 +50,15 @@ def uploads(path, flows, size):
     capture = Capture(path)
     payload = bytes((i * 7 + i // 251) % 256 for i in range(MSS))
     payload_total = total(payload)
-    ports = [20000 + i for i in range(flows)]
-    for port in ports:
+    # The host's n-th flow begins at the sequence number 64,000 n.
+    flow_acks = [(20000 + i, (64000 * i + 1) % 2**32) for i in range(flows)]
+    for port, _ in flow_acks:
         capture.add(packet(port, 100, 0, 2, b"", 0))
-    for port in ports:
-        capture.add(packet(port, 101, 1, 16, b"", 0))
+    for port, ack in flow_acks:
+        capture.add(packet(port, 101, ack, 16, b"", 0))
     for turn in range(size // (MSS * flows)):
-        for port in ports:
-            capture.add(packet(port, 101 + turn * MSS, 1, 24, payload, payload_total))
+        for port, ack in flow_acks:
+            capture.add(packet(port, 101 + turn * MSS, ack, 24, payload, payload_total))
 
 
 def main():
