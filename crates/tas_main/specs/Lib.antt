@@ -2,3 +2,4 @@ pub mod Words
 pub mod Requests
 pub mod Stops
 pub mod Outputs
+pub mod Telling

@@ -5,6 +5,7 @@ mod input;
 mod output;
 mod stop;
 mod streams;
+mod telling;
 #[cfg(test)]
 mod tests;
 mod top;

@@ -1,9 +1,6 @@
 ghost use Rattle.std.specs.Prelude.{◌≡◌};
 ghost use Rattle.tas_main.specs.Stops.{status_of};
 
-use std::alloc::AllocError;
-use std::fmt;
-
 /// Why the program stopped before all was written.
 #[derive(Clone, Copy, PartialEq, Eq, Debug)]
 pub enum Stop {
@@ -33,19 +30,6 @@ impl Stop {
             Stop::Memory => 6,
             Stop::TooLong => 7,
             Stop::NotBuilt => 8,
-        }
-    }
-}
-
-impl fmt::Display for Stop {
-    fn fmt<W: fmt::Write>(&self, f: &mut fmt::Formatter<W>) -> fmt::Result {
-        match self {
-            Stop::Input { number } => write!(f, "tas: input record {number}"),
-            Stop::Read => write!(f, "tas: read"),
-            Stop::Write => write!(f, "tas: write"),
-            Stop::Memory => write!(f, "tas: memory"),
-            Stop::TooLong => write!(f, "tas: too long"),
-            Stop::NotBuilt => write!(f, "tas: not built"),
         }
     }
 }

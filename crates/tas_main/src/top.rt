@@ -6,12 +6,13 @@ ghost use Rattle.tas_round.specs.Runs.{log_in};
 ghost use Rattle.tas_runs.specs.Report.{report};
 ghost use Rattle.tas_round.specs.Fronts.{AppendsFront};
 ghost use Rattle.tas_main.specs.Stops.{given, Cause, status_of, writes_nothing, Unreplayed, Unwritten};
+ghost use Rattle.tas_main.specs.Telling.{stream, IsTold};
 ghost use Rattle.tas_main.specs.Outputs.{WritesAll, WritesFront, IsWhole};
 ghost use Rattle.tas_main.specs.declared.stop.Stop.{Stop};
 
 use crate::input::read_all;
-use crate::output::write_all;
 use crate::stop::Stop;
+use crate::telling::tell;
 use crate::words::{Request, read_words};
 use std::alloc::Global;
 use std::sync::Wait;
@@ -35,8 +36,10 @@ pub fn tas<R: Threads + Wait + Sync, S: Source, K: Sink, F: Sink, G: Gate>(
 ) -> u8
     // At status 0 the sink grew by exactly the text of the run that was asked for.
     ensures headline { result ≡ 0 → WritesAll (given (map string_bytes words.now) (S.left source.old) (S.faults source.old) (S.faults source.new) (K.faults sink.old) (K.faults sink.new)) (K.held sink.old) (K.held sink.new) }
-    // Every other status has its cause.
-    ensures cause { (result ≡ 0) ⊎ ((stop : Stop) × (result ≡ status_of stop) × Cause (given (map string_bytes words.now) (S.left source.old) (S.faults source.old) (S.faults source.new) (K.faults sink.old) (K.faults sink.new)) stop) }
+    // Every other status has its cause, and the fault line tells of it.
+    ensures cause { (result ≡ 0) ⊎ ((stop : Stop) × (result ≡ status_of stop) × Cause (given (map string_bytes words.now) (S.left source.old) (S.faults source.old) (S.faults source.new) (K.faults sink.old) (K.faults sink.new)) stop × IsTold stop (stream (F.held faults.old) (F.faults faults.old) (F.grows faults.old)) (stream (F.held faults.new) (F.faults faults.new) (F.grows faults.new))) }
+    // At status 0 nothing is told.
+    ensures silent { result ≡ 0 → Keeps (F.held faults.old) (F.held faults.new) }
     // At 5 and 6 by a front of it.
     ensures front { (result ≡ 5) ⊎ (result ≡ 6) → WritesFront (given (map string_bytes words.now) (S.left source.old) (S.faults source.old) (S.faults source.new) (K.faults sink.old) (K.faults sink.new)) (K.held sink.old) (K.held sink.new) }
     // At every other status it did not grow.
@@ -47,9 +50,7 @@ pub fn tas<R: Threads + Wait + Sync, S: Source, K: Sink, F: Sink, G: Gate>(
     match serve(rt, alloc, words, source, sink, gate) {
         Ok(()) => 0,
         Err(stop) => {
-            if let Ok(line) = format!(in alloc; "{stop}\n") {
-                let _ = write_all(faults, line.as_bytes());
-            }
+            tell(faults, stop);
             stop.status()
         }
     }

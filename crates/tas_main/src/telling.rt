@@ -1,0 +1,52 @@
+ghost use Rattle.std.specs.Prelude.{◌++◌, codes, decimal};
+ghost use Rattle.tas_main.specs.Telling.{fault_line, numbered, stream, IsTold, Puts};
+
+use crate::output::write_all;
+use crate::stop::Stop;
+use itoa::Buffer;
+use tas_num::{IoFault, Sink};
+
+/// Tells of a stop by its fault line. Where that can't be written, the status alone tells. It takes no memory but what the sink takes.
+pub fn tell<F: Sink>(faults: &mut F, stop: Stop)
+    ensures { IsTold stop (stream (F.held faults.old) (F.faults faults.old) (F.grows faults.old)) (stream (F.held faults.new) (F.faults faults.new) (F.grows faults.new)) }
+{
+    let _ = put_line(faults, stop);
+}
+
+/// Writes the fault line of a stop.
+fn put_line<F: Sink>(faults: &mut F, stop: Stop) -> Result<(), IoFault>
+    ensures { Puts (stream (F.held faults.old) (F.faults faults.old) (F.grows faults.old)) result (stream (F.held faults.new) (F.faults faults.new) (F.grows faults.new)) (fault_line stop) }
+{
+    match stop {
+        Stop::Input { number } => put_numbered(faults, number),
+        Stop::Read => put(faults, "tas: read\n"),
+        Stop::Write => put(faults, "tas: write\n"),
+        Stop::Memory => put(faults, "tas: memory\n"),
+        Stop::TooLong => put(faults, "tas: too long\n"),
+        Stop::NotBuilt => put(faults, "tas: not built\n"),
+    }
+}
+
+/// Writes the fault line of an input with this record at fault.
+fn put_numbered<F: Sink>(faults: &mut F, number: u32) -> Result<(), IoFault>
+    ensures { Puts (stream (F.held faults.old) (F.faults faults.old) (F.grows faults.old)) result (stream (F.held faults.new) (F.faults faults.new) (F.grows faults.new)) (codes "tas: input record " ++ numbered number) }
+{
+    put(faults, "tas: input record ")?;
+    put_end(faults, number)
+}
+
+/// Writes a number and the end of the line.
+fn put_end<F: Sink>(faults: &mut F, number: u32) -> Result<(), IoFault>
+    ensures { Puts (stream (F.held faults.old) (F.faults faults.old) (F.grows faults.old)) result (stream (F.held faults.new) (F.faults faults.new) (F.grows faults.new)) (numbered number) }
+{
+    let mut digits = Buffer::new();
+    put(faults, digits.format(number))?;
+    put(faults, "\n")
+}
+
+/// Writes a text.
+fn put<F: Sink>(faults: &mut F, text: &str) -> Result<(), IoFault>
+    ensures { Puts (stream (F.held faults.old) (F.faults faults.old) (F.grows faults.old)) result (stream (F.held faults.new) (F.faults faults.new) (F.grows faults.new)) text.now }
+{
+    write_all(faults, text.as_bytes())
+}
