@@ -11,12 +11,12 @@ flow_of r = record {
   id = r.id;
   tuple = r.parts.tuple;
   params = r.parts.params;
-  entries = entries_of r.arena.items r.slots.items;
+  entries = entries_of r.arena.bytes r.slots.items;
   parts = r.parts;
   spare_entries = min (vec_capacity r.slots - vec_len r.slots) (vec_capacity r.counts - vec_len r.counts);
-  spare_bytes = vec_capacity r.arena - vec_len r.arena;
+  spare_bytes = r.arena.spare;
 }
 
 -- what it keeps true
 abbrev pub IsKept : Inside → Type 0
-IsKept r = IsRecord r.parts r.arena.items r.slots.items r.counts.items
+IsKept r = IsRecord r.parts r.arena.bytes r.slots.items r.counts.items

@@ -2,6 +2,7 @@ pub mod Calls
 pub mod Stands
 pub mod Slots
 pub mod Made
+pub mod Arena
 pub mod Flow
 pub mod Counts
 pub mod Record

@@ -9,12 +9,13 @@ ghost use Rattle.flow_state.specs.Slots.{entries_of};
 ghost use Rattle.flow_state.specs.Made.{IsMadeAt};
 ghost use Rattle.flow_state.specs.Views.{seen_entry};
 
+use crate::arena::Arena;
 use crate::call::{Answer, CallIn};
 use crate::counts::{CallerCount, count_one, number_of};
 use crate::engine::{Engine, cost};
 use crate::open::{connect_parts, passive_parts};
 use crate::parts::Parts;
-use crate::slot::{Slot, close_entry, connect_slot, passive_slot};
+use crate::slot::{Slot, connect_slot, passive_slot};
 use crate::view::{EntryView, entry_view, reply_view};
 use segment_fields::Segment;
 use std::alloc::{AllocError, Global};
@@ -30,7 +31,7 @@ pub struct FlowRecord {
     id: FlowId,
     parts: Parts,
     slots: Vec<Slot>,
-    arena: Vec<u8>,
+    arena: Arena,
     counts: Vec<CallerCount>,
 }
 
@@ -75,7 +76,7 @@ impl FlowRecord {
         ensures entries { IfOk result (λ r. r.entries ≡ first_passive tick frame iss (seg_of seg.now) ∷ []) }
     {
         let parts = passive_parts(alloc, tuple, params, iss, seg)?;
-        let arena = Vec::from_slice(alloc, seg.payload)?;
+        let arena = Arena::copy(alloc, seg.payload)?;
         let mut slots = Vec::new(alloc);
         slots.push(passive_slot(iss, frame, seg, tick))?;
         let mut counts = Vec::new(alloc);
@@ -117,7 +118,7 @@ impl FlowRecord {
             id,
             parts,
             slots,
-            arena: Vec::new(alloc),
+            arena: Arena::new(alloc),
             counts,
         })
     }
@@ -171,7 +172,7 @@ impl FlowRecord {
         requires { i < length self.now.entries }
         ensures { slice_get self.now.entries i ≡ Some (seen_entry result) }
     {
-        entry_view(&self.arena, &self.slots[i])
+        entry_view(self.arena.as_slice(), &self.slots[i])
     }
 
     /// The bytes of the last entry's reply.
@@ -179,7 +180,7 @@ impl FlowRecord {
         ensures { result.now ≡ reply_bytes (last_reply self.now.entries) }
     {
         match self.slots.last() {
-            Some(slot) => reply_view(&self.arena, slot.reply).bytes(),
+            Some(slot) => reply_view(self.arena.as_slice(), slot.reply).bytes(),
             None => &[],
         }
     }
@@ -227,15 +228,10 @@ impl FlowRecord {
         self.slots.reserve(1)?;
         self.counts.reserve(1)?;
         self.arena.reserve(cost(&self.parts, call))?;
-        let Some((answer, slot)) = answer_at_end(
-            engine,
-            &mut self.parts,
-            &mut self.arena,
-            caller,
-            number,
-            tick,
-            call,
-        ) else {
+        let Some((answer, slot)) = self
+            .arena
+            .answer(engine, &mut self.parts, caller, number, tick, call)
+        else {
             return Ok(None);
         };
         count_one(&mut self.counts, caller);
@@ -246,40 +242,6 @@ impl FlowRecord {
     }
 }
 
-/// Makes the call, and puts the bytes of its entry at the end of memory.
-fn answer_at_end<E: Engine>(
-    engine: &E,
-    parts: &mut Parts,
-    arena: &mut Vec<u8>,
-    caller: Caller,
-    number: u64,
-    tick: u32,
-    call: &CallIn<'_>,
-) -> Option<(Answer, Slot)>
-    requires small { IsSmall call.now }
-    requires timely { IsTimely parts.old.phase call.now }
-    requires near { IsNear parts.old }
-    requires room { vec_len arena.old + cost_of parts.old.smss call.now ≤ vec_capacity arena.old }
-    ensures made { IfSome result (λ r. IsMadeAt parts.old parts.new arena.new.items caller number tick call.now r.0 r.1) }
-    ensures unmade { IfNone result ((parts.new ≡ parts.old) × (arena.new.items ≡ arena.old.items)) }
-    ensures serves { IsSome result ↔ E.serves engine.now parts.old call.now }
-    ensures kept { take (length arena.old.items) arena.new.items ≡ arena.old.items }
-    ensures longer { length arena.old.items ≤ length arena.new.items }
-    ensures size { vec_len arena.new ≤ vec_len arena.old + cost_of parts.old.smss call.now }
-    ensures capacity { vec_capacity arena.old ≤ vec_capacity arena.new }
-    ensures params { parts.new.params ≡ parts.old.params }
-    ensures tuple { parts.new.tuple ≡ parts.old.tuple }
-{
-    let start = arena.len();
-    push_zeros(arena, cost(parts, call));
-    let Some(answer) = engine.run(parts, tick, call, &mut arena[start..]) else {
-        arena.truncate(start);
-        return None;
-    };
-    let slot = close_entry(arena, start, call, &answer, caller, number, tick);
-    Some((answer, slot))
-}
-
 /// The tick of the last slot.
 #[tactic(auto, using(crate::proofs::Entries::last_tick_slots))]
 fn last_tick_of(slots: &[Slot]) -> u32
@@ -288,19 +250,5 @@ fn last_tick_of(slots: &[Slot]) -> u32
     match slots.last() {
         Some(slot) => slot.tick,
         None => 0,
-    }
-}
-
-/// Zeros at the end of memory that has room for them.
-fn push_zeros(bytes: &mut Vec<u8>, count: usize)
-    requires { vec_len bytes.old + count ≤ vec_capacity bytes.old }
-    ensures items { bytes.new.items ≡ bytes.old.items ++ replicate count 0 }
-    ensures capacity { vec_capacity bytes.old ≤ vec_capacity bytes.new }
-{
-    for _ in 0..count {
-        match bytes.push(0) {
-            Ok(()) => {}
-            Err(_) => unreachable!(),
-        }
     }
 }

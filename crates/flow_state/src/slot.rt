@@ -175,41 +175,6 @@ pub fn reply_slot(answer: &Answer, from: usize) -> ReplySlot
     }
 }
 
-/// The slot of an entry whose reply's bytes stand in memory from `start` on, the call's bytes put behind them.
-pub fn close_entry(
-    arena: &mut Vec<u8>,
-    start: usize,
-    call: &CallIn<'_>,
-    answer: &Answer,
-    caller: Caller,
-    number: u64,
-    tick: u32,
-) -> Slot
-    requires small { IsSmall call.now }
-    requires replied { start + answer_len answer.now ≤ vec_len arena.old }
-    requires room { start + answer_len answer.now + length (payload_of call.now) ≤ vec_capacity arena.old }
-    ensures kept { take start arena.new.items ≡ take start arena.old.items }
-    ensures longer { start ≤ length arena.new.items }
-    ensures entry { entry_of arena.new.items result ≡ record { caller = caller; number = number; tick = tick; call = call_of call.now; reply = reply_of answer.now (drop start arena.old.items) } }
-    ensures within { IsWithin (length arena.new.items) result }
-    ensures size { vec_len arena.new ≡ start + answer_len answer.now + length (payload_of call.now) }
-    ensures capacity { vec_capacity arena.old ≤ vec_capacity arena.new }
-{
-    let at = start + answer.bytes();
-    arena.truncate(at);
-    match arena.extend_from_slice(call.payload()) {
-        Ok(()) => {}
-        Err(_) => unreachable!(),
-    }
-    Slot {
-        caller,
-        number,
-        tick,
-        call: call_slot(call, at),
-        reply: reply_slot(answer, start),
-    }
-}
-
 /// The slot of the first entry of a passive flow, whose payload is all that stands in memory.
 pub fn passive_slot(iss: Seq, frame: FrameId, seg: &Segment<'_>, tick: u32) -> Slot
     ensures entry { entry_of seg.now.payload.now result ≡ first_passive tick frame iss (seg_of seg.now) }

@@ -12,8 +12,8 @@ use Rattle.flow_state.proofs.record.FlowRecord.parts.Goals as goal
 
 pub returns-clause-near : goal.returns-clause-near
 returns-clause-near c =
-    let h : List Entry = entries_of c.self.inside.arena.items c.self.inside.slots.items in
+    let h : List Entry = entries_of c.self.inside.arena.bytes c.self.inside.slots.items in
     let p : HostParams = c.self.inside.parts.params in
     let near : IsNear c.self.inside.parts =
-    near_of c.self.inside.parts (replay p h) (length h) c.self.invariant.stands (places_of p h c.self.invariant.fits c.self.invariant.legal) (omega (arith, length-map c.self.inside.slots.items (entry_of c.self.inside.arena.items), c.self.inside.slots.ok)) in
+    near_of c.self.inside.parts (replay p h) (length h) c.self.invariant.stands (places_of p h c.self.invariant.fits c.self.invariant.legal) (omega (arith, length-map c.self.inside.slots.items (entry_of c.self.inside.arena.bytes), c.self.inside.slots.ok)) in
     subst (λ (f : Flow). IsNear f.parts) c.self.view_is near
