@@ -25,19 +25,20 @@ use Rattle.local_host.specs.Live.{asked_all}
 use Rattle.local_host.proofs.Hosting.{unknown}
 
 -- ----- changes that index nothing
--- the flow keeps its four-tuple, and is indexed only where it was
+-- the flow keeps its id and its four-tuple, and is indexed only where it was
 pub record Same (l m : Live) : Type 0 where
   pub tuple : m.flow.tuple ≡ l.flow.tuple
+  pub id : m.flow.id ≡ l.flow.id
   pub index : m.indexed ≡ true → l.indexed ≡ true
 
 pub record Keeps (f : Live → Live) : Type 0 where
   pub same : (l : Live) → Same l (f l)
 
 itself : (l : Live) → Same l l
-itself l = record { tuple = refl; index = λ h. h }
+itself l = record { tuple = refl; id = refl; index = λ h. h }
 
 after : (l m n : Live) → Same l m → Same m n → Same l n
-after l m n a b = record { tuple = b.tuple ∙ a.tuple; index = λ h. a.index (b.index h) }
+after l m n a b = record { tuple = b.tuple ∙ a.tuple; id = b.id ∙ a.id; index = λ h. a.index (b.index h) }
 
 and_first : (a b : Bool) → (a && b) ≡ true → a ≡ true
 and_first true b h = refl
@@ -65,11 +66,11 @@ was_indexed t l m s h =
     and_both l.indexed (same_tuple t l.flow.tuple) (s.index (and_first m.indexed (same_tuple t m.flow.tuple) h)) (ap (same_tuple t) (sym s.tuple) ∙ and_second m.indexed (same_tuple t m.flow.tuple) h)
 
 pub swept_keeps : Keeps swept
-swept_keeps = record { same = λ l. on_cond (Same l) (is_over l) _ l (λ t. record { tuple = refl; index = λ h. absurd (true≢false (sym h)) }) (λ f. itself l) }
+swept_keeps = record { same = λ l. on_cond (Same l) (is_over l) _ l (λ t. record { tuple = refl; id = refl; index = λ h. absurd (true≢false (sym h)) }) (λ f. itself l) }
 
 timed_same : (b : Bool) (t : ℕ) (l : Live) → Same l (timed_unless b Slow t l)
 timed_same true t l = itself l
-timed_same false t l = record { tuple = refl; index = λ h. h }
+timed_same false t l = record { tuple = refl; id = refl; index = λ h. h }
 
 pub timed_keeps : (t : ℕ) → Keeps (timed Slow t)
 timed_keeps t = record { same = λ l. timed_same (is_over l) t l }
@@ -79,29 +80,29 @@ quieted_same zero t l = itself l
 quieted_same (suc most) t l = by_going (going (endpoint l)) (λ m. quieted_same most t m) where
   by_going : (g : Option Going) → ((m : Live) → Same m (quieted_within most t m)) → Same l (elim g [ None ↦ l | Some s ↦ quieted_within most t (with_call l (Core 0) t calls.Emit []) ])
   by_going None rest = itself l
-  by_going (Some s) rest = after l (with_call l (Core 0) t calls.Emit []) _ (record { tuple = refl; index = λ h. h }) (rest (with_call l (Core 0) t calls.Emit []))
+  by_going (Some s) rest = after l (with_call l (Core 0) t calls.Emit []) _ (record { tuple = refl; id = refl; index = λ h. h }) (rest (with_call l (Core 0) t calls.Emit []))
 
 pub quieted_keeps : (t : ℕ) → Keeps (quieted t)
 quieted_keeps t = record { same = λ l. quieted_same (length (endpoint l).tx.out + 4) t l }
 
 pub received_keeps : (t : ℕ) (frame : FrameId) (seg : Seg) → Keeps (received_serially t frame seg)
-received_keeps t frame seg = record { same = λ l. record { tuple = refl; index = λ h. h } }
+received_keeps t frame seg = record { same = λ l. record { tuple = refl; id = refl; index = λ h. h } }
 
 pub sees_keeps : (seg : Seg) → Keeps (sees seg)
-sees_keeps seg = record { same = λ l. record { tuple = refl; index = λ h. h } }
+sees_keeps seg = record { same = λ l. record { tuple = refl; id = refl; index = λ h. h } }
 
 asked_same : (stage : Stage) (t : ℕ) (wanted : Bool) (l : Live) → Same l (asked_where wanted stage t l)
 asked_same stage t false l = itself l
 asked_same Beginning t true l = itself l
-asked_same Accepting t true l = record { tuple = refl; index = λ h. h }
-asked_same Sending t true l = record { tuple = refl; index = λ h. h }
-asked_same Shutting t true l = record { tuple = refl; index = λ h. h }
-asked_same Aborting t true l = record { tuple = refl; index = λ h. h }
-asked_same Receiving t true l = record { tuple = refl; index = λ h. h }
+asked_same Accepting t true l = record { tuple = refl; id = refl; index = λ h. h }
+asked_same Sending t true l = record { tuple = refl; id = refl; index = λ h. h }
+asked_same Shutting t true l = record { tuple = refl; id = refl; index = λ h. h }
+asked_same Aborting t true l = record { tuple = refl; id = refl; index = λ h. h }
+asked_same Receiving t true l = record { tuple = refl; id = refl; index = λ h. h }
 asked_same Leaving t true l = itself l
 
 given_up_same : (l : Live) → Same l (given_up l)
-given_up_same l = on_cond (Same l) (is_over l) _ l (λ t. record { tuple = refl; index = λ h. h }) (λ f. itself l)
+given_up_same l = on_cond (Same l) (is_over l) _ l (λ t. record { tuple = refl; id = refl; index = λ h. h }) (λ f. itself l)
 
 pub asked_keeps : (t : ℕ) (content : Content) → Keeps (asked_all t content)
 asked_keeps t content = record { same = λ l. all l } where
@@ -127,7 +128,7 @@ at_change t f keeps (l ∷ ls) zero (suc k) h = h
 at_change t f keeps (l ∷ ls) (suc i) zero h = h
 at_change t f keeps (l ∷ ls) (suc i) (suc k) h = at_change t f keeps ls i k h
 
-length_change : (f : Live → Live) (ls : List Live) (i : ℕ) → length (change_at i f ls) ≡ length ls
+pub length_change : (f : Live → Live) (ls : List Live) (i : ℕ) → length (change_at i f ls) ≡ length ls
 length_change f [] i = refl
 length_change f (l ∷ ls) zero = refl
 length_change f (l ∷ ls) (suc i) = ap suc (length_change f ls i)

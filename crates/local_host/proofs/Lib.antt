@@ -6,3 +6,4 @@ pub mod Emitting
 pub mod Places
 pub mod Hosting
 pub mod Indexing
+pub mod Standing

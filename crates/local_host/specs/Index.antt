@@ -1,7 +1,7 @@
--- What the host keeps of each four-tuple, so that no search walks over the flows.
-use Rattle.std.specs.Prelude.{◌≡◌, ℕ, zero, suc, ◌<◌, Bool, true, false, List, [], ◌∷◌, length, Option, Some, None}
+-- What the host keeps of its flows beside themselves, so that no search walks over all of them.
+use Rattle.std.specs.Prelude.{◌≡◌, ℕ, zero, suc, ◌<◌, ◌==◌, Bool, true, false, not, List, [], ◌∷◌, length, map, count_by, Option, Some, None, ⊤}
 use Rattle.tas_model.specs.declared.entry.FourTuple.{FourTuple}
-use Rattle.tas_runs.specs.Hosts.{Live, is_indexed_as, opened_as}
+use Rattle.tas_runs.specs.Hosts.{Live, is_indexed_as, is_over, opened_as}
 use Rattle.local_host.specs.declared.flows.Openings.{Openings}
 
 -- the flow at this place is indexed under the four-tuple
@@ -18,8 +18,54 @@ abbrev pub count_of : Option Openings → ℕ
 count_of None = 0
 count_of (Some o) = o.count
 
+-- ----- four-tuples
 -- Only the flow that was opened last of its four-tuple may be indexed, and the flows of each four-tuple are counted.
 pub record IsIndex (known : FourTuple → Option Openings) (flows : List Live) : Type 0 where
   pub leads : (tuple : FourTuple) (place : ℕ) → indexed_at tuple flows place ≡ true → latest_of (known tuple) ≡ Some place
   pub within : (tuple : FourTuple) (place : ℕ) → latest_of (known tuple) ≡ Some place → place < length flows
   pub counts : (tuple : FourTuple) → count_of (known tuple) ≡ opened_as tuple flows
+
+-- ----- filed flows
+abbrev pub is_standing : Live → Bool
+is_standing l = not l.filed
+
+-- a test of the flow at a place; none is past the last one
+abbrev pub passes_at : (Live → Bool) → List Live → (place : ℕ) → Bool
+passes_at test [] place = false
+passes_at test (l ∷ ls) zero = test l
+passes_at test (l ∷ ls) (suc place) = passes_at test ls place
+
+-- the first place too, where it stands
+abbrev pub with_first : (standing : Bool) → List ℕ → List ℕ
+with_first true places = 0 ∷ places
+with_first false places = places
+
+-- the places of the flows that are not filed
+abbrev pub standing_places : List Live → List ℕ
+standing_places [] = []
+standing_places (l ∷ ls) = with_first (is_standing l) (map (λ (place : ℕ). suc place) (standing_places ls))
+
+-- A filed flow is closed, and the index no longer has it: nothing that the host does by itself changes it.
+pub record IsAtRest (l : Live) : Type 0 where
+  pub over : is_over l ≡ true
+  pub index : l.indexed ≡ false
+
+abbrev pub AreAtRest : List Live → Type 0
+AreAtRest [] = ⊤
+AreAtRest (l ∷ ls) = (l.filed ≡ true → IsAtRest l) × AreAtRest ls
+
+-- ----- slots
+abbrev pub number_of : Option ℕ → ℕ
+number_of None = 0
+number_of (Some n) = n
+
+-- how many flows there were in a slot
+abbrev pub flows_in : (slot : ℕ) → List Live → ℕ
+flows_in slot flows = count_by (λ (l : Live). l.flow.id.slot == slot) flows
+
+-- ----- all of it
+pub record IsKnown (known : FourTuple → Option Openings) (slots : ℕ → Option ℕ) (standing : List ℕ) (flows : List Live) : Type 0 where
+  pub index : IsIndex known flows
+  pub counts : (slot : ℕ) → number_of (slots slot) ≡ flows_in slot flows
+  pub standing : standing ≡ standing_places flows
+  pub filed : AreAtRest flows

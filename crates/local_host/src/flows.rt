@@ -1,11 +1,12 @@
-ghost use Rattle.std.specs.Prelude.{true, false, ◌≡◌, ℕ, ◌<◌, ◌+◌, ◌++◌, ◌∷◌, [], length, map, position, get_or, ◌||◌, List, slice_get, Some, None, count_by, cond, IfOk, OnErr, OnOk, is_some};
-ghost use Rattle.std.specs.List.{list_any};
+ghost use Rattle.std.specs.Prelude.{true, false, ◌≡◌, ℕ, ◌<◌, ◌+◌, ◌^◌, ◌++◌, ◌∷◌, [], length, map, position, get_or, nat_eq, ◌||◌, List, slice_get, Some, None, cond, IfOk, IfSome, OnOk, is_some};
+ghost use Rattle.std.specs.List.{list_any, filter};
 ghost use Rattle.std.specs.HashMap.{get};
 ghost use Rattle.capture_items.specs.Numbers.{equal_tuple};
 ghost use Rattle.tas_model.specs.declared.entry.Caller.TheVariants.{Slow};
 ghost use Rattle.flow_state.specs.Calls.{seg_of};
 ghost use Rattle.tas_runs.specs.Records.{Content, is_remote};
 ghost use Rattle.tas_runs.specs.Hosts.{Live, is_indexed_as, is_in_slot, change_at, free_from, next_generation, opened_as, flows_of};
+ghost use Rattle.local_host.specs.Index.{IsKnown, AreAtRest, is_standing, standing_places, passes_at, number_of};
 ghost use Rattle.tas_runs.specs.Upkeep.{swept, timed, quieted};
 ghost use Rattle.tas_runs.specs.Deliveries.{received_serially};
 ghost use Rattle.tas_runs.specs.LocalScript.{sees, resets_here};
@@ -32,7 +33,11 @@ struct Openings {
 #[derive(Drop)]
 pub struct Flows {
     flows: Vec<LiveFlow>,
+    /// The places of those whose records are not filed, in order.
+    standing: Vec<usize>,
     openings: HashMap<FourTuple, Openings>,
+    /// How many flows there were in a slot.
+    generations: HashMap<u32, usize>,
 }
 
 impl Model for Flows {
@@ -41,13 +46,14 @@ impl Model for Flows {
 
     ghost Value = { List Live };
 
+    ghost use Rattle.std.specs.Prelude.{nat_eq};
     ghost use Rattle.std.specs.HashMap.{get};
     ghost use Rattle.capture_items.specs.Numbers.{equal_tuple};
-    ghost use Rattle.local_host.specs.Index.{IsIndex};
+    ghost use Rattle.local_host.specs.Index.{IsKnown};
 
     ghost view = { λ f. f.flows.items };
 
-    ghost invariant = { λ f. IsIndex (get equal_tuple f.openings) f.flows.items };
+    ghost invariant = { λ f. IsKnown (get equal_tuple f.openings) (get nat_eq f.generations) f.standing.items f.flows.items };
 }
 
 impl Flows {
@@ -57,7 +63,9 @@ impl Flows {
     {
         Flows {
             flows: Vec::new(alloc),
+            standing: Vec::new(alloc),
             openings: HashMap::new(alloc),
+            generations: HashMap::new(alloc),
         }
     }
 
@@ -78,7 +86,8 @@ impl Flows {
 
     /// The place of the flow that the index has under this four-tuple.
     pub fn find(&self, tuple: &FourTuple) -> Option<usize>
-        ensures { result ≡ position (is_indexed_as tuple.now) self.now }
+        ensures place { result ≡ position (is_indexed_as tuple.now) self.now }
+        ensures standing { IfSome result (λ i. passes_at is_standing self.now i ≡ true) }
     {
         let latest = self.openings.get(tuple)?.latest;
         if self.flows[latest].is_indexed_as(tuple) {
@@ -102,7 +111,7 @@ impl Flows {
     pub fn lowest_free(&self, alloc: Global, slots: u32) -> Result<Option<u32>, AllocError>
         ensures { IfOk result (λ free. free ≡ free_from slots 0 self.now) }
     {
-        let taken = taken_slots(alloc, &self.flows, slots)?;
+        let taken = taken_slots(alloc, &self.flows, &self.standing, slots)?;
         Ok(first_free(&taken, slots))
     }
 
@@ -110,45 +119,50 @@ impl Flows {
     pub fn next_generation(&self, slot: u32) -> usize
         ensures { result ≡ next_generation slot self.now }
     {
-        1 + self
-            .flows
-            .iter()
-            .filter(|flow| flow.id().slot == slot)
-            .count()
+        1 + self.generations.get(&slot).copied().unwrap_or(0)
     }
 
     /// A flow was opened, where none of its four-tuple is indexed. The error is want of memory.
     pub fn push(&mut self, tuple: FourTuple, flow: LiveFlow) -> Result<(), AllocError>
         requires own { flow.flow.tuple ≡ tuple }
         requires fresh { position (is_indexed_as tuple) self.old ≡ None }
+        requires standing { flow.filed ≡ false }
         ensures { OnOk result (self.new ≡ self.old ++ flow ∷ []) }
     {
-        self.flows.reserve(1)?;
-        let openings = Openings {
+        let now = Openings {
             latest: self.flows.len(),
             count: 1 + self.opened_as(&tuple),
         };
-        note_opening(&mut self.openings, tuple, openings)?;
-        match self.flows.push(flow) {
-            Ok(()) => Ok(()),
-            Err(_) => unreachable!(),
+        let done = add(
+            &mut self.flows,
+            &mut self.standing,
+            &mut self.openings,
+            &mut self.generations,
+            tuple,
+            now,
+            flow,
+        );
+        if done.is_err() {
+            forget(&mut self.flows, &mut self.standing, &mut self.openings, &mut self.generations);
         }
+        done
     }
 
     /// Closed flows leave the index, and their slots where no application holds them.
     pub fn sweep(&mut self)
         ensures { self.new ≡ map swept self.old }
     {
-        sweep_all(&mut self.flows);
+        sweep_all(&mut self.flows, &self.standing);
+        drop_filed(&mut self.standing, &self.flows);
     }
 
     /// One tick passes for each flow that is not closed. The error is want of memory.
     pub fn pass_time(&mut self, tick: u32) -> Result<(), AllocError>
         ensures { OnOk result (self.new ≡ map (timed Slow tick) self.old) }
     {
-        let done = time_all(&mut self.flows, tick);
+        let done = time_all(&mut self.flows, &self.standing, tick);
         if done.is_err() {
-            forget(&mut self.flows, &mut self.openings);
+            forget(&mut self.flows, &mut self.standing, &mut self.openings, &mut self.generations);
         }
         done
     }
@@ -157,9 +171,9 @@ impl Flows {
     pub fn send_all(&mut self, tick: u32) -> Result<(), AllocError>
         ensures { OnOk result (self.new ≡ map (quieted tick) self.old) }
     {
-        let done = empty_all(&mut self.flows, tick);
+        let done = empty_all(&mut self.flows, &self.standing, tick);
         if done.is_err() {
-            forget(&mut self.flows, &mut self.openings);
+            forget(&mut self.flows, &mut self.standing, &mut self.openings, &mut self.generations);
         }
         done
     }
@@ -172,24 +186,24 @@ impl Flows {
         frame: FrameId,
         seg: &Segment<'_>,
     ) -> Result<(), AllocError>
-        requires { i < length self.old }
+        requires { passes_at is_standing self.old i ≡ true }
         ensures { OnOk result (self.new ≡ change_at i (received_serially tick frame (seg_of seg.now)) self.old) }
     {
         let done = self.flows[i].receive(tick, frame, seg);
         if done.is_err() {
-            forget(&mut self.flows, &mut self.openings);
+            forget(&mut self.flows, &mut self.standing, &mut self.openings, &mut self.generations);
         }
         done
     }
 
     /// A local segment of the flow at place `i` shows bytes of its stream. The error is want of memory.
     pub fn see(&mut self, i: usize, seg: &Segment<'_>) -> Result<(), AllocError>
-        requires { i < length self.old }
+        requires { passes_at is_standing self.old i ≡ true }
         ensures { OnOk result (self.new ≡ change_at i (sees (seg_of seg.now)) self.old) }
     {
         let done = self.flows[i].see(seg);
         if done.is_err() {
-            forget(&mut self.flows, &mut self.openings);
+            forget(&mut self.flows, &mut self.standing, &mut self.openings, &mut self.generations);
         }
         done
     }
@@ -202,16 +216,62 @@ impl Flows {
         remote: bool,
         resets: bool,
     ) -> Result<(), AllocError>
-        requires place { i < length self.old }
+        requires place { passes_at is_standing self.old i ≡ true }
         requires apart { remote ≡ true → resets ≡ false }
         ensures { (content : Content) → is_remote content ≡ remote → resets_here content ≡ resets → OnOk result (self.new ≡ change_at i (asked_all tick content) self.old) }
     {
         let done = self.flows[i].serve(tick, remote, resets);
         if done.is_err() {
-            forget(&mut self.flows, &mut self.openings);
+            forget(&mut self.flows, &mut self.standing, &mut self.openings, &mut self.generations);
         }
         done
     }
+}
+
+/// One flow more, and all that is known of it beside itself. The error is want of memory.
+fn add(
+    flows: &mut Vec<LiveFlow>,
+    standing: &mut Vec<usize>,
+    openings: &mut HashMap<FourTuple, Openings>,
+    generations: &mut HashMap<u32, usize>,
+    tuple: FourTuple,
+    now: Openings,
+    flow: LiveFlow,
+) -> Result<(), AllocError>
+    requires known { IsKnown (get equal_tuple openings.old) (get nat_eq generations.old) standing.old.items flows.old.items }
+    requires latest { now.latest ≡ length flows.old.items }
+    requires count { now.count ≡ 1 + opened_as tuple flows.old.items }
+    requires own { flow.flow.tuple ≡ tuple }
+    requires fresh { position (is_indexed_as tuple) flows.old.items ≡ None }
+    requires standing { flow.filed ≡ false }
+    ensures flows { OnOk result (flows.new.items ≡ flows.old.items ++ flow ∷ []) }
+    ensures known { OnOk result (IsKnown (get equal_tuple openings.new) (get nat_eq generations.new) standing.new.items flows.new.items) }
+{
+    note_opening(openings, tuple, now)?;
+    note_slot(generations, flow.id().slot)?;
+    standing.push(flows.len())?;
+    match flows.push(flow) {
+        Ok(()) => Ok(()),
+        Err(_) => Err(AllocError),
+    }
+}
+
+/// After want of memory no flow is kept.
+fn forget(
+    flows: &mut Vec<LiveFlow>,
+    standing: &mut Vec<usize>,
+    openings: &mut HashMap<FourTuple, Openings>,
+    generations: &mut HashMap<u32, usize>,
+)
+    ensures flows { flows.new.items ≡ [] }
+    ensures standing { standing.new.items ≡ [] }
+    ensures openings { (tuple : FourTuple) → get equal_tuple openings.new tuple ≡ None }
+    ensures generations { (slot : ℕ) → get nat_eq generations.new slot ≡ None }
+{
+    flows.clear();
+    standing.clear();
+    openings.clear();
+    generations.clear();
 }
 
 /// The four-tuple has these openings now. The error is want of memory, and leaves all as it was.
@@ -221,29 +281,52 @@ fn note_opening(
     now: Openings,
 ) -> Result<(), AllocError>
     ensures ok { OnOk result ((q : FourTuple) → get equal_tuple openings.new q ≡ cond (equal_tuple tuple q) (Some now) (get equal_tuple openings.old q)) }
-    ensures err { OnErr result ((q : FourTuple) → get equal_tuple openings.new q ≡ get equal_tuple openings.old q) }
 {
     openings.insert(tuple, now)?;
     Ok(())
 }
 
-/// After want of memory no flow is kept.
-fn forget(flows: &mut Vec<LiveFlow>, openings: &mut HashMap<FourTuple, Openings>)
-    ensures flows { flows.new.items ≡ [] }
-    ensures openings { (tuple : FourTuple) → get equal_tuple openings.new tuple ≡ None }
+/// One flow more in the slot. The error is want of memory.
+fn note_slot(generations: &mut HashMap<u32, usize>, slot: u32) -> Result<(), AllocError>
+    requires { number_of (get nat_eq generations.old slot) < 2 ^ 63 }
+    ensures { OnOk result ((q : ℕ) → number_of (get nat_eq generations.new q) ≡ number_of (get nat_eq generations.old q) + cond (nat_eq slot q) 1 0) }
 {
-    flows.clear();
-    openings.clear();
+    let count = generations.get(&slot).copied().unwrap_or(0);
+    generations.insert(slot, count + 1)?;
+    Ok(())
+}
+
+/// The flows whose records were filed are taken out of those that stand.
+fn drop_filed(standing: &mut Vec<usize>, flows: &[LiveFlow])
+    ensures { standing.new.items ≡ filter (passes_at is_standing flows.now) standing.old.items }
+{
+    standing.retain(|place| stands(flows, *place));
+}
+
+/// Whether the record of the flow at this place is not filed.
+fn stands(flows: &[LiveFlow], place: usize) -> bool
+    ensures { result ≡ passes_at is_standing flows.now place }
+{
+    match flows.get(place) {
+        Some(flow) => flow.is_standing(),
+        None => false,
+    }
 }
 
 /// Which of so many slots a flow's record stands in.
-fn taken_slots(alloc: Global, flows: &[LiveFlow], slots: u32) -> Result<Vec<bool>, AllocError>
+fn taken_slots(
+    alloc: Global,
+    flows: &[LiveFlow],
+    standing: &[usize],
+    slots: u32,
+) -> Result<Vec<bool>, AllocError>
+    requires { standing.now ≡ standing_places flows.now }
     ensures len { IfOk result (λ taken. length taken.items ≡ slots) }
     ensures taken { IfOk result (λ taken. (slot : ℕ) → slot < slots → get_or taken.items slot false ≡ list_any (is_in_slot slot) flows.now) }
 {
     let mut taken = vec![in alloc; false; slots as usize]?;
-    for flow in flows {
-        mark(&mut taken, flow);
+    for place in standing {
+        mark(&mut taken, &flows[*place]);
     }
     Ok(taken)
 }
@@ -272,28 +355,34 @@ fn first_free(taken: &[bool], slots: u32) -> Option<u32>
     None
 }
 
-fn sweep_all(flows: &mut Vec<LiveFlow>)
+fn sweep_all(flows: &mut Vec<LiveFlow>, standing: &[usize])
+    requires places { standing.now ≡ standing_places flows.old.items }
+    requires rest { AreAtRest flows.old.items }
     ensures { flows.new.items ≡ map swept flows.old.items }
 {
-    for flow in flows.iter_mut() {
-        flow.sweep();
+    for place in standing {
+        flows[*place].sweep();
     }
 }
 
-fn time_all(flows: &mut Vec<LiveFlow>, tick: u32) -> Result<(), AllocError>
+fn time_all(flows: &mut Vec<LiveFlow>, standing: &[usize], tick: u32) -> Result<(), AllocError>
+    requires places { standing.now ≡ standing_places flows.old.items }
+    requires rest { AreAtRest flows.old.items }
     ensures { OnOk result (flows.new.items ≡ map (timed Slow tick) flows.old.items) }
 {
-    for flow in flows.iter_mut() {
-        flow.tick(tick)?;
+    for place in standing {
+        flows[*place].tick(tick)?;
     }
     Ok(())
 }
 
-fn empty_all(flows: &mut Vec<LiveFlow>, tick: u32) -> Result<(), AllocError>
+fn empty_all(flows: &mut Vec<LiveFlow>, standing: &[usize], tick: u32) -> Result<(), AllocError>
+    requires places { standing.now ≡ standing_places flows.old.items }
+    requires rest { AreAtRest flows.old.items }
     ensures { OnOk result (flows.new.items ≡ map (quieted tick) flows.old.items) }
 {
-    for flow in flows.iter_mut() {
-        flow.send_all(tick)?;
+    for place in standing {
+        flows[*place].send_all(tick)?;
     }
     Ok(())
 }

@@ -15,6 +15,7 @@ ghost use Rattle.tas_runs.specs.Hosts.{is_indexed_as, is_in_slot, endpoint, with
 ghost use Rattle.tas_runs.specs.Upkeep.{swept, timed, quieted};
 ghost use Rattle.tas_runs.specs.Deliveries.{received_serially, is_fast};
 ghost use Rattle.tas_runs.specs.LocalScript.{Accepting, Sending, Shutting, Aborting, Receiving, Leaving, is_served, resets_here, sees, fresh_bytes as model_fresh, at_stage, the_app};
+ghost use Rattle.local_host.specs.Index.{is_standing};
 ghost use Rattle.local_host.specs.Live.{flow_in, out_in, is_ended, opened_live, asked_all, IsNext};
 
 use crate::calls::{end, make, offer};
@@ -264,6 +265,13 @@ impl LiveFlow {
         ensures { result ≡ is_in_slot slot self.now }
     {
         !self.filed && self.history.id().slot == slot
+    }
+
+    /// Whether its record is not filed.
+    pub fn is_standing(&self) -> bool
+        ensures { result ≡ is_standing self.now }
+    {
+        !self.filed
     }
 
     /// Whether it is of this four-tuple.
