@@ -3,6 +3,7 @@ ghost use Rattle.std.specs.List.{list_any, filter};
 ghost use Rattle.std.specs.HashMap.{get};
 ghost use Rattle.capture_items.specs.Numbers.{equal_tuple};
 ghost use Rattle.tas_model.specs.declared.entry.Caller.TheVariants.{Slow};
+ghost use Rattle.tas_model.specs.Valid.{InRange};
 ghost use Rattle.flow_state.specs.Calls.{seg_of};
 ghost use Rattle.tas_runs.specs.Records.{Content, is_remote};
 ghost use Rattle.tas_runs.specs.Hosts.{Live, is_indexed_as, is_in_slot, change_at, free_from, next_generation, opened_as, flows_of};
@@ -79,7 +80,8 @@ impl Flows {
     /// The record of the flow at place `i`.
     pub fn record(&self, i: usize) -> &FlowRecord
         requires { i < length self.now }
-        ensures { slice_get (flows_of self.now) i ≡ Some (flow_in result.now) }
+        ensures flow { slice_get (flows_of self.now) i ≡ Some (flow_in result.now) }
+        ensures ranges { InRange result.now.params }
     {
         self.flows[i].record()
     }

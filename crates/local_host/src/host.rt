@@ -104,7 +104,8 @@ impl LocalHost {
     /// The record of the flow that was opened as number `i`, counted from 0.
     pub fn flow(&self, i: usize) -> &FlowRecord
         requires { i < length self.now.flows }
-        ensures { slice_get (flows_of self.now.flows) i ≡ Some (flow_in result.now) }
+        ensures flow { slice_get (flows_of self.now.flows) i ≡ Some (flow_in result.now) }
+        ensures ranges { InRange result.now.params }
     {
         self.flows.record(i)
     }

@@ -248,7 +248,8 @@ impl LiveFlow {
 
     /// Its record.
     pub fn record(&self) -> &FlowRecord
-        ensures { flow_in result.now ≡ self.now.flow }
+        ensures flow { flow_in result.now ≡ self.now.flow }
+        ensures ranges { InRange result.now.params }
     {
         &self.history
     }

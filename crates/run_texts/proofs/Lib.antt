@@ -5,3 +5,4 @@ pub mod Packets
 pub mod Ticks
 pub mod Ordered
 pub mod Short
+pub mod Digits

@@ -42,10 +42,10 @@ pub fn write_frames<K: Sink>(
     writer: &mut Writer,
     sink: &mut K,
     ticks: u32,
-    flows: &[FlowRecord],
+    flows: &[&FlowRecord],
     log: &[LogLine],
 ) -> Result<(), IoFault>
-    ensures exact { AreShort (map history_of flows.now) → Writes (record { held = K.held sink.old; faults = K.faults sink.old; waiting = writer.old }) result (record { held = K.held sink.new; faults = K.faults sink.new; waiting = writer.new }) (ticks_from ticks 0 (host_of (map history_of flows.now) log.now ∷ [])) }
+    ensures exact { AreShort (map (λ f. history_of f.now) flows.now) → Writes (record { held = K.held sink.old; faults = K.faults sink.old; waiting = writer.old }) result (record { held = K.held sink.new; faults = K.faults sink.new; waiting = writer.new }) (ticks_from ticks 0 (host_of (map (λ f. history_of f.now) flows.now) log.now ∷ [])) }
     // Whatever was sent, only records of frames are written.
     ensures records { (frames : List Frame) × Writes (record { held = K.held sink.old; faults = K.faults sink.old; waiting = writer.old }) result (record { held = K.held sink.new; faults = K.faults sink.new; waiting = writer.new }) (flat_map (frame_before ticks) frames) }
 {
@@ -63,10 +63,10 @@ pub fn write_frames<K: Sink>(
 /// The frames that were sent in the first `ticks` ticks, by their tick.
 fn sent_frames<'a>(
     alloc: Global,
-    flows: &'a [FlowRecord],
+    flows: &'a [&'a FlowRecord],
     log: &'a [LogLine],
 ) -> Result<Vec<Frame<'a>>, AllocError>
-    ensures { IfOk result (λ frames. IsInOrder (all_frames (map history_of flows.now) log.now) frames.items) }
+    ensures { IfOk result (λ frames. IsInOrder (all_frames (map (λ f. history_of f.now) flows.now) log.now) frames.items) }
 {
     let mut frames = Vec::new(alloc);
     add_flows(&mut frames, flows)?;
@@ -76,8 +76,8 @@ fn sent_frames<'a>(
 }
 
 /// Adds the segments that the flows sent.
-fn add_flows<'a>(frames: &mut Vec<Frame<'a>>, flows: &'a [FlowRecord]) -> Result<(), AllocError>
-    ensures { OnOk result (map seen_frame frames.new.items ≡ map seen_frame frames.old.items ++ flat_map flow_frames (map history_of flows.now)) }
+fn add_flows<'a>(frames: &mut Vec<Frame<'a>>, flows: &[&'a FlowRecord]) -> Result<(), AllocError>
+    ensures { OnOk result (map seen_frame frames.new.items ≡ map seen_frame frames.old.items ++ flat_map flow_frames (map (λ f. history_of f.now) flows.now)) }
 {
     for flow in flows {
         add_flow(frames, flow)?;

@@ -1,10 +1,10 @@
-ghost use Rattle.std.specs.Prelude.{◌≡◌, ℕ, ◌<◌, ◌≤◌, false, ◌++◌, [], List, take, drop, length, IfOk, OnOk, OnErr, Ok, Err, IfSome};
+ghost use Rattle.std.specs.Prelude.{◌≡◌, ℕ, ◌<◌, ◌≤◌, ◌*◌, ◌++◌, [], List, take, drop, length, IfOk, OnOk, OnErr, Ok, Err, IfSome};
 ghost use Rattle.std.specs.Io.KnownBytes.{Appends};
-ghost use Rattle.std.specs.Fmt.{digit_glyph};
 ghost use Rattle.tas_num.specs.Causes.{Rose};
 ghost use Rattle.tas_runs.specs.Report.{hex_bytes};
 ghost use Rattle.run_texts.specs.Writes.{Stand, Writes};
 
+use hex::encode_to_slice;
 use std::alloc::{AllocError, Global};
 use std::fmt;
 use std::fmt::Write;
@@ -136,32 +136,23 @@ fn push_hex<K: Sink>(sink: &mut K, waiting: &mut Vec<u8>, bytes: &[u8]) -> Resul
 
 /// Writes the digits of one piece.
 fn push_digits<K: Sink>(sink: &mut K, waiting: &mut Vec<u8>, piece: &[u8]) -> Result<(), IoFault>
+    requires { length piece.now ≤ 1024 }
     ensures { Writes (record { held = K.held sink.old; faults = K.faults sink.old; waiting = waiting.old.items }) result (record { held = K.held sink.new; faults = K.faults sink.new; waiting = waiting.new.items }) (hex_bytes piece.now) }
 {
-    make_room(sink, waiting, piece.len().saturating_mul(2))?;
-    keep_digits(waiting, piece)
+    let mut room = [0; 2 * PIECE];
+    let digits = &mut room[..2 * piece.len()];
+    write_digits(piece, digits);
+    push(sink, waiting, digits)
 }
 
-/// Puts the digits of bytes behind the bytes that wait: two a byte, the higher one first.
-fn keep_digits(waiting: &mut Vec<u8>, bytes: &[u8]) -> Result<(), IoFault>
-    ensures ok { OnOk result (waiting.new.items ≡ waiting.old.items ++ hex_bytes bytes.now) }
-    ensures err { OnErr result (result ≡ Err IoFault.OutOfMemory) }
+/// Writes the digits of bytes: two a byte, the higher one first.
+fn write_digits(bytes: &[u8], digits: &mut [u8])
+    requires { length digits.old ≡ 2 * length bytes.now }
+    ensures { digits.new ≡ hex_bytes bytes.now }
 {
-    for byte in bytes {
-        keep(waiting, &[digit(byte / 16), digit(byte % 16)])?;
-    }
-    Ok(())
-}
-
-/// A hexadecimal digit.
-fn digit(value: u8) -> u8
-    requires { value < 16 }
-    ensures { result ≡ digit_glyph false value }
-{
-    if value < 10 {
-        b'0' + value
-    } else {
-        b'a' + (value - 10)
+    match encode_to_slice(bytes, digits) {
+        Ok(()) => {}
+        Err(_) => unreachable!(),
     }
 }
 

@@ -1,4 +1,4 @@
 pub mod Writing
-pub mod Addresses
 pub mod Causes
 pub mod Puts
+pub mod Spelling

@@ -1,5 +1,5 @@
 -- What the program writes.
-use Rattle.std.specs.Prelude.{◌≡◌, ◌⊎◌, ℕ, ◌≤◌, List, length, Option, Some, Ok, IfSome}
+use Rattle.std.specs.Prelude.{◌≡◌, ◌⊎◌, ℕ, ◌≤◌, List, length, Option, Some, Ok, IfSome, if◌then◌else◌}
 use Rattle.std.specs.Io.KnownBytes.{Appends, Keeps}
 use Rattle.std.specs.Net.Addr.{ipv4_bits}
 use Rattle.tas_num.specs.Captures.{Capture, capture_of}
@@ -10,6 +10,7 @@ use Rattle.tas_runs.specs.Replays.{Replay}
 use Rattle.tas_runs.specs.SerialOrder.{serial_replay}
 use Rattle.tas_runs.specs.Histories.{IsSound}
 use Rattle.tas_runs.specs.Report.{report}
+use Rattle.tas_runs.specs.SentFrames.{capture}
 use Rattle.tas_round.specs.Fronts.{AppendsFront}
 use Rattle.tas_main.specs.Words.{Request, IsReplay}
 use Rattle.tas_main.specs.Stops.{Given, most_bytes}
@@ -23,13 +24,17 @@ pub record IsRun (words : List (List ℕ)) (b : List ℕ) (r : Request) (log : R
   pub run : Replay (ipv4_bits r.local) b r.loose log
   pub sound : Each (λ (h : HostRun). Each IsSound h.flows) log.hosts
 
+-- What is written of a run: the capture of the frames that it sent, where that is asked for, and else its report.
+abbrev pub output : Request → RunLog → List ℕ
+output r log = if r.pcap then capture log else report log
+
 -- The sink grew by exactly the text of the run.
 abbrev pub WritesAll : Given → (old new : Option (List ℕ)) → Type 0
-WritesAll g old new = IfSome g.input (λ b. (r : Request) × (log : RunLog) × IsRun g.words b r log × Appends old new (report log))
+WritesAll g old new = IfSome g.input (λ b. (r : Request) × (log : RunLog) × IsRun g.words b r log × Appends old new (output r log))
 
 -- The sink grew by a front of the text of the run, or not at all.
 abbrev pub WritesFront : Given → (old new : Option (List ℕ)) → Type 0
-WritesFront g old new = IfSome g.input (λ b. Keeps old new ⊎ ((r : Request) × (log : RunLog) × IsRun g.words b r log × AppendsFront old new (report log)))
+WritesFront g old new = IfSome g.input (λ b. Keeps old new ⊎ ((r : Request) × (log : RunLog) × IsRun g.words b r log × AppendsFront old new (output r log)))
 
 -- The words are a replay's, the input is told and is a capture within its length, and no count of faults rose.
 pub record IsWhole (g : Given) : Type 0 where

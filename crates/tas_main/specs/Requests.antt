@@ -1,18 +1,26 @@
 -- What the code's words, options and requests are.
 use Rattle.std.specs.Prelude.{option_map}
-use Rattle.tas_main.specs.Words.{Options, Progress, Refused, Reads, WantsAddress, Request}
+use Rattle.tas_main.specs.Words.{Options, Progress, Refused, Reads, WantsCores, WantsAddress, Form, Unknown, Scenario, Replay, Request}
 use Rattle.tas_main.specs.declared.words.Options as code_options
 use Rattle.tas_main.specs.declared.words.Progress as code_progress
 use Rattle.tas_main.specs.declared.words.Progress.TheVariants as progress
+use Rattle.tas_main.specs.declared.words.Form as code_form
+use Rattle.tas_main.specs.declared.words.Form.TheVariants as form
 use Rattle.tas_main.specs.declared.words.Request as code_request
 
 abbrev pub options_in : code_options.Options → Options
-options_in o = record { local = option_map (λ text. text.now) o.local; loose = o.loose }
+options_in o = record { serial = o.serial; cores = o.cores; pcap = o.pcap; loose = o.loose; local = option_map (λ text. text.now) o.local }
 
 abbrev pub progress_in : code_progress.Progress → Progress
 progress_in progress.Refused = Refused
 progress_in (progress.Reads o) = Reads (options_in o)
+progress_in (progress.WantsCores o) = WantsCores (options_in o)
 progress_in (progress.WantsAddress o) = WantsAddress (options_in o)
 
+abbrev pub form_in : code_form.Form → Form
+form_in form.Unknown = Unknown
+form_in form.Scenario = Scenario
+form_in (form.Replay local cores pcap loose) = Replay local.now cores pcap loose
+
 abbrev pub request_in : code_request.Request → Request
-request_in r = record { local = r.local; loose = r.loose }
+request_in r = record { local = r.local; loose = r.loose; pcap = r.pcap }

@@ -2,12 +2,13 @@
 use Rattle.std.specs.Prelude.{◌≡◌, ℕ, ◌<◌, List, length, Option, Err, IfSome, Bool, true, false, ⊤}
 use Rattle.tas_num.specs.Causes.{Rose}
 use Rattle.tas_num.specs.Captures.{Fault, capture_of, record_of}
-use Rattle.tas_main.specs.Words.{Request, IsReplay}
+use Rattle.tas_main.specs.Words.{form_of, IsForm, is_built}
 use Rattle.tas_main.specs.declared.stop.Stop.{Stop}
-use Rattle.tas_main.specs.declared.stop.Stop.TheVariants.{Input, Read, Write, Memory, TooLong, NotBuilt}
+use Rattle.tas_main.specs.declared.stop.Stop.TheVariants.{Words, Input, Read, Write, Memory, TooLong, NotBuilt}
 
 -- the status that the program ends with
 abbrev pub status_of : Stop → ℕ
+status_of Words = 2
 status_of (Input number) = 3
 status_of Read = 4
 status_of Write = 5
@@ -34,14 +35,21 @@ given words input unread_before unread_after unwritten_before unwritten_after =
 abbrev pub IsNoCapture : List ℕ → (number : ℕ) → Type 0
 IsNoCapture b number = (fault : Fault) × (capture_of b ≡ Err fault) × (record_of fault ≡ number)
 
+-- why the words are not those of a replay on one thread: they are of no form of the program, or of one that is not built
+abbrev pub Unasked : (words : List (List ℕ)) → Stop → Type 0
+Unasked words Words = ¬ IsForm (form_of words)
+Unasked words NotBuilt = IsForm (form_of words) × (is_built (form_of words) ≡ false)
+Unasked words _ = ⊥
+
 -- why it stops so
 abbrev pub Cause : Given → Stop → Type 0
+Cause g Words = Unasked g.words Words
 Cause g (Input number) = IfSome g.input (λ b. IsNoCapture b number)
 Cause g Read = Rose g.unread.0 g.unread.1
 Cause g Write = Rose g.unwritten.0 g.unwritten.1
 Cause g Memory = ⊤
 Cause g TooLong = IfSome g.input (λ b. most_bytes < length b)
-Cause g NotBuilt = (r : Request) → ¬ IsReplay g.words r
+Cause g NotBuilt = Unasked g.words NotBuilt
 
 -- where it stops so, nothing was written
 abbrev pub writes_nothing : Stop → Bool

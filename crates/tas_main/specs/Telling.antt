@@ -5,13 +5,14 @@ use Rattle.tas_num.specs.Causes.{Rose}
 use Rattle.tas_num.specs.declared.outside.IoFault.{IoFault}
 use Rattle.tas_round.specs.Fronts.{AppendsFront}
 use Rattle.tas_main.specs.declared.stop.Stop.{Stop}
-use Rattle.tas_main.specs.declared.stop.Stop.TheVariants.{Input, Read, Write, Memory, TooLong, NotBuilt}
+use Rattle.tas_main.specs.declared.stop.Stop.TheVariants.{Words, Input, Read, Write, Memory, TooLong, NotBuilt}
 
 -- the number, and the end of the line
 abbrev pub numbered : (number : ℕ) → List ℕ
 numbered number = decimal number ++ codes "\n"
 
 abbrev pub fault_line : Stop → List ℕ
+fault_line Words = codes "tas: words\n"
 fault_line (Input number) = codes "tas: input record " ++ numbered number
 fault_line Read = codes "tas: read\n"
 fault_line Write = codes "tas: write\n"

@@ -4,6 +4,8 @@ ghost use Rattle.tas_main.specs.Stops.{status_of};
 /// Why the program stopped before all was written.
 #[derive(Clone, Copy, PartialEq, Eq, Debug)]
 pub enum Stop {
+    /// The words are of none of the program's forms.
+    Words,
     /// The input is no capture; the record at fault, or 0 for the file header.
     Input { number: u32 },
     /// The source failed.
@@ -14,7 +16,7 @@ pub enum Stop {
     Memory,
     /// The source gave more than a capture may have.
     TooLong,
-    /// What was asked for, or the form of its input, is not built.
+    /// The words are of a form that is not built.
     NotBuilt,
 }
 
@@ -24,6 +26,7 @@ impl Stop {
         ensures { result ≡ status_of self }
     {
         match self {
+            Stop::Words => 2,
             Stop::Input { .. } => 3,
             Stop::Read => 4,
             Stop::Write => 5,

@@ -18,6 +18,7 @@ fn put_line<F: Sink>(faults: &mut F, stop: Stop) -> Result<(), IoFault>
     ensures { Puts (stream (F.held faults.old) (F.faults faults.old) (F.grows faults.old)) result (stream (F.held faults.new) (F.faults faults.new) (F.grows faults.new)) (fault_line stop) }
 {
     match stop {
+        Stop::Words => put(faults, "tas: words\n"),
         Stop::Input { number } => put_numbered(faults, number),
         Stop::Read => put(faults, "tas: read\n"),
         Stop::Write => put(faults, "tas: write\n"),

@@ -1,5 +1,6 @@
 use crate::top::tas;
 use std::alloc::Global;
+use std::process::Abort;
 use std::sync::Wait;
 use std::test::*;
 use std::thread::Threads;
@@ -83,6 +84,33 @@ fn the_first_capture_replays(rt: HostRuntime) -> Result<(), Fail> {
     Ok(())
 }
 
+/// The frames that the host sends in the replay of that capture: its SYN, and the acknowledgement of the two bytes.
+const FIRST_SENT: [u8; 140] = [
+    0xd4, 0xc3, 0xb2, 0xa1, 0x02, 0x00, 0x04, 0x00, 0x00, 0x00, 0x00, 0x00, 0x00, 0x00, 0x00, 0x00,
+    0xff, 0xff, 0x00, 0x00, 0x65, 0x00, 0x00, 0x00, 0x00, 0x00, 0x00, 0x00, 0x00, 0x00, 0x00, 0x00,
+    0x2c, 0x00, 0x00, 0x00, 0x2c, 0x00, 0x00, 0x00, 0x45, 0x00, 0x00, 0x2c, 0x00, 0x00, 0x40, 0x00,
+    0x40, 0x06, 0x26, 0xca, 0x0a, 0x00, 0x00, 0x02, 0x0a, 0x00, 0x00, 0x01, 0x00, 0x50, 0x9c, 0x40,
+    0x00, 0x00, 0x00, 0x00, 0x00, 0x00, 0x00, 0x65, 0x60, 0x12, 0xff, 0xff, 0xe7, 0x1e, 0x00, 0x00,
+    0x02, 0x04, 0x05, 0xb4, 0x02, 0x00, 0x00, 0x00, 0x00, 0x00, 0x00, 0x00, 0x28, 0x00, 0x00, 0x00,
+    0x28, 0x00, 0x00, 0x00, 0x45, 0x00, 0x00, 0x28, 0x00, 0x00, 0x40, 0x00, 0x40, 0x06, 0x26, 0xce,
+    0x0a, 0x00, 0x00, 0x02, 0x0a, 0x00, 0x00, 0x01, 0x00, 0x50, 0x9c, 0x40, 0x00, 0x00, 0x00, 0x01,
+    0x00, 0x00, 0x00, 0x67, 0x50, 0x10, 0xff, 0xfd, 0xfe, 0xdb, 0x00, 0x00,
+];
+
+#[test]
+fn the_frames_of_the_first_capture_are_written(rt: HostRuntime) -> Result<(), Fail> {
+    for line in [
+        "replay --local 10.0.0.2 --pcap",
+        "replay --pcap --local=10.0.0.2",
+    ] {
+        let (status, sink, faults) = run(&rt, rt.alloc(), line, &FIRST_CAPTURE)?;
+        assert_eq!(rt; status, 0);
+        assert_eq!(rt; sink.written(), FIRST_SENT.as_slice());
+        assert_eq!(rt; faults.written(), b"".as_slice());
+    }
+    Ok(())
+}
+
 /// A capture in which both ends close: the peer's FIN, the local one, and its acknowledgement.
 const BOTH_CLOSE: [u8; 362] = [
     0xd4, 0xc3, 0xb2, 0xa1, 0x02, 0x00, 0x04, 0x00, 0x00, 0x00, 0x00, 0x00, 0x00, 0x00, 0x00, 0x00,
@@ -147,21 +175,72 @@ fn both_sides_close(rt: HostRuntime) -> Result<(), Fail> {
     Ok(())
 }
 
-#[test]
-fn other_words_are_not_built(rt: HostRuntime) -> Result<(), Fail> {
-    for line in [
-        "",
-        "run",
-        "replay",
-        "replay --local 10.0.0.256",
-        "replay --local 10.0.0.2 --pcap",
-    ] {
-        let (status, sink, faults) = run(&rt, rt.alloc(), line, &FIRST_CAPTURE)?;
-        assert_eq!(rt; status, 8, "{line}");
+/// Runs each of these lines, which has to end with this status and fault line, and with no output.
+fn all_end_with<R: Threads + Wait + Sync + Abort>(
+    rt: &R,
+    alloc: Global,
+    lines: &[&str],
+    wanted: u8,
+    told: &str,
+) -> Result<(), Fail> {
+    for line in lines {
+        let (status, sink, faults) = run(rt, alloc, line, &FIRST_CAPTURE)?;
+        assert_eq!(rt; status, wanted, "{line}");
         assert_eq!(rt; sink.written(), b"".as_slice());
-        assert_eq!(rt; faults.written(), b"tas: not built\n".as_slice());
+        assert_eq!(rt; faults.written(), told.as_bytes());
     }
     Ok(())
+}
+
+#[test]
+fn words_of_no_form_are_refused(rt: HostRuntime) -> Result<(), Fail> {
+    let lines = [
+        "",
+        "run --",
+        "run --cores 0",
+        "run --cores 04",
+        "run --cores +4",
+        "run --cores=17",
+        "run --cores",
+        "run --serial --cores 2",
+        "run --serial --serial",
+        "run --scale 2:4",
+        "run --cores 2 --scale 4:4",
+        "run --loose-sums",
+        "run --local 10.0.0.2",
+        "bulk",
+        "bulk 0",
+        "bulk 01",
+        "bulk 1001",
+        "bulk --serial 1",
+        "bulk 1 --pcap",
+        "replay",
+        "replay --local",
+        "replay --local 10.0.0.256",
+        "replay --local 10.0.0.2 --serial",
+        "replay --local 10.0.0.2 --local=10.0.0.2",
+        "replay --local 10.0.0.2 --pcap --pcap",
+        "replay --local 10.0.0.2 --cores 2 --cores=2",
+        "replay --local 10.0.0.2 --cores 2 --scale 2:4",
+        "again --local 10.0.0.2",
+    ];
+    all_end_with(&rt, rt.alloc(), &lines, 2, "tas: words\n")
+}
+
+#[test]
+fn scenarios_and_cores_are_not_built(rt: HostRuntime) -> Result<(), Fail> {
+    let lines = [
+        "run",
+        "run --serial",
+        "run --cores 4 --pcap",
+        "run --pcap --cores=16",
+        "bulk 1",
+        "bulk 1000 --serial",
+        "bulk 1 --cores 16",
+        "replay --local 10.0.0.2 --cores 2",
+        "replay --cores=1 --loose-sums --pcap --local=10.0.0.2",
+    ];
+    all_end_with(&rt, rt.alloc(), &lines, 8, "tas: not built\n")
 }
 
 #[test]

@@ -3,11 +3,11 @@ ghost use Rattle.std.specs.Io.KnownBytes.{Appends, Keeps};
 ghost use Rattle.std.specs.Net.Addr.{ipv4_bits};
 ghost use Rattle.tas_runs.specs.SerialOrder.{serial_replay};
 ghost use Rattle.tas_round.specs.Runs.{log_in};
-ghost use Rattle.tas_runs.specs.Report.{report};
 ghost use Rattle.tas_round.specs.Fronts.{AppendsFront};
 ghost use Rattle.tas_main.specs.Stops.{given, Cause, status_of, writes_nothing, Unreplayed, Unwritten};
 ghost use Rattle.tas_main.specs.Telling.{stream, IsTold};
-ghost use Rattle.tas_main.specs.Outputs.{WritesAll, WritesFront, IsWhole};
+ghost use Rattle.tas_main.specs.Outputs.{output, WritesAll, WritesFront, IsWhole};
+ghost use Rattle.tas_main.specs.Requests.{request_in};
 ghost use Rattle.tas_main.specs.declared.stop.Stop.{Stop};
 
 use crate::input::read_all;
@@ -18,7 +18,7 @@ use std::alloc::Global;
 use std::sync::Wait;
 use std::thread::Threads;
 use tas_num::{Gate, IoFault, Sink, Source};
-use tas_round::{Mode, ReplayFault, RunLog, replay, write_report};
+use tas_round::{Mode, ReplayFault, RunLog, replay, write_capture, write_report};
 
 /// The most bytes that a capture may have.
 const MOST: u32 = 67_108_864;
@@ -43,8 +43,8 @@ pub fn tas<R: Threads + Wait + Sync, S: Source, K: Sink, F: Sink, G: Gate>(
     // At 5 and 6 by a front of it.
     ensures front { (result ≡ 5) ⊎ (result ≡ 6) → WritesFront (given (map string_bytes words.now) (S.left source.old) (S.faults source.old) (S.faults source.new) (K.faults sink.old) (K.faults sink.new)) (K.held sink.old) (K.held sink.new) }
     // At every other status it did not grow.
-    ensures nothing { (result ≡ 3) ⊎ ((result ≡ 4) ⊎ ((result ≡ 7) ⊎ (result ≡ 8))) → Keeps (K.held sink.old) (K.held sink.new) }
-    // Words of the form and a capture within its length give status 0, or want of memory, where no stream fails.
+    ensures nothing { (result ≡ 2) ⊎ ((result ≡ 3) ⊎ ((result ≡ 4) ⊎ ((result ≡ 7) ⊎ (result ≡ 8)))) → Keeps (K.held sink.old) (K.held sink.new) }
+    // Words of a replay on one thread and a capture within its length give status 0, or want of memory, where no stream fails.
     ensures complete { IsWhole (given (map string_bytes words.now) (S.left source.old) (S.faults source.old) (S.faults source.new) (K.faults sink.old) (K.faults sink.new)) → (result ≡ 0) ⊎ (result ≡ 6) }
 {
     match serve(rt, alloc, words, source, sink, gate) {
@@ -70,12 +70,10 @@ fn serve<R: Threads + Wait + Sync, S: Source, K: Sink, G: Gate>(
     ensures front { OnErr result (WritesFront (given (map string_bytes words.now) (S.left source.old) (S.faults source.old) (S.faults source.new) (K.faults sink.old) (K.faults sink.new)) (K.held sink.old) (K.held sink.new)) }
     ensures kept { IfErr result (λ stop. writes_nothing stop ≡ true → Keeps (K.held sink.old) (K.held sink.new)) }
 {
-    let Some(asked) = read_words(words) else {
-        return Err(Stop::NotBuilt);
-    };
+    let asked = read_words(words)?;
     let bytes = read_all(alloc, MOST, source)?;
     let log = replay_of(rt, alloc, &asked, &bytes, gate)?;
-    write_log(alloc, &log, sink)
+    write_log(alloc, &asked, &log, sink)
 }
 
 /// The run that the words ask for, of the capture that these bytes are.
@@ -107,13 +105,23 @@ fn replay_of<R: Threads + Wait + Sync, G: Gate>(
     }
 }
 
-/// Writes the text of the run that was asked for.
-fn write_log<K: Sink>(alloc: Global, log: &RunLog, sink: &mut K) -> Result<(), Stop>
-    ensures ok { OnOk result (Appends (K.held sink.old) (K.held sink.new) (report (log_in log.now))) }
-    ensures err { OnErr result (AppendsFront (K.held sink.old) (K.held sink.new) (report (log_in log.now))) }
+/// Writes the text of the run that was asked for: its report, or the capture of the frames that it sent.
+fn write_log<K: Sink>(
+    alloc: Global,
+    asked: &Request,
+    log: &RunLog,
+    sink: &mut K,
+) -> Result<(), Stop>
+    ensures ok { OnOk result (Appends (K.held sink.old) (K.held sink.new) (output (request_in asked.now) (log_in log.now))) }
+    ensures err { OnErr result (AppendsFront (K.held sink.old) (K.held sink.new) (output (request_in asked.now) (log_in log.now))) }
     ensures cause { IfErr result (Unwritten (K.faults sink.old) (K.faults sink.new)) }
 {
-    match write_report(alloc, log, sink) {
+    let written = if asked.pcap {
+        write_capture(alloc, log, sink)
+    } else {
+        write_report(alloc, log, sink)
+    };
+    match written {
         Ok(()) => Ok(()),
         Err(IoFault::Failed) => Err(Stop::Write),
         Err(IoFault::OutOfMemory) => Err(Stop::Memory),

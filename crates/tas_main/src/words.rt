@@ -1,148 +1,284 @@
-ghost use Rattle.std.specs.Prelude.{◌≡◌, List, ℕ, map, string_bytes, fold, option_map, IfSome, IfNone};
+ghost use Rattle.std.specs.Prelude.{◌≡◌, ℕ, ◌≤◌, ◌<◌, ◌^◌, List, map, decimal, string_bytes, fold, option_map, bytes_eq, nat_le, ◌&&◌, IfOk, IfErr, IfSome, IfNone};
 ghost use Rattle.std.specs.Net.Grammar.{IsIpv4Text};
 ghost use Rattle.tas_main.specs.Words as forms;
-ghost use Rattle.tas_main.specs.Requests.{request_in, progress_in, options_in};
+ghost use Rattle.tas_main.specs.Requests.{request_in, progress_in, options_in, form_in};
+ghost use Rattle.tas_main.specs.Stops.{Unasked};
 ghost use Rattle.std.specs.declared.net.ipv4_addr.Ipv4Addr.{Ipv4Addr};
 
+use crate::stop::Stop;
+use itoa::Buffer;
 use std::net::Ipv4Addr;
 
-/// What the words of a replay ask for.
+/// The most cores that may be asked for.
+const MOST_CORES: u32 = 16;
+
+/// The most that `bulk` may be asked for.
+const MOST_BULK: u32 = 1000;
+
+/// What the words of a replay on one thread ask for.
 #[derive(Clone, Copy, Debug)]
 pub struct Request {
     /// The address of the host that is replayed.
     pub local: Ipv4Addr,
     /// Whether checksums are left alone.
     pub loose: bool,
+    /// Whether the frames sent are written as a capture, in place of the report.
+    pub pcap: bool,
 }
 
-/// The options of a replay, as far as they were read.
+/// What the words are.
+#[derive(Clone, Copy, Debug)]
+pub enum Form<'a> {
+    /// They are of no form.
+    Unknown,
+    /// A scenario, given or made.
+    Scenario,
+    /// A replay, with the text of its address.
+    Replay {
+        local: &'a str,
+        cores: Option<u32>,
+        pcap: bool,
+        loose: bool,
+    },
+}
+
+/// The options, as far as they were read.
 #[derive(Clone, Copy, Debug)]
 pub struct Options<'a> {
-    local: Option<&'a [u8]>,
+    serial: bool,
+    cores: Option<u32>,
+    pcap: bool,
     loose: bool,
+    local: Option<&'a str>,
 }
 
-/// How far the words were read.
+/// How far the options were read.
 #[derive(Clone, Copy, Debug)]
 pub enum Progress<'a> {
     /// They are of another form.
     Refused,
     /// An option may come next.
     Reads(Options<'a>),
+    /// The number of `--cores` has to come next.
+    WantsCores(Options<'a>),
     /// The address of `--local` has to come next.
     WantsAddress(Options<'a>),
 }
 
-/// What the words ask for: `replay`, and then `--local ADDRESS` or `--local=ADDRESS`, and `--loose-sums` where it is wanted, in any order and each at most once. None
-/// where the words are of another form.
-pub fn read_words(words: &[String]) -> Option<Request>
-    ensures some { IfSome result (λ r. forms.IsReplay (map string_bytes words.now) (request_in r)) }
-    ensures none { IfNone result ((r : forms.Request) → ¬ forms.IsReplay (map string_bytes words.now) r) }
+/// What the words ask for: `replay`, and then `--local ADDRESS` or `--local=ADDRESS`, and `--pcap` and `--loose-sums` where they are wanted, in any order and each at
+/// most once. The error is `Words` where they are of no form of the program, and `NotBuilt` where they are of another one: of a scenario, or of a replay on cores.
+pub fn read_words(words: &[String]) -> Result<Request, Stop>
+    ensures ok { IfOk result (λ r. forms.IsReplay (map string_bytes words.now) (request_in r)) }
+    ensures err { IfErr result (Unasked (map string_bytes words.now)) }
 {
-    let Progress::Reads(options) = asked(words) else {
-        return None;
-    };
-    let Some(text) = options.local else {
-        return None;
-    };
-    let Some(local) = address_in(text) else {
-        return None;
-    };
-    Some(Request {
-        local,
-        loose: options.loose,
-    })
-}
-
-/// The address that the text writes.
-fn address_in(text: &[u8]) -> Option<Ipv4Addr>
-    ensures some { IfSome result (IsIpv4Text text.now) }
-    ensures none { IfNone result ((address : Ipv4Addr) → ¬ IsIpv4Text text.now address) }
-{
-    match Ipv4Addr::parse_ascii(text) {
-        Ok(address) => Some(address),
-        Err(_) => None,
+    match form_of(words) {
+        Form::Unknown => Err(Stop::Words),
+        Form::Scenario => Err(Stop::NotBuilt),
+        Form::Replay {
+            local,
+            cores,
+            pcap,
+            loose,
+        } => {
+            let Some(local) = address_in(local) else {
+                return Err(Stop::Words);
+            };
+            if cores.is_some() {
+                return Err(Stop::NotBuilt);
+            }
+            Ok(Request { local, loose, pcap })
+        }
     }
 }
 
-/// How far all words are read.
-fn asked(words: &[String]) -> Progress<'_>
-    ensures { progress_in result ≡ forms.asked (map string_bytes words.now) }
+/// The address that the text writes.
+fn address_in(text: &str) -> Option<Ipv4Addr>
+    ensures some { IfSome result (IsIpv4Text text.now) }
+    ensures none { IfNone result ((address : Ipv4Addr) → ¬ IsIpv4Text text.now address) }
+{
+    text.parse().ok()
+}
+
+/// The form of all words.
+fn form_of(words: &[String]) -> Form<'_>
+    ensures { form_in result ≡ forms.form_of (map string_bytes words.now) }
 {
     match words {
-        [command, options @ ..] if command.as_str() == "replay" => options_of(options),
-        _ => Progress::Refused,
+        [command, options @ ..] if command.as_str() == "run" => options_of(options).run(),
+        [command, options @ ..] if command.as_str() == "replay" => options_of(options).replay(),
+        [command, rest @ ..] if command.as_str() == "bulk" => numbered(rest),
+        _ => Form::Unknown,
+    }
+}
+
+/// The form of a number and options behind it.
+fn numbered(words: &[String]) -> Form<'_>
+    ensures { form_in result ≡ forms.numbered_form (map string_bytes words.now) }
+{
+    match words {
+        [number, options @ ..] => options_of(options).bulk(number_in(number.as_str(), MOST_BULK)),
+        [] => Form::Unknown,
     }
 }
 
 /// How far the words behind the command are read.
 fn options_of(words: &[String]) -> Progress<'_>
-    ensures { progress_in result ≡ fold forms.after_word (forms.Reads forms.no_options) (map string_bytes words.now) }
+    ensures { progress_in result ≡ forms.options_of (map string_bytes words.now) }
 {
     let mut progress = Progress::Reads(Options {
-        local: None,
+        serial: false,
+        cores: None,
+        pcap: false,
         loose: false,
+        local: None,
     });
     for word in words {
-        progress = progress.after(word.as_bytes());
+        progress = progress.after(word.as_str());
     }
     progress
 }
 
+/// The number from 1 to `most` that the text writes, in decimal without sign or leading zero.
+fn number_in(text: &str, most: u32) -> Option<u32>
+    ensures { result ≡ forms.number_in most text.now }
+{
+    let Ok(number) = text.parse::<u32>() else {
+        return None;
+    };
+    if passes(most, number, text) {
+        Some(number)
+    } else {
+        None
+    }
+}
+
+/// Whether the number is from 1 to `most`, and the text is its decimal.
+fn passes(most: u32, number: u32, text: &str) -> bool
+    ensures { result ≡ (nat_le 1 number && nat_le number most && bytes_eq text.now (decimal number)) }
+{
+    number >= 1 && number <= most && text == Buffer::new().format(number)
+}
+
+/// What stands behind this name in a word.
+fn behind<'a>(name: &str, word: &'a str) -> Option<&'a str>
+    ensures { option_map (λ text. text.now) result ≡ forms.behind name.now word.now }
+{
+    word.strip_prefix(name)
+}
+
 impl<'a> Progress<'a> {
     /// One word more.
-    fn after(self, word: &'a [u8]) -> Progress<'a>
+    fn after(self, word: &'a str) -> Progress<'a>
         ensures { progress_in result ≡ forms.after_word (progress_in self.entry) word.now }
     {
         match self {
             Progress::Refused => Progress::Refused,
+            Progress::WantsCores(options) => options.with_cores(word),
             Progress::WantsAddress(options) => options.with_address(word),
-            Progress::Reads(options) => options.and(word),
+            Progress::Reads(options) => options.with_option(word),
+        }
+    }
+
+    /// The form of `run` with these options.
+    fn run(self) -> Form<'a>
+        ensures { form_in result ≡ forms.run_form (progress_in self.entry) }
+    {
+        match self {
+            Progress::Reads(options) if options.takes_scenario() => Form::Scenario,
+            _ => Form::Unknown,
+        }
+    }
+
+    /// The form of `bulk` with this number and these options.
+    fn bulk(self, number: Option<u32>) -> Form<'a>
+        ensures { form_in result ≡ forms.bulk_form number (progress_in self.entry) }
+    {
+        match (number, self) {
+            (Some(_), Progress::Reads(options)) if options.takes_scenario() && !options.pcap => {
+                Form::Scenario
+            }
+            _ => Form::Unknown,
+        }
+    }
+
+    /// The form of `replay` with these options.
+    fn replay(self) -> Form<'a>
+        ensures { form_in result ≡ forms.replay_form (progress_in self.entry) }
+    {
+        match self {
+            Progress::Reads(options) => options.replay(),
+            _ => Form::Unknown,
         }
     }
 }
 
 impl<'a> Options<'a> {
-    /// The options with one word more.
-    fn and(self, word: &'a [u8]) -> Progress<'a>
-        ensures { progress_in result ≡ forms.after_word (forms.Reads (options_in self.entry)) word.now }
+    /// Whether a scenario may have these options.
+    fn takes_scenario(&self) -> bool
+        ensures { result ≡ forms.takes_scenario (options_in self.now) }
     {
-        if word == b"--local".as_slice() {
-            return Progress::WantsAddress(self);
-        }
-        self.with_option(word)
+        self.local.is_none() && !self.loose && !(self.serial && self.cores.is_some())
     }
 
-    /// The options with a word that may bear its address.
-    fn with_option(self, word: &'a [u8]) -> Progress<'a>
+    /// The form of a replay with these options.
+    fn replay(self) -> Form<'a>
+        ensures { form_in result ≡ forms.replay_form (forms.Reads (options_in self.entry)) }
+    {
+        match self.local {
+            Some(local) if !self.serial => Form::Replay {
+                local,
+                cores: self.cores,
+                pcap: self.pcap,
+                loose: self.loose,
+            },
+            _ => Form::Unknown,
+        }
+    }
+
+    /// The options with one word more.
+    fn with_option(self, word: &'a str) -> Progress<'a>
         ensures { progress_in result ≡ forms.with_option (options_in self.entry) word.now }
     {
-        if word.starts_with(b"--local=") {
-            return self.with_address(&word[8..]);
+        match word {
+            "--serial" => self.with_serial(),
+            "--pcap" => self.with_pcap(),
+            "--loose-sums" => self.with_loose(),
+            "--cores" => Progress::WantsCores(self),
+            "--local" => Progress::WantsAddress(self),
+            _ => self.with_value(behind("--cores=", word), behind("--local=", word)),
         }
-        self.with_flag(word)
     }
 
-    /// The options with a single word.
-    fn with_flag(self, word: &'a [u8]) -> Progress<'a>
-        ensures { progress_in result ≡ forms.with_flag (options_in self.entry) word.now }
+    /// The options with a word that bears its value: the number of `--cores=`, or the address of `--local=`.
+    fn with_value(self, number: Option<&'a str>, text: Option<&'a str>) -> Progress<'a>
+        ensures { progress_in result ≡ forms.with_value (options_in self.entry) (option_map (λ n. n.now) number.entry) (option_map (λ t. t.now) text.entry) }
     {
-        if word == b"--loose-sums".as_slice() {
-            return self.with_loose();
+        match (number, text) {
+            (Some(number), _) => self.with_cores(number),
+            (None, Some(text)) => self.with_address(text),
+            (None, None) => Progress::Refused,
         }
-        Progress::Refused
     }
 
-    fn with_address(self, text: &'a [u8]) -> Progress<'a>
-        ensures { progress_in result ≡ forms.with_address (options_in self.entry) text.now }
+    fn with_serial(self) -> Progress<'a>
+        ensures { progress_in result ≡ forms.with_serial (options_in self.entry) }
     {
-        if self.local.is_some() {
+        if self.serial {
             return Progress::Refused;
         }
         Progress::Reads(Options {
-            local: Some(text),
-            loose: self.loose,
+            serial: true,
+            ..self
         })
+    }
+
+    fn with_pcap(self) -> Progress<'a>
+        ensures { progress_in result ≡ forms.with_pcap (options_in self.entry) }
+    {
+        if self.pcap {
+            return Progress::Refused;
+        }
+        Progress::Reads(Options { pcap: true, ..self })
     }
 
     fn with_loose(self) -> Progress<'a>
@@ -152,8 +288,32 @@ impl<'a> Options<'a> {
             return Progress::Refused;
         }
         Progress::Reads(Options {
-            local: self.local,
             loose: true,
+            ..self
+        })
+    }
+
+    fn with_cores(self, number: &str) -> Progress<'a>
+        ensures { progress_in result ≡ forms.with_cores (options_in self.entry) number.now }
+    {
+        match number_in(number, MOST_CORES) {
+            Some(cores) if self.cores.is_none() => Progress::Reads(Options {
+                cores: Some(cores),
+                ..self
+            }),
+            _ => Progress::Refused,
+        }
+    }
+
+    fn with_address(self, text: &'a str) -> Progress<'a>
+        ensures { progress_in result ≡ forms.with_address (options_in self.entry) text.now }
+    {
+        if self.local.is_some() {
+            return Progress::Refused;
+        }
+        Progress::Reads(Options {
+            local: Some(text),
+            ..self
         })
     }
 }

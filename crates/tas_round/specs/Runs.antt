@@ -2,7 +2,9 @@
 use Rattle.std.specs.Prelude.{◌≡◌, ℕ, List, [], ◌∷◌, length, string_bytes, true, false, Err, ⊤}
 use Rattle.tas_num.specs.Captures.{capture_of}
 use Rattle.pcap_frames.specs.Views.{fault_in}
-use Rattle.tas_runs.specs.Logs.{HostRun, RunLog}
+use Rattle.tas_model.specs.LegalHistory.{Legal}
+use Rattle.tas_model.specs.Valid.{InRange}
+use Rattle.tas_runs.specs.Logs.{Flow, HostRun, RunLog}
 use Rattle.tas_runs.specs.Hosts.{run_of}
 use Rattle.tas_runs.specs.Records.{Item}
 use Rattle.tas_runs.specs.Batches.{batches_of}
@@ -39,3 +41,7 @@ pub record Ended (local : ℕ) (items : List Item) (ending : Ending) : Type 0 wh
 abbrev pub Refuses : List ℕ → ReplayFault → Type 0
 Refuses b OutOfMemory = ⊤
 Refuses b (Pcap fault) = capture_of b ≡ Err (fault_in fault)
+
+-- the flow has a history of the endpoint, with parameters in their ranges
+abbrev pub IsLegal : Flow → Type 0
+IsLegal f = InRange f.params × Legal f.params f.entries

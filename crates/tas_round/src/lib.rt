@@ -1,10 +1,12 @@
 //! Whole runs: a capture replayed tick by tick, and the report and the capture that show a run.
 #![tactic(auto)]
 
+mod capture;
 mod replaying;
 mod report;
 mod run;
 
+pub use capture::write_capture;
 pub use replaying::{Mode, ReplayFault, replay};
 pub use report::write_report;
 pub use run::{HostRun, RunLog};

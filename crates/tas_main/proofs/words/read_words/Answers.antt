@@ -1,8 +1,7 @@
-use Rattle.std.proofs.Common.{sym, ap, option_map}
-use Rattle.tas_main.specs.Requests.{options_in}
-use Rattle.tas_main.proofs.Addresses.{not_named}
+use Rattle.std.proofs.Common.{map, string_bytes}
+use Rattle.tas_main.proofs.Spelling.{no_address}
 use Rattle.tas_main.proofs.words.read_words.Goals as goal
 
-pub returns-in_default-address_in-clause-none : goal.returns-in_default-address_in-clause-none
-returns-in_default-address_in-clause-none c =
-    not_named _ (options_in c.in-Reads.options) c.in-Some.text.now (sym c.in-Reads.ensures) (ap (option_map (λ text. text.now)) c.in-Some.is) c.in_default-address_in.ensures.none
+pub returns-in_default-clause-err : goal.returns-in_default-clause-err
+returns-in_default-clause-err c =
+    no_address (map string_bytes c.args.words.now) c.in-Replay.local.now c.in-Replay.cores c.in-Replay.pcap c.in-Replay.loose c.in-Replay.ensures c.in_default.ensures.none

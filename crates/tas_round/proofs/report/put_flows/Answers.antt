@@ -6,11 +6,11 @@ use Rattle.tas_round.proofs.report.put_flows.Goals as goal
 
 pub returns-in_err-put_flow : goal.returns-in_err-put_flow
 returns-in_err-put_flow g c =
-    stopped_flow (map (λ n. n.now) c.args.names.now) (flows_of c.args.host.now.flows) c.loop-i.i (flow_in c.flow.result.now) _ _ _ _ _ c.flow.ensures (search rules) (search rules) c.loop-i.invariant c.put_flow.ensures
+    stopped_flow (map (λ n. n.now) c.args.names.now) (flows_of c.args.host.now.flows) c.loop-i.i (flow_in c.flow.result.now) _ _ _ _ _ c.flow.ensures.flow (search rules) (search rules) c.loop-i.invariant c.put_flow.ensures
 
 pub loop-i-preserved : goal.loop-i-preserved
 loop-i-preserved g c =
-    wrote_flow (map (λ n. n.now) c.args.names.now) (flows_of c.args.host.now.flows) c.loop-i.i (flow_in c.flow.result.now) _ _ _ _ c.flow.ensures c.loop-i.invariant c.in_ok-put_flow.ensures
+    wrote_flow (map (λ n. n.now) c.args.names.now) (flows_of c.args.host.now.flows) c.loop-i.i (flow_in c.flow.result.now) _ _ _ _ c.flow.ensures.flow c.loop-i.invariant c.in_ok-put_flow.ensures
 
 pub returns : goal.returns
 returns g c =
