@@ -1,9 +1,9 @@
 -- The flows whose records are not filed: only these change by what the host does by itself.
-use Rattle.std.proofs.Common.{◌≡◌, ℕ, zero, suc, ◌+◌, ◌<◌, ◌≤◌, ◌++◌, ◌||◌, ◌==◌, ◌&&◌, not, Bool, true, false, cond, List, [], ◌∷◌, length, get_or, map, drop, take, position, Option, Some, None, is_some, refl, sym, ap, subst, ◌∙◌, true≢false, arith, length-append}
+use Rattle.std.proofs.Common.{◌≡◌, ℕ, zero, suc, ◌+◌, ◌<◌, ◌≤◌, ◌++◌, ◌||◌, ◌==◌, ◌&&◌, not, Bool, true, false, cond, List, [], ◌∷◌, length, get_or, set, map, drop, take, position, Option, Some, None, is_some, refl, sym, ap, subst, ◌∙◌, true≢false, arith}
 use Rattle.std.specs.List.{list_any, filter}
 use Rattle.std.proofs.lemmas.List.Sums.{sum_by-cons, sum_by_push}
 use Rattle.std.proofs.lemmas.List.Quantifiers.{position-Some}
-use Rattle.std.proofs.lemmas.List.{map-append, drop_more}
+use Rattle.std.proofs.lemmas.List.{map-append, drop_more, take_at}
 use Rattle.tas_model.specs.declared.entry.FlowId.{FlowId}
 use Rattle.tas_model.specs.declared.entry.FourTuple.{FourTuple}
 use Rattle.tas_model.specs.declared.entry.FrameId.{FrameId}
@@ -17,15 +17,17 @@ use Rattle.tas_model.specs.NextSegment.{Going, going, going_in}
 use Rattle.tas_model.proofs.Tests.{on_cond}
 use Rattle.tas_runs.specs.Batches.{same_tuple}
 use Rattle.tas_runs.specs.Records.{Content}
-use Rattle.tas_runs.specs.Hosts.{Live, endpoint, is_over, with_call, is_indexed_as, is_in_slot, change_at}
+use Rattle.tas_runs.specs.Hosts.{Live, endpoint, is_over, with_call, is_indexed_as, is_in_slot, opened_as, change_at}
 use Rattle.tas_runs.specs.Upkeep.{swept, timed, timed_unless, quieted, quieted_within}
 use Rattle.tas_runs.specs.Deliveries.{received_serially}
 use Rattle.tas_runs.specs.LocalScript.{Stage, Beginning, Accepting, Sending, Shutting, Aborting, Receiving, Leaving, at_stage, asked_where, is_wanted, given_up, sees}
+use Rattle.capture_items.specs.Numbers.{equal_tuple}
 use Rattle.local_host.specs.declared.flows.Openings.{Openings}
-use Rattle.local_host.specs.Index.{passes_at, is_standing, with_first, standing_places, IsAtRest, AreAtRest, number_of, flows_in, IsIndex, IsKnown}
+use Rattle.local_host.specs.Index.{passes_at, is_standing, with_first, standing_places, IsAtRest, AreAtRest, number_of, flows_in, IsKnown}
 use Rattle.local_host.specs.Live.{asked_all}
 use Rattle.local_host.proofs.Emitting.{all_is_sent}
-use Rattle.local_host.proofs.Indexing.{Keeps, swept_keeps, map_index, change_index, no_index}
+use Rattle.local_host.proofs.Places.{wrote_change}
+use Rattle.local_host.proofs.Indexing.{length_change, Keeps, swept_keeps, map_index, change_index, pushed_index, no_index}
 
 -- ----- what a flow at rest stays
 abbrev pub Rests : (Live → Live) → Type 0
@@ -63,10 +65,13 @@ timed_filed t l false = refl
 pub timed_stays : (t : ℕ) → Stays (timed Slow t)
 timed_stays t l = timed_filed t l (is_over l)
 
-quieted_filed : (most t : ℕ) (l : Live) → (quieted_within most t l).filed ≡ l.filed
+abbrev IsFiledAs : Live → Live → Type 0
+IsFiledAs l m = m.filed ≡ l.filed
+
+quieted_filed : (most t : ℕ) (l : Live) → IsFiledAs l (quieted_within most t l)
 quieted_filed zero t l = refl
 quieted_filed (suc most) t l = by_going (going (endpoint l)) (λ m. quieted_filed most t m) where
-  by_going : (g : Option Going) → ((m : Live) → (quieted_within most t m).filed ≡ m.filed) → (elim g [ None ↦ l | Some s ↦ quieted_within most t (with_call l (Core 0) t calls.Emit []) ]).filed ≡ l.filed
+  by_going : (g : Option Going) → ((m : Live) → IsFiledAs m (quieted_within most t m)) → IsFiledAs l (elim g [ None ↦ l | Some s ↦ quieted_within most t (with_call l (Core 0) t calls.Emit []) ])
   by_going None rest = refl
   by_going (Some s) rest = rest (with_call l (Core 0) t calls.Emit [])
 
@@ -153,7 +158,7 @@ places_push (m ∷ ls) l fresh =
 
 -- each is the place of a flow
 abbrev pub AllBelow : (n : ℕ) → List ℕ → Type 0
-AllBelow n [] = ⊤
+AllBelow n [] = Unit {0}
 AllBelow n (p ∷ ps) = (p < n) × AllBelow n ps
 
 below_next : (n : ℕ) (ps : List ℕ) → AllBelow n ps → AllBelow (suc n) (map (λ (place : ℕ). suc place) ps)
@@ -253,6 +258,10 @@ passes_get test [] i d low = absurd (omega (arith, low))
 passes_get test (l ∷ ls) zero d low = refl
 passes_get test (l ∷ ls) (suc i) d low = passes_get test ls i d (omega (arith, low))
 
+pub or_none : (b : Bool) → (b || false) ≡ b
+or_none true = refl
+or_none false = refl
+
 pub passes_past : (test : Live → Bool) (ls : List Live) (i : ℕ) → length ls ≤ i → passes_at test ls i ≡ false
 passes_past test [] i past = refl
 passes_past test (l ∷ ls) zero past = absurd (omega (arith, past))
@@ -346,3 +355,44 @@ pub nothing_known : (known : FourTuple → Option Openings) (slots : ℕ → Opt
 nothing_known known slots places ls none empty unknown free =
     let nobody : IsKnown known slots [] [] = record { index = no_index known unknown; counts = λ slot. ap number_of (free slot); standing = refl; filed = tt } in
     subst (λ (ms : List Live). IsKnown known slots places ms) (sym none) (subst (λ (ps : List ℕ). IsKnown known slots ps []) (sym empty) nobody)
+
+-- ----- a loop over the places
+-- a flow more was changed
+pub changed_step : (f : Live → Live) (places : List ℕ) (k : ℕ) (ls old : List Live) (was made : Live) → k < length places → get_or places k 0 < length ls → was ≡ get_or ls (get_or places k 0) was → made ≡ f was
+    → changed_all f (drop k places) ls ≡ changed_all f places old
+    → (changed_all f (drop (k + 1) places) (set ls (get_or places k 0) made) ≡ changed_all f places old) × (length (set ls (get_or places k 0) made) ≡ length ls)
+changed_step f places k ls old was made low there read is same =
+    let wrote : set ls (get_or places k 0) made ≡ change_at (get_or places k 0) f ls = wrote_change f ls ls (get_or places k 0) was made refl there read is in
+    (ap (changed_all f (drop (k + 1) places)) wrote ∙ (sym (changed_more f places k 0 ls low) ∙ same), ap length wrote ∙ length_change f ls (get_or places k 0))
+
+none_left : (places : List ℕ) (k : ℕ) → length places ≤ k → drop k places ≡ []
+none_left [] zero past = refl
+none_left [] (suc k) past = refl
+none_left (p ∷ ps) zero past = absurd (omega (arith, past))
+none_left (p ∷ ps) (suc k) past = none_left ps k (omega (arith, past))
+
+-- and all were
+pub changed_whole : (f : Live → Live) → Rests f → (places : List ℕ) (k : ℕ) (ls old : List Live) → places ≡ standing_places old → AreAtRest old → length places ≤ k
+    → changed_all f (drop k places) ls ≡ changed_all f places old → ls ≡ map f old
+changed_whole f rests places k ls old is rest past same =
+    sym (ap (λ (ps : List ℕ). changed_all f ps ls) (none_left places k past)) ∙ (same ∙ (ap (λ (ps : List ℕ). changed_all f ps old) is ∙ all_changed f rests old rest))
+
+-- ----- one flow more
+pub known_push : (known later : FourTuple → Option Openings) (slots more : ℕ → Option ℕ) (places longer : List ℕ) (tuple : FourTuple) (now : Openings) (ls : List Live) (l : Live)
+    → now.latest ≡ length ls → now.count ≡ 1 + opened_as tuple ls → ((q : FourTuple) → later q ≡ cond (equal_tuple tuple q) (Some now) (known q))
+    → ((slot : ℕ) → number_of (more slot) ≡ number_of (slots slot) + cond (l.flow.id.slot == slot) 1 0) → longer ≡ places ++ length ls ∷ []
+    → l.flow.tuple ≡ tuple → position (is_indexed_as tuple) ls ≡ None → l.filed ≡ false → IsKnown known slots places ls → IsKnown later more longer (ls ++ l ∷ [])
+known_push known later slots more places longer tuple now ls l latest count noted counted grown own none fresh is = record {
+  index =
+      pushed_index known later tuple ls l now.latest (opened_as tuple ls) latest refl
+      (λ q. noted q ∙ ap (λ (n : ℕ). cond (equal_tuple tuple q) (Some (record { latest = now.latest; count = n })) (known q)) count)
+      own none is.index;
+  counts = λ slot. counted slot ∙ (ap (λ (n : ℕ). n + one_in slot l) (is.counts slot) ∙ sym (in_push slot ls l));
+  standing = grown ∙ (ap (λ (ps : List ℕ). ps ++ length ls ∷ []) is.standing ∙ sym (places_push ls l fresh));
+  filed = rest_push ls l fresh is.filed;
+}
+
+-- ----- a slice that was written whole
+pub written_whole : (made old : List Bool) (n : ℕ) → n ≡ length old → length made ≡ length old → take n (made ++ drop (length made) old) ≡ made
+written_whole made old n all same =
+    ap (λ (k : ℕ). take k (made ++ drop (length made) old)) (all ∙ sym same) ∙ take_at made (drop (length made) old) (length made) refl

@@ -64,8 +64,8 @@ abbrev pub flows_in : (slot : ℕ) → List Live → ℕ
 flows_in slot flows = count_by (λ (l : Live). l.flow.id.slot == slot) flows
 
 -- ----- all of it
-pub record IsKnown (known : FourTuple → Option Openings) (slots : ℕ → Option ℕ) (standing : List ℕ) (flows : List Live) : Type 0 where
+pub record IsKnown (known : FourTuple → Option Openings) (slots : ℕ → Option ℕ) (places : List ℕ) (flows : List Live) : Type 0 where
   pub index : IsIndex known flows
   pub counts : (slot : ℕ) → number_of (slots slot) ≡ flows_in slot flows
-  pub standing : standing ≡ standing_places flows
+  pub standing : places ≡ standing_places flows
   pub filed : AreAtRest flows

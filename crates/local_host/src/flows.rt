@@ -1,4 +1,4 @@
-ghost use Rattle.std.specs.Prelude.{true, false, ◌≡◌, ℕ, ◌<◌, ◌+◌, ◌^◌, ◌++◌, ◌∷◌, [], length, map, position, get_or, nat_eq, ◌||◌, List, slice_get, Some, None, cond, IfOk, IfSome, OnOk, is_some};
+ghost use Rattle.std.specs.Prelude.{true, false, ◌≡◌, ℕ, ◌<◌, ◌+◌, ◌^◌, ◌==◌, ◌++◌, ◌∷◌, [], length, map, position, get_or, nat_eq, ◌||◌, List, slice_get, Some, None, cond, IfOk, IfSome, OnOk, is_some};
 ghost use Rattle.std.specs.List.{list_any, filter};
 ghost use Rattle.std.specs.HashMap.{get};
 ghost use Rattle.capture_items.specs.Numbers.{equal_tuple};
@@ -145,7 +145,12 @@ impl Flows {
             flow,
         );
         if done.is_err() {
-            forget(&mut self.flows, &mut self.standing, &mut self.openings, &mut self.generations);
+            forget(
+                &mut self.flows,
+                &mut self.standing,
+                &mut self.openings,
+                &mut self.generations,
+            );
         }
         done
     }
@@ -164,7 +169,12 @@ impl Flows {
     {
         let done = time_all(&mut self.flows, &self.standing, tick);
         if done.is_err() {
-            forget(&mut self.flows, &mut self.standing, &mut self.openings, &mut self.generations);
+            forget(
+                &mut self.flows,
+                &mut self.standing,
+                &mut self.openings,
+                &mut self.generations,
+            );
         }
         done
     }
@@ -175,7 +185,12 @@ impl Flows {
     {
         let done = empty_all(&mut self.flows, &self.standing, tick);
         if done.is_err() {
-            forget(&mut self.flows, &mut self.standing, &mut self.openings, &mut self.generations);
+            forget(
+                &mut self.flows,
+                &mut self.standing,
+                &mut self.openings,
+                &mut self.generations,
+            );
         }
         done
     }
@@ -193,7 +208,12 @@ impl Flows {
     {
         let done = self.flows[i].receive(tick, frame, seg);
         if done.is_err() {
-            forget(&mut self.flows, &mut self.standing, &mut self.openings, &mut self.generations);
+            forget(
+                &mut self.flows,
+                &mut self.standing,
+                &mut self.openings,
+                &mut self.generations,
+            );
         }
         done
     }
@@ -205,7 +225,12 @@ impl Flows {
     {
         let done = self.flows[i].see(seg);
         if done.is_err() {
-            forget(&mut self.flows, &mut self.standing, &mut self.openings, &mut self.generations);
+            forget(
+                &mut self.flows,
+                &mut self.standing,
+                &mut self.openings,
+                &mut self.generations,
+            );
         }
         done
     }
@@ -224,7 +249,12 @@ impl Flows {
     {
         let done = self.flows[i].serve(tick, remote, resets);
         if done.is_err() {
-            forget(&mut self.flows, &mut self.standing, &mut self.openings, &mut self.generations);
+            forget(
+                &mut self.flows,
+                &mut self.standing,
+                &mut self.openings,
+                &mut self.generations,
+            );
         }
         done
     }
@@ -252,10 +282,8 @@ fn add(
     note_opening(openings, tuple, now)?;
     note_slot(generations, flow.id().slot)?;
     standing.push(flows.len())?;
-    match flows.push(flow) {
-        Ok(()) => Ok(()),
-        Err(_) => Err(AllocError),
-    }
+    flows.push(flow)?;
+    Ok(())
 }
 
 /// After want of memory no flow is kept.
@@ -291,7 +319,7 @@ fn note_opening(
 /// One flow more in the slot. The error is want of memory.
 fn note_slot(generations: &mut HashMap<u32, usize>, slot: u32) -> Result<(), AllocError>
     requires { number_of (get nat_eq generations.old slot) < 2 ^ 63 }
-    ensures { OnOk result ((q : ℕ) → number_of (get nat_eq generations.new q) ≡ number_of (get nat_eq generations.old q) + cond (nat_eq slot q) 1 0) }
+    ensures { OnOk result ((q : ℕ) → number_of (get nat_eq generations.new q) ≡ number_of (get nat_eq generations.old q) + cond (slot == q) 1 0) }
 {
     let count = generations.get(&slot).copied().unwrap_or(0);
     generations.insert(slot, count + 1)?;
@@ -328,9 +356,20 @@ fn taken_slots(
 {
     let mut taken = vec![in alloc; false; slots as usize]?;
     for place in standing {
-        mark(&mut taken, &flows[*place]);
+        mark_at(&mut taken, flows, *place);
     }
     Ok(taken)
+}
+
+/// The slot of the record of the flow at this place is taken.
+fn mark_at(taken: &mut [bool], flows: &[LiveFlow], place: usize)
+    ensures len { length taken.new ≡ length taken.old }
+    ensures taken { (slot : ℕ) → slot < length taken.old → get_or taken.new slot false ≡ (get_or taken.old slot false || passes_at (is_in_slot slot) flows.now place) }
+{
+    match flows.get(place) {
+        Some(flow) => mark(taken, flow),
+        None => {}
+    }
 }
 
 /// The slot of the flow's record is taken.

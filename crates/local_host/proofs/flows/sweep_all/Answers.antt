@@ -1,14 +1,20 @@
-use Rattle.std.proofs.Common.{ℕ, ◌<◌, length, List, subst, set, get_or, ap, ◌∙◌}
-use Rattle.tas_runs.specs.Hosts.{Live}
+use Rattle.std.proofs.Common.{ℕ, ◌<◌, length, get_or, ◌∙◌, arith}
 use Rattle.tas_runs.specs.Upkeep.{swept}
-use Rattle.tas_runs.proofs.Loops.{mapped_at}
+use Rattle.local_host.proofs.Standing.{swept_rests, changed_step, changed_whole, place_below}
 use Rattle.local_host.proofs.flows.sweep_all.Goals as goal
 
-pub loop-flow-preserved : goal.loop-flow-preserved
-loop-flow-preserved c =
-    let i : ℕ = c.loop-flow.flow-index in
-    let xs : List Live = c.args.flows.now.items in
-    let below : i < length xs = subst (λ (zs : List Live). i < length zs) c.deref_mut-flow-items.ensures.value c.loop-flow-test.true in
-    ap (set c.loop-flow.flow-items i) c.sweep.ensures
-    ∙ ap (λ (zs : List Live). set zs i (swept (get_or zs i c.flow-item.result))) c.loop-flow.invariant
-    ∙ mapped_at swept xs i c.flow-item.result below
+pub index_mut-requires : goal.index_mut-requires
+index_mut-requires c =
+    let there : get_or c.args.standing.now c.loop-place.place-index 0 < length c.args.flows.now.items = place_below c.args.flows.now.items c.args.standing.now c.loop-place.place-index 0 c.requires.places c.loop-place-test.true in
+    omega (arith, there, c.loop-place.invariant.len, c.loop-place.flows.ok)
+
+pub loop-place-preserved : goal.loop-place-preserved
+loop-place-preserved c =
+    let k : ℕ = c.loop-place.place-index in
+    let low : k < length c.args.standing.now = c.loop-place-test.true in
+    let there : get_or c.args.standing.now k 0 < length c.loop-place.flows.items = omega (arith, place_below c.args.flows.now.items c.args.standing.now k 0 c.requires.places low, c.loop-place.invariant.len) in
+    let next = changed_step swept c.args.standing.now k c.loop-place.flows.items c.args.flows.now.items c.index_mut.result.now c.sweep.new.self low there c.index_mut.ensures.value c.sweep.ensures c.loop-place.invariant.same in
+    record { same = next.0; len = next.1 ∙ c.loop-place.invariant.len }
+
+pub returns : goal.returns
+returns c = changed_whole swept swept_rests c.args.standing.now c.loop-place.place-index c.loop-place.flows.items c.args.flows.now.items c.requires.places c.requires.rest (omega (arith, c.loop-place-test.false)) c.loop-place.invariant.same

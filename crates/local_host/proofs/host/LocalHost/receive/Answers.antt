@@ -12,7 +12,7 @@ returns-in-Some c = λ items numbers.
     let host : Host = record { params = c.self.inside.params; log = c.self.inside.log; flows = c.self.inside.flows } in
     let seg : Seg = seg_of c.args.seg.now in
     let f : Live → Live = received_serially c.args.tick c.args.frame seg in
-    let found = sym c.find.ensures ∙ c.in-Some.is in
+    let found = sym c.find.ensures.place ∙ c.in-Some.is in
     ok_by c.receive.result
     (λ made. subst (λ (h : Host). record host { flows = c.receive.new.self } ≡ arrived (is_known h c.args.tuple) f items c.args.tick h c.args.frame c.args.tuple seg) c.self.view_is
     (changed_found host c.args.tuple f c.in-Some.i c.receive.new.self found made
@@ -23,5 +23,5 @@ returns-in-None c = λ items numbers.
     let host : Host = record { params = c.self.inside.params; log = c.self.inside.log; flows = c.self.inside.flows } in
     let seg : Seg = seg_of c.args.seg.now in
     let f : Live → Live = received_serially c.args.tick c.args.frame seg in
-    let none : is_known c.args.self.now c.args.tuple ≡ false = subst (λ (h : Host). is_known h c.args.tuple ≡ false) c.self.view_is (unknown_is c.args.tuple host (sym c.find.ensures ∙ c.in-None.is)) in
+    let none : is_known c.args.self.now c.args.tuple ≡ false = subst (λ (h : Host). is_known h c.args.tuple ≡ false) c.self.view_is (unknown_is c.args.tuple host (sym c.find.ensures.place ∙ c.in-None.is)) in
     ok_by c.meet_listener.result (λ made. made ∙ ap (λ (b : Bool). arrived b f items c.args.tick c.args.self.now c.args.frame c.args.tuple seg) (sym none)) (c.meet_listener.ensures items numbers)
