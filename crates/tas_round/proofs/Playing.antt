@@ -1,5 +1,5 @@
 -- A replay, a batch at a time.
-use Rattle.std.proofs.Common.{◌≡◌, ℕ, zero, suc, ◌+◌, ◌-◌, ◌≤◌, [], ◌∷◌, List, length, map, take, drop, refl, ap, subst, sym, ◌∙◌, arith}
+use Rattle.std.proofs.Common.{◌≡◌, ℕ, zero, suc, ◌+◌, ◌-◌, ◌≤◌, [], ◌∷◌, List, length, map, take, drop, Result, Ok, IfOk, refl, ap, subst, sym, ◌∙◌, arith}
 use Rattle.std.proofs.lemmas.List.{take-map, drop-map, take_all, drop-drop, length-drop}
 use Rattle.tas_runs.specs.Records.{Item}
 use Rattle.tas_runs.specs.Batches.{batches_of}
@@ -68,3 +68,7 @@ pub still_inside : {X : Type 0} (xs : List X) (at n : ℕ) → at ≤ length xs 
 still_inside xs at n h m =
     let len : length (take (length xs - at) (drop at xs)) ≡ length xs - at = ap length (rest_is at xs) ∙ length-drop at xs in
     omega (arith, h, m, len)
+
+-- what holds of an answer that is known
+pub ok_gives : {T E : Type 0} (r : Result T E) (P : T → Type 0) (x : T) → r ≡ Ok x → IfOk r P → P x
+ok_gives {T} {E} r P x is fact = subst (λ (s : Result T E). IfOk s P) is fact

@@ -1,5 +1,5 @@
 -- The log of a replay as the definitions of runs have it.
-use Rattle.std.specs.Prelude.{◌≡◌, ℕ, List, [], ◌∷◌, length, string_bytes, true, false, Err, ⊤}
+use Rattle.std.specs.Prelude.{◌≡◌, ℕ, ◌≤◌, List, [], ◌∷◌, length, string_bytes, true, false, Err, ⊤}
 use Rattle.tas_num.specs.Captures.{capture_of}
 use Rattle.pcap_frames.specs.Views.{fault_in}
 use Rattle.tas_model.specs.LegalHistory.{Legal}
@@ -13,6 +13,8 @@ use Rattle.tas_runs.specs.SerialOrder.{serial_ticks}
 use Rattle.tas_round.specs.declared.run.HostRun as code_host
 use Rattle.tas_round.specs.declared.run.RunLog as code
 use Rattle.tas_round.specs.declared.replaying.Ending.{Ending}
+use Rattle.tas_round.specs.declared.replaying.Mode.{Mode}
+use Rattle.tas_round.specs.declared.replaying.Mode.TheVariants as modes
 use Rattle.tas_round.specs.declared.replaying.ReplayFault.{ReplayFault}
 use Rattle.tas_round.specs.declared.replaying.ReplayFault.TheVariants.{OutOfMemory, Pcap}
 
@@ -45,3 +47,8 @@ Refuses b (Pcap fault) = capture_of b ≡ Err (fault_in fault)
 -- the flow has a history of the endpoint, with parameters in their ranges
 abbrev pub IsLegal : Flow → Type 0
 IsLegal f = InRange f.params × Legal f.params f.entries
+
+-- so many cores as a host may have
+abbrev pub AreCores : Mode → Type 0
+AreCores modes.Serial = ⊤
+AreCores (modes.Cores count) = (1 ≤ count) × (count ≤ 16)

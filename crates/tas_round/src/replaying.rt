@@ -1,11 +1,11 @@
 ghost use Rattle.std.specs.Prelude.{◌≡◌, ℕ, ◌≤◌, ◌<◌, ◌^◌, ◌∷◌, take, drop, List, length, map, Ok, IfOk, IfErr};
 ghost use Rattle.tas_runs.specs.Records as model;
 ghost use Rattle.tas_runs.specs.Batches.{batches_of};
-ghost use Rattle.tas_runs.specs.Replays.{at_start};
+ghost use Rattle.tas_runs.specs.Replays.{at_start, Replay};
 ghost use Rattle.tas_runs.specs.SerialOrder.{serial_replay, serial_log, serial_tick, serial_ticks};
 ghost use Rattle.capture_items.specs.Items.{item_in};
 ghost use Rattle.capture_items.specs.Numbers.{AreNumbersOf};
-ghost use Rattle.tas_round.specs.Runs.{log_in, Ended, Refuses};
+ghost use Rattle.tas_round.specs.Runs.{log_in, AreCores, Ended, Refuses};
 ghost use Rattle.tas_round.specs.declared.replaying.Mode.{Mode};
 
 use crate::run::{HostRun, RunLog};
@@ -22,7 +22,7 @@ use tas_num::Gate;
 pub enum Mode {
     /// One thread, in serial order.
     Serial,
-    /// So many cores, from 1 to 16. They are not built yet.
+    /// So many cores, from 1 to 16. Until there are workers for them, one thread does their work, in serial order.
     Cores(u32),
 }
 
@@ -52,7 +52,7 @@ pub struct Ending {
     pub ticks: u32,
 }
 
-/// Replays a capture on the host with the address `local`, tick by tick in serial order. With `loose` no checksum of a frame is looked at.
+/// Replays a capture on the host with the address `local`, tick by tick. With `loose` no checksum of a frame is looked at. `OutOfMemory` is want of memory; `Pcap` says why the bytes are no capture.
 pub fn replay<R: Threads + Wait + Sync, G: Gate>(
     _rt: &R,
     alloc: Global,
@@ -63,8 +63,11 @@ pub fn replay<R: Threads + Wait + Sync, G: Gate>(
     _gate: &G,
 ) -> Result<RunLog, ReplayFault>
     requires small { length capture.now ≤ 67108864 }
-    requires serial { mode ≡ Mode.Serial }
-    ensures log { IfOk result (λ log. serial_replay local capture.now loose ≡ Ok (log_in log)) }
+    requires cores { AreCores mode }
+    // Whatever the mode, it is a run of the capture.
+    ensures run { IfOk result (λ log. Replay local capture.now loose (log_in log)) }
+    // On one thread it is the one in serial order.
+    ensures serial { mode ≡ Mode.Serial → IfOk result (λ log. serial_replay local capture.now loose ≡ Ok (log_in log)) }
     ensures refused { IfErr result (Refuses capture.now) }
 {
     let found = match find_items(alloc, capture, local, loose) {
