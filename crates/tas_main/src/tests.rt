@@ -23,7 +23,7 @@ const FIRST_CAPTURE: [u8; 194] = [
 ];
 
 /// The report of that capture.
-const FIRST_REPORT: &str = "\
+pub const FIRST_REPORT: &str = "\
 tas replay\n\
 host local 10.0.0.2\n\
 flow 0 slot 0.1 10.0.0.2:80 10.0.0.1:40000\n\
@@ -51,7 +51,7 @@ fn words(alloc: Global, line: &str) -> Result<Vec<String>, Fail> {
 }
 
 /// The status, the output and the fault line of a run on these bytes.
-fn run<R: Threads + Wait + Sync>(
+pub fn run<R: Threads + Wait + Sync>(
     rt: &R,
     alloc: Global,
     line: &str,
