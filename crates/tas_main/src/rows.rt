@@ -5,7 +5,9 @@ mod captures;
 mod closings;
 mod many_syns;
 mod openings;
+mod refused_words;
 mod transfers;
+mod written_captures;
 
 use crate::tests::run;
 use batches::batches;
