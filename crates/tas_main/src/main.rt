@@ -3,6 +3,8 @@
 
 mod input;
 mod output;
+#[cfg(test)]
+mod rows;
 mod stop;
 mod streams;
 mod telling;

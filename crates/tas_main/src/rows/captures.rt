@@ -1,0 +1,389 @@
+//! Worked replays: captures of each byte order and link, cut ones, and what becomes of records that are no good segment.
+
+use crate::rows::Row;
+use crate::tests::FIRST_REPORT;
+
+/// The table.
+pub fn captures() -> &'static [Row] {
+    &CAPTURES
+}
+
+const CAPTURES: [Row; 23] = [
+    Row {
+        name: "first_capture",
+        words: "replay --local 10.0.0.2",
+        input: "\
+d4c3b2a1020004000000000000000000ffff000065000000\
+000000000000000028000000280000004500002800004000400626ce0a0000010a0000029c40005000000064000000005002fffffeeb0000\
+010000000000000028000000280000004500002800004000400626ce0a0000010a0000029c40005000000065000000015010fffffedb0000\
+02000000000000002a0000002a0000004500002a00004000400626cc0a0000010a0000029c40005000000065000000015018ffff966800006869\
+",
+        status: 0,
+        output: FIRST_REPORT,
+        fault: "",
+    },
+    Row {
+        name: "nanoseconds",
+        words: "replay --local 10.0.0.2",
+        input: "\
+4d3cb2a1020004000000000000000000ffff000065000000\
+000000000000000028000000280000004500002800004000400626ce0a0000010a0000029c40005000000064000000005002fffffeeb0000\
+010000000000000028000000280000004500002800004000400626ce0a0000010a0000029c40005000000065000000015010fffffedb0000\
+02000000000000002a0000002a0000004500002a00004000400626cc0a0000010a0000029c40005000000065000000015018ffff966800006869\
+",
+        status: 0,
+        output: FIRST_REPORT,
+        fault: "",
+    },
+    Row {
+        name: "most_significant_byte_first",
+        words: "replay --local 10.0.0.2",
+        input: "\
+a1b2c3d40002000400000000000000000000ffff00000065\
+000000000000000000000028000000284500002800004000400626ce0a0000010a0000029c40005000000064000000005002fffffeeb0000\
+000000010000000000000028000000284500002800004000400626ce0a0000010a0000029c40005000000065000000015010fffffedb0000\
+00000002000000000000002a0000002a4500002a00004000400626cc0a0000010a0000029c40005000000065000000015018ffff966800006869\
+",
+        status: 0,
+        output: FIRST_REPORT,
+        fault: "",
+    },
+    Row {
+        name: "nanoseconds_most_significant_byte_first",
+        words: "replay --local 10.0.0.2",
+        input: "\
+a1b23c4d0002000400000000000000000000ffff00000065\
+000000000000000000000028000000284500002800004000400626ce0a0000010a0000029c40005000000064000000005002fffffeeb0000\
+000000010000000000000028000000284500002800004000400626ce0a0000010a0000029c40005000000065000000015010fffffedb0000\
+00000002000000000000002a0000002a4500002a00004000400626cc0a0000010a0000029c40005000000065000000015018ffff966800006869\
+",
+        status: 0,
+        output: FIRST_REPORT,
+        fault: "",
+    },
+    Row {
+        name: "no_records",
+        words: "replay --local 10.0.0.2",
+        input: "d4c3b2a1020004000000000000000000ffff000065000000",
+        status: 0,
+        output: "\
+tas replay\n\
+host local 10.0.0.2\n\
+records 0 frames 0 passed 0 refused 0\n\
+end 0 ticks\n\
+",
+        fault: "",
+    },
+    Row {
+        name: "another_file_format",
+        words: "replay --local 10.0.0.2",
+        input: "0a0d0d0a0000000000000000000000000000000000000000",
+        status: 3,
+        output: "",
+        fault: "tas: input record 0\n",
+    },
+    Row {
+        name: "empty_input",
+        words: "replay --local 10.0.0.2",
+        input: "",
+        status: 3,
+        output: "",
+        fault: "tas: input record 0\n",
+    },
+    Row {
+        name: "cut_in_the_file_header",
+        words: "replay --local 10.0.0.2",
+        input: "d4c3b2a1020004000000000000000000ffff0000650000",
+        status: 3,
+        output: "",
+        fault: "tas: input record 0\n",
+    },
+    Row {
+        name: "cut_in_the_header_of_the_first_record",
+        words: "replay --local 10.0.0.2",
+        input: "\
+d4c3b2a1020004000000000000000000ffff000065000000\
+00\
+",
+        status: 3,
+        output: "",
+        fault: "tas: input record 1\n",
+    },
+    Row {
+        name: "cut_in_the_first_packet",
+        words: "replay --local 10.0.0.2",
+        input: "\
+d4c3b2a1020004000000000000000000ffff000065000000\
+000000000000000028000000280000004500002800004000400626ce0a0000010a000002\
+",
+        status: 3,
+        output: "",
+        fault: "tas: input record 1\n",
+    },
+    Row {
+        name: "cut_in_the_header_of_the_second_record",
+        words: "replay --local 10.0.0.2",
+        input: "\
+d4c3b2a1020004000000000000000000ffff000065000000\
+000000000000000028000000280000004500002800004000400626ce0a0000010a0000029c40005000000064000000005002fffffeeb0000\
+01\
+",
+        status: 3,
+        output: "",
+        fault: "tas: input record 2\n",
+    },
+    Row {
+        name: "cut_in_the_second_packet",
+        words: "replay --local 10.0.0.2",
+        input: "\
+d4c3b2a1020004000000000000000000ffff000065000000\
+000000000000000028000000280000004500002800004000400626ce0a0000010a0000029c40005000000064000000005002fffffeeb0000\
+010000000000000028000000280000004500002800004000400626ce0a0000\
+",
+        status: 3,
+        output: "",
+        fault: "tas: input record 2\n",
+    },
+    Row {
+        name: "cut_in_the_header_of_the_third_record",
+        words: "replay --local 10.0.0.2",
+        input: "\
+d4c3b2a1020004000000000000000000ffff000065000000\
+000000000000000028000000280000004500002800004000400626ce0a0000010a0000029c40005000000064000000005002fffffeeb0000\
+010000000000000028000000280000004500002800004000400626ce0a0000010a0000029c40005000000065000000015010fffffedb0000\
+0200\
+",
+        status: 3,
+        output: "",
+        fault: "tas: input record 3\n",
+    },
+    Row {
+        name: "cut_in_the_third_packet",
+        words: "replay --local 10.0.0.2",
+        input: "\
+d4c3b2a1020004000000000000000000ffff000065000000\
+000000000000000028000000280000004500002800004000400626ce0a0000010a0000029c40005000000064000000005002fffffeeb0000\
+010000000000000028000000280000004500002800004000400626ce0a0000010a0000029c40005000000065000000015010fffffedb0000\
+02000000000000002a0000002a0000004500002a000040004006\
+",
+        status: 3,
+        output: "",
+        fault: "tas: input record 3\n",
+    },
+    Row {
+        name: "cut_before_the_last_byte",
+        words: "replay --local 10.0.0.2",
+        input: "\
+d4c3b2a1020004000000000000000000ffff000065000000\
+000000000000000028000000280000004500002800004000400626ce0a0000010a0000029c40005000000064000000005002fffffeeb0000\
+010000000000000028000000280000004500002800004000400626ce0a0000010a0000029c40005000000065000000015010fffffedb0000\
+02000000000000002a0000002a0000004500002a00004000400626cc0a0000010a0000029c40005000000065000000015018ffff9668000068\
+",
+        status: 3,
+        output: "",
+        fault: "tas: input record 3\n",
+    },
+    Row {
+        name: "upload_over_ethernet",
+        words: "replay --local 10.0.0.2",
+        input: "\
+d4c3b2a1020004000000000000000000ffff000001000000\
+00000000000000004a0000004a00000000000000000000000000000008004500003c00004000400626ba0a0000010a0000029c4000500000006400000000a002faf09c170000020405b40402080a000000010000000001030307\
+01000000000000003a0000003a00000000000000000000000000000008004500002c00004000400626ca0a0000020a00000100509c4000001b58000000656012ffffcac60000020405b4\
+02000000000000003c0000003c00000000000000000000000000000008004500002800004000400626ce0a0000010a0000029c4000500000006500001b595010ffffe3830000000000000000\
+0300000000000000380000003800000000000000000000000000000008004500002a00004000400626cc0a0000010a0000029c4000500000006500001b595018ffff7b1000006869\
+",
+        status: 0,
+        output: "\
+tas replay\n\
+host local 10.0.0.2\n\
+flow 0 slot 0.1 10.0.0.2:80 10.0.0.1:40000\n\
+0 s.0 passive r:1 iss 7000 S seq 100 ack 0 win 64240 mss 1460 = ok\n\
+0 c0.0 emit = AS seq 7000 ack 101 win 65535 mss 1460\n\
+1 s.1 tick = quiet\n\
+2 s.2 tick = quiet\n\
+2 s.3 rx r:3 A seq 101 ack 7001 win 65535 = none\n\
+2 p0.0 accept = ok\n\
+2 p0.1 recv 65535 = notyet\n\
+3 s.4 tick = quiet\n\
+3 c0.1 rx r:4 AP seq 101 ack 7001 win 65535 data 6869 = A seq 7001 ack 103 win 65533\n\
+3 p0.2 recv 65535 = got 6869\n\
+state ESTABLISHED\n\
+read 2 6869\n\
+records 4 frames 4 passed 0 refused 0\n\
+end 4 ticks\n\
+",
+        fault: "",
+    },
+    Row {
+        name: "another_protocol_passes",
+        words: "replay --local 10.0.0.2",
+        input: "\
+d4c3b2a1020004000000000000000000ffff000065000000\
+000000000000000028000000280000004500002800004000400626ce0a0000010a0000029c40005000000064000000005002fffffeeb0000\
+010000000000000028000000280000004500002800004000400626ce0a0000010a0000029c40005000000065000000015010fffffedb0000\
+02000000000000002a0000002a0000004500002a00004000401126cc0a0000010a0000029c40005000000065000000015018ffff966800006869\
+03000000000000002a0000002a0000004500002a00004000400626cc0a0000010a0000029c40005000000065000000015018ffff966800006869\
+",
+        status: 0,
+        output: "\
+tas replay\n\
+host local 10.0.0.2\n\
+flow 0 slot 0.1 10.0.0.2:80 10.0.0.1:40000\n\
+0 s.0 passive r:1 iss 0 S seq 100 ack 0 win 65535 = ok\n\
+0 c0.0 emit = AS seq 0 ack 101 win 65535 mss 1460\n\
+1 s.1 tick = quiet\n\
+1 s.2 rx r:2 A seq 101 ack 1 win 65535 = none\n\
+1 p0.0 accept = ok\n\
+1 p0.1 recv 65535 = notyet\n\
+2 s.3 tick = quiet\n\
+2 c0.1 rx r:4 AP seq 101 ack 1 win 65535 data 6869 = A seq 1 ack 103 win 65533\n\
+2 p0.2 recv 65535 = got 6869\n\
+state ESTABLISHED\n\
+read 2 6869\n\
+records 4 frames 3 passed 1 refused 0\n\
+end 3 ticks\n\
+",
+        fault: "",
+    },
+    Row {
+        name: "only_another_protocol",
+        words: "replay --local 10.0.0.2",
+        input: "\
+d4c3b2a1020004000000000000000000ffff000065000000\
+000000000000000028000000280000004500002800004000401126ce0a0000010a0000029c40005000000064000000005002fffffeeb0000\
+010000000000000028000000280000004500002800004000401126ce0a0000010a0000029c40005000000064000000005002fffffeeb0000\
+020000000000000028000000280000004500002800004000401126ce0a0000010a0000029c40005000000064000000005002fffffeeb0000\
+",
+        status: 0,
+        output: "\
+tas replay\n\
+host local 10.0.0.2\n\
+records 3 frames 0 passed 3 refused 0\n\
+end 0 ticks\n\
+",
+        fault: "",
+    },
+    Row {
+        name: "short_tcp_header_is_refused",
+        words: "replay --local 10.0.0.2",
+        input: "\
+d4c3b2a1020004000000000000000000ffff000065000000\
+000000000000000028000000280000004500002800004000400627ce0a0000010a0000029c40005000000064000000004002fffffeeb0000\
+",
+        status: 0,
+        output: "\
+tas replay\n\
+host local 10.0.0.2\n\
+0 refused r:1 = 7\n\
+records 1 frames 0 passed 0 refused 1\n\
+end 1 ticks\n\
+",
+        fault: "",
+    },
+    Row {
+        name: "damaged_syn_is_refused",
+        words: "replay --local 10.0.0.2",
+        input: "\
+d4c3b2a1020004000000000000000000ffff000065000000\
+000000000000000028000000280000004500002800004000400626ce0a0000010a0000029c40005000000064000000005002fffffeeb0000\
+010000000000000028000000280000004500002800004000400626ce0a0000010a0000029c40005000000064000000005002ffffffeb0000\
+020000000000000028000000280000004500002800004000400626ce0a0000010a0000029c40005000000065000000015010fffffedb0000\
+",
+        status: 0,
+        output: "\
+tas replay\n\
+host local 10.0.0.2\n\
+0 refused r:2 = 9\n\
+flow 0 slot 0.1 10.0.0.2:80 10.0.0.1:40000\n\
+0 s.0 passive r:1 iss 0 S seq 100 ack 0 win 65535 = ok\n\
+0 c0.0 emit = AS seq 0 ack 101 win 65535 mss 1460\n\
+1 s.1 tick = quiet\n\
+1 s.2 rx r:3 A seq 101 ack 1 win 65535 = none\n\
+1 p0.0 accept = ok\n\
+1 p0.1 recv 65535 = notyet\n\
+state ESTABLISHED\n\
+read 0 -\n\
+records 3 frames 2 passed 0 refused 1\n\
+end 2 ticks\n\
+",
+        fault: "",
+    },
+    Row {
+        name: "damaged_data_is_refused",
+        words: "replay --local 10.0.0.2",
+        input: "\
+d4c3b2a1020004000000000000000000ffff000065000000\
+000000000000000028000000280000004500002800004000400626ce0a0000010a0000029c40005000000064000000005002fffffeeb0000\
+010000000000000028000000280000004500002800004000400626ce0a0000010a0000029c40005000000065000000015010fffffedb0000\
+02000000000000002a0000002a0000004500002a00004000400626cc0a0000010a0000029c40005000000065000000015018ffff96680000686a\
+",
+        status: 0,
+        output: "\
+tas replay\n\
+host local 10.0.0.2\n\
+1 refused r:3 = 9\n\
+flow 0 slot 0.1 10.0.0.2:80 10.0.0.1:40000\n\
+0 s.0 passive r:1 iss 0 S seq 100 ack 0 win 65535 = ok\n\
+0 c0.0 emit = AS seq 0 ack 101 win 65535 mss 1460\n\
+1 s.1 tick = quiet\n\
+1 s.2 rx r:2 A seq 101 ack 1 win 65535 = none\n\
+1 p0.0 accept = ok\n\
+1 p0.1 recv 65535 = notyet\n\
+state ESTABLISHED\n\
+read 0 -\n\
+records 3 frames 2 passed 0 refused 1\n\
+end 2 ticks\n\
+",
+        fault: "",
+    },
+    Row {
+        name: "damaged_data_counts_with_loose_sums",
+        words: "replay --local 10.0.0.2 --loose-sums",
+        input: "\
+d4c3b2a1020004000000000000000000ffff000065000000\
+000000000000000028000000280000004500002800004000400626ce0a0000010a0000029c40005000000064000000005002fffffeeb0000\
+010000000000000028000000280000004500002800004000400626ce0a0000010a0000029c40005000000065000000015010fffffedb0000\
+02000000000000002a0000002a0000004500002a00004000400626cc0a0000010a0000029c40005000000065000000015018ffff96680000686a\
+",
+        status: 0,
+        output: "\
+tas replay\n\
+host local 10.0.0.2\n\
+flow 0 slot 0.1 10.0.0.2:80 10.0.0.1:40000\n\
+0 s.0 passive r:1 iss 0 S seq 100 ack 0 win 65535 = ok\n\
+0 c0.0 emit = AS seq 0 ack 101 win 65535 mss 1460\n\
+1 s.1 tick = quiet\n\
+1 s.2 rx r:2 A seq 101 ack 1 win 65535 = none\n\
+1 p0.0 accept = ok\n\
+1 p0.1 recv 65535 = notyet\n\
+2 s.3 tick = quiet\n\
+2 c0.1 rx r:3 AP seq 101 ack 1 win 65535 data 686a = A seq 1 ack 103 win 65533\n\
+2 p0.2 recv 65535 = got 686a\n\
+state ESTABLISHED\n\
+read 2 686a\n\
+records 3 frames 3 passed 0 refused 0\n\
+end 3 ticks\n\
+",
+        fault: "",
+    },
+    Row {
+        name: "stray_resets_are_not_answered",
+        words: "replay --local 10.0.0.2",
+        input: "\
+d4c3b2a1020004000000000000000000ffff000065000000\
+000000000000000028000000280000004500002800004000400626ce0a0000010a0000020007005000000001000000005004ffff9b860000\
+010000000000000028000000280000004500002800004000400626ce0a0000010a0000020007005000000001000000005004ffff9b860000\
+",
+        status: 0,
+        output: "\
+tas replay\n\
+host local 10.0.0.2\n\
+0 stray r:1 R seq 1 ack 0 win 65535 = none\n\
+1 stray r:2 R seq 1 ack 0 win 65535 = none\n\
+records 2 frames 2 passed 0 refused 0\n\
+end 2 ticks\n\
+",
+        fault: "",
+    },
+];

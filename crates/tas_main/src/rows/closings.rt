@@ -1,0 +1,313 @@
+//! Worked replays: how flows close, by FIN and by reset, and what may come behind that.
+
+use crate::rows::Row;
+
+/// The table.
+pub fn closings() -> &'static [Row] {
+    &CLOSINGS
+}
+
+const CLOSINGS: [Row; 8] = [
+    Row {
+        name: "both_sides_close",
+        words: "replay --local 10.0.0.2",
+        input: "\
+d4c3b2a1020004000000000000000000ffff000065000000\
+000000000000000028000000280000004500002800004000400626ce0a0000010a0000029c40005000000064000000005002fffffeeb0000\
+010000000000000028000000280000004500002800004000400626ce0a0000010a0000029c40005000000065000000015010fffffedb0000\
+02000000000000002a0000002a0000004500002a00004000400626cc0a0000010a0000029c40005000000065000000015018ffff966800006869\
+030000000000000028000000280000004500002800004000400626ce0a0000010a0000029c40005000000067000000015011fffffed80000\
+040000000000000028000000280000004500002800004000400626ce0a0000020a00000100509c4000000001000000685011fffffed70000\
+050000000000000028000000280000004500002800004000400626ce0a0000010a0000029c40005000000068000000025010fffffed70000\
+",
+        status: 0,
+        output: "\
+tas replay\n\
+host local 10.0.0.2\n\
+flow 0 slot 0.1 10.0.0.2:80 10.0.0.1:40000\n\
+0 s.0 passive r:1 iss 0 S seq 100 ack 0 win 65535 = ok\n\
+0 c0.0 emit = AS seq 0 ack 101 win 65535 mss 1460\n\
+1 s.1 tick = quiet\n\
+1 s.2 rx r:2 A seq 101 ack 1 win 65535 = none\n\
+1 p0.0 accept = ok\n\
+1 p0.1 recv 65535 = notyet\n\
+2 s.3 tick = quiet\n\
+2 c0.1 rx r:3 AP seq 101 ack 1 win 65535 data 6869 = A seq 1 ack 103 win 65533\n\
+2 p0.2 recv 65535 = got 6869\n\
+3 s.4 tick = quiet\n\
+3 s.5 rx r:4 AF seq 103 ack 1 win 65535 = A seq 1 ack 104 win 65535\n\
+3 p0.3 recv 65535 = end\n\
+4 s.6 tick = quiet\n\
+4 p0.4 shut = ok\n\
+4 c0.2 emit = AF seq 1 ack 104 win 65535\n\
+5 s.7 tick = quiet\n\
+5 s.8 rx r:6 A seq 104 ack 2 win 65535 = none\n\
+5 p0.5 recv 65535 = end\n\
+state CLOSED done\n\
+read 2 6869\n\
+records 6 frames 6 passed 0 refused 0\n\
+end 6 ticks\n\
+",
+        fault: "",
+    },
+    Row {
+        name: "data_behind_the_fin_is_left",
+        words: "replay --local 10.0.0.2",
+        input: "\
+d4c3b2a1020004000000000000000000ffff000065000000\
+000000000000000028000000280000004500002800004000400626ce0a0000010a0000029c40005000000064000000005002fffffeeb0000\
+010000000000000028000000280000004500002800004000400626ce0a0000010a0000029c40005000000065000000015010fffffedb0000\
+02000000000000002a0000002a0000004500002a00004000400626cc0a0000010a0000029c40005000000065000000015018ffff966800006869\
+030000000000000028000000280000004500002800004000400626ce0a0000010a0000029c40005000000067000000015011fffffed80000\
+040000000000000028000000280000004500002800004000400626ce0a0000020a00000100509c4000000001000000685011fffffed70000\
+050000000000000029000000290000004500002900004000400626cd0a0000010a0000029c40005000000068000000025018ffff86ce000078\
+",
+        status: 0,
+        output: "\
+tas replay\n\
+host local 10.0.0.2\n\
+flow 0 slot 0.1 10.0.0.2:80 10.0.0.1:40000\n\
+0 s.0 passive r:1 iss 0 S seq 100 ack 0 win 65535 = ok\n\
+0 c0.0 emit = AS seq 0 ack 101 win 65535 mss 1460\n\
+1 s.1 tick = quiet\n\
+1 s.2 rx r:2 A seq 101 ack 1 win 65535 = none\n\
+1 p0.0 accept = ok\n\
+1 p0.1 recv 65535 = notyet\n\
+2 s.3 tick = quiet\n\
+2 c0.1 rx r:3 AP seq 101 ack 1 win 65535 data 6869 = A seq 1 ack 103 win 65533\n\
+2 p0.2 recv 65535 = got 6869\n\
+3 s.4 tick = quiet\n\
+3 s.5 rx r:4 AF seq 103 ack 1 win 65535 = A seq 1 ack 104 win 65535\n\
+3 p0.3 recv 65535 = end\n\
+4 s.6 tick = quiet\n\
+4 p0.4 shut = ok\n\
+4 c0.2 emit = AF seq 1 ack 104 win 65535\n\
+5 s.7 tick = quiet\n\
+5 s.8 rx r:6 AP seq 104 ack 2 win 65535 data 78 = A seq 2 ack 104 win 65535\n\
+5 p0.5 recv 65535 = end\n\
+state CLOSED done\n\
+read 2 6869\n\
+records 6 frames 6 passed 0 refused 0\n\
+end 6 ticks\n\
+",
+        fault: "",
+    },
+    Row {
+        name: "local_data_with_fin",
+        words: "replay --local 10.0.0.2",
+        input: "\
+d4c3b2a1020004000000000000000000ffff000065000000\
+000000000000000028000000280000004500002800004000400626ce0a0000010a0000029c40005000000064000000005002fffffeeb0000\
+010000000000000028000000280000004500002800004000400626ce0a0000010a0000029c40005000000065000000015010fffffedb0000\
+02000000000000002a0000002a0000004500002a00004000400626cc0a0000010a0000029c40005000000065000000015018ffff966800006869\
+03000000000000002a0000002a0000004500002a00004000400626cc0a0000020a00000100509c4000000001000000675019ffff8f6300006f6b\
+",
+        status: 0,
+        output: "\
+tas replay\n\
+host local 10.0.0.2\n\
+flow 0 slot 0.1 10.0.0.2:80 10.0.0.1:40000\n\
+0 s.0 passive r:1 iss 0 S seq 100 ack 0 win 65535 = ok\n\
+0 c0.0 emit = AS seq 0 ack 101 win 65535 mss 1460\n\
+1 s.1 tick = quiet\n\
+1 s.2 rx r:2 A seq 101 ack 1 win 65535 = none\n\
+1 p0.0 accept = ok\n\
+1 p0.1 recv 65535 = notyet\n\
+2 s.3 tick = quiet\n\
+2 c0.1 rx r:3 AP seq 101 ack 1 win 65535 data 6869 = A seq 1 ack 103 win 65533\n\
+2 p0.2 recv 65535 = got 6869\n\
+3 s.4 tick = quiet\n\
+3 p0.3 send 2 = took 6f6b\n\
+3 p0.4 shut = ok\n\
+3 c0.2 emit = AP seq 1 ack 103 win 65535 data 6f6b\n\
+3 c0.3 emit = AF seq 3 ack 103 win 65535\n\
+state FIN-WAIT-1\n\
+read 2 6869\n\
+records 4 frames 4 passed 0 refused 0\n\
+end 4 ticks\n\
+",
+        fault: "",
+    },
+    Row {
+        name: "local_fin_behind_a_gap",
+        words: "replay --local 10.0.0.2",
+        input: "\
+d4c3b2a1020004000000000000000000ffff000065000000\
+000000000000000028000000280000004500002800004000400626ce0a0000010a0000029c40005000000064000000005002fffffeeb0000\
+010000000000000028000000280000004500002800004000400626ce0a0000010a0000029c40005000000065000000015010fffffedb0000\
+02000000000000002a0000002a0000004500002a00004000400626cc0a0000010a0000029c40005000000065000000015018ffff966800006869\
+030000000000000028000000280000004500002800004000400626ce0a0000020a00000100509c4000000005000000675011fffffed40000\
+",
+        status: 0,
+        output: "\
+tas replay\n\
+host local 10.0.0.2\n\
+flow 0 slot 0.1 10.0.0.2:80 10.0.0.1:40000\n\
+0 s.0 passive r:1 iss 0 S seq 100 ack 0 win 65535 = ok\n\
+0 c0.0 emit = AS seq 0 ack 101 win 65535 mss 1460\n\
+1 s.1 tick = quiet\n\
+1 s.2 rx r:2 A seq 101 ack 1 win 65535 = none\n\
+1 p0.0 accept = ok\n\
+1 p0.1 recv 65535 = notyet\n\
+2 s.3 tick = quiet\n\
+2 c0.1 rx r:3 AP seq 101 ack 1 win 65535 data 6869 = A seq 1 ack 103 win 65533\n\
+2 p0.2 recv 65535 = got 6869\n\
+3 s.4 tick = quiet\n\
+3 p0.3 shut = ok\n\
+3 c0.2 emit = AF seq 1 ack 103 win 65535\n\
+state FIN-WAIT-1\n\
+read 2 6869\n\
+records 4 frames 4 passed 0 refused 0\n\
+end 4 ticks\n\
+",
+        fault: "",
+    },
+    Row {
+        name: "only_the_reset_at_the_edge_closes",
+        words: "replay --local 10.0.0.2",
+        input: "\
+d4c3b2a1020004000000000000000000ffff000065000000\
+000000000000000028000000280000004500002800004000400626ce0a0000010a0000029c40005000000064000000005002fffffeeb0000\
+010000000000000028000000280000004500002800004000400626ce0a0000010a0000029c40005000000065000000015010fffffedb0000\
+02000000000000002a0000002a0000004500002a00004000400626cc0a0000010a0000029c40005000000065000000015018ffff966800006869\
+030000000000000028000000280000004500002800004000400626ce0a0000010a0000029c400050000000680000000050040000fee50000\
+040000000000000028000000280000004500002800004000400626ce0a0000010a0000029c400050000000670000000050040000fee60000\
+",
+        status: 0,
+        output: "\
+tas replay\n\
+host local 10.0.0.2\n\
+flow 0 slot 0.1 10.0.0.2:80 10.0.0.1:40000\n\
+0 s.0 passive r:1 iss 0 S seq 100 ack 0 win 65535 = ok\n\
+0 c0.0 emit = AS seq 0 ack 101 win 65535 mss 1460\n\
+1 s.1 tick = quiet\n\
+1 s.2 rx r:2 A seq 101 ack 1 win 65535 = none\n\
+1 p0.0 accept = ok\n\
+1 p0.1 recv 65535 = notyet\n\
+2 s.3 tick = quiet\n\
+2 c0.1 rx r:3 AP seq 101 ack 1 win 65535 data 6869 = A seq 1 ack 103 win 65533\n\
+2 p0.2 recv 65535 = got 6869\n\
+3 s.4 tick = quiet\n\
+3 s.5 rx r:4 R seq 104 ack 0 win 0 = A seq 1 ack 103 win 65535\n\
+3 p0.3 recv 65535 = notyet\n\
+4 s.6 tick = quiet\n\
+4 s.7 rx r:5 R seq 103 ack 0 win 0 = none\n\
+4 p0.4 recv 65535 = closed reset\n\
+state CLOSED reset\n\
+read 2 6869\n\
+records 5 frames 5 passed 0 refused 0\n\
+end 5 ticks\n\
+",
+        fault: "",
+    },
+    Row {
+        name: "segment_after_the_reset_is_stray",
+        words: "replay --local 10.0.0.2",
+        input: "\
+d4c3b2a1020004000000000000000000ffff000065000000\
+000000000000000028000000280000004500002800004000400626ce0a0000010a0000029c40005000000064000000005002fffffeeb0000\
+010000000000000028000000280000004500002800004000400626ce0a0000010a0000029c40005000000065000000015010fffffedb0000\
+02000000000000002a0000002a0000004500002a00004000400626cc0a0000010a0000029c40005000000065000000015018ffff966800006869\
+030000000000000028000000280000004500002800004000400626ce0a0000010a0000029c40005000000067000000015014fffffed50000\
+040000000000000028000000280000004500002800004000400626ce0a0000010a0000029c40005000000067000000015010fffffed90000\
+",
+        status: 0,
+        output: "\
+tas replay\n\
+host local 10.0.0.2\n\
+4 stray r:5 A seq 103 ack 1 win 65535 = R seq 1 ack 0 win 0\n\
+flow 0 slot 0.1 10.0.0.2:80 10.0.0.1:40000\n\
+0 s.0 passive r:1 iss 0 S seq 100 ack 0 win 65535 = ok\n\
+0 c0.0 emit = AS seq 0 ack 101 win 65535 mss 1460\n\
+1 s.1 tick = quiet\n\
+1 s.2 rx r:2 A seq 101 ack 1 win 65535 = none\n\
+1 p0.0 accept = ok\n\
+1 p0.1 recv 65535 = notyet\n\
+2 s.3 tick = quiet\n\
+2 c0.1 rx r:3 AP seq 101 ack 1 win 65535 data 6869 = A seq 1 ack 103 win 65533\n\
+2 p0.2 recv 65535 = got 6869\n\
+3 s.4 tick = quiet\n\
+3 s.5 rx r:4 AR seq 103 ack 1 win 65535 = none\n\
+3 p0.3 recv 65535 = closed reset\n\
+state CLOSED reset\n\
+read 2 6869\n\
+records 5 frames 5 passed 0 refused 0\n\
+end 5 ticks\n\
+",
+        fault: "",
+    },
+    Row {
+        name: "same_ports_after_the_reset",
+        words: "replay --local 10.0.0.2",
+        input: "\
+d4c3b2a1020004000000000000000000ffff000065000000\
+000000000000000028000000280000004500002800004000400626ce0a0000010a0000029c40005000000064000000005002fffffeeb0000\
+010000000000000028000000280000004500002800004000400626ce0a0000010a0000029c40005000000065000000015010fffffedb0000\
+02000000000000002a0000002a0000004500002a00004000400626cc0a0000010a0000029c40005000000065000000015018ffff966800006869\
+030000000000000028000000280000004500002800004000400626ce0a0000010a0000029c40005000000067000000005004fffffee60000\
+040000000000000028000000280000004500002800004000400626ce0a0000010a0000029c400050000001f4000000005002fffffd5b0000\
+",
+        status: 0,
+        output: "\
+tas replay\n\
+host local 10.0.0.2\n\
+flow 0 slot 0.1 10.0.0.2:80 10.0.0.1:40000\n\
+0 s.0 passive r:1 iss 0 S seq 100 ack 0 win 65535 = ok\n\
+0 c0.0 emit = AS seq 0 ack 101 win 65535 mss 1460\n\
+1 s.1 tick = quiet\n\
+1 s.2 rx r:2 A seq 101 ack 1 win 65535 = none\n\
+1 p0.0 accept = ok\n\
+1 p0.1 recv 65535 = notyet\n\
+2 s.3 tick = quiet\n\
+2 c0.1 rx r:3 AP seq 101 ack 1 win 65535 data 6869 = A seq 1 ack 103 win 65533\n\
+2 p0.2 recv 65535 = got 6869\n\
+3 s.4 tick = quiet\n\
+3 s.5 rx r:4 R seq 103 ack 0 win 65535 = none\n\
+3 p0.3 recv 65535 = closed reset\n\
+state CLOSED reset\n\
+read 2 6869\n\
+flow 1 slot 0.2 10.0.0.2:80 10.0.0.1:40000\n\
+4 s.0 passive r:5 iss 64000 S seq 500 ack 0 win 65535 = ok\n\
+4 c0.0 emit = AS seq 64000 ack 501 win 65535 mss 1460\n\
+state SYN-RECEIVED\n\
+read 0 -\n\
+records 5 frames 5 passed 0 refused 0\n\
+end 5 ticks\n\
+",
+        fault: "",
+    },
+    Row {
+        name: "syn_in_an_open_flow",
+        words: "replay --local 10.0.0.2",
+        input: "\
+d4c3b2a1020004000000000000000000ffff000065000000\
+000000000000000028000000280000004500002800004000400626ce0a0000010a0000029c40005000000064000000005002fffffeeb0000\
+010000000000000028000000280000004500002800004000400626ce0a0000010a0000029c40005000000065000000015010fffffedb0000\
+02000000000000002a0000002a0000004500002a00004000400626cc0a0000010a0000029c40005000000065000000015018ffff966800006869\
+030000000000000028000000280000004500002800004000400626ce0a0000010a0000029c40005000000067000000005002fffffee80000\
+",
+        status: 0,
+        output: "\
+tas replay\n\
+host local 10.0.0.2\n\
+flow 0 slot 0.1 10.0.0.2:80 10.0.0.1:40000\n\
+0 s.0 passive r:1 iss 0 S seq 100 ack 0 win 65535 = ok\n\
+0 c0.0 emit = AS seq 0 ack 101 win 65535 mss 1460\n\
+1 s.1 tick = quiet\n\
+1 s.2 rx r:2 A seq 101 ack 1 win 65535 = none\n\
+1 p0.0 accept = ok\n\
+1 p0.1 recv 65535 = notyet\n\
+2 s.3 tick = quiet\n\
+2 c0.1 rx r:3 AP seq 101 ack 1 win 65535 data 6869 = A seq 1 ack 103 win 65533\n\
+2 p0.2 recv 65535 = got 6869\n\
+3 s.4 tick = quiet\n\
+3 s.5 rx r:4 S seq 103 ack 0 win 65535 = A seq 1 ack 103 win 65535\n\
+3 p0.3 recv 65535 = notyet\n\
+state ESTABLISHED\n\
+read 2 6869\n\
+records 4 frames 4 passed 0 refused 0\n\
+end 4 ticks\n\
+",
+        fault: "",
+    },
+];
