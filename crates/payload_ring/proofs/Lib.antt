@@ -1,2 +1,3 @@
 pub mod Turning
 pub mod Windows
+pub mod Zeros

@@ -1,6 +1,100 @@
-ghost use Rattle.std.specs.Prelude.{◌≡◌, ℕ, ◌+◌, ◌-◌, ◌^◌, ◌<◌, ◌≤◌, length, take, drop};
+ghost use Rattle.std.specs.Prelude.{◌≡◌, ℕ, ◌+◌, ◌-◌, ◌^◌, ◌<◌, ◌≤◌, ◌++◌, length, take, drop, replicate, vec_len, vec_capacity, IfOk};
 ghost use Rattle.payload_ring.specs.Window.{overlaid};
 ghost use Rattle.payload_ring.specs.Turned.{turned};
+
+use std::alloc::{AllocError, Global};
+use std::marker::Model;
+
+/// How many zeros are written at a time.
+const PIECE: usize = 4096;
+
+/// Cells of a byte each, seen as their list. They are zero at first.
+///
+/// Their memory is taken once. A cell is written to only once it is used, or one behind it: memory that is never touched costs a machine nothing.
+#[derive(Drop)]
+pub struct Cells {
+    /// The first cells. Those behind them are zero.
+    bytes: Vec<u8>,
+    size: usize,
+}
+
+impl Model for Cells {
+    ghost use Rattle.std.specs.Prelude.{List, ℕ, ◌++◌, ◌-◌, ◌≤◌, replicate, vec_len, vec_capacity};
+
+    ghost Value = { List ℕ };
+
+    ghost view = { λ c. c.bytes.items ++ replicate (c.size - vec_len c.bytes) 0 };
+
+    ghost invariant = { λ c. (vec_len c.bytes ≤ c.size) × (c.size ≤ vec_capacity c.bytes) };
+}
+
+impl Cells {
+    /// So many cells. The error is want of memory.
+    pub fn new(alloc: Global, size: usize) -> Result<Cells, AllocError>
+        ensures { IfOk result (λ cells. cells ≡ replicate size 0) }
+    {
+        Ok(Cells {
+            bytes: Vec::with_capacity(alloc, size)?,
+            size,
+        })
+    }
+
+    /// How many cells there are.
+    pub fn len(&self) -> usize
+        ensures { result ≡ length self.now }
+    {
+        self.size
+    }
+
+    /// Writes a piece over the cells at the offset `at` from the cell `start` on, round the end.
+    pub fn put_round(&mut self, start: usize, at: usize, piece: &[u8])
+        requires start { start < length self.old }
+        requires fits { at + length piece.now ≤ length self.old }
+        requires small { length self.old < 2 ^ 32 }
+        ensures cells { turned start self.new ≡ overlaid at piece.now (turned start self.old) }
+        ensures len { length self.new ≡ length self.old }
+    {
+        let index = index_of(self.len(), start, at);
+        let (front, back) = piece.split_at(piece.len().min(self.len() - index));
+        self.put(index, front);
+        self.put(0, back);
+    }
+
+    /// Reads the cells at the offset `at` from the cell `start` on, round the end.
+    pub fn copy_round(&self, start: usize, at: usize, out: &mut [u8])
+        requires start { start < length self.now }
+        requires fits { at + length out.old ≤ length self.now }
+        requires small { length self.now < 2 ^ 32 }
+        ensures { out.new ≡ take (length out.old) (drop at (turned start self.now)) }
+    {
+        let index = index_of(self.len(), start, at);
+        let count = out.len().min(self.len() - index);
+        let (front, back) = out.split_at_mut(count);
+        self.copy(index, front);
+        self.copy(0, back);
+    }
+
+    /// Writes a piece over the cells from the index `at` on.
+    fn put(&mut self, at: usize, piece: &[u8])
+        requires fits { at + length piece.now ≤ length self.old }
+        requires small { length self.old < 2 ^ 32 }
+        ensures cells { self.new ≡ overlaid at piece.now self.old }
+        ensures len { length self.new ≡ length self.old }
+    {
+        let end = at + piece.len();
+        fill_to(&mut self.bytes, end);
+        write_over(&mut self.bytes, at, piece);
+    }
+
+    /// Reads the cells from the index `at` on.
+    fn copy(&self, at: usize, out: &mut [u8])
+        requires { at + length out.old ≤ length self.now }
+        ensures { out.new ≡ take (length out.old) (drop at self.now) }
+    {
+        let written = &self.bytes[at.min(self.bytes.len())..];
+        copy_front(written, out);
+    }
+}
 
 /// The index of the cell at the offset `at` from the cell `start` on, in a ring of `size` cells.
 pub fn index_of(size: usize, start: usize, at: usize) -> usize
@@ -14,37 +108,48 @@ pub fn index_of(size: usize, start: usize, at: usize) -> usize
     if index < size { index } else { index - size }
 }
 
-/// Writes a piece over the cells from the index `at` on.
-fn put(cells: &mut [u8], at: usize, piece: &[u8])
-    requires { at + length piece.now ≤ length cells.old }
-    ensures { cells.new ≡ overlaid at piece.now cells.old }
+/// Writes zeros behind the bytes, until there are so many.
+fn fill_to(bytes: &mut Vec<u8>, end: usize)
+    requires { end ≤ vec_capacity bytes.old }
+    ensures items { bytes.new.items ≡ bytes.old.items ++ replicate (end - vec_len bytes.old) 0 }
+    ensures capacity { vec_capacity bytes.old ≤ vec_capacity bytes.new }
 {
-    cells[at..at + piece.len()].copy_from_slice(piece);
+    while bytes.len() < end {
+        let count = (end - bytes.len()).min(PIECE);
+        add_zeros(bytes, count);
+    }
 }
 
-/// Writes a piece over the cells at the offset `at` from the cell `start` on, round the end.
-pub fn put_round(cells: &mut [u8], start: usize, at: usize, piece: &[u8])
-    requires start { start < length cells.old }
-    requires fits { at + length piece.now ≤ length cells.old }
-    requires small { length cells.old < 2 ^ 32 }
-    ensures { turned start cells.new ≡ overlaid at piece.now (turned start cells.old) }
+/// Writes so many zeros behind the bytes, which have room for them.
+fn add_zeros(bytes: &mut Vec<u8>, count: usize)
+    requires few { count ≤ 4096 }
+    requires room { vec_len bytes.old + count ≤ vec_capacity bytes.old }
+    ensures items { bytes.new.items ≡ bytes.old.items ++ replicate count 0 }
+    ensures capacity { vec_capacity bytes.old ≤ vec_capacity bytes.new }
 {
-    let index = index_of(cells.len(), start, at);
-    let (front, back) = piece.split_at(piece.len().min(cells.len() - index));
-    put(cells, index, front);
-    put(cells, 0, back);
+    let zeros = [0; PIECE];
+    match bytes.extend_from_slice(&zeros[..count]) {
+        Ok(()) => {}
+        Err(_) => unreachable!(),
+    }
 }
 
-/// Reads the cells at the offset `at` from the cell `start` on, round the end.
-pub fn copy_round(cells: &[u8], start: usize, at: usize, out: &mut [u8])
-    requires start { start < length cells.now }
-    requires fits { at + length out.old ≤ length cells.now }
-    requires small { length cells.now < 2 ^ 32 }
-    ensures { out.new ≡ take (length out.old) (drop at (turned start cells.now)) }
+/// Writes a piece over the bytes from `at` on.
+fn write_over(bytes: &mut Vec<u8>, at: usize, piece: &[u8])
+    requires { at + length piece.now ≤ vec_len bytes.old }
+    ensures items { bytes.new.items ≡ overlaid at piece.now bytes.old.items }
+    ensures len { vec_len bytes.new ≡ vec_len bytes.old }
+    ensures capacity { vec_capacity bytes.new ≡ vec_capacity bytes.old }
 {
-    let index = index_of(cells.len(), start, at);
-    let count = out.len().min(cells.len() - index);
-    let rest = out.len() - count;
-    put(out, 0, &cells[index..index + count]);
-    put(out, count, &cells[..rest]);
+    bytes[at..at + piece.len()].copy_from_slice(piece);
+}
+
+/// Copies the first bytes, and zeros behind them where there are too few.
+fn copy_front(bytes: &[u8], out: &mut [u8])
+    ensures { out.new ≡ take (length out.old) bytes.now ++ replicate (length out.old - length bytes.now) 0 }
+{
+    let count = bytes.len().min(out.len());
+    let (front, back) = out.split_at_mut(count);
+    front.copy_from_slice(&bytes[..count]);
+    back.fill(0);
 }

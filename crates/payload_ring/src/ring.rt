@@ -1,7 +1,7 @@
 ghost use Rattle.std.specs.Prelude.{◌≡◌, ℕ, ◌+◌, ◌-◌, ◌^◌, ◌<◌, ◌≤◌, ◌++◌, [], length, take, drop, replicate, IfOk};
 ghost use Rattle.payload_ring.specs.Window.{Window, IsWindow, end_of, cells_of, room_of, overlaid, with_cells};
 
-use crate::cells::{copy_round, index_of, put_round};
+use crate::cells::{Cells, index_of};
 use std::alloc::{AllocError, Global};
 use std::marker::Model;
 
@@ -10,7 +10,7 @@ use std::marker::Model;
 /// A place is the number of a byte in the stream. The bytes from `base` to below `end` stand in order; those ahead of them, up to below `base + size`, can be placed before the ones between have come. So it serves as a flow's send buffer, and as its receive buffer for segments that come out of order (RFC 9293, section 3.10.7.4).
 #[derive(Drop)]
 pub struct Ring {
-    cells: Vec<u8>,
+    cells: Cells,
     /// The cell of the byte at `base`.
     start: usize,
     /// A place.
@@ -20,20 +20,20 @@ pub struct Ring {
 }
 
 impl Model for Ring {
-    ghost use Rattle.std.specs.Prelude.{ℕ, ◌+◌, ◌^◌, ◌<◌, ◌≤◌, take, drop, vec_len};
+    ghost use Rattle.std.specs.Prelude.{ℕ, ◌+◌, ◌^◌, ◌<◌, ◌≤◌, take, drop, length};
     ghost use Rattle.payload_ring.specs.Window.{Window};
     ghost use Rattle.payload_ring.specs.Turned.{turned};
 
     ghost Value = { Window };
 
     ghost view = { λ r. record {
-      size = vec_len r.cells;
+      size = length r.cells;
       base = r.base;
-      bytes = take r.len (turned r.start r.cells.items);
-      ahead = drop r.len (turned r.start r.cells.items);
+      bytes = take r.len (turned r.start r.cells);
+      ahead = drop r.len (turned r.start r.cells);
     } };
 
-    ghost invariant = { λ r. (r.start < vec_len r.cells) × (r.len ≤ vec_len r.cells) × (vec_len r.cells ≤ 1048576) × (r.base + r.len < 2 ^ 127) };
+    ghost invariant = { λ r. (r.start < length r.cells) × (r.len ≤ length r.cells) × (length r.cells ≤ 1048576) × (r.base + r.len < 2 ^ 127) };
 }
 
 impl Ring {
@@ -45,7 +45,7 @@ impl Ring {
         ensures window { IfOk result (λ ring. IsWindow ring) }
     {
         Ok(Ring {
-            cells: vec![in alloc; 0; size as usize]?,
+            cells: Cells::new(alloc, size as usize)?,
             start: 0,
             base: 0,
             len: 0,
@@ -100,7 +100,7 @@ impl Ring {
         ensures ahead { end_of self.old ≤ pos → self.new ≡ record self.old { ahead = overlaid (pos - end_of self.old) bytes.now self.old.ahead } }
     {
         let at = (pos - self.base) as usize;
-        put_round(&mut self.cells, self.start, at, bytes);
+        self.cells.put_round(self.start, at, bytes);
     }
 
     /// Puts bytes behind those in order.
@@ -109,7 +109,7 @@ impl Ring {
         requires far { end_of self.old + length bytes.now < 2 ^ 127 }
         ensures { self.new ≡ record self.old { bytes = self.old.bytes ++ bytes.now; ahead = drop (length bytes.now) self.old.ahead } }
     {
-        put_round(&mut self.cells, self.start, self.len as usize, bytes);
+        self.cells.put_round(self.start, self.len as usize, bytes);
         self.len += bytes.len() as u32;
     }
 
@@ -141,6 +141,6 @@ impl Ring {
         ensures ahead { end_of self.now ≤ pos → buf.new ≡ take (length buf.old) (drop (pos - end_of self.now) self.now.ahead) }
     {
         let at = (pos - self.base) as usize;
-        copy_round(&self.cells, self.start, at, buf);
+        self.cells.copy_round(self.start, at, buf);
     }
 }

@@ -1,6 +1,4 @@
-use Rattle.std.proofs.Common.{◌≡◌, ℕ, ◌-◌, ◌≤◌, List, length, sym, ap, ◌∙◌, arith}
-use Rattle.std.specs.Vec.{vec_len}
-use Rattle.std.proofs.lemmas.List.{with_items_is}
+use Rattle.std.proofs.Common.{◌≡◌, ℕ, ◌-◌, ◌≤◌, length, ap, ◌∙◌, arith}
 use Rattle.payload_ring.specs.Window.{Window, overlaid, end_of}
 use Rattle.payload_ring.specs.Turned.{turned}
 use Rattle.payload_ring.proofs.Turning.{length-turned}
@@ -10,18 +8,15 @@ use Rattle.payload_ring.proofs.ring.Ring.put_at.Goals as goal
 pub returns-clause-ahead : goal.returns-clause-ahead
 returns-clause-ahead c past =
     let was = c.self.inside in
-    let cells = turned was.start was.cells.items in
-    let same = c.deref_mut.ensures.value in
-    let all : length was.cells.items ≡ vec_len was.cells = sym was.cells.ok.0 in
-    let size : vec_len was.cells ≡ c.args.self.now.size = ap (λ (w : Window). w.size) c.self.view_is in
+    let cells = turned was.start was.cells in
+    let size : length was.cells ≡ c.args.self.now.size = ap (λ (w : Window). w.size) c.self.view_is in
     let base : was.base ≡ c.args.self.now.base = ap (λ (w : Window). w.base) c.self.view_is in
-    let within : was.len ≤ length cells = omega (arith, length-turned was.start was.cells.items, all, c.self.invariant) in
+    let within : was.len ≤ length cells = omega (arith, length-turned was.start was.cells, c.self.invariant) in
     let in_order : length c.args.self.now.bytes ≡ was.len = length-in_order _ _ was.len cells _ within c.self.view_is in
     let at = c.args.pos - was.base in
     let beyond : was.len ≤ at = omega (arith, base, in_order, past) in
-    let inside : at ≤ length cells = omega (arith, base, size, all, length-turned was.start was.cells.items, c.requires.below) in
+    let inside : at ≤ length cells = omega (arith, base, size, length-turned was.start was.cells, c.requires.below) in
     let offset : at - length c.args.self.now.bytes ≡ c.args.pos - end_of c.args.self.now = omega (arith, base) in
-    let kept : length c.put_round.new.cells ≡ vec_len was.cells = c.put_round.auto.cells ∙ c.deref_mut.ensures.len in
-    ap (λ (x : List ℕ). on_cells (vec_len was.cells) was.base was.len (turned was.start x)) (with_items_is was.cells c.put_round.new.cells kept)
-    ∙ (placed_ahead _ _ was.len at c.args.bytes.now cells _ _ beyond inside (c.put_round.ensures ∙ ap (λ (x : List ℕ). overlaid at c.args.bytes.now (turned was.start x)) same) c.self.view_is
+    ap (λ (n : ℕ). on_cells n was.base was.len (turned was.start c.put_round.new.self)) c.put_round.ensures.len
+    ∙ (placed_ahead _ _ was.len at c.args.bytes.now cells _ _ beyond inside c.put_round.ensures.cells c.self.view_is
     ∙ ap (λ (n : ℕ). record (c.args.self.now) { ahead = overlaid n c.args.bytes.now c.args.self.now.ahead }) offset)
