@@ -16,22 +16,19 @@ mod words;
 use std::alloc::{AllocError, Global};
 use std::env;
 use std::process::ExitCode;
+use stop::Stop;
 use streams::{StderrSink, StdinSource, StdoutSink};
 use tas_num::NoGate;
+use telling::tell;
 use top::tas;
 
 fn main(rt: HostRuntime) -> ExitCode {
     let alloc = rt.alloc();
     let mut faults = StderrSink::new(rt.stderr());
-    let mut words = Vec::new(alloc);
-    let Ok(arguments) = env::args(&rt) else {
-        return ExitCode::from(6);
+    let Ok(words) = words_of(&rt, alloc) else {
+        tell(&mut faults, Stop::Memory);
+        return ExitCode::from(Stop::Memory.status());
     };
-    for word in arguments.skip(1) {
-        if words.push(word).is_err() {
-            return ExitCode::from(6);
-        }
-    }
     let mut source = StdinSource::new(rt.stdin());
     let mut sink = StdoutSink::new(rt.stdout());
     ExitCode::from(tas(
@@ -43,4 +40,16 @@ fn main(rt: HostRuntime) -> ExitCode {
         &mut faults,
         &NoGate,
     ))
+}
+
+/// The words behind the program's name. The error is want of memory.
+fn words_of(rt: &HostRuntime, alloc: Global) -> Result<Vec<String>, AllocError> {
+    let Ok(arguments) = env::args(rt) else {
+        return Err(AllocError);
+    };
+    let mut words = Vec::new(alloc);
+    for word in arguments.skip(1) {
+        words.push(word)?;
+    }
+    Ok(words)
 }
