@@ -3,6 +3,7 @@
 
 one-6.pcap, one-60.pcap: one upload of 6 and of 60 MB in segments of 1,460 bytes.
 many-60.pcap: 1,000 uploads of 60 MB in all, a segment of each in turn.
+short-100k.pcap: 100,000 connections, each a SYN and a reset.
 """
 import os
 import struct
@@ -25,13 +26,13 @@ def checksum(number):
     return 0xFFFF - number
 
 
-def packet(port, seq, ack, flags, payload, payload_total):
+def packet(port, seq, ack, flags, payload, payload_total, remote=REMOTE):
     """A segment from the remote host's port to the local port 80."""
     length = 40 + len(payload)
-    ip = struct.pack(">BBHHHBBH", 0x45, 0, length, 0, 0x4000, 64, 6, 0) + REMOTE + LOCAL
+    ip = struct.pack(">BBHHHBBH", 0x45, 0, length, 0, 0x4000, 64, 6, 0) + remote + LOCAL
     ip = ip[:10] + struct.pack(">H", checksum(total(ip))) + ip[12:]
     tcp = struct.pack(">HHIIBBHHH", port, 80, seq % 2**32, ack, 0x50, flags, 65535, 0, 0)
-    pseudo = total(REMOTE) + total(LOCAL) + 6 + len(tcp) + len(payload)
+    pseudo = total(remote) + total(LOCAL) + 6 + len(tcp) + len(payload)
     tcp = tcp[:16] + struct.pack(">H", checksum(pseudo + total(tcp) + payload_total)) + tcp[18:]
     return ip + tcp + payload
 
@@ -61,12 +62,23 @@ def uploads(path, flows, size):
             capture.add(packet(port, 101 + turn * MSS, ack, 24, payload, payload_total))
 
 
+def resets(path, count):
+    """So many connections, each a SYN and a reset, 50,000 of a remote host."""
+    capture = Capture(path)
+    for i in range(count):
+        remote = bytes([11, 0, 0, 1 + i // 50_000])
+        capture.add(packet(1024 + i % 50_000, 100, 0, 2, b"", 0, remote))
+        capture.add(packet(1024 + i % 50_000, 101, 0, 4, b"", 0, remote))
+
+
 def main():
     folder = sys.argv[1]
     os.makedirs(folder, exist_ok=True)
     uploads(os.path.join(folder, "one-6.pcap"), 1, 6_000_000)
     uploads(os.path.join(folder, "one-60.pcap"), 1, 60_000_000)
     uploads(os.path.join(folder, "many-60.pcap"), 1000, 60_000_000)
+    resets(os.path.join(folder, "short-100k.pcap"), 100_000)
 
 
-main()
+if __name__ == "__main__":
+    main()
