@@ -54,5 +54,7 @@ fn a_small_sink_holds_what_fits(rt: HostRuntime) -> Result<(), Fail> {
     let mut sure = SureSink::new(rt.alloc());
     assert_eq!(rt; sure.write(b"fg"), Ok(2));
     assert_eq!(rt; sure.written(), b"fg".as_slice());
+    assert_eq!(rt; write_all(&mut sure, b"hi"), Ok(()));
+    assert_eq!(rt; sure.written(), b"fghi".as_slice());
     Ok(())
 }
