@@ -11,6 +11,7 @@ use Rattle.tas_model.specs.Reassembly.{with_data, with_part, grown, bridged, kep
 use Rattle.tas_model.specs.Valid.{ValidReceiving, IsPastGap, PastGap}
 use Rattle.flow_state.specs.declared.parts.Parts.{Parts}
 use Rattle.flow_state.specs.Stands.{Stands, IsIsland, IsPeer}
+use Rattle.flow_state.proofs.Receiving.{stands_received}
 use Rattle.fast_rx.specs.Islands.{bridge, rest}
 
 pub peer_is : (irs : Seq) (o : Option ℕ) → IsPeer irs o → irs.0 ≡ unwrap_or o 0
@@ -24,48 +25,11 @@ end_is p e read s = omega (arith, s.rx.base, ap (length {A = ℕ}) s.rx.bytes, l
 pub received : (p : Parts) (e : Endpoint) (w : Window) (kept : Option (ℕ × ℕ)) (got : List ℕ) (island : Option Island)
     → Stands p e → e.rx.ended ≡ false → e.rx.read ≤ length got → Holds w e.params.ring e.rx.read (drop e.rx.read got) → IsIsland kept w.ahead (length got) island
     → Stands (record p { rx = w; island = kept; rcv = seq_at p.irs.0 (end_of w + 1) }) (record e { rx = record (e.rx) { got = got; island = island } })
-received p e w kept got island s going read holds is = record {
-  params = s.params;
-  phase = s.phase;
-  reason = s.reason;
-  iss = s.iss;
-  irs = s.irs;
-  una = s.una;
-  nxt = s.nxt;
-  max = s.max;
-  rcv = next;
-  tx = s.tx;
-  rx = holds;
-  island = is;
-  window = s.window;
-  wl1 = s.wl1;
-  wl2 = s.wl2;
-  dup = s.dup;
-  acked = s.acked;
-  fast = s.fast;
-  timeouts = s.timeouts;
-  flight = s.flight;
-  cwnd = s.cwnd;
-  ssthresh = s.ssthresh;
-  tokens = s.tokens;
-  depth = s.depth;
-  fill = s.fill;
-  smss = s.smss;
-  age = s.age;
-  tries = s.tries;
-  probe = s.probe;
-  entered = s.entered;
-  order = s.order;
-}
-  where
-    end : end_of w + 1 ≡ 1 + length got + cond e.rx.ended 1 0
-    end =
-        let kept : length w.bytes ≡ length got - e.rx.read = omega (arith, ap (length {A = ℕ}) holds.bytes, length-drop e.rx.read got) in
-        let none : cond {A = ℕ} e.rx.ended 1 0 ≡ 0 = ap (λ (t : Bool). cond {A = ℕ} t 1 0) going in
-        omega (arith, holds.base)
-
-    next : seq_at p.irs.0 (end_of w + 1) ≡ seq_at (peer_first e) (1 + length got + cond e.rx.ended 1 0)
-    next = ap (λ (n : ℕ). seq_at n (end_of w + 1)) (peer_is p.irs e.peer s.irs) ∙ ap (seq_at (peer_first e)) end
+received p e w kept got island s going read holds is =
+    let kept_bytes : length w.bytes ≡ length got - e.rx.read = omega (arith, ap (length {A = ℕ}) holds.bytes, length-drop e.rx.read got) in
+    let none : cond {A = ℕ} e.rx.ended 1 0 ≡ 0 = ap (λ (t : Bool). cond {A = ℕ} t 1 0) going in
+    let end : end_of w + 1 ≡ 1 + length got + cond e.rx.ended 1 0 = omega (arith, holds.base) in
+    stands_received p e w kept _ got e.rx.read island s (ap (λ (n : ℕ). seq_at n (end_of w + 1)) (peer_is p.irs e.peer s.irs) ∙ ap (seq_at (peer_first e)) end) holds is
 
 -- ----- bytes in order
 -- the window with a part in order, and with the next cells behind it

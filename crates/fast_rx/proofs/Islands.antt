@@ -8,45 +8,15 @@ use Rattle.tas_model.specs.Reassembly.{meets, joined, kept_apart}
 use Rattle.tas_model.specs.Valid.{ValidReceiving, IsPastGap, PastGap}
 use Rattle.flow_state.specs.declared.parts.Parts.{Parts}
 use Rattle.flow_state.specs.Stands.{Stands, IsIsland}
+use Rattle.flow_state.proofs.Receiving.{stands_received}
 use Rattle.fast_rx.proofs.Growing.{empty_is}
 use Rattle.fast_rx.proofs.Joining.{StandsAt, joined_stands}
 
 -- the parts with other cells ahead
 apart : (p : Parts) (e : Endpoint) (ahead : List ℕ) (kept : Option (ℕ × ℕ)) (island : Option Island) → Stands p e → IsIsland kept ahead (length e.rx.got) island
     → Stands (record p { rx = record (p.rx) { ahead = ahead }; island = kept }) (record e { rx = record (e.rx) { island = island } })
-apart p e ahead kept island s is = record {
-  params = s.params;
-  phase = s.phase;
-  reason = s.reason;
-  iss = s.iss;
-  irs = s.irs;
-  una = s.una;
-  nxt = s.nxt;
-  max = s.max;
-  rcv = s.rcv;
-  tx = s.tx;
-  rx = record { size = s.rx.size; base = s.rx.base; bytes = s.rx.bytes };
-  island = is;
-  window = s.window;
-  wl1 = s.wl1;
-  wl2 = s.wl2;
-  dup = s.dup;
-  acked = s.acked;
-  fast = s.fast;
-  timeouts = s.timeouts;
-  flight = s.flight;
-  cwnd = s.cwnd;
-  ssthresh = s.ssthresh;
-  tokens = s.tokens;
-  depth = s.depth;
-  fill = s.fill;
-  smss = s.smss;
-  age = s.age;
-  tries = s.tries;
-  probe = s.probe;
-  entered = s.entered;
-  order = s.order;
-}
+apart p e ahead kept island s is =
+    stands_received p e (record (p.rx) { ahead = ahead }) kept p.rcv e.rx.got e.rx.read island s s.rcv (record { size = s.rx.size; base = s.rx.base; bytes = s.rx.bytes }) is
 
 -- the first x, where there are so many
 take_least : (x : ℕ) (xs : List ℕ) → take (min x (length xs)) xs ≡ take x xs

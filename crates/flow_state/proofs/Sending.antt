@@ -57,6 +57,13 @@ answer_is answers.Expired out fits = refl
 answer_is answers.TimedOut out fits = refl
 answer_is (answers.Window cwnd ssthresh) out fits = refl
 
+-- of memory a reply reads its own bytes alone
+pub same_reply : (a : Answer) (xs ys : List ℕ) → take (answer_len a) xs ≡ take (answer_len a) ys → reply_of a xs ≡ reply_of a ys
+same_reply (answers.Sent head len) xs ys same = ap (λ bs. replies.Sent (record { head = head; bytes = bs })) same
+same_reply (answers.Took len) xs ys same = ap (λ bs. replies.Took bs) same
+same_reply (answers.Got len update) xs ys same = ap (λ bs. replies.Got bs update) same
+same_reply _ xs ys same = refl
+
 pub room_within_cost : (mss : ℕ) (call : CallIn) → reply_room mss call ≤ cost_of mss call
 room_within_cost mss (ins.Send bytes) = omega arith
 room_within_cost mss (ins.Recv most) = omega arith

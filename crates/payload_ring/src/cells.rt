@@ -2,11 +2,9 @@ ghost use Rattle.std.specs.Prelude.{◌≡◌, ℕ, ◌+◌, ◌-◌, ◌^◌, �
 ghost use Rattle.payload_ring.specs.Window.{overlaid};
 ghost use Rattle.payload_ring.specs.Turned.{turned};
 
+use crate::filling::fill_with_zeros;
 use std::alloc::{AllocError, Global};
 use std::marker::Model;
-
-/// How many zeros are written at a time.
-const PIECE: usize = 4096;
 
 /// Cells of a byte each, seen as their list. They are zero at first.
 ///
@@ -82,7 +80,7 @@ impl Cells {
         ensures len { length self.new ≡ length self.old }
     {
         let end = at + piece.len();
-        fill_to(&mut self.bytes, end);
+        fill_with_zeros(&mut self.bytes, end);
         write_over(&mut self.bytes, at, piece);
     }
 
@@ -106,32 +104,6 @@ pub fn index_of(size: usize, start: usize, at: usize) -> usize
 {
     let index = start + at;
     if index < size { index } else { index - size }
-}
-
-/// Writes zeros behind the bytes, until there are so many.
-fn fill_to(bytes: &mut Vec<u8>, end: usize)
-    requires { end ≤ vec_capacity bytes.old }
-    ensures items { bytes.new.items ≡ bytes.old.items ++ replicate (end - vec_len bytes.old) 0 }
-    ensures capacity { vec_capacity bytes.old ≤ vec_capacity bytes.new }
-{
-    while bytes.len() < end {
-        let count = (end - bytes.len()).min(PIECE);
-        add_zeros(bytes, count);
-    }
-}
-
-/// Writes so many zeros behind the bytes, which have room for them.
-fn add_zeros(bytes: &mut Vec<u8>, count: usize)
-    requires few { count ≤ 4096 }
-    requires room { vec_len bytes.old + count ≤ vec_capacity bytes.old }
-    ensures items { bytes.new.items ≡ bytes.old.items ++ replicate count 0 }
-    ensures capacity { vec_capacity bytes.old ≤ vec_capacity bytes.new }
-{
-    let zeros = [0; PIECE];
-    match bytes.extend_from_slice(&zeros[..count]) {
-        Ok(()) => {}
-        Err(_) => unreachable!(),
-    }
 }
 
 /// Writes a piece over the bytes from `at` on.

@@ -2,8 +2,10 @@
 #![tactic(auto)]
 
 mod cells;
+mod filling;
 mod ring;
 
+pub use filling::fill_with_zeros;
 pub use ring::Ring;
 
 #[cfg(test)]

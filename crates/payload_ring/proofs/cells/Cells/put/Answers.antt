@@ -7,7 +7,7 @@ use Rattle.payload_ring.proofs.cells.Cells.put.Goals as goal
 pub returns-clause-cells : goal.returns-clause-cells
 returns-clause-cells c =
     let b : List ℕ = c.self.inside.bytes.items in
-    let f : List ℕ = c.fill_to.new.bytes.items in
+    let f : List ℕ = c.fill_with_zeros.new.bytes.items in
     let p : List ℕ = c.args.piece.now in
     let at : ℕ = c.args.at in
     let n : ℕ = vec_len c.self.inside.bytes in
@@ -16,6 +16,6 @@ returns-clause-cells c =
     let m : ℕ = c.self.inside.size - vec_len c.write_over.new.bytes in
     let whole : length (b ++ replicate all 0) ≡ length c.args.self.now = ap length c.self.view_is in
     let room : at + length p ≤ n + all = omega (arith, whole, c.requires.fits, length-append b (replicate all 0), length-replicate {A = ℕ} all 0, c.self.inside.bytes.ok) in
-    let grown : length f ≡ n + k = omega (arith, ap length c.fill_to.ensures.items, length-append b (replicate k 0), length-replicate {A = ℕ} k 0, c.self.inside.bytes.ok) in
-    let sum : k + m ≡ all = omega (arith, room, grown, c.fill_to.new.bytes.ok, c.write_over.ensures.len, c.self.invariant) in
-    put_over b f c.write_over.new.bytes.items p at k m all c.fill_to.ensures.items sum (omega (arith, grown)) c.write_over.ensures.items ∙ ap (overlaid at p) c.self.view_is
+    let grown : length f ≡ n + k = omega (arith, ap length c.fill_with_zeros.ensures.items, length-append b (replicate k 0), length-replicate {A = ℕ} k 0, c.self.inside.bytes.ok) in
+    let sum : k + m ≡ all = omega (arith, room, grown, c.fill_with_zeros.new.bytes.ok, c.write_over.ensures.len, c.self.invariant) in
+    put_over b f c.write_over.new.bytes.items p at k m all c.fill_with_zeros.ensures.items sum (omega (arith, grown)) c.write_over.ensures.items ∙ ap (overlaid at p) c.self.view_is
