@@ -325,3 +325,38 @@ used_again_report =
     ∷ codes "records 5 frames 5 passed 0 refused 0"
     ∷ codes "end 5 ticks"
     ∷ [])
+
+-- A segment that comes after its flow was closed by a reset is of no flow, and is answered by a reset.
+abbrev pub late_segment_capture : List ℕ
+late_segment_capture =
+    unhex (codes "d4c3b2a1020004000000000000000000ffff000065000000")
+    ++ unhex (codes "000000000000000028000000280000004500002800004000400626ce0a0000010a0000029c40005000000064000000005002fffffeeb0000")
+    ++ unhex (codes "010000000000000028000000280000004500002800004000400626ce0a0000010a0000029c40005000000065000000015010fffffedb0000")
+    ++ unhex (codes "02000000000000002a0000002a0000004500002a00004000400626cc0a0000010a0000029c40005000000065000000015018ffff966800006869")
+    ++ unhex (codes "030000000000000028000000280000004500002800004000400626ce0a0000010a0000029c40005000000067000000015014fffffed50000")
+    ++ unhex (codes "040000000000000028000000280000004500002800004000400626ce0a0000010a0000029c40005000000067000000015010fffffed90000")
+
+abbrev pub late_segment_report : List ℕ
+late_segment_report =
+    lines (
+    codes "tas replay"
+    ∷ codes "host local 10.0.0.2"
+    ∷ codes "4 stray r:5 A seq 103 ack 1 win 65535 = R seq 1 ack 0 win 0"
+    ∷ codes "flow 0 slot 0.1 10.0.0.2:80 10.0.0.1:40000"
+    ∷ codes "0 s.0 passive r:1 iss 0 S seq 100 ack 0 win 65535 = ok"
+    ∷ codes "0 c0.0 emit = AS seq 0 ack 101 win 65535 mss 1460"
+    ∷ codes "1 s.1 tick = quiet"
+    ∷ codes "1 s.2 rx r:2 A seq 101 ack 1 win 65535 = none"
+    ∷ codes "1 p0.0 accept = ok"
+    ∷ codes "1 p0.1 recv 65535 = notyet"
+    ∷ codes "2 s.3 tick = quiet"
+    ∷ codes "2 c0.1 rx r:3 AP seq 101 ack 1 win 65535 data 6869 = A seq 1 ack 103 win 65533"
+    ∷ codes "2 p0.2 recv 65535 = got 6869"
+    ∷ codes "3 s.4 tick = quiet"
+    ∷ codes "3 s.5 rx r:4 AR seq 103 ack 1 win 65535 = none"
+    ∷ codes "3 p0.3 recv 65535 = closed reset"
+    ∷ codes "state CLOSED reset"
+    ∷ codes "read 2 6869"
+    ∷ codes "records 5 frames 5 passed 0 refused 0"
+    ∷ codes "end 5 ticks"
+    ∷ [])

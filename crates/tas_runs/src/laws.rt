@@ -1,9 +1,10 @@
-ghost use Rattle.std.specs.Prelude.{◌≡◌, ◌↔◌, ℕ, ◌+◌, ◌≤◌, List, [], Bool, Err, IfOk};
+ghost use Rattle.std.specs.Prelude.{◌≡◌, ◌↔◌, ℕ, ◌+◌, ◌≤◌, ◌<◌, List, [], Bool, true, false, Some, None, Err, IfOk};
+ghost use Rattle.std.specs.List.{list_any};
 ghost use Rattle.tas_num.specs.Captures.{Fault, capture_of};
 ghost use Rattle.tas_runs.specs.Logs.{HostRun, RunLog};
 ghost use Rattle.tas_runs.specs.Records.{Item};
 ghost use Rattle.tas_runs.specs.Batches.{batches_of, AreBatches};
-ghost use Rattle.tas_runs.specs.Hosts.{Host};
+ghost use Rattle.tas_runs.specs.Hosts.{Host, is_in_slot, lowest_free};
 ghost use Rattle.tas_runs.specs.Rounds.{Each, Round};
 ghost use Rattle.tas_runs.specs.Replays.{Replay, items_in, replay_params};
 ghost use Rattle.tas_runs.specs.SerialOrder.{serial_replay};
@@ -85,4 +86,11 @@ pub fn scripts_are_asked_in_order()
     ensures asked { (items : List Item) (t : ℕ) (batch : List Item) (before after : Host) → IsCaptureBatch batch → Round items t batch before after → AreAsked before.flows after.flows }
     // That is of every batch of a capture.
     ensures batches { (local : ℕ) (bytes : List ℕ) (loose : Bool) → Each IsCaptureBatch (batches_of (items_in local bytes loose)) }
+{}
+
+/// The slot that a host gives to a new flow is free, and all below it are used; it gives none where all are used.
+#[tactic(auto, using(crate::proofs::Slots::lowest_is, crate::proofs::Slots::none_is))]
+pub fn slots_are_given_from_below()
+    ensures lowest { (host : Host) (slot : ℕ) → slot < host.params.slots → list_any (is_in_slot slot) host.flows ≡ false → ((lower : ℕ) → lower < slot → list_any (is_in_slot lower) host.flows ≡ true) → lowest_free host ≡ Some slot }
+    ensures none { (host : Host) → ((slot : ℕ) → slot < host.params.slots → list_any (is_in_slot slot) host.flows ≡ true) → lowest_free host ≡ None }
 {}

@@ -3,7 +3,7 @@ ghost use Rattle.tas_num.specs.Captures.{CutShort};
 ghost use Rattle.tas_runs.specs.SerialOrder.{serial_replay};
 ghost use Rattle.tas_runs.specs.WorkedTexts.{host_address, replayed, capture_or_none};
 ghost use Rattle.tas_runs.specs.WorkedReplays.{hello_capture, hello_report, late_start_capture, late_start_report, sending_capture, sending_report, both_ends_capture, both_ends_report, resets_capture, resets_report, hello_sent, cut_capture};
-ghost use Rattle.tas_runs.specs.WorkedRecords.{damaged_capture, damaged_report, loose_report, two_strays_capture, two_strays_report, other_traffic_capture, other_traffic_report, two_faults_capture, two_faults_report, later_number_capture, later_number_report, counted_openings_capture, counted_openings_report, data_and_end_capture, data_and_end_report, early_data_capture, early_data_report, refused_connect_capture, refused_connect_report, reset_while_opening_capture, reset_while_opening_report, abort_while_opening_capture, abort_while_opening_report, used_again_capture, used_again_report};
+ghost use Rattle.tas_runs.specs.WorkedRecords.{damaged_capture, damaged_report, loose_report, two_strays_capture, two_strays_report, other_traffic_capture, other_traffic_report, two_faults_capture, two_faults_report, later_number_capture, later_number_report, counted_openings_capture, counted_openings_report, data_and_end_capture, data_and_end_report, early_data_capture, early_data_report, refused_connect_capture, refused_connect_report, reset_while_opening_capture, reset_while_opening_report, abort_while_opening_capture, abort_while_opening_report, used_again_capture, used_again_report, late_segment_capture, late_segment_report};
 
 /// Reports that another program wrote for captures of single connections are those of the run in serial order.
 pub fn worked_replays()
@@ -32,4 +32,5 @@ pub fn worked_records()
     ensures reset_while_opening { replayed host_address reset_while_opening_capture false ≡ reset_while_opening_report }
     ensures abort_while_opening { replayed host_address abort_while_opening_capture false ≡ abort_while_opening_report }
     ensures used_again { replayed host_address used_again_capture false ≡ used_again_report }
+    ensures late_segment { replayed host_address late_segment_capture false ≡ late_segment_report }
 {}

@@ -1,4 +1,4 @@
-use Rattle.tas_runs.proofs.WorkedRecords.{damaged_is, loose_is, two_strays_is, other_traffic_is, two_faults_is, later_number_is, counted_openings_is, data_and_end_is, early_data_is, refused_connect_is, reset_while_opening_is, abort_while_opening_is, used_again_is}
+use Rattle.tas_runs.proofs.WorkedRecords.{damaged_is, loose_is, two_strays_is, other_traffic_is, two_faults_is, later_number_is, counted_openings_is, data_and_end_is, early_data_is, refused_connect_is, reset_while_opening_is, abort_while_opening_is, used_again_is, late_segment_is}
 use Rattle.tas_runs.proofs.worked.worked_records.Goals as goal
 
 pub returns-clause-damaged : goal.returns-clause-damaged
@@ -39,3 +39,6 @@ returns-clause-abort_while_opening c = abort_while_opening_is
 
 pub returns-clause-used_again : goal.returns-clause-used_again
 returns-clause-used_again c = used_again_is
+
+pub returns-clause-late_segment : goal.returns-clause-late_segment
+returns-clause-late_segment c = late_segment_is
