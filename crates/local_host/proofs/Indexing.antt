@@ -1,5 +1,5 @@
 -- The index stays right while flows change, and when one is opened.
-use Rattle.std.proofs.Common.{◌≡◌, ℕ, zero, suc, ◌+◌, ◌<◌, ◌++◌, ◌&&◌, ◌||◌, ◌⊎◌, inl, inr, Bool, true, false, cond, List, [], ◌∷◌, length, get_or, map, position, Option, Some, None, Result, Ok, Err, OnOk, is_err, if◌then◌else◌, refl, sym, ap, subst, ◌∙◌, true≢false, arith, length-append}
+use Rattle.std.proofs.Common.{◌≡◌, ℕ, zero, suc, ◌+◌, ◌<◌, ◌++◌, ◌&&◌, ◌||◌, ◌⊎◌, inl, inr, Bool, true, false, cond, List, [], ◌∷◌, length, get_or, map, position, Option, Some, None, if◌then◌else◌, refl, sym, ap, subst, ◌∙◌, true≢false, arith, length-append}
 use Rattle.std.proofs.lemmas.List.{length-map}
 use Rattle.std.specs.List.{list_any}
 use Rattle.std.proofs.lemmas.List.Sums.{sum_by-cons, sum_by_push}
@@ -174,21 +174,6 @@ change_index known f ls i keeps index = record {
   counts = λ t. index.counts t ∙ sym (opened_change t f keeps ls i);
 }
 
-pub no_index : (known : FourTuple → Option Openings) → ((t : FourTuple) → known t ≡ None) → IsIndex known []
-no_index known none = record {
-  leads = λ t k h. absurd (true≢false (sym h));
-  within = λ t k h. absurd (cc (h, none t));
-  counts = λ t. ap count_of (none t);
-}
-
--- the index by the same facts of the map
-pub same_index : (known later : FourTuple → Option Openings) (ls : List Live) → ((t : FourTuple) → later t ≡ known t) → IsIndex known ls → IsIndex later ls
-same_index known later ls same index = record {
-  leads = λ t k h. ap latest_of (same t) ∙ index.leads t k h;
-  within = λ t k h. index.within t k (sym (ap latest_of (same t)) ∙ h);
-  counts = λ t. ap count_of (same t) ∙ index.counts t;
-}
-
 -- ----- a search
 at_place : (t : FourTuple) (ls : List Live) (i : ℕ) (d : Live) → i < length ls → indexed_at t ls i ≡ is_indexed_as t (get_or ls i d)
 at_place t [] i d below = absurd (omega arith)
@@ -322,11 +307,6 @@ pushed_index known later tuple ls l place before at counted is own none index =
   where
     one_more : (a b : ℕ) → a ≡ b → 1 + a ≡ b + 1
     one_more a b h = omega arith
-
--- ----- results
-pub ok_fact : {T E : Type 0} {P : Type 0} (r : Result T E) → is_err r ≡ false → OnOk r P → P
-ok_fact (Ok x) h p = p
-ok_fact (Err e) h p = absurd (true≢false h)
 
 -- some record's content of this kind
 abbrev no_tuple : FourTuple

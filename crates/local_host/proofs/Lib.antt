@@ -7,3 +7,4 @@ pub mod Places
 pub mod Hosting
 pub mod Indexing
 pub mod Standing
+pub mod Records

@@ -1,9 +1,8 @@
 -- A flow at its place among the flows, and the slots that they stand in.
-use Rattle.std.proofs.Common.{◌≡◌, ℕ, zero, suc, ◌+◌, ◌-◌, ◌<◌, ◌≤◌, ◌||◌, take, Bool, true, false, List, [], ◌∷◌, length, set, get_or, slice_get, position, Some, None, Result, Ok, Err, OnOk, refl, sym, ap, subst, ◌∙◌, arith}
+use Rattle.std.proofs.Common.{◌≡◌, ℕ, zero, suc, ◌+◌, ◌-◌, ◌<◌, ◌≤◌, ◌||◌, take, Bool, true, false, List, [], ◌∷◌, length, set, get_or, position, Some, None, Result, Ok, Err, OnOk, refl, sym, ap, subst, ◌∙◌, arith}
 use Rattle.std.specs.List.{list_any}
 use Rattle.std.proofs.lemmas.List.Quantifiers.{position-Some}
-use Rattle.tas_runs.specs.Logs.{Flow}
-use Rattle.tas_runs.specs.Hosts.{Live, change_first, change_at, free_from, is_in_slot, flows_of}
+use Rattle.tas_runs.specs.Hosts.{Live, change_first, change_at, free_from, is_in_slot}
 use Rattle.tas_runs.proofs.Loops.{changed_at}
 
 pub ok_by : {T E : Type 0} {P Q : Type 0} (r : Result T E) → (P → Q) → OnOk r P → OnOk r Q
@@ -54,10 +53,6 @@ no_slots slots slot flows past = ap (λ (n : ℕ). free_from n slot flows) (none
   none_left a b h = omega arith
 
 -- the flow that is left of the one at a place
-pub flow_there : (ls : List Live) (i : ℕ) (d : Live) (f : Flow) → i < length ls → f ≡ (get_or ls i d).flow → slice_get (flows_of ls) i ≡ Some f
-flow_there [] i d f below is = absurd (omega arith)
-flow_there (l ∷ ls) zero d f below is = ap (λ (g : Flow). Some g) (sym is)
-flow_there (l ∷ ls) (suc i) d f below is = flow_there ls i d f (omega arith) is
 
 -- one flow more
 pub any_more : {X : Type 0} (test : X → Bool) (xs : List X) (i : ℕ) (d : X) → i < length xs → list_any test (take (i + 1) xs) ≡ (list_any test (take i xs) || test (get_or xs i d))

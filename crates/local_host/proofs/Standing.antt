@@ -1,5 +1,5 @@
 -- The flows whose records are not filed: only these change by what the host does by itself.
-use Rattle.std.proofs.Common.{◌≡◌, ℕ, zero, suc, ◌+◌, ◌<◌, ◌≤◌, ◌++◌, ◌||◌, ◌==◌, ◌&&◌, not, Bool, true, false, cond, List, [], ◌∷◌, length, get_or, set, map, drop, take, position, Option, Some, None, is_some, refl, sym, ap, subst, ◌∙◌, true≢false, arith}
+use Rattle.std.proofs.Common.{◌≡◌, ℕ, zero, suc, ◌+◌, ◌<◌, ◌≤◌, ◌++◌, ◌||◌, ◌==◌, ◌&&◌, not, Bool, true, false, cond, List, [], ◌∷◌, length, get_or, set, map, drop, take, position, Option, Some, None, is_some, Result, Ok, Err, OnOk, refl, sym, ap, subst, ◌∙◌, true≢false, arith}
 use Rattle.std.specs.List.{list_any, filter}
 use Rattle.std.proofs.lemmas.List.Sums.{sum_by-cons, sum_by_push}
 use Rattle.std.proofs.lemmas.List.Quantifiers.{position-Some}
@@ -26,8 +26,8 @@ use Rattle.local_host.specs.declared.flows.Openings.{Openings}
 use Rattle.local_host.specs.Index.{passes_at, is_standing, with_first, standing_places, IsAtRest, AreAtRest, number_of, flows_in, IsKnown}
 use Rattle.local_host.specs.Live.{asked_all}
 use Rattle.local_host.proofs.Emitting.{all_is_sent}
-use Rattle.local_host.proofs.Places.{wrote_change}
-use Rattle.local_host.proofs.Indexing.{length_change, Keeps, swept_keeps, map_index, change_index, pushed_index, no_index}
+use Rattle.local_host.proofs.Places.{ok_by, wrote_change}
+use Rattle.local_host.proofs.Indexing.{length_change, Keeps, swept_keeps, map_index, change_index, pushed_index}
 
 -- ----- what a flow at rest stays
 abbrev pub Rests : (Live → Live) → Type 0
@@ -272,6 +272,10 @@ passes_below test [] i h = absurd (true≢false (sym h))
 passes_below test (l ∷ ls) zero h = omega arith
 passes_below test (l ∷ ls) (suc i) h = let low : i < length ls = passes_below test ls i h in omega (arith, low)
 
+-- the same where the flows are seen by an equation
+pub stands_below : (i : ℕ) {ls seen : List Live} → ls ≡ seen → passes_at is_standing seen i ≡ true → i < length ls
+stands_below i {ls} {seen} same stands = passes_below is_standing ls i (subst (λ (ms : List Live). passes_at is_standing ms i ≡ true) (sym same) stands)
+
 stands_by : (l : Live) (b : Bool) → l.filed ≡ b → l.indexed ≡ true → (l.filed ≡ true → IsAtRest l) → is_standing l ≡ true
 stands_by l true is indexed at = absurd (true≢false (sym indexed ∙ (at is).index))
 stands_by l false is indexed at = ap not is
@@ -343,27 +347,33 @@ known_change known slots places f ls i keeps stays stands is = record {
   filed = rest_change f stays ls i stands is.filed;
 }
 
-pub known_swept : (known : FourTuple → Option Openings) (slots : ℕ → Option ℕ) (places later : List ℕ) (ls : List Live) → IsKnown known slots places ls → later ≡ filter (passes_at is_standing (map swept ls)) places → IsKnown known slots later (map swept ls)
-known_swept known slots places later ls is left = record {
-  index = map_index known swept ls swept_keeps is.index;
-  counts = λ slot. is.counts slot ∙ sym (in_map slot swept swept_keeps ls);
-  standing = left ∙ (ap (filter (passes_at is_standing (map swept ls))) is.standing ∙ places_swept ls);
-  filed = rest_swept ls is.filed;
-}
-
-pub nothing_known : (known : FourTuple → Option Openings) (slots : ℕ → Option ℕ) (places : List ℕ) (ls : List Live) → ls ≡ [] → places ≡ [] → ((t : FourTuple) → known t ≡ None) → ((slot : ℕ) → slots slot ≡ None) → IsKnown known slots places ls
-nothing_known known slots places ls none empty unknown free =
-    let nobody : IsKnown known slots [] [] = record { index = no_index known unknown; counts = λ slot. ap number_of (free slot); standing = refl; filed = tt } in
-    subst (λ (ms : List Live). IsKnown known slots places ms) (sym none) (subst (λ (ps : List ℕ). IsKnown known slots ps []) (sym empty) nobody)
+pub known_swept : {known : FourTuple → Option Openings} {slots : ℕ → Option ℕ} {places later : List ℕ} {ls after : List Live} → IsKnown known slots places ls → after ≡ map swept ls → later ≡ filter (passes_at is_standing after) places → IsKnown known slots later after
+known_swept {known} {slots} {places} {later} {ls} {after} is made left =
+    subst (IsKnown known slots later) (sym made) (record {
+      index = map_index known swept ls swept_keeps is.index;
+      counts = λ slot. is.counts slot ∙ sym (in_map slot swept swept_keeps ls);
+      standing = left ∙ (ap (λ (ms : List Live). filter (passes_at is_standing ms) places) made ∙ (ap (filter (passes_at is_standing (map swept ls))) is.standing ∙ places_swept ls));
+      filed = rest_swept ls is.filed;
+    })
 
 -- ----- a loop over the places
+-- What is left to do leads to the same end.
+pub record Leads (f : Live → Live) (places : List ℕ) (k : ℕ) (ls old : List Live) : Type 0 where
+  pub same : changed_all f (drop k places) ls ≡ changed_all f places old
+  pub len : length ls ≡ length old
+
+pub leads_below : {f : Live → Live} {places : List ℕ} {k : ℕ} {ls old : List Live} → Leads f places k ls old → places ≡ standing_places old → k < length places → get_or places k 0 < length ls
+leads_below {f} {places} {k} {ls} {old} leads is low = subst (λ (n : ℕ). get_or places k 0 < n) (sym leads.len) (place_below old places k 0 is low)
+
 -- a flow more was changed
-pub changed_step : (f : Live → Live) (places : List ℕ) (k : ℕ) (ls old : List Live) (was made : Live) → k < length places → get_or places k 0 < length ls → was ≡ get_or ls (get_or places k 0) was → made ≡ f was
-    → changed_all f (drop k places) ls ≡ changed_all f places old
-    → (changed_all f (drop (k + 1) places) (set ls (get_or places k 0) made) ≡ changed_all f places old) × (length (set ls (get_or places k 0) made) ≡ length ls)
-changed_step f places k ls old was made low there read is same =
-    let wrote : set ls (get_or places k 0) made ≡ change_at (get_or places k 0) f ls = wrote_change f ls ls (get_or places k 0) was made refl there read is in
-    (ap (changed_all f (drop (k + 1) places)) wrote ∙ (sym (changed_more f places k 0 ls low) ∙ same), ap length wrote ∙ length_change f ls (get_or places k 0))
+pub leads_on : {f : Live → Live} {places : List ℕ} {k : ℕ} {ls old : List Live} {was made : Live} → Leads f places k ls old → places ≡ standing_places old → k < length places → was ≡ get_or ls (get_or places k 0) was → made ≡ f was
+    → Leads f places (k + 1) (set ls (get_or places k 0) made) old
+leads_on {f} {places} {k} {ls} {old} {was} {made} leads is low read by =
+    let wrote : set ls (get_or places k 0) made ≡ change_at (get_or places k 0) f ls = wrote_change f ls ls (get_or places k 0) was made refl (leads_below leads is low) read by in
+    record {
+      same = ap (changed_all f (drop (k + 1) places)) wrote ∙ (sym (changed_more f places k 0 ls low) ∙ leads.same);
+      len = ap length wrote ∙ (length_change f ls (get_or places k 0) ∙ leads.len);
+    }
 
 none_left : (places : List ℕ) (k : ℕ) → length places ≤ k → drop k places ≡ []
 none_left [] zero past = refl
@@ -372,10 +382,9 @@ none_left (p ∷ ps) zero past = absurd (omega (arith, past))
 none_left (p ∷ ps) (suc k) past = none_left ps k (omega (arith, past))
 
 -- and all were
-pub changed_whole : (f : Live → Live) → Rests f → (places : List ℕ) (k : ℕ) (ls old : List Live) → places ≡ standing_places old → AreAtRest old → length places ≤ k
-    → changed_all f (drop k places) ls ≡ changed_all f places old → ls ≡ map f old
-changed_whole f rests places k ls old is rest past same =
-    sym (ap (λ (ps : List ℕ). changed_all f ps ls) (none_left places k past)) ∙ (same ∙ (ap (λ (ps : List ℕ). changed_all f ps old) is ∙ all_changed f rests old rest))
+pub leads_to_all : {f : Live → Live} {places : List ℕ} {k : ℕ} {ls old : List Live} → Rests f → Leads f places k ls old → places ≡ standing_places old → AreAtRest old → length places ≤ k → ls ≡ map f old
+leads_to_all {f} {places} {k} {ls} {old} rests leads is rest past =
+    sym (ap (λ (ps : List ℕ). changed_all f ps ls) (none_left places k past)) ∙ (leads.same ∙ (ap (λ (ps : List ℕ). changed_all f ps old) is ∙ all_changed f rests old rest))
 
 -- ----- one flow more
 pub known_push : (known later : FourTuple → Option Openings) (slots more : ℕ → Option ℕ) (places longer : List ℕ) (tuple : FourTuple) (now : Openings) (ls : List Live) (l : Live)
@@ -396,3 +405,23 @@ known_push known later slots more places longer tuple now ls l latest count note
 pub written_whole : (made old : List Bool) (n : ℕ) → n ≡ length old → length made ≡ length old → take n (made ++ drop (length made) old) ≡ made
 written_whole made old n all same =
     ap (λ (k : ℕ). take k (made ++ drop (length made) old)) (all ∙ sym same) ∙ take_at made (drop (length made) old) (length made) refl
+
+-- ----- what was done
+-- What is known is right after a change of all flows,
+pub sound_by_map : {T E : Type 0} (r : Result T E) {known : FourTuple → Option Openings} {slots : ℕ → Option ℕ} {places : List ℕ} {f : Live → Live} {ls : List Live} (after : List Live) → Keeps f → Rests f → Stays f → IsKnown known slots places ls → OnOk r (after ≡ map f ls)
+    → OnOk r (IsKnown known slots places after)
+sound_by_map r {known} {slots} {places} {f} {ls} after keeps rests stays sound = ok_by r (λ made. subst (IsKnown known slots places) (sym made) (known_map known slots places f ls keeps rests stays sound))
+
+-- and of one that stands,
+pub sound_by_change : {T E : Type 0} (r : Result T E) {known : FourTuple → Option Openings} {slots : ℕ → Option ℕ} {places : List ℕ} (f : Live → Live) (i : ℕ) {ls seen : List Live} (was made : Live) → Keeps f → Stays f → IsKnown known slots places ls → ls ≡ seen → passes_at is_standing seen i ≡ true → was ≡ get_or ls i was
+    → OnOk r (made ≡ f was) → OnOk r (IsKnown known slots places (set ls i made))
+sound_by_change r {known} {slots} {places} f i {ls} {seen} was made keeps stays sound same stands read =
+    ok_by r
+    (λ by. subst (IsKnown known slots places) (sym (wrote_change f ls ls i was made refl (stands_below i same stands) read by))
+    (known_change known slots places f ls i keeps stays (subst (λ (ms : List Live). passes_at is_standing ms i ≡ true) (sym same) stands) sound))
+
+-- which is the change that was meant.
+pub done_by_change : {T E : Type 0} (r s : Result T E) (f : Live → Live) (i : ℕ) {ls seen : List Live} (was made : Live) (after : List Live) → ls ≡ seen → passes_at is_standing seen i ≡ true → was ≡ get_or ls i was → OnOk r (made ≡ f was) → s ≡ r → OnOk s (after ≡ set ls i made)
+    → OnOk s (after ≡ change_at i f seen)
+done_by_change {T} {E} (Ok x) s f i {ls} {seen} was made after same stands read by is kept = ok_by s (λ left. left ∙ wrote_change f ls seen i was made same (passes_below is_standing seen i stands) read by) kept
+done_by_change {T} {E} (Err e) s f i {ls} {seen} was made after same stands read by is kept = subst (λ (t : Result T E). OnOk t (after ≡ change_at i f seen)) (sym is) tt

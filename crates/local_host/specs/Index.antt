@@ -1,8 +1,11 @@
 -- What the host keeps of its flows beside themselves, so that no search walks over all of them.
-use Rattle.std.specs.Prelude.{◌≡◌, ℕ, zero, suc, ◌<◌, ◌==◌, Bool, true, false, not, List, [], ◌∷◌, length, map, count_by, Option, Some, None, ⊤}
+use Rattle.std.specs.Prelude.{◌≡◌, ℕ, nat_eq, zero, suc, ◌<◌, ◌==◌, Bool, true, false, not, List, [], ◌∷◌, length, map, count_by, Option, Some, None, ⊤}
+use Rattle.std.specs.HashMap.{get}
 use Rattle.tas_model.specs.declared.entry.FourTuple.{FourTuple}
 use Rattle.tas_runs.specs.Hosts.{Live, is_indexed_as, is_over, opened_as}
+use Rattle.capture_items.specs.Numbers.{equal_tuple}
 use Rattle.local_host.specs.declared.flows.Openings.{Openings}
+use Rattle.local_host.specs.declared.flows.Table.{Table}
 
 -- the flow at this place is indexed under the four-tuple
 abbrev pub indexed_at : FourTuple → List Live → (place : ℕ) → Bool
@@ -69,3 +72,6 @@ pub record IsKnown (known : FourTuple → Option Openings) (slots : ℕ → Opti
   pub counts : (slot : ℕ) → number_of (slots slot) ≡ flows_in slot flows
   pub standing : places ≡ standing_places flows
   pub filed : AreAtRest flows
+
+abbrev pub IsSound : Table → Type 0
+IsSound t = IsKnown (get equal_tuple t.openings) (get nat_eq t.generations) t.standing.items t.flows.items

@@ -3,7 +3,8 @@ use Rattle.std.specs.Prelude.{◌≡◌, ℕ, ◌<◌, Bool, true, false, List, 
 use Rattle.tas_model.specs.declared.entry.Caller.{Caller}
 use Rattle.tas_model.specs.declared.entry.Call.{Call}
 use Rattle.tas_model.specs.declared.entry.Call.TheVariants as calls
-use Rattle.tas_model.specs.LegalHistory.{replay, extended_by}
+use Rattle.tas_model.specs.LegalHistory.{Legal, replay, extended_by}
+use Rattle.tas_model.specs.Valid.{InRange}
 use Rattle.flow_state.specs.declared.call.Answer.{Answer}
 use Rattle.flow_state.specs.declared.call.Answer.TheVariants as answers
 use Rattle.flow_state.specs.Flow as records
@@ -21,6 +22,10 @@ use Rattle.fast_tx.specs.Going.{left_in}
 -- what a run leaves of the flow that is recorded
 abbrev pub flow_in : records.Flow → Flow
 flow_in r = record { id = r.id; tuple = r.tuple; params = r.params; entries = r.entries }
+
+-- the record has a history of the endpoint, with parameters in their ranges
+abbrev pub IsLegal : records.Flow → Type 0
+IsLegal r = InRange r.params × Legal r.params r.entries
 
 -- the bytes that its Sends took
 abbrev pub out_in : records.Flow → List ℕ

@@ -1,4 +1,4 @@
-ghost use Rattle.std.specs.Prelude.{true, false, ◌≡◌, ℕ, ◌<◌, ◌+◌, ◌^◌, ◌==◌, ◌++◌, ◌∷◌, [], length, map, position, get_or, nat_eq, ◌||◌, List, slice_get, Some, None, cond, IfOk, IfSome, OnOk, is_some};
+ghost use Rattle.std.specs.Prelude.{true, false, ◌≡◌, ℕ, ◌<◌, ◌+◌, ◌^◌, ◌==◌, ◌++◌, ◌∷◌, [], length, map, position, get_or, nat_eq, ◌||◌, List, slice_get, Some, None, cond, IfOk, IfSome, OnErr, OnOk, is_some};
 ghost use Rattle.std.specs.List.{list_any, filter};
 ghost use Rattle.std.specs.HashMap.{get};
 ghost use Rattle.capture_items.specs.Numbers.{equal_tuple};
@@ -7,11 +7,12 @@ ghost use Rattle.tas_model.specs.Valid.{InRange};
 ghost use Rattle.flow_state.specs.Calls.{seg_of};
 ghost use Rattle.tas_runs.specs.Records.{Content, is_remote};
 ghost use Rattle.tas_runs.specs.Hosts.{Live, is_indexed_as, is_in_slot, change_at, free_from, next_generation, opened_as, flows_of};
-ghost use Rattle.local_host.specs.Index.{IsKnown, AreAtRest, is_standing, standing_places, passes_at, number_of};
+ghost use Rattle.local_host.specs.Index.{IsSound, AreAtRest, is_standing, standing_places, passes_at, number_of};
+ghost use Rattle.tas_runs.specs.Rounds.{Each};
 ghost use Rattle.tas_runs.specs.Upkeep.{swept, timed, quieted};
 ghost use Rattle.tas_runs.specs.Deliveries.{received_serially};
 ghost use Rattle.tas_runs.specs.LocalScript.{sees, resets_here};
-ghost use Rattle.local_host.specs.Live.{asked_all, flow_in};
+ghost use Rattle.local_host.specs.Live.{asked_all, flow_in, IsLegal};
 
 use crate::live::LiveFlow;
 use flow_state::FlowRecord;
@@ -30,9 +31,9 @@ struct Openings {
     count: usize,
 }
 
-/// The flows of a host, in the order of their opening, filed ones among them. A flow is found by its four-tuple without a walk over the others.
+/// Flows, and what is known of them beside themselves. While a flow changes the two may not fit.
 #[derive(Drop)]
-pub struct Flows {
+struct Table {
     flows: Vec<LiveFlow>,
     /// The places of those whose records are not filed, in order.
     standing: Vec<usize>,
@@ -41,20 +42,23 @@ pub struct Flows {
     generations: HashMap<u32, usize>,
 }
 
+/// The flows of a host, in the order of their opening, filed ones among them. A flow is found by its four-tuple without a walk over the others.
+#[derive(Drop)]
+pub struct Flows {
+    table: Table,
+}
+
 impl Model for Flows {
     ghost use Rattle.std.specs.Prelude.{List};
     ghost use Rattle.tas_runs.specs.Hosts.{Live};
 
     ghost Value = { List Live };
 
-    ghost use Rattle.std.specs.Prelude.{nat_eq};
-    ghost use Rattle.std.specs.HashMap.{get};
-    ghost use Rattle.capture_items.specs.Numbers.{equal_tuple};
-    ghost use Rattle.local_host.specs.Index.{IsKnown};
+    ghost use Rattle.local_host.specs.Index.{IsSound};
 
-    ghost view = { λ f. f.flows.items };
+    ghost view = { λ f. f.table.flows.items };
 
-    ghost invariant = { λ f. IsKnown (get equal_tuple f.openings) (get nat_eq f.generations) f.standing.items f.flows.items };
+    ghost invariant = { λ f. IsSound f.table };
 }
 
 impl Flows {
@@ -63,10 +67,12 @@ impl Flows {
         ensures { result ≡ [] }
     {
         Flows {
-            flows: Vec::new(alloc),
-            standing: Vec::new(alloc),
-            openings: HashMap::new(alloc),
-            generations: HashMap::new(alloc),
+            table: Table {
+                flows: Vec::new(alloc),
+                standing: Vec::new(alloc),
+                openings: HashMap::new(alloc),
+                generations: HashMap::new(alloc),
+            },
         }
     }
 
@@ -74,16 +80,20 @@ impl Flows {
     pub fn len(&self) -> usize
         ensures { result ≡ length self.now }
     {
-        self.flows.len()
+        self.table.flows.len()
     }
 
-    /// The record of the flow at place `i`.
-    pub fn record(&self, i: usize) -> &FlowRecord
-        requires { i < length self.now }
-        ensures flow { slice_get (flows_of self.now) i ≡ Some (flow_in result.now) }
-        ensures ranges { InRange result.now.params }
+    /// The records of all flows, in the order of their opening. The error is want of memory.
+    pub fn into_records(self, alloc: Global) -> Result<Vec<FlowRecord>, AllocError>
+        ensures flows { IfOk result (λ records. map flow_in records.items ≡ flows_of self) }
+        ensures legal { IfOk result (λ records. Each IsLegal records.items) }
     {
-        self.flows[i].record()
+        let table = self.table;
+        let mut records = Vec::with_capacity(alloc, table.flows.len())?;
+        for flow in table.flows {
+            records.push(flow.into_record())?;
+        }
+        Ok(records)
     }
 
     /// The place of the flow that the index has under this four-tuple.
@@ -91,8 +101,8 @@ impl Flows {
         ensures place { result ≡ position (is_indexed_as tuple.now) self.now }
         ensures standing { IfSome result (λ i. passes_at is_standing self.now i ≡ true) }
     {
-        let latest = self.openings.get(tuple)?.latest;
-        if self.flows[latest].is_indexed_as(tuple) {
+        let latest = self.table.openings.get(tuple)?.latest;
+        if self.table.flows[latest].is_indexed_as(tuple) {
             Some(latest)
         } else {
             None
@@ -103,7 +113,7 @@ impl Flows {
     pub fn opened_as(&self, tuple: &FourTuple) -> usize
         ensures { result ≡ opened_as tuple.now self.now }
     {
-        match self.openings.get(tuple) {
+        match self.table.openings.get(tuple) {
             Some(openings) => openings.count,
             None => 0,
         }
@@ -113,7 +123,7 @@ impl Flows {
     pub fn lowest_free(&self, alloc: Global, slots: u32) -> Result<Option<u32>, AllocError>
         ensures { IfOk result (λ free. free ≡ free_from slots 0 self.now) }
     {
-        let taken = taken_slots(alloc, &self.flows, &self.standing, slots)?;
+        let taken = taken_slots(alloc, &self.table.flows, &self.table.standing, slots)?;
         Ok(first_free(&taken, slots))
     }
 
@@ -121,7 +131,7 @@ impl Flows {
     pub fn next_generation(&self, slot: u32) -> usize
         ensures { result ≡ next_generation slot self.now }
     {
-        1 + self.generations.get(&slot).copied().unwrap_or(0)
+        1 + self.table.generations.get(&slot).copied().unwrap_or(0)
     }
 
     /// A flow was opened, where none of its four-tuple is indexed. The error is want of memory.
@@ -132,67 +142,35 @@ impl Flows {
         ensures { OnOk result (self.new ≡ self.old ++ flow ∷ []) }
     {
         let now = Openings {
-            latest: self.flows.len(),
+            latest: self.table.flows.len(),
             count: 1 + self.opened_as(&tuple),
         };
-        let done = add(
-            &mut self.flows,
-            &mut self.standing,
-            &mut self.openings,
-            &mut self.generations,
-            tuple,
-            now,
-            flow,
-        );
-        if done.is_err() {
-            forget(
-                &mut self.flows,
-                &mut self.standing,
-                &mut self.openings,
-                &mut self.generations,
-            );
-        }
-        done
+        let done = self.table.add(tuple, now, flow);
+        self.table.settle(done)
     }
 
     /// Closed flows leave the index, and their slots where no application holds them.
     pub fn sweep(&mut self)
         ensures { self.new ≡ map swept self.old }
     {
-        sweep_all(&mut self.flows, &self.standing);
-        drop_filed(&mut self.standing, &self.flows);
+        sweep_all(&mut self.table.flows, &self.table.standing);
+        drop_filed(&mut self.table.standing, &self.table.flows);
     }
 
     /// One tick passes for each flow that is not closed. The error is want of memory.
     pub fn pass_time(&mut self, tick: u32) -> Result<(), AllocError>
         ensures { OnOk result (self.new ≡ map (timed Slow tick) self.old) }
     {
-        let done = time_all(&mut self.flows, &self.standing, tick);
-        if done.is_err() {
-            forget(
-                &mut self.flows,
-                &mut self.standing,
-                &mut self.openings,
-                &mut self.generations,
-            );
-        }
-        done
+        let done = time_all(&mut self.table.flows, &self.table.standing, tick);
+        self.table.settle(done)
     }
 
     /// Each flow sends all that may go. The error is want of memory.
     pub fn send_all(&mut self, tick: u32) -> Result<(), AllocError>
         ensures { OnOk result (self.new ≡ map (quieted tick) self.old) }
     {
-        let done = empty_all(&mut self.flows, &self.standing, tick);
-        if done.is_err() {
-            forget(
-                &mut self.flows,
-                &mut self.standing,
-                &mut self.openings,
-                &mut self.generations,
-            );
-        }
-        done
+        let done = empty_all(&mut self.table.flows, &self.table.standing, tick);
+        self.table.settle(done)
     }
 
     /// A segment comes to the flow at place `i`. The error is want of memory.
@@ -206,16 +184,8 @@ impl Flows {
         requires { passes_at is_standing self.old i ≡ true }
         ensures { OnOk result (self.new ≡ change_at i (received_serially tick frame (seg_of seg.now)) self.old) }
     {
-        let done = self.flows[i].receive(tick, frame, seg);
-        if done.is_err() {
-            forget(
-                &mut self.flows,
-                &mut self.standing,
-                &mut self.openings,
-                &mut self.generations,
-            );
-        }
-        done
+        let done = self.table.flows[i].receive(tick, frame, seg);
+        self.table.settle(done)
     }
 
     /// A local segment of the flow at place `i` shows bytes of its stream. The error is want of memory.
@@ -223,16 +193,8 @@ impl Flows {
         requires { passes_at is_standing self.old i ≡ true }
         ensures { OnOk result (self.new ≡ change_at i (sees (seg_of seg.now)) self.old) }
     {
-        let done = self.flows[i].see(seg);
-        if done.is_err() {
-            forget(
-                &mut self.flows,
-                &mut self.standing,
-                &mut self.openings,
-                &mut self.generations,
-            );
-        }
-        done
+        let done = self.table.flows[i].see(seg);
+        self.table.settle(done)
     }
 
     /// The calls that the application makes for a segment of the flow at place `i`. The error is want of memory.
@@ -247,61 +209,46 @@ impl Flows {
         requires apart { remote ≡ true → resets ≡ false }
         ensures { (content : Content) → is_remote content ≡ remote → resets_here content ≡ resets → OnOk result (self.new ≡ change_at i (asked_all tick content) self.old) }
     {
-        let done = self.flows[i].serve(tick, remote, resets);
-        if done.is_err() {
-            forget(
-                &mut self.flows,
-                &mut self.standing,
-                &mut self.openings,
-                &mut self.generations,
-            );
-        }
-        done
+        let done = self.table.flows[i].serve(tick, remote, resets);
+        self.table.settle(done)
     }
 }
 
-/// One flow more, and all that is known of it beside itself. The error is want of memory.
-fn add(
-    flows: &mut Vec<LiveFlow>,
-    standing: &mut Vec<usize>,
-    openings: &mut HashMap<FourTuple, Openings>,
-    generations: &mut HashMap<u32, usize>,
-    tuple: FourTuple,
-    now: Openings,
-    flow: LiveFlow,
-) -> Result<(), AllocError>
-    requires known { IsKnown (get equal_tuple openings.old) (get nat_eq generations.old) standing.old.items flows.old.items }
-    requires latest { now.latest ≡ length flows.old.items }
-    requires count { now.count ≡ 1 + opened_as tuple flows.old.items }
-    requires own { flow.flow.tuple ≡ tuple }
-    requires fresh { position (is_indexed_as tuple) flows.old.items ≡ None }
-    requires standing { flow.filed ≡ false }
-    ensures flows { OnOk result (flows.new.items ≡ flows.old.items ++ flow ∷ []) }
-    ensures known { OnOk result (IsKnown (get equal_tuple openings.new) (get nat_eq generations.new) standing.new.items flows.new.items) }
-{
-    note_opening(openings, tuple, now)?;
-    note_slot(generations, flow.id().slot)?;
-    standing.push(flows.len())?;
-    flows.push(flow)?;
-    Ok(())
-}
+impl Table {
+    /// One flow more, and all that is known of it beside itself. The error is want of memory.
+    fn add(&mut self, tuple: FourTuple, now: Openings, flow: LiveFlow) -> Result<(), AllocError>
+        requires sound { IsSound self.old }
+        requires latest { now.latest ≡ length self.old.flows.items }
+        requires count { now.count ≡ 1 + opened_as tuple self.old.flows.items }
+        requires own { flow.flow.tuple ≡ tuple }
+        requires fresh { position (is_indexed_as tuple) self.old.flows.items ≡ None }
+        requires standing { flow.filed ≡ false }
+        ensures flows { OnOk result (self.new.flows.items ≡ self.old.flows.items ++ flow ∷ []) }
+        ensures sound { OnOk result (IsSound self.new) }
+    {
+        note_opening(&mut self.openings, tuple, now)?;
+        note_slot(&mut self.generations, flow.id().slot)?;
+        self.standing.push(self.flows.len())?;
+        self.flows.push(flow)?;
+        Ok(())
+    }
 
-/// After want of memory no flow is kept.
-fn forget(
-    flows: &mut Vec<LiveFlow>,
-    standing: &mut Vec<usize>,
-    openings: &mut HashMap<FourTuple, Openings>,
-    generations: &mut HashMap<u32, usize>,
-)
-    ensures flows { flows.new.items ≡ [] }
-    ensures standing { standing.new.items ≡ [] }
-    ensures openings { (tuple : FourTuple) → get equal_tuple openings.new tuple ≡ None }
-    ensures generations { (slot : ℕ) → get nat_eq generations.new slot ≡ None }
-{
-    flows.clear();
-    standing.clear();
-    openings.clear();
-    generations.clear();
+    /// Gives back what was done. After want of memory, which may stop between two changes, no flow is kept.
+    fn settle(&mut self, done: Result<(), AllocError>) -> Result<(), AllocError>
+        requires { OnOk done (IsSound self.old) }
+        ensures same { result ≡ done }
+        ensures flows { OnOk result (self.new.flows.items ≡ self.old.flows.items) }
+        ensures none { OnErr result (self.new.flows.items ≡ []) }
+        ensures sound { IsSound self.new }
+    {
+        if done.is_err() {
+            self.flows.clear();
+            self.standing.clear();
+            self.openings.clear();
+            self.generations.clear();
+        }
+        done
+    }
 }
 
 /// The four-tuple has these openings now. The error is want of memory, and leaves all as it was.

@@ -6,6 +6,7 @@ ghost use Rattle.tas_runs.specs.declared.log.LogEvent.TheVariants as events;
 ghost use Rattle.tas_runs.specs.Records as model;
 ghost use Rattle.tas_runs.specs.Records.{is_remote};
 ghost use Rattle.tas_runs.specs.Hosts.{Host, is_indexed_as, logged, changed, is_known, lowest_free, next_generation, flows_of};
+ghost use Rattle.tas_runs.specs.Rounds.{Each};
 ghost use Rattle.tas_runs.specs.Upkeep.{quieted};
 ghost use Rattle.tas_runs.specs.Deliveries.{next_first_number, record_frame, received_serially, stray_answer, met_listener, opened_by_syn as model_opened_by_syn, opens as model_opens, arrived, delivered_by};
 ghost use Rattle.tas_runs.specs.LocalScript.{began, connected_where, opened_by_connect, connects as model_connects, sees, resets_here};
@@ -13,7 +14,7 @@ ghost use Rattle.tas_runs.specs.Replays.{at_start};
 ghost use Rattle.tas_runs.specs.SerialOrder.{slow_phase, frame_phase, script_phase, emit_phase, served, serial_tick};
 ghost use Rattle.capture_items.specs.Items.{item_in, content_in};
 ghost use Rattle.capture_items.specs.Numbers.{AreNumbersOf};
-ghost use Rattle.local_host.specs.Live.{asked_all, flow_in};
+ghost use Rattle.local_host.specs.Live.{asked_all, flow_in, IsLegal};
 
 use crate::flows::Flows;
 use crate::live::LiveFlow;
@@ -45,6 +46,15 @@ impl Model for LocalHost {
     ghost view = { λ h. record { params = h.params; log = h.log; flows = h.flows } };
 
     ghost invariant = { λ h. InRange h.params };
+}
+
+/// What a host leaves when its run is over.
+#[derive(Drop)]
+pub struct HostEnd {
+    /// Its log.
+    pub log: HostLog,
+    /// The records of its flows, in the order of their opening.
+    pub flows: Vec<FlowRecord>,
 }
 
 impl LocalHost {
@@ -87,27 +97,17 @@ impl LocalHost {
         &self.params
     }
 
-    /// Its log.
-    pub fn log(&self) -> &HostLog
-        ensures { result.now ≡ self.now.log }
+    /// What it leaves after its last tick. The error is want of memory.
+    pub fn finish(self) -> Result<HostEnd, AllocError>
+        ensures log { IfOk result (λ end. end.log ≡ self.log) }
+        ensures flows { IfOk result (λ end. map flow_in end.flows.items ≡ flows_of self.flows) }
+        ensures legal { IfOk result (λ end. Each IsLegal end.flows.items) }
     {
-        &self.log
-    }
-
-    /// How many flows were opened.
-    pub fn flow_count(&self) -> usize
-        ensures { result ≡ length self.now.flows }
-    {
-        self.flows.len()
-    }
-
-    /// The record of the flow that was opened as number `i`, counted from 0.
-    pub fn flow(&self, i: usize) -> &FlowRecord
-        requires { i < length self.now.flows }
-        ensures flow { slice_get (flows_of self.now.flows) i ≡ Some (flow_in result.now) }
-        ensures ranges { InRange result.now.params }
-    {
-        self.flows.record(i)
+        let flows = self.flows.into_records(self.alloc)?;
+        Ok(HostEnd {
+            log: self.log,
+            flows,
+        })
     }
 
     fn log_event(&mut self, tick: u32, event: LogEvent) -> Result<(), AllocError>

@@ -8,4 +8,4 @@ mod live;
 mod pending;
 mod reading;
 
-pub use host::LocalHost;
+pub use host::{HostEnd, LocalHost};

@@ -16,7 +16,7 @@ ghost use Rattle.tas_runs.specs.Upkeep.{swept, timed, quieted};
 ghost use Rattle.tas_runs.specs.Deliveries.{received_serially, is_fast};
 ghost use Rattle.tas_runs.specs.LocalScript.{Accepting, Sending, Shutting, Aborting, Receiving, Leaving, is_served, resets_here, sees, fresh_bytes as model_fresh, at_stage, the_app};
 ghost use Rattle.local_host.specs.Index.{is_standing};
-ghost use Rattle.local_host.specs.Live.{flow_in, out_in, is_ended, opened_live, asked_all, IsNext};
+ghost use Rattle.local_host.specs.Live.{flow_in, IsLegal, out_in, is_ended, opened_live, asked_all, IsNext};
 
 use crate::calls::{end, make, offer};
 use crate::pending::Pending;
@@ -246,12 +246,14 @@ impl LiveFlow {
         Ok(())
     }
 
-    /// Its record.
-    pub fn record(&self) -> &FlowRecord
-        ensures flow { flow_in result.now ≡ self.now.flow }
-        ensures ranges { InRange result.now.params }
+    /// Its record, which is all that it leaves.
+    pub fn into_record(self) -> FlowRecord
+        ensures flow { flow_in result ≡ self.flow }
+        ensures legal { IsLegal result }
     {
-        &self.history
+        // Its history is legal.
+        let _entries = self.history.entries();
+        self.history
     }
 
     /// Which flow it is.

@@ -1,20 +1,12 @@
-use Rattle.std.proofs.Common.{ℕ, ◌<◌, length, get_or, ◌∙◌, arith}
-use Rattle.tas_runs.specs.Upkeep.{quieted}
-use Rattle.local_host.proofs.Standing.{quieted_rests, changed_step, changed_whole, place_below}
+use Rattle.std.proofs.Common.{arith}
+use Rattle.local_host.proofs.Standing.{quieted_rests, leads_below, leads_on, leads_to_all}
 use Rattle.local_host.proofs.flows.empty_all.Goals as goal
 
 pub index_mut-requires : goal.index_mut-requires
-index_mut-requires c =
-    let there : get_or c.args.standing.now c.loop-place.place-index 0 < length c.args.flows.now.items = place_below c.args.flows.now.items c.args.standing.now c.loop-place.place-index 0 c.requires.places c.loop-place-test.true in
-    omega (arith, there, c.loop-place.invariant.len, c.loop-place.flows.ok)
+index_mut-requires c = omega (arith, leads_below c.loop-place.invariant c.requires.places c.loop-place-test.true, c.loop-place.flows.ok)
 
 pub loop-place-preserved : goal.loop-place-preserved
-loop-place-preserved c =
-    let k : ℕ = c.loop-place.place-index in
-    let low : k < length c.args.standing.now = c.loop-place-test.true in
-    let there : get_or c.args.standing.now k 0 < length c.loop-place.flows.items = omega (arith, place_below c.args.flows.now.items c.args.standing.now k 0 c.requires.places low, c.loop-place.invariant.len) in
-    let next = changed_step (quieted c.args.tick) c.args.standing.now k c.loop-place.flows.items c.args.flows.now.items c.index_mut.result.now c.send_all.new.self low there c.index_mut.ensures.value c.in_ok-send_all.ensures c.loop-place.invariant.same in
-    record { same = next.0; len = next.1 ∙ c.loop-place.invariant.len }
+loop-place-preserved c = leads_on c.loop-place.invariant c.requires.places c.loop-place-test.true c.index_mut.ensures.value c.in_ok-send_all.ensures
 
 pub returns : goal.returns
-returns c = changed_whole (quieted c.args.tick) (quieted_rests c.args.tick) c.args.standing.now c.loop-place.place-index c.loop-place.flows.items c.args.flows.now.items c.requires.places c.requires.rest (omega (arith, c.loop-place-test.false)) c.loop-place.invariant.same
+returns c = leads_to_all (quieted_rests c.args.tick) c.loop-place.invariant c.requires.places c.requires.rest c.loop-place-test.false

@@ -1,11 +1,6 @@
-use Rattle.std.proofs.Common.{◌≡◌, drop, length}
 use Rattle.tas_runs.specs.Upkeep.{quieted}
-use Rattle.local_host.proofs.Standing.{changed_all}
+use Rattle.local_host.proofs.Standing.{Leads}
 use Rattle.local_host.proofs.flows.empty_all.Given as goal
 
--- what is left to do leads to the same end
 abbrev pub invariant-loop-place : goal.invariant-loop-place
-invariant-loop-place l = record {
-  same : changed_all (quieted l.tick) (drop l.place-index l.standing) l.flows.items ≡ changed_all (quieted l.tick) l.standing l.fn.flows.items;
-  len : length l.flows.items ≡ length l.fn.flows.items;
-}
+invariant-loop-place l = Leads (quieted l.tick) l.standing l.place-index l.flows.items l.fn.flows.items
