@@ -6,3 +6,5 @@ pub mod Ticks
 pub mod Ordered
 pub mod Short
 pub mod Digits
+pub mod FrameIds
+pub mod Unnamed

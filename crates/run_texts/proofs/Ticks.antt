@@ -14,10 +14,10 @@ use Rattle.tas_model.specs.Outputs.{segments_in, sent}
 use Rattle.tas_runs.specs.declared.log.LogLine.{LogLine}
 use Rattle.tas_runs.specs.declared.log.LogEvent.{LogEvent}
 use Rattle.tas_runs.specs.declared.log.LogEvent.TheVariants as events
-use Rattle.tas_runs.specs.Logs.{Flow}
+use Rattle.tas_runs.specs.Logs.{Flow, HostRun}
 use Rattle.tas_runs.specs.SentFrames.{sent_fields, segments_bytes, sent_at, flows_at, answer_in, answer_of, answer_on, strays_at, hosts_at, ticks_from}
 use Rattle.run_texts.specs.declared.frames.Frame.{Frame}
-use Rattle.run_texts.specs.Frames.{Sent, seen_frame, segment_record, sent_record, frame_before, frames_in, entry_frames, flow_frames, event_frames, answer_frames, all_frames, host_of, AreAllShort, AreShort, Rises, IsInOrder}
+use Rattle.run_texts.specs.Frames.{Sent, seen_frame, segment_record, sent_record, frame_before, frames_in, entry_frames, flow_frames, event_frames, answer_frames, host_frames, all_frames, AreAllShort, AreFlowsShort, AreShort, Rises, IsInOrder}
 
 -- ----- frames of one tick, and of some ticks
 abbrev at : (t : ℕ) → Sent → List ℕ
@@ -152,7 +152,7 @@ flow_at t tuple (x ∷ xs) short =
     ∙ (ap (λ l. l ++ at_tick t (flat_map (entry_frames tuple) xs)) (frames_at t x.tick tuple (segments_in x.reply) parts.0 (x.tick == t) refl)
     ∙ (ap (λ l. segments_bytes t tuple here ++ l) (flow_at t tuple xs parts.1) ∙ sym (segments_bytes-append t tuple here (sent_at t xs))))
 
-flows_are : (t : ℕ) (flows : List Flow) → AreShort flows → at_tick t (flat_map flow_frames flows) ≡ flows_at t flows
+flows_are : (t : ℕ) (flows : List Flow) → AreFlowsShort flows → at_tick t (flat_map flow_frames flows) ≡ flows_at t flows
 flows_are t [] short = refl
 flows_are t (f ∷ fs) short =
     flat_map-append (at t) (flow_frames f) (flat_map flow_frames fs)
@@ -188,10 +188,17 @@ strays_are t (l ∷ ls) =
     flat_map-append (at t) (answer_frames l) (flat_map answer_frames ls)
     ∙ (ap (λ x. x ++ at_tick t (flat_map answer_frames ls)) (event_at t l.tick l.event (l.tick == t) refl) ∙ ap (λ x. cond (l.tick == t) (answer_on l) [] ++ x) (strays_are t ls))
 
-host_at : (t : ℕ) (flows : List Flow) (log : List LogLine) → AreShort flows → at_tick t (all_frames flows log) ≡ hosts_at t (host_of flows log ∷ [])
-host_at t flows log short =
-    flat_map-append (at t) (flat_map flow_frames flows) (flat_map answer_frames log)
-    ∙ (ap (λ l. l ++ at_tick t (flat_map answer_frames log)) (flows_are t flows short) ∙ (ap (λ l. flows_at t flows ++ l) (strays_are t log) ∙ sym (append-nil (flows_at t flows ++ strays_at t log))))
+-- host by host
+host_at : (t : ℕ) (h : HostRun) → AreFlowsShort h.flows → at_tick t (host_frames h) ≡ flows_at t h.flows ++ strays_at t h.log
+host_at t h short =
+    flat_map-append (at t) (flat_map flow_frames h.flows) (flat_map answer_frames h.log)
+    ∙ (ap (λ l. l ++ at_tick t (flat_map answer_frames h.log)) (flows_are t h.flows short) ∙ ap (λ l. flows_at t h.flows ++ l) (strays_are t h.log))
+
+hosts_are : (t : ℕ) (hosts : List HostRun) → AreShort hosts → at_tick t (all_frames hosts) ≡ hosts_at t hosts
+hosts_are t [] short = refl
+hosts_are t (h ∷ hs) short =
+    flat_map-append (at t) (host_frames h) (all_frames hs)
+    ∙ (ap (λ l. l ++ at_tick t (all_frames hs)) (host_at t h short.0) ∙ ap (λ l. flows_at t h.flows ++ strays_at t h.log ++ l) (hosts_are t hs short.1))
 
 -- ----- the whole
 -- the records of a tick are those of its frames
@@ -203,11 +210,11 @@ by_filter t (s ∷ ss) = by_test (s.tick == t) refl (by_filter t ss)
     by_test true e h = rw e (ap (λ l. sent_record s ++ l) h)
     by_test false e h = rw e h
 
-ticks_are : (count t : ℕ) (flows : List Flow) (log : List LogLine) (ss : List Sent) → AreShort flows → Rises 0 ss → ((u : ℕ) → at_tick u ss ≡ at_tick u (all_frames flows log)) → in_ticks count t ss ≡ ticks_from count t (host_of flows log ∷ [])
-ticks_are zero t flows log ss short r same = in_no_ticks t ss
-ticks_are (suc count) t flows log ss short r same =
+ticks_are : (count t : ℕ) (hosts : List HostRun) (ss : List Sent) → AreShort hosts → Rises 0 ss → ((u : ℕ) → at_tick u ss ≡ at_tick u (all_frames hosts)) → in_ticks count t ss ≡ ticks_from count t hosts
+ticks_are zero t hosts ss short r same = in_no_ticks t ss
+ticks_are (suc count) t hosts ss short r same =
     split_ticks count t 0 ss r
-    ∙ (ap (λ l. l ++ in_ticks count (t + 1) ss) (same t ∙ host_at t flows log short) ∙ ap (λ l. hosts_at t (host_of flows log ∷ []) ++ l) (ticks_are count (t + 1) flows log ss short r same))
+    ∙ (ap (λ l. l ++ in_ticks count (t + 1) ss) (same t ∙ hosts_are t hosts short) ∙ ap (λ l. hosts_at t hosts ++ l) (ticks_are count (t + 1) hosts ss short r same))
 
 -- frames before a tick
 before_are : (ticks : ℕ) (frames : List Frame) → flat_map (frame_before ticks) frames ≡ in_ticks ticks 0 (map seen_frame frames)
@@ -217,8 +224,8 @@ before_are ticks (f ∷ fs) = ap (λ b. cond b (sent_record (seen_frame f)) [] +
     test : (ticks n : ℕ) → nat_lt n ticks ≡ (nat_le 0 n && nat_lt n (0 + ticks))
     test ticks n = grind (arith, nat_tests)
 
-pub all_in_ticks : (ticks : ℕ) (flows : List Flow) (log : List LogLine) (frames : List Frame) → AreShort flows → IsInOrder (all_frames flows log) frames → flat_map (frame_before ticks) frames ≡ ticks_from ticks 0 (host_of flows log ∷ [])
-all_in_ticks ticks flows log frames short order =
+pub all_in_ticks : (ticks : ℕ) (hosts : List HostRun) (frames : List Frame) → AreShort hosts → IsInOrder (all_frames hosts) frames → flat_map (frame_before ticks) frames ≡ ticks_from ticks 0 hosts
+all_in_ticks ticks hosts frames short order =
     let ss : List Sent = map seen_frame frames in
-    let same : (u : ℕ) → at_tick u ss ≡ at_tick u (all_frames flows log) = λ u. by_filter u ss ∙ (ap (flat_map sent_record) (order.same u) ∙ sym (by_filter u (all_frames flows log))) in
-    before_are ticks frames ∙ ticks_are ticks 0 flows log ss short order.rises same
+    let same : (u : ℕ) → at_tick u ss ≡ at_tick u (all_frames hosts) = λ u. by_filter u ss ∙ (ap (flat_map sent_record) (order.same u) ∙ sym (by_filter u (all_frames hosts))) in
+    before_are ticks frames ∙ ticks_are ticks 0 hosts ss short order.rises same

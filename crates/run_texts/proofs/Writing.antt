@@ -1,33 +1,16 @@
 -- What several writes do, one after the other.
-use Rattle.std.proofs.Common.{◌≡◌, ◌==◌, codes, ℕ, ◌<◌, get_or, ◌+◌, ◌-◌, ◌≤◌, ◌/◌, ◌%◌, false, [], ◌∷◌, ◌++◌, List, take, drop, length, Option, Result, Ok, Err, OnOk, OnErr, IsOk, IsErr, take-append-drop, refl, ap, subst, sym, ◌∙◌, length-drop, append_assoc, append-nil, arith}
+use Rattle.std.proofs.Common.{◌≡◌, ◌==◌, codes, ℕ, ◌+◌, ◌-◌, ◌≤◌, ◌/◌, ◌%◌, false, [], ◌∷◌, ◌++◌, List, take, drop, length, Result, Ok, Err, IsOk, IsErr, take-append-drop, refl, ap, subst, sym, ◌∙◌, append_assoc, append-nil, arith}
 use Rattle.std.proofs.Math.Seq.{take-add}
-use Rattle.std.proofs.lemmas.List.{take_all, take_more}
 use Rattle.std.proofs.lemmas.Bool.{false≢true}
 use Rattle.std.specs.Io.KnownBytes.{Appends}
-use Rattle.std.proofs.KnownBytes.{Appends-trans, Appends-nil}
+use Rattle.std.proofs.KnownBytes.{Appends-trans}
 use Rattle.tas_num.specs.Causes.{Rose}
 use Rattle.tas_num.specs.declared.outside.IoFault.{IoFault}
-use Rattle.tas_num.specs.declared.outside.IoFault.TheVariants.{Failed, OutOfMemory}
+use Rattle.tas_num.specs.declared.outside.IoFault.TheVariants.{Failed}
+use Rattle.tas_num.proofs.Writing.{rose_later}
 use Rattle.std.specs.Fmt.{digit_glyph}
 use Rattle.tas_runs.specs.Report.{hex_bytes, hex, data_text}
 use Rattle.run_texts.specs.Writes.{Stand, Writes}
-
--- a count that rose later rose
-pub rose_later : {a b c : ℕ} → a ≤ b → Rose b c → Rose a c
-rose_later low h = grind (arith, low, h)
-
--- n bytes more behind the first k
-pub appends_more : (a b c : Option (List ℕ)) (bytes : List ℕ) (k n : ℕ) → Appends a b (take k bytes) → Appends b c (take n (drop k bytes)) → Appends a c (take (k + n) bytes)
-appends_more a b c bytes k n first second = subst (Appends a c) (sym (take-add k n bytes)) (Appends-trans a b c (take k bytes) (take n (drop k bytes)) first second)
-
--- all that is left, as so many bytes of it
-pub whole : (k : ℕ) (bytes : List ℕ) → take (length bytes - k) (drop k bytes) ≡ drop k bytes
-whole k bytes = take_all (length bytes - k) (drop k bytes) (omega (arith, length-drop k bytes))
-
-pub within : (k n : ℕ) (bytes : List ℕ) → k ≤ length bytes → n ≤ length (take (length bytes - k) (drop k bytes)) → k + n ≤ length bytes
-within k n bytes small bound =
-    let left : n ≤ length (drop k bytes) = subst (λ (xs : List ℕ). n ≤ length xs) (whole k bytes) bound in
-    omega (arith, length-drop k bytes)
 
 -- A text, and a text behind it.
 pub wrote_then : (a b c : Stand) (r : Result (Unit {0}) IoFault) (x y : List ℕ) → Writes a (Ok tt) b x → Writes b r c y → Writes a r c (x ++ y)
@@ -61,31 +44,33 @@ pub flushed : (a b : Stand) (r : Result (Unit {0}) IoFault) → IsOk r → Appen
 flushed a b (Ok u) _ grown later e = record { front = a.waiting; rest = []; whole = refl; grown = grown; waits = e; failed = λ f. absurd (cc f); later = later }
 flushed a b (Err f) h _ _ _ = absurd (false≢true h)
 
-pub broken : (a b : Stand) (r : Result (Unit {0}) IoFault) (n : ℕ) (all : List ℕ) → IsErr r → all ≡ a.waiting → Appends a.held b.held (take n all) → (r ≡ Err Failed → Rose a.faults b.faults) → a.faults ≤ b.faults → Writes a r b []
-broken a b (Err f) n all _ e grown cause later = record { front = take n all; rest = drop n all; whole = take-append-drop n all ∙ (e ∙ sym (append-nil a.waiting)); grown = grown; waits = tt; failed = cause; later = later }
-broken a b (Ok u) n all h _ _ _ _ = absurd (false≢true h)
+pub broken : (a b : Stand) (r : Result (Unit {0}) IoFault) (front rest : List ℕ) → IsErr r → front ++ rest ≡ a.waiting → Appends a.held b.held front → (r ≡ Err Failed → Rose a.faults b.faults) → a.faults ≤ b.faults → Writes a r b []
+broken a b (Err f) front rest _ whole grown cause later = record { front = front; rest = rest; whole = whole ∙ sym (append-nil a.waiting); grown = grown; waits = tt; failed = cause; later = later }
+broken a b (Ok u) front rest h _ _ _ _ = absurd (false≢true h)
 
 -- Bytes that were put behind those that wait.
-pub kept : (held : Option (List ℕ)) (faults : ℕ) (old new bytes : List ℕ) (r : Result (Unit {0}) IoFault) → OnOk r (new ≡ old ++ bytes) → OnErr r (r ≡ Err OutOfMemory) → Writes (record { held = held; faults = faults; waiting = old }) r (record { held = held; faults = faults; waiting = new }) bytes
-kept held faults old new bytes r more cause = record { front = []; rest = old ++ bytes; whole = refl; grown = Appends-nil held; waits = more; failed = λ e. by_result r e cause; later = omega arith }
-  where
-    by_result : (r : Result (Unit {0}) IoFault) → r ≡ Err Failed → OnErr r (r ≡ Err OutOfMemory) → Rose faults faults
-    by_result (Ok u) e _ = absurd (cc e)
-    by_result (Err f) e h = absurd (cc (e, h))
+pub put_behind : (a b : Stand) (x y waiting : List ℕ) → waiting ≡ b.waiting ++ y → Writes a (Ok tt) b x → Writes a (Ok tt) (record { held = b.held; faults = b.faults; waiting = waiting }) (x ++ y)
+put_behind a b x y waiting more first =
+    record {
+      front = first.front;
+      rest = first.rest ++ y;
+      whole = sym (append_assoc first.front first.rest y) ∙ (ap (λ t. t ++ y) first.whole ∙ append_assoc a.waiting x y);
+      grown = first.grown;
+      waits = more ∙ ap (λ t. t ++ y) first.waits;
+      failed = λ e. absurd (cc e);
+      later = first.later;
+    }
+
+-- ----- pieces
+pub text_more : (bytes : List ℕ) (from to : ℕ) → from ≤ to → take from bytes ++ take (to - from) (drop from bytes) ≡ take to bytes
+text_more bytes from to order =
+    let sum : from + (to - from) ≡ to = omega (arith, order) in
+    sym (take-add from (to - from) bytes) ∙ ap (λ n. take n bytes) sum
 
 -- ----- digits
 pub hex_bytes-append : (xs ys : List ℕ) → hex_bytes (xs ++ ys) ≡ hex_bytes xs ++ hex_bytes ys
 hex_bytes-append [] ys = refl
 hex_bytes-append (x ∷ xs) ys = ap (λ t. digit_glyph false (x / 16) ∷ digit_glyph false (x % 16) ∷ t) (hex_bytes-append xs ys)
-
--- two digits more
-pub digits_more : (old before after bytes : List ℕ) (i high low : ℕ) → i < length bytes → before ≡ old ++ hex_bytes (take i bytes) → high ≡ digit_glyph false (get_or bytes i 0 / 16) → low ≡ digit_glyph false (get_or bytes i 0 % 16) → after ≡ before ++ high ∷ low ∷ [] → after ≡ old ++ hex_bytes (take (i + 1) bytes)
-digits_more old before after bytes i high low inside first h l more =
-    let b : ℕ = get_or bytes i 0 in
-    let front : List ℕ = hex_bytes (take i bytes) in
-    let pair : hex_bytes (b ∷ []) ≡ high ∷ low ∷ [] = cc (h, l) in
-    let all : hex_bytes (take (i + 1) bytes) ≡ front ++ high ∷ low ∷ [] = ap hex_bytes (take_more bytes i 0 inside) ∙ (hex_bytes-append (take i bytes) (b ∷ []) ∙ ap (λ t. front ++ t) pair) in
-    more ∙ (ap (λ t. t ++ high ∷ low ∷ []) first ∙ (append_assoc old front (high ∷ low ∷ []) ∙ ap (λ t. old ++ t) (sym all)))
 
 -- a piece more
 pub hex_more : (bytes : List ℕ) (from to : ℕ) → from ≤ to → hex_bytes (take from bytes) ++ hex_bytes (take (to - from) (drop from bytes)) ≡ hex_bytes (take to bytes)

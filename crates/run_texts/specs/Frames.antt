@@ -1,4 +1,4 @@
--- The frames that a host sent, and their records in a capture.
+-- The frames that hosts sent, and their records in a capture.
 use Rattle.std.specs.Prelude.{◌≡◌, ℕ, ◌==◌, ◌≤◌, nat_le, nat_lt, List, [], ◌∷◌, ◌++◌, length, map, filter, flat_map, option_to_list, Option, ⊤, if◌then◌else◌}
 use Rattle.tas_num.specs.Captures.{record_bytes}
 use Rattle.segment_fields.specs.Canon.{canon}
@@ -16,6 +16,7 @@ use Rattle.tas_runs.specs.declared.log.LogEvent.TheVariants as events
 use Rattle.tas_runs.specs.Logs.{Flow, HostRun}
 use Rattle.tas_runs.specs.SentFrames.{sent_fields}
 use Rattle.run_texts.specs.declared.frames.Frame.{Frame}
+use Rattle.run_texts.specs.declared.frames.HostFrames.{HostFrames}
 
 -- ----- a frame
 -- a segment that the local end of a four-tuple sent in a tick
@@ -60,9 +61,13 @@ event_frames t _ = []
 abbrev pub answer_frames : LogLine → List Sent
 answer_frames l = event_frames l.tick l.event
 
--- all of a host: those of its flows, and then those of no flow
-abbrev pub all_frames : List Flow → List LogLine → List Sent
-all_frames flows log = flat_map flow_frames flows ++ flat_map answer_frames log
+-- those of a host: first of its flows, then of no flow
+abbrev pub host_frames : HostRun → List Sent
+host_frames h = flat_map flow_frames h.flows ++ flat_map answer_frames h.log
+
+-- host by host
+abbrev pub all_frames : List HostRun → List Sent
+all_frames hosts = flat_map host_frames hosts
 
 -- ----- as the definitions of runs have them
 -- the flow that a record is of
@@ -73,14 +78,22 @@ history_of f = record { id = f.id; tuple = f.tuple; params = f.params; entries =
 abbrev pub host_of : List Flow → List LogLine → HostRun
 host_of flows log = record { name = []; addr = 0; log = log; flows = flows }
 
+abbrev pub seen_host : HostFrames → HostRun
+seen_host h = host_of (map history_of h.flows.now) h.log.now
+
 -- each segment that a flow sent has room in a packet
 abbrev pub AreAllShort : List Seg → Type 0
 AreAllShort [] = ⊤
 AreAllShort (s ∷ ss) = (length s.bytes ≤ 65491) × AreAllShort ss
 
-abbrev pub AreShort : List Flow → Type 0
+abbrev pub AreFlowsShort : List Flow → Type 0
+AreFlowsShort [] = ⊤
+AreFlowsShort (f ∷ fs) = AreAllShort (sent f.entries) × AreFlowsShort fs
+
+-- and each that a host's flows sent
+abbrev pub AreShort : List HostRun → Type 0
 AreShort [] = ⊤
-AreShort (f ∷ fs) = AreAllShort (sent f.entries) × AreShort fs
+AreShort (h ∷ hs) = AreFlowsShort h.flows × AreShort hs
 
 -- ----- their order
 -- the ticks don't fall

@@ -5,9 +5,8 @@ ghost use Rattle.tas_model.specs.declared.entry.Reply.TheVariants as replies;
 ghost use Rattle.flow_state.specs.Views.{seen_seg, seen_call, seen_reply, seen_entry};
 ghost use Rattle.run_texts.specs.Writes.{Stand, Writes};
 
-use crate::texts::{
-    EntryStart, FrameText, HeadText, PassiveText, UpdateText, WindowText, reason_name,
-};
+use crate::frame_ids::write_frame_id;
+use crate::texts::{EntryStart, HeadText, UpdateText, WindowText, reason_name};
 use crate::writer::Writer;
 use flow_state::{CallView, EntryView, ReplyView, SegView};
 use tas_model::{FrameId, Head};
@@ -17,7 +16,7 @@ use tas_num::{IoFault, Seq, Sink};
 pub fn write_entry<K: Sink>(
     writer: &mut Writer,
     sink: &mut K,
-    names: &[&str],
+    names: &[&[u8]],
     entry: &EntryView<'_>,
 ) -> Result<(), IoFault>
     ensures { Writes (record { held = K.held sink.old; faults = K.faults sink.old; waiting = writer.old }) result (record { held = K.held sink.new; faults = K.faults sink.new; waiting = writer.new }) (entry_text (map (λ n. n.now) names.now) (seen_entry entry.now)) }
@@ -38,7 +37,7 @@ pub fn write_entry<K: Sink>(
 fn write_call<K: Sink>(
     writer: &mut Writer,
     sink: &mut K,
-    names: &[&str],
+    names: &[&[u8]],
     call: &CallView<'_>,
 ) -> Result<(), IoFault>
     ensures { Writes (record { held = K.held sink.old; faults = K.faults sink.old; waiting = writer.old }) result (record { held = K.held sink.new; faults = K.faults sink.new; waiting = writer.new }) (call_text (map (λ n. n.now) names.now) (seen_call call.now)) }
@@ -69,14 +68,17 @@ fn write_call<K: Sink>(
 fn write_passive<K: Sink>(
     writer: &mut Writer,
     sink: &mut K,
-    names: &[&str],
+    names: &[&[u8]],
     frame: FrameId,
     iss: Seq,
     seg: &SegView<'_>,
 ) -> Result<(), IoFault>
     ensures { Writes (record { held = K.held sink.old; faults = K.faults sink.old; waiting = writer.old }) result (record { held = K.held sink.new; faults = K.faults sink.new; waiting = writer.new }) (call_text (map (λ n. n.now) names.now) (calls.Passive frame iss (seen_seg seg.now))) }
 {
-    writer.put_text(sink, &PassiveText { names, frame, iss })?;
+    let iss = iss.0;
+    writer.put(sink, b"passive ")?;
+    write_frame_id(writer, sink, names, frame)?;
+    writer.put_text(sink, &format_args!(" iss {iss} "))?;
     write_seg(writer, sink, seg)
 }
 
@@ -84,14 +86,15 @@ fn write_passive<K: Sink>(
 fn write_rx<K: Sink>(
     writer: &mut Writer,
     sink: &mut K,
-    names: &[&str],
+    names: &[&[u8]],
     frame: FrameId,
     seg: &SegView<'_>,
 ) -> Result<(), IoFault>
     ensures { Writes (record { held = K.held sink.old; faults = K.faults sink.old; waiting = writer.old }) result (record { held = K.held sink.new; faults = K.faults sink.new; waiting = writer.new }) (call_text (map (λ n. n.now) names.now) (calls.Rx frame (seen_seg seg.now))) }
 {
-    let frame = FrameText { names, frame };
-    writer.put_text(sink, &format_args!("rx {frame} "))?;
+    writer.put(sink, b"rx ")?;
+    write_frame_id(writer, sink, names, frame)?;
+    writer.put(sink, b" ")?;
     write_seg(writer, sink, seg)
 }
 

@@ -18,7 +18,7 @@ use tas_num::{IoFault, Sink};
 pub fn write_flow<K: Sink>(
     writer: &mut Writer,
     sink: &mut K,
-    names: &[&str],
+    names: &[&[u8]],
     number: u32,
     flow: &FlowRecord,
 ) -> Result<(), IoFault>
@@ -49,7 +49,7 @@ fn write_ends<K: Sink>(
 fn write_entries<K: Sink>(
     writer: &mut Writer,
     sink: &mut K,
-    names: &[&str],
+    names: &[&[u8]],
     flow: &FlowRecord,
 ) -> Result<(), IoFault>
     ensures { Writes (record { held = K.held sink.old; faults = K.faults sink.old; waiting = writer.old }) result (record { held = K.held sink.new; faults = K.faults sink.new; waiting = writer.new }) (entries_text (map (λ n. n.now) names.now) flow.now.entries) }

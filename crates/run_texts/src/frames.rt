@@ -4,7 +4,7 @@ ghost use Rattle.tas_runs.specs.SentFrames.{ticks_from};
 ghost use Rattle.tas_model.specs.Segments.{bare as bare_of};
 ghost use Rattle.tas_model.specs.Outputs.{segments_in};
 ghost use Rattle.flow_state.specs.Views.{seen_seg, seen_reply, seen_entry};
-ghost use Rattle.run_texts.specs.Frames.{frame_before, seen_frame, segments_of, frames_in, entry_frames, flow_frames, answer_frames, all_frames, history_of, host_of, AreShort, IsInOrder};
+ghost use Rattle.run_texts.specs.Frames.{frame_before, seen_frame, segments_of, frames_in, entry_frames, flow_frames, answer_frames, host_frames, all_frames, history_of, seen_host, AreShort, IsInOrder};
 ghost use Rattle.run_texts.specs.Writes.{Stand, Writes};
 
 use crate::writer::Writer;
@@ -27,6 +27,13 @@ pub struct Frame<'a> {
     pub seg: SegView<'a>,
 }
 
+/// What a host sent: by its flows, in the order of their opening, and by its answers to segments of no flow.
+#[derive(Clone, Copy)]
+pub struct HostFrames<'a> {
+    pub flows: &'a [FlowRecord],
+    pub log: &'a [LogLine],
+}
+
 /// Writes the header of a capture.
 pub fn write_capture_header<K: Sink>(writer: &mut Writer, sink: &mut K) -> Result<(), IoFault>
     ensures { Writes (record { held = K.held sink.old; faults = K.faults sink.old; waiting = writer.old }) result (record { held = K.held sink.new; faults = K.faults sink.new; waiting = writer.new }) file_header }
@@ -36,20 +43,19 @@ pub fn write_capture_header<K: Sink>(writer: &mut Writer, sink: &mut K) -> Resul
     writer.put(sink, &header)
 }
 
-/// Writes the frames that were sent in the first `ticks` ticks, as records of a capture: tick by tick, those of the flows in their order, then the answers to segments of no flow.
+/// Writes the frames that were sent in the first `ticks` ticks, as records of a capture: tick by tick and host by host, of each host those of the flows in their order, then the answers to segments of no flow. The error is the sink's, or want of memory.
 pub fn write_frames<K: Sink>(
     alloc: Global,
     writer: &mut Writer,
     sink: &mut K,
     ticks: u32,
-    flows: &[&FlowRecord],
-    log: &[LogLine],
+    hosts: &[HostFrames<'_>],
 ) -> Result<(), IoFault>
-    ensures exact { AreShort (map (λ f. history_of f.now) flows.now) → Writes (record { held = K.held sink.old; faults = K.faults sink.old; waiting = writer.old }) result (record { held = K.held sink.new; faults = K.faults sink.new; waiting = writer.new }) (ticks_from ticks 0 (host_of (map (λ f. history_of f.now) flows.now) log.now ∷ [])) }
+    ensures exact { AreShort (map seen_host hosts.now) → Writes (record { held = K.held sink.old; faults = K.faults sink.old; waiting = writer.old }) result (record { held = K.held sink.new; faults = K.faults sink.new; waiting = writer.new }) (ticks_from ticks 0 (map seen_host hosts.now)) }
     // Whatever was sent, only records of frames are written.
     ensures records { (frames : List Frame) × Writes (record { held = K.held sink.old; faults = K.faults sink.old; waiting = writer.old }) result (record { held = K.held sink.new; faults = K.faults sink.new; waiting = writer.new }) (flat_map (frame_before ticks) frames) }
 {
-    let frames = match sent_frames(alloc, flows, log) {
+    let frames = match sent_frames(alloc, hosts) {
         Ok(frames) => frames,
         Err(_) => return Err(IoFault::OutOfMemory),
     };
@@ -60,24 +66,37 @@ pub fn write_frames<K: Sink>(
     write_records(writer, sink, &mut packet, ticks, &frames)
 }
 
-/// The frames that were sent in the first `ticks` ticks, by their tick.
-fn sent_frames<'a>(
-    alloc: Global,
-    flows: &'a [&'a FlowRecord],
-    log: &'a [LogLine],
-) -> Result<Vec<Frame<'a>>, AllocError>
-    ensures { IfOk result (λ frames. IsInOrder (all_frames (map (λ f. history_of f.now) flows.now) log.now) frames.items) }
+/// The frames that were sent, by their tick.
+fn sent_frames<'a>(alloc: Global, hosts: &[HostFrames<'a>]) -> Result<Vec<Frame<'a>>, AllocError>
+    ensures { IfOk result (λ frames. IsInOrder (all_frames (map seen_host hosts.now)) frames.items) }
 {
     let mut frames = Vec::new(alloc);
-    add_flows(&mut frames, flows)?;
-    add_answers(&mut frames, log)?;
+    add_hosts(&mut frames, hosts)?;
     frames.sort_by_key(|frame| frame.tick)?;
     Ok(frames)
 }
 
+/// Adds the segments that the hosts sent.
+fn add_hosts<'a>(frames: &mut Vec<Frame<'a>>, hosts: &[HostFrames<'a>]) -> Result<(), AllocError>
+    ensures { OnOk result (map seen_frame frames.new.items ≡ map seen_frame frames.old.items ++ all_frames (map seen_host hosts.now)) }
+{
+    for host in hosts {
+        add_host(frames, host)?;
+    }
+    Ok(())
+}
+
+/// Adds the segments that a host sent.
+fn add_host<'a>(frames: &mut Vec<Frame<'a>>, host: &HostFrames<'a>) -> Result<(), AllocError>
+    ensures { OnOk result (map seen_frame frames.new.items ≡ map seen_frame frames.old.items ++ host_frames (seen_host host.now)) }
+{
+    add_flows(frames, host.flows)?;
+    add_answers(frames, host.log)
+}
+
 /// Adds the segments that the flows sent.
-fn add_flows<'a>(frames: &mut Vec<Frame<'a>>, flows: &[&'a FlowRecord]) -> Result<(), AllocError>
-    ensures { OnOk result (map seen_frame frames.new.items ≡ map seen_frame frames.old.items ++ flat_map flow_frames (map (λ f. history_of f.now) flows.now)) }
+fn add_flows<'a>(frames: &mut Vec<Frame<'a>>, flows: &'a [FlowRecord]) -> Result<(), AllocError>
+    ensures { OnOk result (map seen_frame frames.new.items ≡ map seen_frame frames.old.items ++ flat_map flow_frames (map history_of flows.now)) }
 {
     for flow in flows {
         add_flow(frames, flow)?;

@@ -1,8 +1,10 @@
 //! The texts of a run: its report, and the capture of the frames that it sent, written to a sink.
 #![tactic(auto)]
 
+mod buffer;
 mod entries;
 mod flows;
+mod frame_ids;
 mod frames;
 mod laws;
 mod logs;
@@ -11,11 +13,13 @@ mod whole;
 mod writer;
 
 pub use flows::write_flow;
-pub use frames::{Frame, write_capture_header, write_frames};
+pub use frames::{Frame, HostFrames, write_capture_header, write_frames};
 pub use laws::segments_have_room;
 pub use logs::write_log;
 pub use whole::{Counts, write_counts, write_end, write_host, write_title};
 pub use writer::Writer;
 
+#[cfg(test)]
+mod buffer_tests;
 #[cfg(test)]
 mod tests;

@@ -4,7 +4,8 @@ ghost use Rattle.tas_runs.specs.Report.{line, event_text, log_text, frame_text, 
 ghost use Rattle.run_texts.specs.Writes.{Stand, Writes};
 
 use crate::entries::write_segment;
-use crate::texts::{AnswerText, FrameText, PortText};
+use crate::frame_ids::write_frame_id;
+use crate::texts::{AnswerText, PortText};
 use crate::writer::Writer;
 use tas_model::{FrameId, Head, Seg};
 use tas_num::{IoFault, Sink};
@@ -14,7 +15,7 @@ use tas_runs::{LogEvent, LogLine};
 pub fn write_log<K: Sink>(
     writer: &mut Writer,
     sink: &mut K,
-    names: &[&str],
+    names: &[&[u8]],
     log: &[LogLine],
 ) -> Result<(), IoFault>
     ensures { Writes (record { held = K.held sink.old; faults = K.faults sink.old; waiting = writer.old }) result (record { held = K.held sink.new; faults = K.faults sink.new; waiting = writer.new }) (log_text (map (λ n. n.now) names.now) log.now) }
@@ -29,7 +30,7 @@ pub fn write_log<K: Sink>(
 fn write_line<K: Sink>(
     writer: &mut Writer,
     sink: &mut K,
-    names: &[&str],
+    names: &[&[u8]],
     entry: &LogLine,
 ) -> Result<(), IoFault>
     ensures { Writes (record { held = K.held sink.old; faults = K.faults sink.old; waiting = writer.old }) result (record { held = K.held sink.new; faults = K.faults sink.new; waiting = writer.new }) (line (decimal entry.now.tick ++ codes " " ++ event_text (map (λ n. n.now) names.now) entry.now.event)) }
@@ -44,7 +45,7 @@ fn write_line<K: Sink>(
 fn write_event<K: Sink>(
     writer: &mut Writer,
     sink: &mut K,
-    names: &[&str],
+    names: &[&[u8]],
     event: &LogEvent,
 ) -> Result<(), IoFault>
     ensures { Writes (record { held = K.held sink.old; faults = K.faults sink.old; waiting = writer.old }) result (record { held = K.held sink.new; faults = K.faults sink.new; waiting = writer.new }) (event_text (map (λ n. n.now) names.now) event.now) }
@@ -120,15 +121,16 @@ fn write_connect<K: Sink>(
 fn write_stray<K: Sink>(
     writer: &mut Writer,
     sink: &mut K,
-    names: &[&str],
+    names: &[&[u8]],
     frame: FrameId,
     seg: &Seg,
     answer: Option<Head>,
 ) -> Result<(), IoFault>
     ensures { Writes (record { held = K.held sink.old; faults = K.faults sink.old; waiting = writer.old }) result (record { held = K.held sink.new; faults = K.faults sink.new; waiting = writer.new }) (codes "stray " ++ frame_text (map (λ n. n.now) names.now) frame ++ codes " " ++ seg_text seg.now ++ codes " = " ++ answer_text answer) }
 {
-    let frame = FrameText { names, frame };
-    writer.put_text(sink, &format_args!("stray {frame} "))?;
+    writer.put(sink, b"stray ")?;
+    write_frame_id(writer, sink, names, frame)?;
+    writer.put(sink, b" ")?;
     write_seg(writer, sink, seg)?;
     writer.put(sink, b" = ")?;
     writer.put_text(sink, &AnswerText(answer))
@@ -145,27 +147,36 @@ fn write_seg<K: Sink>(writer: &mut Writer, sink: &mut K, seg: &Seg) -> Result<()
 fn write_dropped<K: Sink>(
     writer: &mut Writer,
     sink: &mut K,
-    names: &[&str],
+    names: &[&[u8]],
     frame: FrameId,
     backlog: bool,
 ) -> Result<(), IoFault>
     ensures { Writes (record { held = K.held sink.old; faults = K.faults sink.old; waiting = writer.old }) result (record { held = K.held sink.new; faults = K.faults sink.new; waiting = writer.new }) (event_text (map (λ n. n.now) names.now) (events.Dropped frame backlog)) }
 {
-    let frame = FrameText { names, frame };
-    let want = if backlog { "backlogfull" } else { "noflowslot" };
-    writer.put_text(sink, &format_args!("dropped {frame} = {want}"))
+    let want = want_name(backlog);
+    writer.put(sink, b"dropped ")?;
+    write_frame_id(writer, sink, names, frame)?;
+    writer.put_text(sink, &format_args!(" = {want}"))
+}
+
+/// What was wanting for a SYN: room in the listener's backlog, or a slot for the flow.
+fn want_name(backlog: bool) -> &'static str
+    ensures { result.now ≡ (if backlog then codes "backlogfull" else codes "noflowslot") }
+{
+    if backlog { "backlogfull" } else { "noflowslot" }
 }
 
 /// Writes which rule of reading a packet breaks.
 fn write_refused<K: Sink>(
     writer: &mut Writer,
     sink: &mut K,
-    names: &[&str],
+    names: &[&[u8]],
     frame: FrameId,
     number: u8,
 ) -> Result<(), IoFault>
     ensures { Writes (record { held = K.held sink.old; faults = K.faults sink.old; waiting = writer.old }) result (record { held = K.held sink.new; faults = K.faults sink.new; waiting = writer.new }) (event_text (map (λ n. n.now) names.now) (events.Refused frame number)) }
 {
-    let frame = FrameText { names, frame };
-    writer.put_text(sink, &format_args!("refused {frame} = {number}"))
+    writer.put(sink, b"refused ")?;
+    write_frame_id(writer, sink, names, frame)?;
+    writer.put_text(sink, &format_args!(" = {number}"))
 }

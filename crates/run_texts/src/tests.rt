@@ -1,6 +1,7 @@
 use super::*;
 use flow_state::{AppCalls, CallIn, FlowRecord};
 use segment_fields::{Flags, Segment};
+use std::alloc::{AllocError, Global};
 use std::test::*;
 use tas_model::{
     Bytes, CAPTURE, Caller, FlowId, FourTuple, FrameId, Head, HostParams, NO_FLOW, Seg,
@@ -26,6 +27,14 @@ const TUPLE: FourTuple = FourTuple {
     rport: 40000,
 };
 
+/// The same connection, seen from its other end.
+const OTHER_END: FourTuple = FourTuple {
+    laddr: 167772161,
+    lport: 40000,
+    raddr: 167772162,
+    rport: 80,
+};
+
 const FRAME: FrameId = FrameId {
     host: CAPTURE,
     flow: NO_FLOW,
@@ -39,6 +48,16 @@ const FLOW_LINES: &str =
 
 /// The line of a segment of no flow with two bytes of payload, which got a reset.
 const LOG_LINES: &str = "7 stray r:1 AP seq 5 ack 9 win 512 data 1aff = R seq 9 ack 0 win 0\n";
+
+/// The records of three resets: of both hosts in the first tick, and of the first host in the second.
+const RECORDS: [u8; 168] = [
+    0, 0, 0, 0, 0, 0, 0, 0, 40, 0, 0, 0, 40, 0, 0, 0, 69, 0, 0, 40, 0, 0, 64, 0, 64, 6, 38, 206,
+    10, 0, 0, 2, 10, 0, 0, 1, 0, 80, 156, 64, 0, 0, 0, 9, 0, 0, 0, 0, 80, 4, 0, 0, 255, 68, 0, 0,
+    0, 0, 0, 0, 0, 0, 0, 0, 40, 0, 0, 0, 40, 0, 0, 0, 69, 0, 0, 40, 0, 0, 64, 0, 64, 6, 38, 206,
+    10, 0, 0, 1, 10, 0, 0, 2, 156, 64, 0, 80, 0, 0, 0, 11, 0, 0, 0, 0, 80, 4, 0, 0, 255, 66, 0, 0,
+    1, 0, 0, 0, 0, 0, 0, 0, 40, 0, 0, 0, 40, 0, 0, 0, 69, 0, 0, 40, 0, 0, 64, 0, 64, 6, 38, 206,
+    10, 0, 0, 2, 10, 0, 0, 1, 0, 80, 156, 64, 0, 0, 0, 10, 0, 0, 0, 0, 80, 4, 0, 0, 255, 67, 0, 0,
+];
 
 #[test]
 fn a_new_flow_is_shown(rt: HostRuntime) -> Result<(), Fail> {
@@ -63,7 +82,7 @@ fn a_new_flow_is_shown(rt: HostRuntime) -> Result<(), Fail> {
     assert!(rt; ready.is_some());
     let mut sink = SureSink::new(rt.alloc());
     let mut writer = Writer::new(rt.alloc())?;
-    assert!(rt; write_flow(&mut writer, &mut sink, &["local"], 0, &flow).is_ok());
+    assert!(rt; write_flow(&mut writer, &mut sink, &[b"local"], 0, &flow).is_ok());
     assert!(rt; writer.finish(&mut sink).is_ok());
     assert!(rt; sink.written() == FLOW_LINES.as_bytes());
     Ok(())
@@ -98,8 +117,62 @@ fn a_segment_of_no_flow_is_shown(rt: HostRuntime) -> Result<(), Fail> {
     })?;
     let mut sink = SureSink::new(rt.alloc());
     let mut writer = Writer::new(rt.alloc())?;
-    assert!(rt; write_log(&mut writer, &mut sink, &["local"], &log).is_ok());
+    assert!(rt; write_log(&mut writer, &mut sink, &[b"local"], &log).is_ok());
     assert!(rt; writer.finish(&mut sink).is_ok());
     assert!(rt; sink.written() == LOG_LINES.as_bytes());
+    Ok(())
+}
+
+/// A line of a segment of no flow that was answered by a reset.
+fn answered(alloc: Global, tick: u32, tuple: FourTuple, seq: u32) -> Result<LogLine, AllocError> {
+    let answer = Head {
+        flags: 4,
+        seq: Seq(seq),
+        ack: Seq(0),
+        window: 0,
+        mss: None,
+    };
+    let head = Head {
+        flags: 16,
+        seq: Seq(1),
+        ack: Seq(seq),
+        window: 512,
+        mss: None,
+    };
+    let bytes = Bytes::copy(alloc, &[])?;
+    Ok(LogLine {
+        tick,
+        event: LogEvent::Stray {
+            frame: FRAME,
+            tuple,
+            seg: Seg { head, bytes },
+            answer: Some(answer),
+        },
+    })
+}
+
+#[test]
+fn frames_of_two_hosts_go_tick_by_tick(rt: HostRuntime) -> Result<(), Fail> {
+    let mut first = Vec::new(rt.alloc());
+    first.push(answered(rt.alloc(), 0, TUPLE, 9)?)?;
+    first.push(answered(rt.alloc(), 1, TUPLE, 10)?)?;
+    first.push(answered(rt.alloc(), 2, TUPLE, 12)?)?;
+    let mut second = Vec::new(rt.alloc());
+    second.push(answered(rt.alloc(), 0, OTHER_END, 11)?)?;
+    let hosts = [
+        HostFrames {
+            flows: &[],
+            log: &first,
+        },
+        HostFrames {
+            flows: &[],
+            log: &second,
+        },
+    ];
+    let mut sink = SureSink::new(rt.alloc());
+    let mut writer = Writer::new(rt.alloc())?;
+    assert!(rt; write_frames(rt.alloc(), &mut writer, &mut sink, 2, &hosts).is_ok());
+    assert!(rt; writer.finish(&mut sink).is_ok());
+    assert!(rt; sink.written() == RECORDS.as_slice());
     Ok(())
 }

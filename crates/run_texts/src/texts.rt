@@ -1,9 +1,8 @@
-ghost use Rattle.std.specs.Prelude.{◌≡◌, ℕ, ◌<◌, List, map};
-ghost use Rattle.tas_runs.specs.Report.{letter, name_at, reason_text, phase_text};
+ghost use Rattle.std.specs.Prelude.{◌≡◌, ℕ, ◌<◌, List};
+ghost use Rattle.tas_runs.specs.Report.{letter, reason_text, phase_text};
 
 use std::fmt;
-use tas_model::{CAPTURE, Caller, FlowId, FourTuple, FrameId, Head, NO_FLOW, Phase, Reason};
-use tas_num::Seq;
+use tas_model::{Caller, FlowId, FourTuple, FrameId, Head, NO_FLOW, Phase, Reason};
 
 /// The letters of control bits, or `-` where none is set.
 #[derive(Clone, Copy)]
@@ -72,45 +71,6 @@ impl fmt::Display for MssText {
     }
 }
 
-/// A frame: a record of a capture, or one of a host by its flow and number.
-#[derive(Clone, Copy)]
-pub struct FrameText<'a> {
-    pub names: &'a [&'a str],
-    pub frame: FrameId,
-}
-
-impl fmt::Display for FrameText<'_> {
-    ghost use Rattle.std.specs.Prelude.{Some, map};
-    ghost use Rattle.tas_runs.specs.Report.{frame_text};
-
-    ghost output = { λ t. Some (frame_text (map (λ n. n.now) t.names.now) t.frame) };
-
-    fn fmt<W: fmt::Write>(&self, f: &mut fmt::Formatter<W>) -> fmt::Result {
-        let FrameId {
-            host,
-            flow,
-            number,
-            copy,
-        } = self.frame;
-        if host == CAPTURE {
-            return write!(f, "r:{number}");
-        }
-        let (name, flow) = (name(self.names, host), FlowText(flow));
-        let mark = if copy == 0 { "" } else { "+" };
-        write!(f, "{name}:{flow}.{number}{mark}")
-    }
-}
-
-/// The name of a host by its number, or `-` where there is no such host.
-fn name<'a>(names: &'a [&'a str], host: u32) -> &'a str
-    ensures { result.now ≡ name_at (map (λ n. n.now) names.now) host }
-{
-    match names.get(host as usize) {
-        Some(name) => name,
-        None => "-",
-    }
-}
-
 /// The flow of a frame, or `x` where it is of none.
 #[derive(Clone, Copy)]
 struct FlowText(u32);
@@ -127,6 +87,23 @@ impl fmt::Display for FlowText {
             return write!(f, "x");
         }
         write!(f, "{flow}")
+    }
+}
+
+/// Behind the name of a host its frame by flow and number, with a `+` where it is a second copy.
+#[derive(Clone, Copy)]
+pub struct PlaceText(pub FrameId);
+
+impl fmt::Display for PlaceText {
+    ghost use Rattle.std.specs.Prelude.{Some, ◌++◌, codes, decimal};
+    ghost use Rattle.tas_runs.specs.Report.{flow_text, copy_text};
+
+    ghost output = { λ t. Some (codes ":" ++ flow_text t.0.flow ++ codes "." ++ decimal t.0.number ++ copy_text t.0.copy) };
+
+    fn fmt<W: fmt::Write>(&self, f: &mut fmt::Formatter<W>) -> fmt::Result {
+        let (flow, number) = (FlowText(self.0.flow), self.0.number);
+        let mark = if self.0.copy == 0 { "" } else { "+" };
+        write!(f, ":{flow}.{number}{mark}")
     }
 }
 
@@ -258,27 +235,6 @@ impl fmt::Display for EntryStart {
     fn fmt<W: fmt::Write>(&self, f: &mut fmt::Formatter<W>) -> fmt::Result {
         let (tick, caller, number) = (self.tick, CallerText(self.caller), self.number);
         write!(f, "{tick} {caller}.{number} ")
-    }
-}
-
-/// A SYN that a listener took, up to the segment.
-#[derive(Clone, Copy)]
-pub struct PassiveText<'a> {
-    pub names: &'a [&'a str],
-    pub frame: FrameId,
-    pub iss: Seq,
-}
-
-impl fmt::Display for PassiveText<'_> {
-    ghost use Rattle.std.specs.Prelude.{Some, ◌++◌, codes, decimal, map};
-    ghost use Rattle.tas_runs.specs.Report.{frame_text};
-
-    ghost output = { λ t. Some (codes "passive " ++ frame_text (map (λ n. n.now) t.names.now) t.frame ++ codes " iss " ++ decimal t.iss.0 ++ codes " ") };
-
-    fn fmt<W: fmt::Write>(&self, f: &mut fmt::Formatter<W>) -> fmt::Result {
-        let (names, frame, iss) = (self.names, self.frame, self.iss.0);
-        let frame = FrameText { names, frame };
-        write!(f, "passive {frame} iss {iss} ")
     }
 }
 

@@ -26,17 +26,19 @@ pub fn write_title<K: Sink>(writer: &mut Writer, sink: &mut K, replay: bool) -> 
     }
 }
 
-/// Writes the first line of a host: its name and its address.
+/// Writes the first line of a host: the bytes of its name, and its address.
 pub fn write_host<K: Sink>(
     writer: &mut Writer,
     sink: &mut K,
-    name: &str,
+    name: &[u8],
     addr: u32,
 ) -> Result<(), IoFault>
     ensures { Writes (record { held = K.held sink.old; faults = K.faults sink.old; waiting = writer.old }) result (record { held = K.held sink.new; faults = K.faults sink.new; waiting = writer.new }) (line (codes "host " ++ name.now ++ codes " " ++ addr_text addr)) }
 {
     let addr = AddrText(addr);
-    writer.put_text(sink, &format_args!("host {name} {addr}\n"))
+    writer.put(sink, b"host ")?;
+    writer.put(sink, name)?;
+    writer.put_text(sink, &format_args!(" {addr}\n"))
 }
 
 /// Writes the counts of a replay.

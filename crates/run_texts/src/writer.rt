@@ -1,26 +1,21 @@
-ghost use Rattle.std.specs.Prelude.{◌≡◌, ℕ, ◌<◌, ◌≤◌, ◌*◌, ◌++◌, [], List, take, drop, length, IfOk, OnOk, OnErr, Ok, Err, IfSome};
-ghost use Rattle.std.specs.Io.KnownBytes.{Appends};
-ghost use Rattle.tas_num.specs.Causes.{Rose};
+ghost use Rattle.std.specs.Prelude.{◌≡◌, ℕ, ◌+◌, ◌*◌, ◌<◌, ◌≤◌, ◌++◌, [], List, length, IfOk, OnOk, IfSome};
 ghost use Rattle.tas_runs.specs.Report.{hex_bytes};
 ghost use Rattle.run_texts.specs.Writes.{Stand, Writes};
 
-use hex::encode_to_slice;
+use crate::buffer::Buffer;
 use std::alloc::{AllocError, Global};
 use std::fmt;
 use std::fmt::Write;
 use std::marker::Model;
-use tas_num::{IoFault, Sink};
+use tas_num::{IoFault, Sink, write_all};
 
-/// How many bytes wait at most before they go to the sink, but for a single text that is longer.
-const ROOM: usize = 4096;
-
-/// The digits of how many bytes are made at a time.
-const PIECE: usize = 1024;
+/// Room for the longest text that is formatted at once: so it takes no memory while it is written.
+const LINE: usize = 256;
 
 /// Bytes that wait to be written to a sink, seen as their list.
 #[derive(Drop)]
 pub struct Writer {
-    waiting: Vec<u8>,
+    waiting: Buffer,
     line: String,
 }
 
@@ -29,7 +24,7 @@ impl Model for Writer {
 
     ghost Value = { List ℕ };
 
-    ghost view = { λ w. w.waiting.items };
+    ghost view = { λ w. w.waiting };
 }
 
 impl Writer {
@@ -38,8 +33,8 @@ impl Writer {
         ensures { IfOk result (λ w. w ≡ []) }
     {
         Ok(Writer {
-            waiting: Vec::with_capacity(alloc, ROOM)?,
-            line: String::new(alloc),
+            waiting: Buffer::new(alloc)?,
+            line: String::with_capacity(alloc, LINE)?,
         })
     }
 
@@ -82,9 +77,9 @@ impl Writer {
 }
 
 /// Writes all that waits. After Ok nothing waits.
-fn flush<K: Sink>(sink: &mut K, waiting: &mut Vec<u8>) -> Result<(), IoFault>
-    ensures writes { Writes (record { held = K.held sink.old; faults = K.faults sink.old; waiting = waiting.old.items }) result (record { held = K.held sink.new; faults = K.faults sink.new; waiting = waiting.new.items }) [] }
-    ensures empty { OnOk result (waiting.new.items ≡ []) }
+fn flush<K: Sink>(sink: &mut K, waiting: &mut Buffer) -> Result<(), IoFault>
+    ensures writes { Writes (record { held = K.held sink.old; faults = K.faults sink.old; waiting = waiting.old }) result (record { held = K.held sink.new; faults = K.faults sink.new; waiting = waiting.new }) [] }
+    ensures empty { OnOk result (waiting.new ≡ []) }
 {
     write_all(sink, waiting.as_slice())?;
     waiting.clear();
@@ -92,80 +87,42 @@ fn flush<K: Sink>(sink: &mut K, waiting: &mut Vec<u8>) -> Result<(), IoFault>
 }
 
 /// Writes all that waits where there is no room for so many bytes more.
-fn make_room<K: Sink>(sink: &mut K, waiting: &mut Vec<u8>, count: usize) -> Result<(), IoFault>
-    ensures { Writes (record { held = K.held sink.old; faults = K.faults sink.old; waiting = waiting.old.items }) result (record { held = K.held sink.new; faults = K.faults sink.new; waiting = waiting.new.items }) [] }
+fn make_room<K: Sink>(sink: &mut K, waiting: &mut Buffer, count: usize) -> Result<(), IoFault>
+    requires { count ≤ 4096 }
+    ensures writes { Writes (record { held = K.held sink.old; faults = K.faults sink.old; waiting = waiting.old }) result (record { held = K.held sink.new; faults = K.faults sink.new; waiting = waiting.new }) [] }
+    ensures room { OnOk result (length waiting.new + count ≤ 4096) }
 {
-    if count > ROOM.saturating_sub(waiting.len()) {
+    if count > waiting.free() {
         flush(sink, waiting)
     } else {
         Ok(())
     }
 }
 
-/// Writes bytes behind all that waits.
-fn push<K: Sink>(sink: &mut K, waiting: &mut Vec<u8>, bytes: &[u8]) -> Result<(), IoFault>
-    ensures { Writes (record { held = K.held sink.old; faults = K.faults sink.old; waiting = waiting.old.items }) result (record { held = K.held sink.new; faults = K.faults sink.new; waiting = waiting.new.items }) bytes.now }
-{
-    make_room(sink, waiting, bytes.len())?;
-    keep(waiting, bytes)
-}
-
-/// Puts bytes behind those that wait.
-fn keep(waiting: &mut Vec<u8>, bytes: &[u8]) -> Result<(), IoFault>
-    ensures ok { OnOk result (waiting.new.items ≡ waiting.old.items ++ bytes.now) }
-    ensures err { OnErr result (result ≡ Err IoFault.OutOfMemory) }
-{
-    match waiting.extend_from_slice(bytes) {
-        Ok(()) => Ok(()),
-        Err(_) => Err(IoFault::OutOfMemory),
-    }
-}
-
-/// Writes the digits of bytes behind all that waits.
-fn push_hex<K: Sink>(sink: &mut K, waiting: &mut Vec<u8>, bytes: &[u8]) -> Result<(), IoFault>
-    ensures { Writes (record { held = K.held sink.old; faults = K.faults sink.old; waiting = waiting.old.items }) result (record { held = K.held sink.new; faults = K.faults sink.new; waiting = waiting.new.items }) (hex_bytes bytes.now) }
+/// Writes bytes behind all that waits, as much at a time as there is room for.
+fn push<K: Sink>(sink: &mut K, waiting: &mut Buffer, bytes: &[u8]) -> Result<(), IoFault>
+    ensures { Writes (record { held = K.held sink.old; faults = K.faults sink.old; waiting = waiting.old }) result (record { held = K.held sink.new; faults = K.faults sink.new; waiting = waiting.new }) bytes.now }
 {
     let mut done = 0;
     while done < bytes.len() {
-        let end = bytes.len().min(done.saturating_add(PIECE));
-        push_digits(sink, waiting, &bytes[done..end])?;
+        make_room(sink, waiting, 1)?;
+        let end = bytes.len().min(done.saturating_add(waiting.free()));
+        waiting.push(&bytes[done..end]);
         done = end;
     }
     Ok(())
 }
 
-/// Writes the digits of one piece.
-fn push_digits<K: Sink>(sink: &mut K, waiting: &mut Vec<u8>, piece: &[u8]) -> Result<(), IoFault>
-    requires { length piece.now ≤ 1024 }
-    ensures { Writes (record { held = K.held sink.old; faults = K.faults sink.old; waiting = waiting.old.items }) result (record { held = K.held sink.new; faults = K.faults sink.new; waiting = waiting.new.items }) (hex_bytes piece.now) }
+/// Writes the digits of bytes behind all that waits, as many at a time as there is room for.
+fn push_hex<K: Sink>(sink: &mut K, waiting: &mut Buffer, bytes: &[u8]) -> Result<(), IoFault>
+    ensures { Writes (record { held = K.held sink.old; faults = K.faults sink.old; waiting = waiting.old }) result (record { held = K.held sink.new; faults = K.faults sink.new; waiting = waiting.new }) (hex_bytes bytes.now) }
 {
-    let mut room = [0; 2 * PIECE];
-    let digits = &mut room[..2 * piece.len()];
-    write_digits(piece, digits);
-    push(sink, waiting, digits)
-}
-
-/// Writes the digits of bytes: two a byte, the higher one first.
-fn write_digits(bytes: &[u8], digits: &mut [u8])
-    requires { length digits.old ≡ 2 * length bytes.now }
-    ensures { digits.new ≡ hex_bytes bytes.now }
-{
-    match encode_to_slice(bytes, digits) {
-        Ok(()) => {}
-        Err(_) => unreachable!(),
-    }
-}
-
-/// Writes all of the bytes, or a front of them.
-fn write_all<K: Sink>(sink: &mut K, bytes: &[u8]) -> Result<(), IoFault>
-    ensures ok { OnOk result (Appends (K.held sink.old) (K.held sink.new) bytes.now) }
-    ensures err { OnErr result ((n : ℕ) × Appends (K.held sink.old) (K.held sink.new) (take n bytes.now)) }
-    ensures failed { result ≡ Err IoFault.Failed → Rose (K.faults sink.old) (K.faults sink.new) }
-    ensures later { K.faults sink.old ≤ K.faults sink.new }
-{
-    let mut written = 0;
-    while written < bytes.len() {
-        written += sink.write(&bytes[written..])?;
+    let mut done = 0;
+    while done < bytes.len() {
+        make_room(sink, waiting, 2)?;
+        let end = bytes.len().min(done.saturating_add(waiting.free() / 2));
+        waiting.push_digits(&bytes[done..end]);
+        done = end;
     }
     Ok(())
 }

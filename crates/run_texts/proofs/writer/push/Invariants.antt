@@ -1,0 +1,12 @@
+use Rattle.std.proofs.Common.{◌-◌, ◌≤◌, length, take, Ok}
+use Rattle.run_texts.specs.Writes.{Writes}
+use Rattle.run_texts.proofs.writer.push.Given as goal
+
+abbrev pub invariant-loop-done : goal.invariant-loop-done
+invariant-loop-done g l = record {
+  writes : Writes (record { held = g.K.Sink.held l.fn.sink; faults = g.K.Sink.faults l.fn.sink; waiting = l.fn.waiting }) (Ok tt) (record { held = g.K.Sink.held l.sink; faults = g.K.Sink.faults l.sink; waiting = l.waiting }) (take l.done l.bytes);
+  within : l.done ≤ length l.bytes;
+}
+
+abbrev pub decreases-loop-done : goal.decreases-loop-done
+decreases-loop-done g l = length l.bytes - l.done

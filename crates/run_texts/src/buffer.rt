@@ -1,0 +1,104 @@
+ghost use Rattle.std.specs.Prelude.{◌≡◌, ℕ, ◌+◌, ◌-◌, ◌*◌, ◌<◌, ◌≤◌, ◌++◌, [], List, length, IfOk, true, false};
+ghost use Rattle.std.specs.Fmt.{digit_glyph};
+ghost use Rattle.tas_runs.specs.Report.{hex_bytes};
+
+use std::alloc::{AllocError, Global};
+use std::marker::Model;
+
+/// How many bytes wait at most before they go to the sink.
+pub const ROOM: usize = 4096;
+
+/// Bytes that wait, at most 4,096 of them, seen as their list. All its memory is taken at the start.
+#[derive(Drop)]
+pub struct Buffer {
+    room: Vec<u8>,
+    /// How many bytes wait. Those behind them are room.
+    filled: usize,
+}
+
+impl Model for Buffer {
+    ghost use Rattle.std.specs.Prelude.{◌≡◌, ◌≤◌, List, ℕ, take, vec_len};
+
+    ghost Value = { List ℕ };
+
+    ghost view = { λ b. take b.filled b.room.items };
+
+    ghost invariant = { λ b. (b.filled ≤ 4096) × (vec_len b.room ≡ 4096) };
+}
+
+impl Buffer {
+    /// A buffer in which nothing waits. The error is want of memory.
+    pub fn new(alloc: Global) -> Result<Buffer, AllocError>
+        ensures { IfOk result (λ b. b ≡ []) }
+    {
+        Ok(Buffer {
+            room: Vec::from_elem(alloc, 0, ROOM)?,
+            filled: 0,
+        })
+    }
+
+    /// The bytes that wait.
+    pub fn as_slice(&self) -> &[u8]
+        ensures { result.now ≡ self.now }
+    {
+        &self.room[..self.filled]
+    }
+
+    /// For how many bytes more there is room.
+    pub fn free(&self) -> usize
+        ensures free { result + length self.now ≡ 4096 }
+    {
+        ROOM - self.filled
+    }
+
+    /// Nothing waits any more.
+    pub fn clear(&mut self)
+        ensures { self.new ≡ [] }
+    {
+        self.filled = 0;
+    }
+
+    /// Puts bytes behind those that wait.
+    pub fn push(&mut self, bytes: &[u8])
+        requires { length self.old + length bytes.now ≤ 4096 }
+        ensures { self.new ≡ self.old ++ bytes.now }
+    {
+        let end = self.filled + bytes.len();
+        self.room[self.filled..end].copy_from_slice(bytes);
+        self.filled = end;
+    }
+
+    /// Puts the digits of bytes behind those that wait: two of lower case a byte, the higher one first.
+    pub fn push_digits(&mut self, bytes: &[u8])
+        requires { length self.old + 2 * length bytes.now ≤ 4096 }
+        ensures { self.new ≡ self.old ++ hex_bytes bytes.now }
+    {
+        let end = self.filled + 2 * bytes.len();
+        write_digits(bytes, &mut self.room[self.filled..end]);
+        self.filled = end;
+    }
+}
+
+/// Writes the digits of bytes: two a byte, the higher one first. It is a plain loop over numbers, which a compiler turns into steps of many bytes at once.
+fn write_digits(bytes: &[u8], digits: &mut [u8])
+    requires { length digits.old ≡ 2 * length bytes.now }
+    ensures { digits.new ≡ hex_bytes bytes.now }
+{
+    'bytes: for i in 0..bytes.len() {
+        let byte = bytes[i];
+        digits[2 * i] = digit(byte >> 4);
+        digits[2 * i + 1] = digit(byte & 15);
+    }
+}
+
+/// The digit of a number below 16, in lower case.
+fn digit(number: u8) -> u8
+    requires { number < 16 }
+    ensures { result ≡ digit_glyph false number }
+{
+    if number < 10 {
+        b'0' + number
+    } else {
+        b'a' - 10 + number
+    }
+}

@@ -1,0 +1,35 @@
+ghost use Rattle.std.specs.Prelude.{◌≡◌, ℕ, List, map};
+ghost use Rattle.tas_runs.specs.Report.{name_at, frame_text};
+ghost use Rattle.run_texts.specs.Writes.{Stand, Writes};
+
+use crate::texts::PlaceText;
+use crate::writer::Writer;
+use tas_model::{CAPTURE, FrameId};
+use tas_num::{IoFault, Sink};
+
+/// Writes which frame it was: a record of a capture, or one of a host by its flow and number.
+pub fn write_frame_id<K: Sink>(
+    writer: &mut Writer,
+    sink: &mut K,
+    names: &[&[u8]],
+    frame: FrameId,
+) -> Result<(), IoFault>
+    ensures { Writes (record { held = K.held sink.old; faults = K.faults sink.old; waiting = writer.old }) result (record { held = K.held sink.new; faults = K.faults sink.new; waiting = writer.new }) (frame_text (map (λ n. n.now) names.now) frame) }
+{
+    let number = frame.number;
+    if frame.host == CAPTURE {
+        return writer.put_text(sink, &format_args!("r:{number}"));
+    }
+    writer.put(sink, name(names, frame.host))?;
+    writer.put_text(sink, &PlaceText(frame))
+}
+
+/// The name of a host by its number, or `-` where there is no such host.
+fn name<'a>(names: &'a [&'a [u8]], host: u32) -> &'a [u8]
+    ensures { result.now ≡ name_at (map (λ n. n.now) names.now) host }
+{
+    match names.get(host as usize) {
+        Some(name) => name,
+        None => b"-",
+    }
+}
