@@ -1,11 +1,12 @@
--- The lines of flows, a flow at a time.
-use Rattle.std.proofs.Common.{◌≡◌, ℕ, suc, ◌+◌, ◌≤◌, [], ◌∷◌, ◌++◌, List, length, take, drop, slice_get, Some, Result, Ok, IsErr, refl, ap, subst, sym, ◌∙◌, append_assoc, append-nil, take-append-drop, length-take, arith, ◌<◌}
+-- The lines of hosts and of their flows, one at a time.
+use Rattle.std.proofs.Common.{◌≡◌, ℕ, ◌+◌, ◌≤◌, [], ◌∷◌, ◌++◌, List, length, map, flat_map, take, drop, slice_get, Some, Result, Ok, IsErr, refl, ap, subst, sym, ◌∙◌, append_assoc, append-nil, take-append-drop, length-take, arith, ◌<◌}
 use Rattle.std.proofs.lemmas.List.{take_all}
 use Rattle.std.proofs.lemmas.Option.{slice_get_within}
 use Rattle.tas_num.specs.declared.outside.IoFault.{IoFault}
-use Rattle.tas_runs.specs.Logs.{Flow, HostRun}
-use Rattle.tas_runs.specs.Hosts.{Live, flows_of}
+use Rattle.tas_runs.specs.Logs.{Flow}
 use Rattle.tas_runs.specs.Report.{flow_lines, flows_text, host_text, hosts_text, names_of}
+use Rattle.tas_round.specs.declared.run.HostRun as code
+use Rattle.tas_round.specs.Runs.{host_in}
 use Rattle.run_texts.specs.Writes.{Stand, Writes}
 use Rattle.run_texts.proofs.Lists.{taken_more}
 use Rattle.run_texts.proofs.Writing.{wrote_both, stopped_in, wrote_as}
@@ -46,10 +47,22 @@ stopped_flow names fs i f a b c r q e failed same first second =
 pub wrote_flows : (names : List (List ℕ)) (fs : List Flow) (n : ℕ) (a b : Stand) (r : Result (Unit {0}) IoFault) → length fs ≤ n → Writes a r b (flows_text names 0 (take n fs)) → Writes a r b (flows_text names 0 fs)
 wrote_flows names fs n a b r e h = wrote_as a b r (flows_text names 0 (take n fs)) (flows_text names 0 fs) (ap (flows_text names 0) (take_all n fs e)) h
 
-pub flows_count : (ls : List Live) → length (flows_of ls) ≡ length ls
-flows_count [] = refl
-flows_count (l ∷ ls) = ap suc (flows_count ls)
+-- ----- hosts
+abbrev pub host_lines : (names : List (List ℕ)) → code.HostRun → List ℕ
+host_lines names h = host_text names (host_in h)
 
--- ----- the one host
-pub hosts_one : (a b : Stand) (r : Result (Unit {0}) IoFault) (names : List (List ℕ)) (h : HostRun) → names ≡ h.name ∷ [] → Writes a r b (host_text names h) → Writes a r b (hosts_text (names_of (h ∷ [])) (h ∷ []))
-hosts_one a b r names h e w = subst (λ (ns : List (List ℕ)). Writes a r b (hosts_text ns (h ∷ []))) e (wrote_as a b r (host_text names h) (host_text names h ++ []) (sym (append-nil (host_text names h))) w)
+pub hosts_are : (names : List (List ℕ)) (hs : List code.HostRun) → flat_map (host_lines names) hs ≡ hosts_text names (map host_in hs)
+hosts_are names [] = refl
+hosts_are names (h ∷ hs) = ap (λ (t : List ℕ). host_lines names h ++ t) (hosts_are names hs)
+
+-- a name more
+pub names_more : (before after : List (List ℕ)) (hs : List code.HostRun) (i : ℕ) (h : code.HostRun) → slice_get hs i ≡ Some h → before ≡ names_of (map host_in (take i hs)) → after ≡ before ++ h.name ∷ [] → after ≡ names_of (map host_in (take (i + 1) hs))
+names_more before after hs i h here first more =
+    more ∙ (ap (λ (l : List (List ℕ)). l ++ h.name ∷ []) first ∙ (sym (names_and (take i hs)) ∙ ap (λ (l : List code.HostRun). names_of (map host_in l)) (sym (taken_more hs i h here))))
+  where
+    names_and : (xs : List code.HostRun) → names_of (map host_in (xs ++ h ∷ [])) ≡ names_of (map host_in xs) ++ h.name ∷ []
+    names_and [] = refl
+    names_and (x ∷ xs) = ap (λ (l : List (List ℕ)). x.name ∷ l) (names_and xs)
+
+pub names_whole : (names : List (List ℕ)) (hs : List code.HostRun) (n : ℕ) → length hs ≤ n → names ≡ names_of (map host_in (take n hs)) → names ≡ names_of (map host_in hs)
+names_whole names hs n e h = h ∙ ap (λ (l : List code.HostRun). names_of (map host_in l)) (take_all n hs e)

@@ -1,11 +1,12 @@
 -- The log of a replay as the definitions of runs have it.
-use Rattle.std.specs.Prelude.{◌≡◌, ℕ, ◌≤◌, List, [], ◌∷◌, length, string_bytes, true, false, Err, ⊤}
+use Rattle.std.specs.Prelude.{◌≡◌, ℕ, ◌≤◌, List, length, map, Err, ⊤}
 use Rattle.tas_num.specs.Captures.{capture_of}
 use Rattle.pcap_frames.specs.Views.{fault_in}
+use Rattle.tas_runs.specs.Logs.{Flow, HostRun, RunLog}
+use Rattle.tas_runs.specs.Rounds.{Each}
 use Rattle.tas_model.specs.LegalHistory.{Legal}
 use Rattle.tas_model.specs.Valid.{InRange}
-use Rattle.tas_runs.specs.Logs.{Flow, HostRun, RunLog}
-use Rattle.tas_runs.specs.Hosts.{run_of}
+use Rattle.run_texts.specs.Frames.{history_of, host_of}
 use Rattle.tas_runs.specs.Records.{Item}
 use Rattle.tas_runs.specs.Batches.{batches_of}
 use Rattle.tas_runs.specs.Replays.{at_start}
@@ -19,20 +20,28 @@ use Rattle.tas_round.specs.declared.replaying.ReplayFault.{ReplayFault}
 use Rattle.tas_round.specs.declared.replaying.ReplayFault.TheVariants.{OutOfMemory, Pcap}
 
 abbrev pub host_in : code_host.HostRun → HostRun
-host_in h = run_of (string_bytes h.name) h.host
+host_in h = record { name = h.name; addr = h.addr; log = h.log; flows = map history_of h.flows }
 
 abbrev pub log_in : code.RunLog → RunLog
 log_in log =
     record {
-      replay = true;
-      hosts = host_in log.host ∷ [];
+      replay = log.replay;
+      hosts = map host_in log.hosts;
       ticks = log.ticks;
-      stalled = false;
+      stalled = log.stalled;
       records = log.records;
       frames = log.frames;
       passed = log.passed;
       refused = log.refused;
     }
+
+-- the same without its name and address, which the frames that it sent do not show
+abbrev pub unnamed_in : code_host.HostRun → HostRun
+unnamed_in h = host_of (map history_of h.flows) h.log
+
+-- each flow of the host has a history of the endpoint, with parameters in their ranges
+abbrev pub AreLegal : HostRun → Type 0
+AreLegal h = Each (λ (f : Flow). InRange f.params × Legal f.params f.entries) h.flows
 
 -- the host after all ticks of these items, and how many they are
 pub record Ended (local : ℕ) (items : List Item) (ending : Ending) : Type 0 where
@@ -43,10 +52,6 @@ pub record Ended (local : ℕ) (items : List Item) (ending : Ending) : Type 0 wh
 abbrev pub Refuses : List ℕ → ReplayFault → Type 0
 Refuses b OutOfMemory = ⊤
 Refuses b (Pcap fault) = capture_of b ≡ Err (fault_in fault)
-
--- the flow has a history of the endpoint, with parameters in their ranges
-abbrev pub IsLegal : Flow → Type 0
-IsLegal f = InRange f.params × Legal f.params f.entries
 
 -- so many cores as a host may have
 abbrev pub AreCores : Mode → Type 0

@@ -2,20 +2,16 @@ ghost use Rattle.std.specs.Prelude.{◌≡◌, ℕ, ◌≤◌, ◌++◌, ◌∷�
 ghost use Rattle.std.specs.Io.KnownBytes.{Appends};
 ghost use Rattle.tas_num.specs.Causes.{Rose};
 ghost use Rattle.tas_num.specs.Captures.{file_header};
-ghost use Rattle.tas_model.specs.LegalHistory.{Legal};
-ghost use Rattle.tas_model.specs.Valid.{InRange};
-ghost use Rattle.tas_runs.specs.Hosts.{flows_of};
 ghost use Rattle.tas_runs.specs.Rounds.{Each};
 ghost use Rattle.tas_runs.specs.SentFrames.{capture, ticks_from};
-ghost use Rattle.run_texts.specs.Frames.{history_of};
+ghost use Rattle.run_texts.specs.Frames.{seen_host};
 ghost use Rattle.run_texts.specs.Writes.{Stand, Writes};
-ghost use Rattle.tas_round.specs.Runs.{host_in, log_in, IsLegal};
+ghost use Rattle.local_host.specs.Live.{IsLegal};
+ghost use Rattle.tas_round.specs.Runs.{host_in, log_in, unnamed_in, AreLegal};
 ghost use Rattle.tas_round.specs.Fronts.{AppendsFront};
 
-use crate::run::{HostRun, RunLog};
-use flow_state::FlowRecord;
-use local_host::LocalHost;
-use run_texts::{Writer, segments_have_room, write_capture_header, write_frames};
+use crate::run::{HostRun, HostRuns, RunLog};
+use run_texts::{HostFrames, Writer, segments_have_room, write_capture_header, write_frames};
 use std::alloc::{AllocError, Global};
 use tas_num::{IoFault, Sink};
 
@@ -57,49 +53,47 @@ fn put_capture<K: Sink>(
     ensures { Writes (record { held = K.held sink.old; faults = K.faults sink.old; waiting = writer.old }) result (record { held = K.held sink.new; faults = K.faults sink.new; waiting = writer.new }) (capture (log_in log.now)) }
 {
     write_capture_header(writer, sink)?;
-    put_frames(alloc, writer, sink, log.ticks, &log.host)
+    put_frames(alloc, writer, sink, log.ticks, &log.hosts)
 }
 
-/// Writes the frames that a host sent in the first `ticks` ticks.
+/// Writes the frames that the hosts sent in the first `ticks` ticks.
 fn put_frames<K: Sink>(
     alloc: Global,
     writer: &mut Writer,
     sink: &mut K,
     ticks: u32,
-    run: &HostRun,
+    hosts: &HostRuns,
 ) -> Result<(), IoFault>
-    ensures { Writes (record { held = K.held sink.old; faults = K.faults sink.old; waiting = writer.old }) result (record { held = K.held sink.new; faults = K.faults sink.new; waiting = writer.new }) (ticks_from ticks 0 (host_in run.now ∷ [])) }
+    ensures { Writes (record { held = K.held sink.old; faults = K.faults sink.old; waiting = writer.old }) result (record { held = K.held sink.new; faults = K.faults sink.new; waiting = writer.new }) (ticks_from ticks 0 (map host_in hosts.now)) }
 {
-    let flows = match lent_flows(alloc, &run.host) {
-        Ok(flows) => flows,
+    let frames = match lent_frames(alloc, hosts) {
+        Ok(frames) => frames,
         Err(_) => return Err(IoFault::OutOfMemory),
     };
     // Why each of them has room in a packet.
     segments_have_room();
-    write_frames(alloc, writer, sink, ticks, &flows, run.host.log().lines())
+    write_frames(alloc, writer, sink, ticks, &frames)
 }
 
-/// The records of all flows of a host, by their opening. The error is want of memory.
-fn lent_flows<'a>(alloc: Global, host: &'a LocalHost) -> Result<Vec<&'a FlowRecord>, AllocError>
-    ensures flows { IfOk result (λ flows. map (λ f. history_of f.now) flows.items ≡ flows_of host.now.flows) }
-    ensures legal { IfOk result (λ flows. Each IsLegal (map (λ f. history_of f.now) flows.items)) }
+/// What each host sent. The error is want of memory.
+fn lent_frames<'a>(alloc: Global, hosts: &'a HostRuns) -> Result<Vec<HostFrames<'a>>, AllocError>
+    ensures hosts { IfOk result (λ frames. map seen_host frames.items ≡ map unnamed_in hosts.now) }
+    ensures legal { IfOk result (λ frames. Each AreLegal (map seen_host frames.items)) }
 {
-    let mut flows = Vec::new(alloc);
-    for i in 0..host.flow_count() {
-        let flow = host.flow(i);
-        // It has a legal history.
-        let _entries = flow.entries();
-        lend(&mut flows, flow)?;
+    let mut frames = Vec::new(alloc);
+    for i in 0..hosts.len() {
+        frames.push(frames_of(hosts.item(i)))?;
     }
-    Ok(flows)
+    Ok(frames)
 }
 
-/// Adds a record. The error is want of memory.
-fn lend<'a>(flows: &mut Vec<&'a FlowRecord>, flow: &'a FlowRecord) -> Result<(), AllocError>
-    ensures { OnOk result (map (λ f. history_of f.now) flows.new.items ≡ map (λ f. history_of f.now) flows.old.items ++ history_of flow.now ∷ []) }
+/// What a host sent.
+fn frames_of<'a>(host: &'a HostRun) -> HostFrames<'a>
+    ensures host { seen_host result ≡ unnamed_in host.now }
+    ensures legal { Each IsLegal host.now.flows }
 {
-    match flows.push(flow) {
-        Ok(()) => Ok(()),
-        Err(_) => Err(AllocError),
+    HostFrames {
+        flows: host.flows.as_slice(),
+        log: host.log.lines(),
     }
 }

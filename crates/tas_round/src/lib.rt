@@ -9,4 +9,4 @@ mod run;
 pub use capture::write_capture;
 pub use replaying::{Mode, ReplayFault, replay};
 pub use report::write_report;
-pub use run::{HostRun, RunLog};
+pub use run::{FlowList, HostRun, HostRuns, RunLog};

@@ -1,20 +1,22 @@
-ghost use Rattle.std.specs.Prelude.{◌≡◌, ℕ, ◌≤◌, ◌<◌, ◌^◌, ◌∷◌, take, drop, List, length, map, Ok, IfOk, IfErr};
+ghost use Rattle.std.specs.Prelude.{◌≡◌, ℕ, ◌≤◌, ◌<◌, ◌^◌, ◌∷◌, take, drop, List, length, map, codes, Ok, IfOk, IfErr};
 ghost use Rattle.tas_runs.specs.Records as model;
 ghost use Rattle.tas_runs.specs.Batches.{batches_of};
+ghost use Rattle.tas_runs.specs.Hosts.{run_of};
 ghost use Rattle.tas_runs.specs.Replays.{at_start, Replay};
 ghost use Rattle.tas_runs.specs.SerialOrder.{serial_replay, serial_log, serial_tick, serial_ticks};
 ghost use Rattle.capture_items.specs.Items.{item_in};
 ghost use Rattle.capture_items.specs.Numbers.{AreNumbersOf};
-ghost use Rattle.tas_round.specs.Runs.{log_in, AreCores, Ended, Refuses};
+ghost use Rattle.tas_round.specs.Runs.{host_in, log_in, AreCores, Ended, Refuses};
 ghost use Rattle.tas_round.specs.declared.replaying.Mode.{Mode};
 
-use crate::run::{HostRun, RunLog};
+use crate::run::{FlowList, HostRun, HostRuns, RunLog};
 use capture_items::{FirstNumbers, Found, InputFault, Item, find_items, next_batch};
 use local_host::LocalHost;
 use pcap_frames::PcapRefused;
 use std::alloc::{AllocError, Global};
 use std::sync::Wait;
 use std::thread::Threads;
+use tas_model::Bytes;
 use tas_num::Gate;
 
 /// Who does the work of a run.
@@ -121,21 +123,35 @@ fn play_batch(
     Ok(count)
 }
 
-/// The log of a replay with this ending.
+/// The log of a replay with this ending. The error is want of memory.
 fn log_of(alloc: Global, found: &Found<'_>, ending: Ending) -> Result<RunLog, AllocError>
     requires few { length found.now.items.items ≤ found.now.records }
     ensures { (local : ℕ) → Ended local (map item_in found.now.items.items) ending → IfOk result (λ log. log_in log ≡ serial_log local found.now.records (map item_in found.now.items.items)) }
 {
     let counts = found.counts();
+    let host = host_run(alloc, ending.host)?;
     Ok(RunLog {
-        host: HostRun {
-            name: String::from_str(alloc, "local")?,
-            host: ending.host,
-        },
+        replay: true,
+        hosts: HostRuns::of(vec![in alloc; host]?),
         ticks: ending.ticks,
+        stalled: false,
         records: counts.records,
         frames: counts.frames,
         passed: counts.passed,
         refused: counts.refused,
+    })
+}
+
+/// What the one host of a replay leaves. The error is want of memory.
+fn host_run(alloc: Global, host: LocalHost) -> Result<HostRun, AllocError>
+    ensures { IfOk result (λ run. host_in run ≡ run_of (codes "local") host) }
+{
+    let addr = host.params().addr;
+    let end = host.finish()?;
+    Ok(HostRun {
+        name: Bytes::copy(alloc, b"local")?,
+        addr,
+        log: end.log,
+        flows: FlowList::of(end.flows),
     })
 }

@@ -1,20 +1,18 @@
-ghost use Rattle.std.specs.Prelude.{◌≡◌, ℕ, ◌≤◌, ◌++◌, ◌∷◌, [], List, map, length, string_bytes, codes, Err, OnOk, OnErr};
+ghost use Rattle.std.specs.Prelude.{◌≡◌, ℕ, ◌≤◌, ◌++◌, ◌∷◌, [], List, map, length, codes, Err, OnOk, OnErr, IfOk, if◌then◌else◌};
 ghost use Rattle.std.specs.Io.KnownBytes.{Appends};
 ghost use Rattle.tas_num.specs.Causes.{Rose};
-ghost use Rattle.tas_runs.specs.Hosts.{flows_of};
 ghost use Rattle.tas_runs.specs.Report.{report, line, names_of, host_text, hosts_text, log_text, flows_text, flow_lines, counts_text, addr_text};
+ghost use Rattle.run_texts.specs.Frames.{history_of};
 ghost use Rattle.run_texts.specs.Writes.{Stand, Writes};
 ghost use Rattle.tas_round.specs.Runs.{host_in, log_in};
-ghost use Rattle.local_host.specs.Live.{flow_in};
 ghost use Rattle.tas_round.specs.Fronts.{AppendsFront};
 
-use crate::run::{HostRun, RunLog};
+use crate::run::{FlowList, HostRun, HostRuns, RunLog};
 use flow_state::FlowRecord;
-use local_host::LocalHost;
 use run_texts::{
     Counts, Writer, write_counts, write_end, write_flow, write_host, write_log, write_title,
 };
-use std::alloc::Global;
+use std::alloc::{AllocError, Global};
 use tas_num::{IoFault, Sink};
 
 /// Writes the report of a run. After a fault a front of it may have been written.
@@ -24,95 +22,128 @@ pub fn write_report<K: Sink>(alloc: Global, log: &RunLog, sink: &mut K) -> Resul
     ensures failed { result ≡ Err IoFault.Failed → Rose (K.faults sink.old) (K.faults sink.new) }
     ensures later { K.faults sink.old ≤ K.faults sink.new }
 {
+    let Ok(names) = lent_names(alloc, &log.hosts) else {
+        return Err(IoFault::OutOfMemory);
+    };
     let Ok(mut writer) = Writer::new(alloc) else {
         return Err(IoFault::OutOfMemory);
     };
-    put_whole(&mut writer, sink, log)
+    put_whole(&mut writer, sink, &names, log)
+}
+
+/// The names of the hosts, in their order. The error is want of memory.
+fn lent_names<'a>(alloc: Global, hosts: &'a HostRuns) -> Result<Vec<&'a [u8]>, AllocError>
+    ensures { IfOk result (λ names. map (λ n. n.now) names.items ≡ names_of (map host_in hosts.now)) }
+{
+    let mut names = Vec::new(alloc);
+    for i in 0..hosts.len() {
+        lend_name(&mut names, hosts.item(i))?;
+    }
+    Ok(names)
+}
+
+/// Adds the name of a host. The error is want of memory.
+fn lend_name<'a>(names: &mut Vec<&'a [u8]>, host: &'a HostRun) -> Result<(), AllocError>
+    ensures { OnOk result (map (λ n. n.now) names.new.items ≡ map (λ n. n.now) names.old.items ++ host.now.name ∷ []) }
+{
+    match names.push(host.name.as_slice()) {
+        Ok(()) => Ok(()),
+        Err(_) => Err(AllocError),
+    }
 }
 
 /// Writes the report by way of a writer, and then all that waits in it.
-fn put_whole<K: Sink>(writer: &mut Writer, sink: &mut K, log: &RunLog) -> Result<(), IoFault>
+fn put_whole<K: Sink>(
+    writer: &mut Writer,
+    sink: &mut K,
+    names: &[&[u8]],
+    log: &RunLog,
+) -> Result<(), IoFault>
+    requires { map (λ n. n.now) names.now ≡ names_of (map host_in log.now.hosts) }
     ensures writes { Writes (record { held = K.held sink.old; faults = K.faults sink.old; waiting = writer.old }) result (record { held = K.held sink.new; faults = K.faults sink.new; waiting = writer.new }) (report (log_in log.now)) }
     ensures empty { OnOk result (writer.new ≡ []) }
 {
-    put_report(writer, sink, &[log.host.name.as_str()], log)?;
+    put_report(writer, sink, names, log)?;
     writer.finish(sink)
 }
 
-/// Writes the report by way of a writer. `names` has the name of the host.
+/// Writes the report by way of a writer. `names` has the names of the hosts.
 #[tactic(auto, unfolding(tas_runs::specs::Report::report))]
 fn put_report<K: Sink>(
     writer: &mut Writer,
     sink: &mut K,
-    names: &[&str],
+    names: &[&[u8]],
     log: &RunLog,
 ) -> Result<(), IoFault>
-    requires { map (λ n. n.now) names.now ≡ string_bytes log.now.host.name ∷ [] }
+    requires { map (λ n. n.now) names.now ≡ names_of (map host_in log.now.hosts) }
     ensures { Writes (record { held = K.held sink.old; faults = K.faults sink.old; waiting = writer.old }) result (record { held = K.held sink.new; faults = K.faults sink.new; waiting = writer.new }) (report (log_in log.now)) }
 {
-    write_title(writer, sink, true)?;
-    put_hosts(writer, sink, names, log)?;
+    write_title(writer, sink, log.replay)?;
+    put_hosts(writer, sink, names, &log.hosts)?;
     put_counts(writer, sink, log)?;
     write_end(writer, sink, log.ticks)
 }
 
-/// Writes the lines of the one host.
+/// Writes the lines of all hosts.
 fn put_hosts<K: Sink>(
     writer: &mut Writer,
     sink: &mut K,
-    names: &[&str],
-    log: &RunLog,
+    names: &[&[u8]],
+    hosts: &HostRuns,
 ) -> Result<(), IoFault>
-    requires { map (λ n. n.now) names.now ≡ string_bytes log.now.host.name ∷ [] }
-    ensures { Writes (record { held = K.held sink.old; faults = K.faults sink.old; waiting = writer.old }) result (record { held = K.held sink.new; faults = K.faults sink.new; waiting = writer.new }) (hosts_text (names_of (host_in log.now.host ∷ [])) (host_in log.now.host ∷ [])) }
+    requires { map (λ n. n.now) names.now ≡ names_of (map host_in hosts.now) }
+    ensures { Writes (record { held = K.held sink.old; faults = K.faults sink.old; waiting = writer.old }) result (record { held = K.held sink.new; faults = K.faults sink.new; waiting = writer.new }) (hosts_text (names_of (map host_in hosts.now)) (map host_in hosts.now)) }
 {
-    put_host(writer, sink, names, &log.host)
+    for i in 0..hosts.len() {
+        put_host(writer, sink, names, hosts.item(i))?;
+    }
+    Ok(())
 }
 
 /// Writes the lines of a host: its name and address, its log, and its flows.
 fn put_host<K: Sink>(
     writer: &mut Writer,
     sink: &mut K,
-    names: &[&str],
-    run: &HostRun,
+    names: &[&[u8]],
+    host: &HostRun,
 ) -> Result<(), IoFault>
-    ensures { Writes (record { held = K.held sink.old; faults = K.faults sink.old; waiting = writer.old }) result (record { held = K.held sink.new; faults = K.faults sink.new; waiting = writer.new }) (host_text (map (λ n. n.now) names.now) (host_in run.now)) }
+    ensures { Writes (record { held = K.held sink.old; faults = K.faults sink.old; waiting = writer.old }) result (record { held = K.held sink.new; faults = K.faults sink.new; waiting = writer.new }) (host_text (map (λ n. n.now) names.now) (host_in host.now)) }
 {
-    put_name(writer, sink, run)?;
-    put_log(writer, sink, names, run)?;
-    put_flows(writer, sink, names, &run.host)
+    put_name(writer, sink, host)?;
+    put_log(writer, sink, names, host)?;
+    put_flows(writer, sink, names, &host.flows)
 }
 
 /// Writes the name and the address of a host.
-fn put_name<K: Sink>(writer: &mut Writer, sink: &mut K, run: &HostRun) -> Result<(), IoFault>
-    ensures { Writes (record { held = K.held sink.old; faults = K.faults sink.old; waiting = writer.old }) result (record { held = K.held sink.new; faults = K.faults sink.new; waiting = writer.new }) (line (codes "host " ++ string_bytes run.now.name ++ codes " " ++ addr_text run.now.host.params.addr)) }
+fn put_name<K: Sink>(writer: &mut Writer, sink: &mut K, host: &HostRun) -> Result<(), IoFault>
+    ensures { Writes (record { held = K.held sink.old; faults = K.faults sink.old; waiting = writer.old }) result (record { held = K.held sink.new; faults = K.faults sink.new; waiting = writer.new }) (line (codes "host " ++ host.now.name ++ codes " " ++ addr_text host.now.addr)) }
 {
-    write_host(writer, sink, run.name.as_str(), run.host.params().addr)
+    write_host(writer, sink, host.name.as_slice(), host.addr)
 }
 
 /// Writes the log of a host.
 fn put_log<K: Sink>(
     writer: &mut Writer,
     sink: &mut K,
-    names: &[&str],
-    run: &HostRun,
+    names: &[&[u8]],
+    host: &HostRun,
 ) -> Result<(), IoFault>
-    ensures { Writes (record { held = K.held sink.old; faults = K.faults sink.old; waiting = writer.old }) result (record { held = K.held sink.new; faults = K.faults sink.new; waiting = writer.new }) (log_text (map (λ n. n.now) names.now) run.now.host.log) }
+    ensures { Writes (record { held = K.held sink.old; faults = K.faults sink.old; waiting = writer.old }) result (record { held = K.held sink.new; faults = K.faults sink.new; waiting = writer.new }) (log_text (map (λ n. n.now) names.now) host.now.log) }
 {
-    write_log(writer, sink, names, run.host.log().lines())
+    write_log(writer, sink, names, host.log.lines())
 }
 
 /// Writes the lines of all flows of a host.
 fn put_flows<K: Sink>(
     writer: &mut Writer,
     sink: &mut K,
-    names: &[&str],
-    host: &LocalHost,
+    names: &[&[u8]],
+    flows: &FlowList,
 ) -> Result<(), IoFault>
-    ensures { Writes (record { held = K.held sink.old; faults = K.faults sink.old; waiting = writer.old }) result (record { held = K.held sink.new; faults = K.faults sink.new; waiting = writer.new }) (flows_text (map (λ n. n.now) names.now) 0 (flows_of host.now.flows)) }
+    ensures { Writes (record { held = K.held sink.old; faults = K.faults sink.old; waiting = writer.old }) result (record { held = K.held sink.new; faults = K.faults sink.new; waiting = writer.new }) (flows_text (map (λ n. n.now) names.now) 0 (map history_of flows.now)) }
 {
-    for i in 0..host.flow_count() {
-        put_flow(writer, sink, names, i, host.flow(i))?;
+    for i in 0..flows.len() {
+        put_flow(writer, sink, names, i, flows.item(i))?;
     }
     Ok(())
 }
@@ -121,11 +152,11 @@ fn put_flows<K: Sink>(
 fn put_flow<K: Sink>(
     writer: &mut Writer,
     sink: &mut K,
-    names: &[&str],
+    names: &[&[u8]],
     i: usize,
     flow: &FlowRecord,
 ) -> Result<(), IoFault>
-    ensures { Writes (record { held = K.held sink.old; faults = K.faults sink.old; waiting = writer.old }) result (record { held = K.held sink.new; faults = K.faults sink.new; waiting = writer.new }) (flow_lines (map (λ n. n.now) names.now) i (flow_in flow.now)) }
+    ensures { Writes (record { held = K.held sink.old; faults = K.faults sink.old; waiting = writer.old }) result (record { held = K.held sink.new; faults = K.faults sink.new; waiting = writer.new }) (flow_lines (map (λ n. n.now) names.now) i (history_of flow.now)) }
 {
     match u32::try_from(i) {
         Ok(number) => write_flow(writer, sink, names, number, flow),
@@ -133,10 +164,13 @@ fn put_flow<K: Sink>(
     }
 }
 
-/// Writes the counts of a replay.
+/// Writes the counts of the capture, where the run replays one.
 fn put_counts<K: Sink>(writer: &mut Writer, sink: &mut K, log: &RunLog) -> Result<(), IoFault>
-    ensures { Writes (record { held = K.held sink.old; faults = K.faults sink.old; waiting = writer.old }) result (record { held = K.held sink.new; faults = K.faults sink.new; waiting = writer.new }) (counts_text (log_in log.now)) }
+    ensures { Writes (record { held = K.held sink.old; faults = K.faults sink.old; waiting = writer.old }) result (record { held = K.held sink.new; faults = K.faults sink.new; waiting = writer.new }) (if log.now.replay then counts_text (log_in log.now) else []) }
 {
+    if !log.replay {
+        return Ok(());
+    }
     let counts = Counts {
         records: u64::from(log.records),
         frames: u64::from(log.frames),

@@ -1,19 +1,25 @@
-use Rattle.std.proofs.Common.{rules, map, length, ◌≤◌, arith}
-use Rattle.local_host.specs.Live.{flow_in}
-use Rattle.tas_runs.specs.Hosts.{flows_of}
-use Rattle.tas_round.proofs.Flowing.{wrote_flow, stopped_flow, wrote_flows, flows_count}
+use Rattle.std.proofs.Common.{rules, ◌≡◌, ◌≤◌, length, map, slice_get, Some, ap, ◌∙◌, arith}
+use Rattle.std.proofs.lemmas.List.{length-map}
+use Rattle.std.specs.Option.{option_map}
+use Rattle.std.proofs.lemmas.Option.{slice_get-map}
+use Rattle.run_texts.specs.Frames.{history_of}
+use Rattle.tas_round.proofs.Flowing.{wrote_flow, stopped_flow, wrote_flows}
 use Rattle.tas_round.proofs.report.put_flows.Goals as goal
 
 pub returns-in_err-put_flow : goal.returns-in_err-put_flow
 returns-in_err-put_flow g c =
-    stopped_flow (map (λ n. n.now) c.args.names.now) (flows_of c.args.host.now.flows) c.loop-i.i (flow_in c.flow.result.now) _ _ _ _ _ c.flow.ensures.flow (search rules) (search rules) c.loop-i.invariant c.put_flow.ensures
+    let flows = map history_of c.args.flows.now in
+    let here : slice_get flows c.loop-i.i ≡ Some (history_of c.item.result.now) = slice_get-map history_of c.args.flows.now c.loop-i.i ∙ ap (option_map history_of) c.item.ensures in
+    stopped_flow (map (λ n. n.now) c.args.names.now) flows c.loop-i.i (history_of c.item.result.now) _ _ _ _ _ here (search rules) (search rules) c.loop-i.invariant c.put_flow.ensures
 
 pub loop-i-preserved : goal.loop-i-preserved
 loop-i-preserved g c =
-    wrote_flow (map (λ n. n.now) c.args.names.now) (flows_of c.args.host.now.flows) c.loop-i.i (flow_in c.flow.result.now) _ _ _ _ c.flow.ensures.flow c.loop-i.invariant c.in_ok-put_flow.ensures
+    let flows = map history_of c.args.flows.now in
+    let here : slice_get flows c.loop-i.i ≡ Some (history_of c.item.result.now) = slice_get-map history_of c.args.flows.now c.loop-i.i ∙ ap (option_map history_of) c.item.ensures in
+    wrote_flow (map (λ n. n.now) c.args.names.now) flows c.loop-i.i (history_of c.item.result.now) _ _ _ _ here c.loop-i.invariant c.in_ok-put_flow.ensures
 
 pub returns : goal.returns
 returns g c =
-    let fs = flows_of c.args.host.now.flows in
-    let all : length fs ≤ c.loop-i.i = omega (arith, flows_count c.args.host.now.flows, c.flow_count-i-end.ensures, c.loop-i-test.false) in
-    wrote_flows (map (λ n. n.now) c.args.names.now) fs c.loop-i.i _ _ _ all c.loop-i.invariant
+    let flows = map history_of c.args.flows.now in
+    let all : length flows ≤ c.loop-i.i = omega (arith, c.loop-i-test.false, c.len-i-end.ensures, length-map c.args.flows.now history_of) in
+    wrote_flows (map (λ n. n.now) c.args.names.now) flows c.loop-i.i _ _ _ all c.loop-i.invariant

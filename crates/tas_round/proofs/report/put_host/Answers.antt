@@ -1,6 +1,6 @@
 use Rattle.std.proofs.Common.{rules, ◌≡◌, IsErr, map}
-use Rattle.tas_runs.specs.Hosts.{flows_of}
 use Rattle.tas_runs.specs.Report.{log_text, flows_text}
+use Rattle.run_texts.specs.Frames.{history_of}
 use Rattle.run_texts.proofs.Writing.{stopped, stopped_at, wrote_then}
 use Rattle.tas_round.proofs.report.put_host.Goals as goal
 
@@ -9,15 +9,15 @@ returns-in_err-put_name g c =
     let names = map (λ n. n.now) c.args.names.now in
     let failed : IsErr c.from_residual.result = search rules in
     let same : c.from_residual.result ≡ c.put_name.result = search rules in
-    let part = stopped_at _ _ _ _ _ (log_text names c.args.run.now.host.log) failed same c.put_name.ensures in
-    stopped _ _ _ _ (flows_text names 0 (flows_of c.args.run.now.host.flows)) failed part
+    let part = stopped_at _ _ _ _ _ (log_text names c.args.host.now.log) failed same c.put_name.ensures in
+    stopped _ _ _ _ (flows_text names 0 (map history_of c.args.host.now.flows)) failed part
 
 pub returns-in_err-put_log : goal.returns-in_err-put_log
 returns-in_err-put_log g c =
     let names = map (λ n. n.now) c.args.names.now in
     let failed : IsErr c.from_residual-in_err-put_log.result = search rules in
     let same : c.from_residual-in_err-put_log.result ≡ c.put_log.result = search rules in
-    stopped_at _ _ _ _ _ (flows_text names 0 (flows_of c.args.run.now.host.flows)) failed same (wrote_then _ _ _ _ _ _ c.in_ok-put_name.ensures c.put_log.ensures)
+    stopped_at _ _ _ _ _ (flows_text names 0 (map history_of c.args.host.now.flows)) failed same (wrote_then _ _ _ _ _ _ c.in_ok-put_name.ensures c.put_log.ensures)
 
 pub returns : goal.returns
 returns g c = wrote_then _ _ _ _ _ _ (wrote_then _ _ _ _ _ _ c.in_ok-put_name.ensures c.in_ok-put_log.ensures) c.put_flows.ensures

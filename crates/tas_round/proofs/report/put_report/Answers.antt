@@ -1,4 +1,4 @@
-use Rattle.std.proofs.Common.{rules, ◌≡◌, ◌++◌, codes, decimal, IsErr}
+use Rattle.std.proofs.Common.{rules, ◌≡◌, ◌++◌, [], codes, decimal, IsErr, if◌then◌else◌}
 use Rattle.tas_runs.specs.Report.{report, line, names_of, hosts_text, counts_text}
 use Rattle.tas_round.specs.Runs.{log_in}
 use Rattle.run_texts.proofs.Writing.{stopped, stopped_at, wrote_then}
@@ -11,7 +11,7 @@ returns-in_err-write_title g c =
     let failed : IsErr c.from_residual.result = search rules in
     let same : c.from_residual.result ≡ c.write_title.result = search rules in
     let part0 = stopped_at _ _ _ _ _ (hosts_text (names_of log.hosts) log.hosts) failed same c.write_title.ensures in
-    let part1 = stopped _ _ _ _ (counts_text log) failed part0 in
+    let part1 = stopped _ _ _ _ (if log.replay then counts_text log else []) failed part0 in
     stopped _ _ _ _ (line (codes "end " ++ decimal log.ticks ++ codes " ticks")) failed part1
 
 pub returns-in_err-put_hosts : goal.returns-in_err-put_hosts
@@ -20,7 +20,7 @@ returns-in_err-put_hosts g c =
     let log = log_in c.args.log.now in
     let failed : IsErr c.from_residual-in_err-put_hosts.result = search rules in
     let same : c.from_residual-in_err-put_hosts.result ≡ c.put_hosts.result = search rules in
-    let part0 = stopped_at _ _ _ _ _ (counts_text log) failed same (wrote_then _ _ _ _ _ _ c.in_ok-write_title.ensures c.put_hosts.ensures) in
+    let part0 = stopped_at _ _ _ _ _ (if log.replay then counts_text log else []) failed same (wrote_then _ _ _ _ _ _ c.in_ok-write_title.ensures c.put_hosts.ensures) in
     stopped _ _ _ _ (line (codes "end " ++ decimal log.ticks ++ codes " ticks")) failed part0
 
 pub returns-in_err-put_counts : goal.returns-in_err-put_counts
