@@ -1,4 +1,3 @@
-pub mod Writing
 pub mod Causes
 pub mod Puts
 pub mod Spelling

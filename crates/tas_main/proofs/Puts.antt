@@ -6,12 +6,10 @@ use Rattle.std.proofs.lemmas.Bool.{false≢true}
 use Rattle.tas_num.specs.Causes.{Rose}
 use Rattle.tas_num.specs.declared.outside.IoFault.{IoFault}
 use Rattle.tas_num.specs.declared.outside.IoFault.TheVariants.{Failed, OutOfMemory}
+use Rattle.tas_num.proofs.Writing.{rose_later}
 use Rattle.tas_round.specs.Fronts.{AppendsFront}
 use Rattle.tas_main.specs.declared.stop.Stop.{Stop}
 use Rattle.tas_main.specs.Telling.{Stream, Puts, IsShort, IsTold, fault_line}
-
-rose_later : {a b c : ℕ} → a ≤ b → Rose b c → Rose a c
-rose_later low h = grind (arith, low, h)
 
 short_later : (a b c : Stream) → a.faults ≤ b.faults → b.grows ≡ a.grows → IsShort b c → IsShort a c
 short_later a b c low same (inl h) = inl (rose_later low h)

@@ -2,7 +2,6 @@
 #![tactic(auto)]
 
 mod input;
-mod output;
 #[cfg(test)]
 mod rows;
 mod stop;

@@ -3,7 +3,7 @@
 mod batches;
 mod captures;
 mod closings;
-mod many_syns;
+mod long_captures;
 mod openings;
 mod transfers;
 mod written_captures;

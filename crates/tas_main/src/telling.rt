@@ -1,10 +1,9 @@
 ghost use Rattle.std.specs.Prelude.{◌++◌, codes, decimal};
 ghost use Rattle.tas_main.specs.Telling.{fault_line, numbered, stream, IsTold, Puts};
 
-use crate::output::write_all;
 use crate::stop::Stop;
 use itoa::Buffer;
-use tas_num::{IoFault, Sink};
+use tas_num::{IoFault, Sink, write_all};
 
 /// Tells of a stop by its fault line. Where that can't be written, the status alone tells. It takes no memory but what the sink takes.
 pub fn tell<F: Sink>(faults: &mut F, stop: Stop)
