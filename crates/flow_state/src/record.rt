@@ -168,6 +168,7 @@ impl FlowRecord {
     }
 
     /// The `i`-th entry of its history, counted from 0, the oldest first.
+    #[inline(always)]
     pub fn entry(&self, i: usize) -> EntryView<'_>
         requires { i < length self.now.entries }
         ensures { slice_get self.now.entries i ≡ Some (seen_entry result) }
@@ -188,6 +189,8 @@ impl FlowRecord {
     /// The present endpoint in its compact form.
     pub fn parts(&self) -> &Parts
         ensures parts { result.now ≡ self.now.parts }
+        ensures ranges { InRange self.now.params }
+        ensures legal { Legal self.now.params self.now.entries }
         ensures stands { Stands self.now.parts (replay self.now.params self.now.entries) }
         ensures phase { self.now.parts.phase ≡ phase (replay self.now.params self.now.entries) }
         ensures near { IsNear self.now.parts }

@@ -102,6 +102,7 @@ pub struct EntryView<'a> {
 }
 
 /// The bytes that stand there.
+#[inline(always)]
 fn bytes_of<'a>(arena: &'a [u8], span: Span) -> &'a [u8]
     requires { SpanWithin (length arena.now) span }
     ensures { result.now ≡ bytes_at arena.now span }
@@ -109,6 +110,7 @@ fn bytes_of<'a>(arena: &'a [u8], span: Span) -> &'a [u8]
     &arena[span.from..span.from + span.len]
 }
 
+#[inline(always)]
 fn call_view<'a>(arena: &'a [u8], call: CallSlot) -> CallView<'a>
     requires { CallWithin (length arena.now) call }
     ensures { seen_call result ≡ call_in arena.now call }
@@ -149,6 +151,7 @@ fn call_view<'a>(arena: &'a [u8], call: CallSlot) -> CallView<'a>
 }
 
 /// The reply of a slot.
+#[inline(always)]
 pub fn reply_view<'a>(arena: &'a [u8], reply: ReplySlot) -> ReplyView<'a>
     requires { ReplyWithin (length arena.now) reply }
     ensures { seen_reply result ≡ reply_in arena.now reply }
@@ -184,6 +187,7 @@ pub fn reply_view<'a>(arena: &'a [u8], reply: ReplySlot) -> ReplyView<'a>
 }
 
 /// The entry of a slot.
+#[inline(always)]
 pub fn entry_view<'a>(arena: &'a [u8], slot: &Slot) -> EntryView<'a>
     requires { IsWithin (length arena.now) slot.now }
     ensures { seen_entry result ≡ entry_of arena.now slot.now }
