@@ -6,5 +6,6 @@ pub mod Ticks
 pub mod Ordered
 pub mod Short
 pub mod Digits
+pub mod Sixteen
 pub mod FrameIds
 pub mod Unnamed

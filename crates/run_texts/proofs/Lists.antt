@@ -1,11 +1,10 @@
 -- Texts of lists, an element at a time.
-use Rattle.std.proofs.Common.{◌≡◌, codes, decimal, ℕ, ◌+◌, ◌≤◌, [], ◌∷◌, ◌++◌, List, length, take, drop, flat_map, slice_get, Some, Result, Ok, IsErr, refl, ap, subst, sym, ◌∙◌, append-nil, take-append-drop, length-append, arith}
+use Rattle.std.proofs.Common.{◌≡◌, codes, decimal, ℕ, ◌+◌, ◌≤◌, [], ◌∷◌, ◌++◌, List, length, take, drop, flat_map, slice_get, Some, Result, Ok, IsErr, refl, ap, subst, sym, ◌∙◌, append-nil, take-append-drop}
 use Rattle.std.proofs.lemmas.List.{take_all, take_more}
 use Rattle.std.proofs.lemmas.Option.{slice_get_within, get_or_from_slice_get}
 use Rattle.std.proofs.lemmas.List.Concat.{flat_map-append}
 use Rattle.tas_num.specs.declared.outside.IoFault.{IoFault}
 use Rattle.tas_model.specs.declared.entry.Entry.{Entry}
-use Rattle.tas_model.specs.Outputs.{bytes_read, given_bytes}
 use Rattle.tas_runs.specs.declared.log.LogLine.{LogLine}
 use Rattle.tas_runs.specs.Report.{hex_bytes, entry_text, entries_text, line, event_text, log_text}
 use Rattle.run_texts.specs.Writes.{Stand, Writes}
@@ -43,14 +42,6 @@ entries_are names (x ∷ xs) = ap (λ t. entry_text names x ++ t) (entries_are n
 pub digits_are : {X : Type 0} (g : X → List ℕ) (xs : List X) → flat_map (λ x. hex_bytes (g x)) xs ≡ hex_bytes (flat_map g xs)
 digits_are g [] = refl
 digits_are g (x ∷ xs) = ap (λ t. hex_bytes (g x) ++ t) (digits_are g xs) ∙ sym (hex_bytes-append (g x) (flat_map g xs))
-
--- ----- how many bytes were read
-pub count_more : (h : List Entry) (i : ℕ) (x : Entry) (count : ℕ) (bytes : List ℕ) → slice_get h i ≡ Some x → count ≡ length (bytes_read (take i h)) → bytes ≡ given_bytes x.reply → count + length bytes ≡ length (bytes_read (take (i + 1) h))
-count_more h i x count bytes e before now =
-    let more : bytes_read (take i h) ++ given_bytes x.reply ≡ bytes_read (take (i + 1) h) = text_more (λ (y : Entry). given_bytes y.reply) h i x e in
-    let sum : length (bytes_read (take (i + 1) h)) ≡ length (bytes_read (take i h)) + length (given_bytes x.reply) = ap length (sym more) ∙ length-append (bytes_read (take i h)) (given_bytes x.reply) in
-    let len : length bytes ≡ length (given_bytes x.reply) = ap length now in
-    omega (arith, sum, len, before)
 
 -- ----- the log
 abbrev pub log_line : (names : List (List ℕ)) → LogLine → List ℕ

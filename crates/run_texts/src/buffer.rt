@@ -1,7 +1,7 @@
-ghost use Rattle.std.specs.Prelude.{◌≡◌, ℕ, ◌+◌, ◌-◌, ◌*◌, ◌<◌, ◌≤◌, ◌++◌, [], List, length, IfOk, true, false};
-ghost use Rattle.std.specs.Fmt.{digit_glyph};
+ghost use Rattle.std.specs.Prelude.{◌≡◌, ◌+◌, ◌*◌, ◌≤◌, ◌++◌, [], length, IfOk};
 ghost use Rattle.tas_runs.specs.Report.{hex_bytes};
 
+use crate::hex_digits::write_digits;
 use std::alloc::{AllocError, Global};
 use std::marker::Model;
 
@@ -76,29 +76,5 @@ impl Buffer {
         let end = self.filled + 2 * bytes.len();
         write_digits(bytes, &mut self.room[self.filled..end]);
         self.filled = end;
-    }
-}
-
-/// Writes the digits of bytes: two a byte, the higher one first. It is a plain loop over numbers, which a compiler turns into steps of many bytes at once.
-fn write_digits(bytes: &[u8], digits: &mut [u8])
-    requires { length digits.old ≡ 2 * length bytes.now }
-    ensures { digits.new ≡ hex_bytes bytes.now }
-{
-    'bytes: for i in 0..bytes.len() {
-        let byte = bytes[i];
-        digits[2 * i] = digit(byte >> 4);
-        digits[2 * i + 1] = digit(byte & 15);
-    }
-}
-
-/// The digit of a number below 16, in lower case.
-fn digit(number: u8) -> u8
-    requires { number < 16 }
-    ensures { result ≡ digit_glyph false number }
-{
-    if number < 10 {
-        b'0' + number
-    } else {
-        b'a' - 10 + number
     }
 }

@@ -1,3 +1,4 @@
+use crate::buffer::Buffer;
 use crate::writer::Writer;
 use std::test::*;
 use tas_num::SureSink;
@@ -16,5 +17,27 @@ fn many_digits_are_those_of_another_library(rt: HostRuntime) -> Result<(), Fail>
     let mut expected = String::from_str(rt.alloc(), "-")?;
     expected.push_str(&hex::encode(rt.alloc(), &bytes)?)?;
     assert_eq!(rt; sink.written(), expected.as_bytes());
+    Ok(())
+}
+
+// Each byte at each place of a vector and behind the last one, read and written at any alignment.
+#[test]
+fn digits_of_every_length_are_those_of_another_library(rt: HostRuntime) -> Result<(), Fail> {
+    let mut bytes = Vec::new(rt.alloc());
+    for i in 0..296_u16 {
+        bytes.push((i % 256) as u8)?;
+    }
+    let mut buffer = Buffer::new(rt.alloc())?;
+    for start in 0..256_usize {
+        for len in 0..41_usize {
+            let piece = bytes.get(start..start + len).ok_or("the bytes end")?;
+            let before = bytes.get(..start % 16).ok_or("the bytes end")?;
+            buffer.clear();
+            buffer.push(before);
+            buffer.push_digits(piece);
+            let digits = buffer.as_slice().get(before.len()..);
+            assert_eq!(rt; digits, Some(hex::encode(rt.alloc(), piece)?.as_bytes()));
+        }
+    }
     Ok(())
 }

@@ -6,6 +6,7 @@ mod entries;
 mod flows;
 mod frame_ids;
 mod frames;
+mod hex_digits;
 mod laws;
 mod logs;
 mod texts;

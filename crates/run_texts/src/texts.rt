@@ -1,5 +1,5 @@
-ghost use Rattle.std.specs.Prelude.{◌≡◌, ℕ, ◌<◌, List};
-ghost use Rattle.tas_runs.specs.Report.{letter, reason_text, phase_text};
+ghost use Rattle.std.specs.Prelude.{◌≡◌, ℕ, ◌<◌, List, IfSome, IfNone};
+ghost use Rattle.tas_runs.specs.Report.{letter, flags_text, reason_text, phase_text};
 
 use std::fmt;
 use tas_model::{Caller, FlowId, FourTuple, FrameId, Head, NO_FLOW, Phase, Reason};
@@ -16,14 +16,30 @@ impl fmt::Display for FlagsText {
 
     fn fmt<W: fmt::Write>(&self, f: &mut fmt::Formatter<W>) -> fmt::Result {
         let flags = self.0;
-        if flags == 0 {
-            return write!(f, "-");
+        if let Some(letters) = usual_letters(flags) {
+            return write!(f, "{letters}");
         }
         let (cwr, ece) = (one(flags, 128, "C"), one(flags, 64, "E"));
         let (urg, ack) = (one(flags, 32, "U"), one(flags, 16, "A"));
         let (psh, rst) = (one(flags, 8, "P"), one(flags, 4, "R"));
         let (syn, fin) = (one(flags, 2, "S"), one(flags, 1, "F"));
         write!(f, "{cwr}{ece}{urg}{ack}{psh}{rst}{syn}{fin}")
+    }
+}
+
+/// The letters of the control bits that nearly every segment has, which are written in one piece.
+fn usual_letters(flags: u8) -> Option<&'static str>
+    ensures usual { IfSome result (λ letters. letters.now ≡ flags_text flags) }
+    ensures some_set { IfNone result (0 < flags) }
+{
+    match flags {
+        0 => Some("-"),
+        2 => Some("S"),
+        16 => Some("A"),
+        17 => Some("AF"),
+        18 => Some("AS"),
+        24 => Some("AP"),
+        _ => None,
     }
 }
 

@@ -2,7 +2,7 @@ use Rattle.std.proofs.Common.{ℕ, false, slice_index, ap, ◌∙◌, arith}
 use Rattle.std.proofs.lemmas.Nat.{and_mask}
 use Rattle.std.specs.Fmt.{digit_glyph}
 use Rattle.run_texts.proofs.Digits.{digits_step, digits_done}
-use Rattle.run_texts.proofs.buffer.write_digits.Goals as goal
+use Rattle.run_texts.proofs.hex_digits.write_rest.Goals as goal
 
 pub bytes-preserved : goal.bytes-preserved
 bytes-preserved c =
