@@ -45,13 +45,6 @@ put_stopped a b (Err f) s x y e same first =
 pub put_as : (a b : Stream) (r : Result (Unit {0}) IoFault) (x y : List ℕ) → x ≡ y → Puts a r b x → Puts a r b y
 put_as a b r x y e p = subst (λ (t : List ℕ). Puts a r b t) e p
 
--- one text, by what is known of its writing
-pub put_once : (a b : Stream) (r : Result (Unit {0}) IoFault) (x : List ℕ) → OnOk r (Appends a.held b.held x) → OnErr r (AppendsFront a.held b.held x)
-    → (r ≡ Err Failed → Rose a.faults b.faults) → (r ≡ Err OutOfMemory → IsTrue a.grows) → a.faults ≤ b.faults → b.grows ≡ a.grows → Puts a r b x
-put_once a b (Ok u) x whole front failed memory later same = record { whole = whole; front = tt; cause = tt; later = later; same = same }
-put_once a b (Err Failed) x whole front failed memory later same = record { whole = tt; front = front; cause = inl (failed refl); later = later; same = same }
-put_once a b (Err OutOfMemory) x whole front failed memory later same = record { whole = tt; front = front; cause = inr (memory refl); later = later; same = same }
-
 pub told : (a b : Stream) (r : Result (Unit {0}) IoFault) (stop : Stop) → Puts a r b (fault_line stop) → IsTold stop a b
 told a b (Ok u) stop p = inl p.whole
 told a b (Err f) stop p = inr (p.front, p.cause)
