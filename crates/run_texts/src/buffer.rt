@@ -59,6 +59,7 @@ impl Buffer {
     }
 
     /// Puts bytes behind those that wait.
+    #[inline(always)]
     pub fn push(&mut self, bytes: &[u8])
         requires { length self.old + length bytes.now ≤ 4096 }
         ensures { self.new ≡ self.old ++ bytes.now }

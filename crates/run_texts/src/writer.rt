@@ -47,6 +47,7 @@ impl Writer {
     }
 
     /// Writes these bytes behind all that waits.
+    #[inline(always)]
     pub fn put<K: Sink>(&mut self, sink: &mut K, bytes: &[u8]) -> Result<(), IoFault>
         ensures { Writes (record { held = K.held sink.old; faults = K.faults sink.old; waiting = self.old }) result (record { held = K.held sink.new; faults = K.faults sink.new; waiting = self.new }) bytes.now }
     {
@@ -99,8 +100,20 @@ fn make_room<K: Sink>(sink: &mut K, waiting: &mut Buffer, count: usize) -> Resul
     }
 }
 
-/// Writes bytes behind all that waits, as much at a time as there is room for.
+/// Writes bytes behind all that waits. Mostly there is room for all of them.
+#[inline(always)]
 fn push<K: Sink>(sink: &mut K, waiting: &mut Buffer, bytes: &[u8]) -> Result<(), IoFault>
+    ensures { Writes (record { held = K.held sink.old; faults = K.faults sink.old; waiting = waiting.old }) result (record { held = K.held sink.new; faults = K.faults sink.new; waiting = waiting.new }) bytes.now }
+{
+    if bytes.len() <= waiting.free() {
+        waiting.push(bytes);
+        return Ok(());
+    }
+    push_pieces(sink, waiting, bytes)
+}
+
+/// Writes bytes behind all that waits, as much at a time as there is room for.
+fn push_pieces<K: Sink>(sink: &mut K, waiting: &mut Buffer, bytes: &[u8]) -> Result<(), IoFault>
     ensures { Writes (record { held = K.held sink.old; faults = K.faults sink.old; waiting = waiting.old }) result (record { held = K.held sink.new; faults = K.faults sink.new; waiting = waiting.new }) bytes.now }
 {
     let mut done = 0;

@@ -1,6 +1,6 @@
 use Rattle.std.proofs.Common.{◌-◌, ◌≤◌, length, take, Ok}
 use Rattle.run_texts.specs.Writes.{Writes}
-use Rattle.run_texts.proofs.writer.push.Given as goal
+use Rattle.run_texts.proofs.writer.push_pieces.Given as goal
 
 abbrev pub invariant-loop-done : goal.invariant-loop-done
 invariant-loop-done g l = record {

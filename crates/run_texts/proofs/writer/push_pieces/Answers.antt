@@ -1,6 +1,6 @@
 use Rattle.std.proofs.Common.{rules, List, ℕ, ◌-◌, [], ◌++◌, take, drop, append-nil, take-append-drop}
 use Rattle.run_texts.proofs.Writing.{put_behind, stopped_in, wrote_as, wrote_both, text_more}
-use Rattle.run_texts.proofs.writer.push.Goals as goal
+use Rattle.run_texts.proofs.writer.push_pieces.Goals as goal
 
 pub loop-done-preserved : goal.loop-done-preserved
 loop-done-preserved g c =
