@@ -1,5 +1,4 @@
 pub mod Writing
-pub mod Grouped
 pub mod Lists
 pub mod Packets
 pub mod Ticks

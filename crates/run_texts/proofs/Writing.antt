@@ -1,12 +1,12 @@
 -- What several writes do, one after the other.
-use Rattle.std.proofs.Common.{◌≡◌, ◌==◌, codes, ℕ, ◌+◌, ◌-◌, ◌≤◌, ◌/◌, ◌%◌, false, [], ◌∷◌, ◌++◌, List, take, drop, length, Result, Ok, Err, IsOk, IsErr, take-append-drop, refl, ap, subst, sym, ◌∙◌, append_assoc, append-nil, arith}
+use Rattle.std.proofs.Common.{IsTrue, ◌≡◌, ◌==◌, codes, ℕ, ◌+◌, ◌-◌, ◌≤◌, ◌/◌, ◌%◌, false, [], ◌∷◌, ◌++◌, List, take, drop, length, Result, Ok, Err, IsOk, IsErr, take-append-drop, refl, ap, subst, sym, ◌∙◌, append_assoc, append-nil, arith}
 use Rattle.std.proofs.Math.Seq.{take-add}
 use Rattle.std.proofs.lemmas.Bool.{false≢true}
 use Rattle.std.specs.Io.KnownBytes.{Appends}
 use Rattle.std.proofs.KnownBytes.{Appends-trans}
 use Rattle.tas_num.specs.Causes.{Rose}
 use Rattle.tas_num.specs.declared.outside.IoFault.{IoFault}
-use Rattle.tas_num.specs.declared.outside.IoFault.TheVariants.{Failed}
+use Rattle.tas_num.specs.declared.outside.IoFault.TheVariants.{Failed, OutOfMemory}
 use Rattle.tas_num.proofs.Writing.{rose_later}
 use Rattle.std.specs.Fmt.{digit_glyph}
 use Rattle.tas_runs.specs.Report.{hex_bytes, hex, data_text}
@@ -22,7 +22,9 @@ wrote_then a b c r x y first second =
       grown = Appends-trans a.held b.held c.held first.front second.front first.grown second.grown;
       waits = second.waits;
       failed = λ e. rose_later first.later (second.failed e);
+      memory = λ e. subst IsTrue first.same (second.memory e);
       later = omega (arith, first.later, second.later);
+      same = second.same ∙ first.same;
     }
 
 -- A text that was not written, and whatever was to follow it.
@@ -35,21 +37,23 @@ stopped a b (Err f) x y e first =
       grown = first.grown;
       waits = first.waits;
       failed = first.failed;
+      memory = first.memory;
       later = first.later;
+      same = first.same;
     }
 stopped a b (Ok x) _ _ e _ = absurd (false≢true e)
 
 -- All that waited went to the sink, or a front of it.
-pub flushed : (a b : Stand) (r : Result (Unit {0}) IoFault) → IsOk r → Appends a.held b.held a.waiting → a.faults ≤ b.faults → b.waiting ≡ [] → Writes a r b []
-flushed a b (Ok u) _ grown later e = record { front = a.waiting; rest = []; whole = refl; grown = grown; waits = e; failed = λ f. absurd (cc f); later = later }
-flushed a b (Err f) h _ _ _ = absurd (false≢true h)
+pub flushed : (a b : Stand) (r : Result (Unit {0}) IoFault) → IsOk r → Appends a.held b.held a.waiting → a.faults ≤ b.faults → b.grows ≡ a.grows → b.waiting ≡ [] → Writes a r b []
+flushed a b (Ok u) _ grown later same e = record { front = a.waiting; rest = []; whole = refl; grown = grown; waits = e; failed = λ f. absurd (cc f); memory = λ f. absurd (cc f); later = later; same = same }
+flushed a b (Err f) h _ _ _ _ = absurd (false≢true h)
 
-pub broken : (a b : Stand) (r : Result (Unit {0}) IoFault) (front rest : List ℕ) → IsErr r → front ++ rest ≡ a.waiting → Appends a.held b.held front → (r ≡ Err Failed → Rose a.faults b.faults) → a.faults ≤ b.faults → Writes a r b []
-broken a b (Err f) front rest _ whole grown cause later = record { front = front; rest = rest; whole = whole ∙ sym (append-nil a.waiting); grown = grown; waits = tt; failed = cause; later = later }
-broken a b (Ok u) front rest h _ _ _ _ = absurd (false≢true h)
+pub broken : (a b : Stand) (r : Result (Unit {0}) IoFault) (front rest : List ℕ) → IsErr r → front ++ rest ≡ a.waiting → Appends a.held b.held front → (r ≡ Err Failed → Rose a.faults b.faults) → (r ≡ Err OutOfMemory → IsTrue a.grows) → a.faults ≤ b.faults → b.grows ≡ a.grows → Writes a r b []
+broken a b (Err f) front rest _ whole grown cause memory later same = record { front = front; rest = rest; whole = whole ∙ sym (append-nil a.waiting); grown = grown; waits = tt; failed = cause; memory = memory; later = later; same = same }
+broken a b (Ok u) front rest h _ _ _ _ _ _ = absurd (false≢true h)
 
 -- Bytes that were put behind those that wait.
-pub put_behind : (a b : Stand) (x y waiting : List ℕ) → waiting ≡ b.waiting ++ y → Writes a (Ok tt) b x → Writes a (Ok tt) (record { held = b.held; faults = b.faults; waiting = waiting }) (x ++ y)
+pub put_behind : (a b : Stand) (x y waiting : List ℕ) → waiting ≡ b.waiting ++ y → Writes a (Ok tt) b x → Writes a (Ok tt) (record { held = b.held; faults = b.faults; grows = b.grows; waiting = waiting }) (x ++ y)
 put_behind a b x y waiting more first =
     record {
       front = first.front;
@@ -58,8 +62,19 @@ put_behind a b x y waiting more first =
       grown = first.grown;
       waits = more ∙ ap (λ t. t ++ y) first.waits;
       failed = λ e. absurd (cc e);
+      memory = λ e. absurd (cc e);
       later = first.later;
+      same = first.same;
     }
+
+-- eight texts behind bytes, one after the other
+pub eight_behind : (w0 w1 w2 w3 w4 w5 w6 w7 w8 a b c d e f g h : List ℕ) → w1 ≡ w0 ++ a → w2 ≡ w1 ++ b → w3 ≡ w2 ++ c → w4 ≡ w3 ++ d → w5 ≡ w4 ++ e → w6 ≡ w5 ++ f → w7 ≡ w6 ++ g → w8 ≡ w7 ++ h
+    → w8 ≡ w0 ++ (a ++ b ++ c ++ d ++ e ++ f ++ g ++ h)
+eight_behind w0 w1 w2 w3 w4 w5 w6 w7 w8 a b c d e f g h e1 e2 e3 e4 e5 e6 e7 e8 =
+    two w7 w8 (a ++ b ++ c ++ d ++ e ++ f ++ g) h (two w6 w7 (a ++ b ++ c ++ d ++ e ++ f) g (two w5 w6 (a ++ b ++ c ++ d ++ e) f (two w4 w5 (a ++ b ++ c ++ d) e (two w3 w4 (a ++ b ++ c) d (two w2 w3 (a ++ b) c (two w1 w2 a b e1 e2) e3) e4) e5) e6) e7) e8
+  where
+    two : (v w x y : List ℕ) → v ≡ w0 ++ x → w ≡ v ++ y → w ≡ w0 ++ (x ++ y)
+    two v w x y first second = second ∙ ap (λ t. t ++ y) first ∙ append_assoc w0 x y
 
 -- ----- pieces
 pub text_more : (bytes : List ℕ) (from to : ℕ) → from ≤ to → take from bytes ++ take (to - from) (drop from bytes) ≡ take to bytes

@@ -6,7 +6,8 @@ ghost use Rattle.flow_state.specs.Views.{seen_seg, seen_call, seen_reply, seen_e
 ghost use Rattle.run_texts.specs.Writes.{Stand, Writes};
 
 use crate::frame_ids::write_frame_id;
-use crate::texts::{EntryStart, HeadText, UpdateText, WindowText, reason_name};
+use crate::line_texts::{ClosedText, ConnectText, IssText, RecvText, SendText};
+use crate::texts::{EntryStart, HeadText, UpdateText, WindowText};
 use crate::writer::Writer;
 use flow_state::{CallView, EntryView, ReplyView, SegView};
 use tas_model::{FrameId, Head};
@@ -19,7 +20,7 @@ pub fn write_entry<K: Sink>(
     names: &[&[u8]],
     entry: &EntryView<'_>,
 ) -> Result<(), IoFault>
-    ensures { Writes (record { held = K.held sink.old; faults = K.faults sink.old; waiting = writer.old }) result (record { held = K.held sink.new; faults = K.faults sink.new; waiting = writer.new }) (entry_text (map (λ n. n.now) names.now) (seen_entry entry.now)) }
+    ensures { Writes (record { held = K.held sink.old; faults = K.faults sink.old; grows = K.grows sink.old; waiting = writer.old }) result (record { held = K.held sink.new; faults = K.faults sink.new; grows = K.grows sink.new; waiting = writer.new }) (entry_text (map (λ n. n.now) names.now) (seen_entry entry.now)) }
 {
     let start = EntryStart {
         tick: entry.tick,
@@ -40,13 +41,10 @@ fn write_call<K: Sink>(
     names: &[&[u8]],
     call: &CallView<'_>,
 ) -> Result<(), IoFault>
-    ensures { Writes (record { held = K.held sink.old; faults = K.faults sink.old; waiting = writer.old }) result (record { held = K.held sink.new; faults = K.faults sink.new; waiting = writer.new }) (call_text (map (λ n. n.now) names.now) (seen_call call.now)) }
+    ensures { Writes (record { held = K.held sink.old; faults = K.faults sink.old; grows = K.grows sink.old; waiting = writer.old }) result (record { held = K.held sink.new; faults = K.faults sink.new; grows = K.grows sink.new; waiting = writer.new }) (call_text (map (λ n. n.now) names.now) (seen_call call.now)) }
 {
     match call {
-        CallView::Connect { iss } => {
-            let iss = iss.0;
-            writer.put_text(sink, &format_args!("connect iss {iss}"))
-        }
+        CallView::Connect { iss } => writer.put_text(sink, &ConnectText(iss.0)),
         CallView::Passive { frame, iss, seg } => write_passive(
             writer, sink, names, *frame, *iss, seg,
         ),
@@ -56,8 +54,8 @@ fn write_call<K: Sink>(
         CallView::Control => writer.put(sink, b"control"),
         CallView::Accept => writer.put(sink, b"accept"),
         CallView::Ready => writer.put(sink, b"ready"),
-        CallView::Send { offered } => writer.put_text(sink, &format_args!("send {offered}")),
-        CallView::Recv { most } => writer.put_text(sink, &format_args!("recv {most}")),
+        CallView::Send { offered } => writer.put_text(sink, &SendText(*offered)),
+        CallView::Recv { most } => writer.put_text(sink, &RecvText(*most)),
         CallView::Shut => writer.put(sink, b"shut"),
         CallView::Close => writer.put(sink, b"close"),
         CallView::Abort => writer.put(sink, b"abort"),
@@ -73,12 +71,11 @@ fn write_passive<K: Sink>(
     iss: Seq,
     seg: &SegView<'_>,
 ) -> Result<(), IoFault>
-    ensures { Writes (record { held = K.held sink.old; faults = K.faults sink.old; waiting = writer.old }) result (record { held = K.held sink.new; faults = K.faults sink.new; waiting = writer.new }) (call_text (map (λ n. n.now) names.now) (calls.Passive frame iss (seen_seg seg.now))) }
+    ensures { Writes (record { held = K.held sink.old; faults = K.faults sink.old; grows = K.grows sink.old; waiting = writer.old }) result (record { held = K.held sink.new; faults = K.faults sink.new; grows = K.grows sink.new; waiting = writer.new }) (call_text (map (λ n. n.now) names.now) (calls.Passive frame iss (seen_seg seg.now))) }
 {
-    let iss = iss.0;
     writer.put(sink, b"passive ")?;
     write_frame_id(writer, sink, names, frame)?;
-    writer.put_text(sink, &format_args!(" iss {iss} "))?;
+    writer.put_text(sink, &IssText(iss.0))?;
     write_seg(writer, sink, seg)
 }
 
@@ -90,7 +87,7 @@ fn write_rx<K: Sink>(
     frame: FrameId,
     seg: &SegView<'_>,
 ) -> Result<(), IoFault>
-    ensures { Writes (record { held = K.held sink.old; faults = K.faults sink.old; waiting = writer.old }) result (record { held = K.held sink.new; faults = K.faults sink.new; waiting = writer.new }) (call_text (map (λ n. n.now) names.now) (calls.Rx frame (seen_seg seg.now))) }
+    ensures { Writes (record { held = K.held sink.old; faults = K.faults sink.old; grows = K.grows sink.old; waiting = writer.old }) result (record { held = K.held sink.new; faults = K.faults sink.new; grows = K.grows sink.new; waiting = writer.new }) (call_text (map (λ n. n.now) names.now) (calls.Rx frame (seen_seg seg.now))) }
 {
     writer.put(sink, b"rx ")?;
     write_frame_id(writer, sink, names, frame)?;
@@ -104,7 +101,7 @@ fn write_reply<K: Sink>(
     sink: &mut K,
     reply: &ReplyView<'_>,
 ) -> Result<(), IoFault>
-    ensures { Writes (record { held = K.held sink.old; faults = K.faults sink.old; waiting = writer.old }) result (record { held = K.held sink.new; faults = K.faults sink.new; waiting = writer.new }) (reply_text (seen_reply reply.now)) }
+    ensures { Writes (record { held = K.held sink.old; faults = K.faults sink.old; grows = K.grows sink.old; waiting = writer.old }) result (record { held = K.held sink.new; faults = K.faults sink.new; grows = K.grows sink.new; waiting = writer.new }) (reply_text (seen_reply reply.now)) }
 {
     match reply {
         ReplyView::Ok => writer.put(sink, b"ok"),
@@ -116,10 +113,7 @@ fn write_reply<K: Sink>(
         ReplyView::NotYet => writer.put(sink, b"notyet"),
         ReplyView::NotOpen => writer.put(sink, b"notopen"),
         ReplyView::Shut => writer.put(sink, b"shut"),
-        ReplyView::Closed { reason } => {
-            let name = reason_name(*reason);
-            writer.put_text(sink, &format_args!("closed {name}"))
-        }
+        ReplyView::Closed { reason } => writer.put_text(sink, &ClosedText(*reason)),
         ReplyView::Quiet => writer.put(sink, b"quiet"),
         ReplyView::Resend => writer.put(sink, b"resend"),
         ReplyView::Probe => writer.put(sink, b"probe"),
@@ -137,7 +131,7 @@ fn write_reply<K: Sink>(
 
 /// Writes the bytes that a Send took.
 fn write_took<K: Sink>(writer: &mut Writer, sink: &mut K, bytes: &[u8]) -> Result<(), IoFault>
-    ensures { Writes (record { held = K.held sink.old; faults = K.faults sink.old; waiting = writer.old }) result (record { held = K.held sink.new; faults = K.faults sink.new; waiting = writer.new }) (reply_text (replies.Took bytes.now)) }
+    ensures { Writes (record { held = K.held sink.old; faults = K.faults sink.old; grows = K.grows sink.old; waiting = writer.old }) result (record { held = K.held sink.new; faults = K.faults sink.new; grows = K.grows sink.new; waiting = writer.new }) (reply_text (replies.Took bytes.now)) }
 {
     writer.put(sink, b"took ")?;
     write_hex(writer, sink, bytes)
@@ -150,7 +144,7 @@ fn write_got<K: Sink>(
     bytes: &[u8],
     update: Option<Head>,
 ) -> Result<(), IoFault>
-    ensures { Writes (record { held = K.held sink.old; faults = K.faults sink.old; waiting = writer.old }) result (record { held = K.held sink.new; faults = K.faults sink.new; waiting = writer.new }) (reply_text (replies.Got bytes.now update)) }
+    ensures { Writes (record { held = K.held sink.old; faults = K.faults sink.old; grows = K.grows sink.old; waiting = writer.old }) result (record { held = K.held sink.new; faults = K.faults sink.new; grows = K.grows sink.new; waiting = writer.new }) (reply_text (replies.Got bytes.now update)) }
 {
     writer.put(sink, b"got ")?;
     write_hex(writer, sink, bytes)?;
@@ -159,7 +153,7 @@ fn write_got<K: Sink>(
 
 /// Writes a segment.
 fn write_seg<K: Sink>(writer: &mut Writer, sink: &mut K, seg: &SegView<'_>) -> Result<(), IoFault>
-    ensures { Writes (record { held = K.held sink.old; faults = K.faults sink.old; waiting = writer.old }) result (record { held = K.held sink.new; faults = K.faults sink.new; waiting = writer.new }) (seg_text (seen_seg seg.now)) }
+    ensures { Writes (record { held = K.held sink.old; faults = K.faults sink.old; grows = K.grows sink.old; waiting = writer.old }) result (record { held = K.held sink.new; faults = K.faults sink.new; grows = K.grows sink.new; waiting = writer.new }) (seg_text (seen_seg seg.now)) }
 {
     write_segment(writer, sink, seg.head, seg.bytes)
 }
@@ -171,7 +165,7 @@ pub fn write_segment<K: Sink>(
     head: Head,
     bytes: &[u8],
 ) -> Result<(), IoFault>
-    ensures { Writes (record { held = K.held sink.old; faults = K.faults sink.old; waiting = writer.old }) result (record { held = K.held sink.new; faults = K.faults sink.new; waiting = writer.new }) (seg_text (record { head = head; bytes = bytes.now })) }
+    ensures { Writes (record { held = K.held sink.old; faults = K.faults sink.old; grows = K.grows sink.old; waiting = writer.old }) result (record { held = K.held sink.new; faults = K.faults sink.new; grows = K.grows sink.new; waiting = writer.new }) (seg_text (record { head = head; bytes = bytes.now })) }
 {
     writer.put_text(sink, &HeadText(head))?;
     write_data(writer, sink, bytes)
@@ -179,7 +173,7 @@ pub fn write_segment<K: Sink>(
 
 /// Writes the payload of a segment, where it has one.
 fn write_data<K: Sink>(writer: &mut Writer, sink: &mut K, bytes: &[u8]) -> Result<(), IoFault>
-    ensures { Writes (record { held = K.held sink.old; faults = K.faults sink.old; waiting = writer.old }) result (record { held = K.held sink.new; faults = K.faults sink.new; waiting = writer.new }) (data_text bytes.now) }
+    ensures { Writes (record { held = K.held sink.old; faults = K.faults sink.old; grows = K.grows sink.old; waiting = writer.old }) result (record { held = K.held sink.new; faults = K.faults sink.new; grows = K.grows sink.new; waiting = writer.new }) (data_text bytes.now) }
 {
     if bytes.is_empty() {
         return Ok(());
@@ -190,7 +184,7 @@ fn write_data<K: Sink>(writer: &mut Writer, sink: &mut K, bytes: &[u8]) -> Resul
 
 /// Writes bytes, or `-` for none.
 fn write_hex<K: Sink>(writer: &mut Writer, sink: &mut K, bytes: &[u8]) -> Result<(), IoFault>
-    ensures { Writes (record { held = K.held sink.old; faults = K.faults sink.old; waiting = writer.old }) result (record { held = K.held sink.new; faults = K.faults sink.new; waiting = writer.new }) (hex bytes.now) }
+    ensures { Writes (record { held = K.held sink.old; faults = K.faults sink.old; grows = K.grows sink.old; waiting = writer.old }) result (record { held = K.held sink.new; faults = K.faults sink.new; grows = K.grows sink.new; waiting = writer.new }) (hex bytes.now) }
 {
     if bytes.is_empty() {
         writer.put(sink, b"-")

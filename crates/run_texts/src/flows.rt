@@ -8,10 +8,10 @@ ghost use Rattle.flow_state.specs.Views.{seen_entry, seen_reply};
 ghost use Rattle.run_texts.specs.Writes.{Stand, Writes};
 
 use crate::entries::write_entry;
-use crate::texts::{FlowName, TupleText, phase_name, reason_name};
+use crate::line_texts::{ClosedLine, FlowLine, ReadText, StateLine};
+use crate::texts::FlowName;
 use crate::writer::Writer;
 use flow_state::{FlowRecord, ReplyView};
-use tas_model::{Phase, Reason};
 use tas_num::{IoFault, Sink};
 
 /// Writes the lines of a flow: its ends, its entries, its state and the bytes that were read. `number` is its opening number, from 0 on.
@@ -19,10 +19,10 @@ pub fn write_flow<K: Sink>(
     writer: &mut Writer,
     sink: &mut K,
     names: &[&[u8]],
-    number: u32,
+    number: u64,
     flow: &FlowRecord,
 ) -> Result<(), IoFault>
-    ensures { Writes (record { held = K.held sink.old; faults = K.faults sink.old; waiting = writer.old }) result (record { held = K.held sink.new; faults = K.faults sink.new; waiting = writer.new }) (flow_lines (map (λ n. n.now) names.now) number (record { id = flow.now.id; tuple = flow.now.tuple; params = flow.now.params; entries = flow.now.entries })) }
+    ensures { Writes (record { held = K.held sink.old; faults = K.faults sink.old; grows = K.grows sink.old; waiting = writer.old }) result (record { held = K.held sink.new; faults = K.faults sink.new; grows = K.grows sink.new; waiting = writer.new }) (flow_lines (map (λ n. n.now) names.now) number (record { id = flow.now.id; tuple = flow.now.tuple; params = flow.now.params; entries = flow.now.entries })) }
 {
     write_ends(writer, sink, number, flow)?;
     write_entries(writer, sink, names, flow)?;
@@ -34,15 +34,19 @@ pub fn write_flow<K: Sink>(
 fn write_ends<K: Sink>(
     writer: &mut Writer,
     sink: &mut K,
-    number: u32,
+    number: u64,
     flow: &FlowRecord,
 ) -> Result<(), IoFault>
-    ensures { Writes (record { held = K.held sink.old; faults = K.faults sink.old; waiting = writer.old }) result (record { held = K.held sink.new; faults = K.faults sink.new; waiting = writer.new }) (line (codes "flow " ++ decimal number ++ codes " slot " ++ decimal flow.now.id.slot ++ codes "." ++ decimal flow.now.id.generation ++ codes " " ++ tuple_text flow.now.tuple)) }
+    ensures { Writes (record { held = K.held sink.old; faults = K.faults sink.old; grows = K.grows sink.old; waiting = writer.old }) result (record { held = K.held sink.new; faults = K.faults sink.new; grows = K.grows sink.new; waiting = writer.new }) (line (codes "flow " ++ decimal number ++ codes " slot " ++ decimal flow.now.id.slot ++ codes "." ++ decimal flow.now.id.generation ++ codes " " ++ tuple_text flow.now.tuple)) }
 {
     let id = flow.id();
-    let name = FlowName { number, id };
-    let ends = TupleText(flow.tuple());
-    writer.put_text(sink, &format_args!("{name} {ends}\n"))
+    writer.put_text(
+        sink,
+        &FlowLine {
+            name: FlowName { number, id },
+            tuple: flow.tuple(),
+        },
+    )
 }
 
 /// Writes the lines of all entries.
@@ -52,7 +56,7 @@ fn write_entries<K: Sink>(
     names: &[&[u8]],
     flow: &FlowRecord,
 ) -> Result<(), IoFault>
-    ensures { Writes (record { held = K.held sink.old; faults = K.faults sink.old; waiting = writer.old }) result (record { held = K.held sink.new; faults = K.faults sink.new; waiting = writer.new }) (entries_text (map (λ n. n.now) names.now) flow.now.entries) }
+    ensures { Writes (record { held = K.held sink.old; faults = K.faults sink.old; grows = K.grows sink.old; waiting = writer.old }) result (record { held = K.held sink.new; faults = K.faults sink.new; grows = K.grows sink.new; waiting = writer.new }) (entries_text (map (λ n. n.now) names.now) flow.now.entries) }
 {
     for i in 0..flow.entries() {
         write_entry(writer, sink, names, &flow.entry(i))?;
@@ -62,22 +66,19 @@ fn write_entries<K: Sink>(
 
 /// Writes the state that the entries lead to, and after CLOSED the reason.
 fn write_state<K: Sink>(writer: &mut Writer, sink: &mut K, flow: &FlowRecord) -> Result<(), IoFault>
-    ensures { Writes (record { held = K.held sink.old; faults = K.faults sink.old; waiting = writer.old }) result (record { held = K.held sink.new; faults = K.faults sink.new; waiting = writer.new }) (line (codes "state " ++ state_text (replay flow.now.params flow.now.entries))) }
+    ensures { Writes (record { held = K.held sink.old; faults = K.faults sink.old; grows = K.grows sink.old; waiting = writer.old }) result (record { held = K.held sink.new; faults = K.faults sink.new; grows = K.grows sink.new; waiting = writer.new }) (line (codes "state " ++ state_text (replay flow.now.params flow.now.entries))) }
 {
     let parts = flow.parts();
-    let phase = phase_name(parts.phase);
+    let phase = parts.phase;
     match parts.reason {
-        Some(reason) => {
-            let reason = reason_name(reason);
-            writer.put_text(sink, &format_args!("state {phase} {reason}\n"))
-        }
-        None => writer.put_text(sink, &format_args!("state {phase}\n")),
+        Some(reason) => writer.put_text(sink, &ClosedLine { phase, reason }),
+        None => writer.put_text(sink, &StateLine(phase)),
     }
 }
 
 /// Writes how many bytes were read, and which.
 fn write_read<K: Sink>(writer: &mut Writer, sink: &mut K, flow: &FlowRecord) -> Result<(), IoFault>
-    ensures { Writes (record { held = K.held sink.old; faults = K.faults sink.old; waiting = writer.old }) result (record { held = K.held sink.new; faults = K.faults sink.new; waiting = writer.new }) (line (read_text (bytes_read flow.now.entries))) }
+    ensures { Writes (record { held = K.held sink.old; faults = K.faults sink.old; grows = K.grows sink.old; waiting = writer.old }) result (record { held = K.held sink.new; faults = K.faults sink.new; grows = K.grows sink.new; waiting = writer.new }) (line (read_text (bytes_read flow.now.entries))) }
 {
     write_counted(writer, sink, flow, count_read(flow))
 }
@@ -90,9 +91,9 @@ fn write_counted<K: Sink>(
     count: u128,
 ) -> Result<(), IoFault>
     requires { count ≡ length (bytes_read flow.now.entries) }
-    ensures { Writes (record { held = K.held sink.old; faults = K.faults sink.old; waiting = writer.old }) result (record { held = K.held sink.new; faults = K.faults sink.new; waiting = writer.new }) (line (codes "read " ++ decimal count ++ codes " " ++ hex (bytes_read flow.now.entries))) }
+    ensures { Writes (record { held = K.held sink.old; faults = K.faults sink.old; grows = K.grows sink.old; waiting = writer.old }) result (record { held = K.held sink.new; faults = K.faults sink.new; grows = K.grows sink.new; waiting = writer.new }) (line (codes "read " ++ decimal count ++ codes " " ++ hex (bytes_read flow.now.entries))) }
 {
-    writer.put_text(sink, &format_args!("read {count} "))?;
+    writer.put_text(sink, &ReadText(count))?;
     write_bytes_read(writer, sink, flow, count)?;
     writer.put(sink, b"\n")
 }
@@ -105,7 +106,7 @@ fn write_bytes_read<K: Sink>(
     count: u128,
 ) -> Result<(), IoFault>
     requires { count ≡ length (bytes_read flow.now.entries) }
-    ensures { Writes (record { held = K.held sink.old; faults = K.faults sink.old; waiting = writer.old }) result (record { held = K.held sink.new; faults = K.faults sink.new; waiting = writer.new }) (hex (bytes_read flow.now.entries)) }
+    ensures { Writes (record { held = K.held sink.old; faults = K.faults sink.old; grows = K.grows sink.old; waiting = writer.old }) result (record { held = K.held sink.new; faults = K.faults sink.new; grows = K.grows sink.new; waiting = writer.new }) (hex (bytes_read flow.now.entries)) }
 {
     if count == 0 {
         writer.put(sink, b"-")
@@ -127,7 +128,7 @@ fn write_digits_read<K: Sink>(
     sink: &mut K,
     flow: &FlowRecord,
 ) -> Result<(), IoFault>
-    ensures { Writes (record { held = K.held sink.old; faults = K.faults sink.old; waiting = writer.old }) result (record { held = K.held sink.new; faults = K.faults sink.new; waiting = writer.new }) (hex_bytes (bytes_read flow.now.entries)) }
+    ensures { Writes (record { held = K.held sink.old; faults = K.faults sink.old; grows = K.grows sink.old; waiting = writer.old }) result (record { held = K.held sink.new; faults = K.faults sink.new; grows = K.grows sink.new; waiting = writer.new }) (hex_bytes (bytes_read flow.now.entries)) }
 {
     for i in 0..flow.entries() {
         writer.put_hex(sink, given(flow.entry(i).reply))?;

@@ -2,7 +2,7 @@ ghost use Rattle.std.specs.Prelude.{◌≡◌, ℕ, List, map};
 ghost use Rattle.tas_runs.specs.Report.{name_at, frame_text};
 ghost use Rattle.run_texts.specs.Writes.{Stand, Writes};
 
-use crate::texts::PlaceText;
+use crate::texts::{PlaceText, RecordText};
 use crate::writer::Writer;
 use tas_model::{CAPTURE, FrameId};
 use tas_num::{IoFault, Sink};
@@ -14,11 +14,10 @@ pub fn write_frame_id<K: Sink>(
     names: &[&[u8]],
     frame: FrameId,
 ) -> Result<(), IoFault>
-    ensures { Writes (record { held = K.held sink.old; faults = K.faults sink.old; waiting = writer.old }) result (record { held = K.held sink.new; faults = K.faults sink.new; waiting = writer.new }) (frame_text (map (λ n. n.now) names.now) frame) }
+    ensures { Writes (record { held = K.held sink.old; faults = K.faults sink.old; grows = K.grows sink.old; waiting = writer.old }) result (record { held = K.held sink.new; faults = K.faults sink.new; grows = K.grows sink.new; waiting = writer.new }) (frame_text (map (λ n. n.now) names.now) frame) }
 {
-    let number = frame.number;
     if frame.host == CAPTURE {
-        return writer.put_text(sink, &format_args!("r:{number}"));
+        return writer.put_text(sink, &RecordText(frame.number));
     }
     writer.put(sink, name(names, frame.host))?;
     writer.put_text(sink, &PlaceText(frame))

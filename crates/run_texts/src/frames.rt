@@ -1,6 +1,7 @@
 ghost use Rattle.std.specs.Prelude.{◌≡◌, ℕ, ◌≤◌, ◌++◌, ◌∷◌, [], List, length, map, flat_map, option_to_list, IfOk, OnOk};
 ghost use Rattle.tas_num.specs.Captures.{file_header, record_head, record_bytes};
 ghost use Rattle.tas_runs.specs.SentFrames.{ticks_from};
+ghost use Rattle.tas_runs.specs.Logs.{HostRun};
 ghost use Rattle.tas_model.specs.Segments.{bare as bare_of};
 ghost use Rattle.tas_model.specs.Outputs.{segments_in};
 ghost use Rattle.flow_state.specs.Views.{seen_seg, seen_reply, seen_entry};
@@ -12,6 +13,7 @@ use flow_state::{EntryView, FlowRecord, ReplyView, SegView};
 use pcap_frames::{write_header, write_record_head};
 use segment_fields::{Flags, Segment, write};
 use std::alloc::{AllocError, Global};
+use std::marker::Model;
 use tas_model::{FourTuple, Head};
 use tas_num::{IoFault, Sink};
 use tas_runs::{LogEvent, LogLine};
@@ -36,34 +38,55 @@ pub struct HostFrames<'a> {
 
 /// Writes the header of a capture.
 pub fn write_capture_header<K: Sink>(writer: &mut Writer, sink: &mut K) -> Result<(), IoFault>
-    ensures { Writes (record { held = K.held sink.old; faults = K.faults sink.old; waiting = writer.old }) result (record { held = K.held sink.new; faults = K.faults sink.new; waiting = writer.new }) file_header }
+    ensures { Writes (record { held = K.held sink.old; faults = K.faults sink.old; grows = K.grows sink.old; waiting = writer.old }) result (record { held = K.held sink.new; faults = K.faults sink.new; grows = K.grows sink.new; waiting = writer.new }) file_header }
 {
     let mut header = [0; 24];
     write_header(&mut header);
     writer.put(sink, &header)
 }
 
-/// Writes the frames that were sent in the first `ticks` ticks, as records of a capture: tick by tick and host by host, of each host those of the flows in their order, then the answers to segments of no flow. The error is the sink's, or want of memory.
+/// The frames that were sent by their tick, and room for a packet: all the memory that it takes to write them.
+#[derive(Drop)]
+pub struct SentFrames<'a> {
+    frames: Vec<Frame<'a>>,
+    packet: Vec<u8>,
+}
+
+impl<'a> Model for SentFrames<'a> {
+    ghost use Rattle.std.specs.Prelude.{◌≡◌, List, vec_len};
+    ghost use Rattle.run_texts.specs.declared.frames.Frame.{Frame};
+
+    ghost Value = { List Frame };
+
+    ghost view = { λ s. s.frames.items };
+
+    ghost invariant = { λ s. vec_len s.packet ≡ 65535 };
+}
+
+impl<'a> SentFrames<'a> {
+    /// What the hosts sent: tick by tick and host by host, of each host the frames of the flows in their order, then the answers to segments of no flow. The error is want of memory.
+    pub fn of_hosts(alloc: Global, hosts: &[HostFrames<'a>]) -> Result<SentFrames<'a>, AllocError>
+        ensures { IfOk result (λ frames. IsInOrder (all_frames (map seen_host hosts.now)) frames) }
+    {
+        Ok(SentFrames {
+            frames: sent_frames(alloc, hosts)?,
+            packet: Vec::from_elem(alloc, 0, 65535)?,
+        })
+    }
+}
+
+/// Writes the frames that were sent in the first `ticks` ticks, as records of a capture.
 pub fn write_frames<K: Sink>(
-    alloc: Global,
     writer: &mut Writer,
     sink: &mut K,
     ticks: u32,
-    hosts: &[HostFrames<'_>],
+    sent: &mut SentFrames<'_>,
 ) -> Result<(), IoFault>
-    ensures exact { AreShort (map seen_host hosts.now) → Writes (record { held = K.held sink.old; faults = K.faults sink.old; waiting = writer.old }) result (record { held = K.held sink.new; faults = K.faults sink.new; waiting = writer.new }) (ticks_from ticks 0 (map seen_host hosts.now)) }
+    ensures exact { (hosts : List HostRun) → IsInOrder (all_frames hosts) sent.old → AreShort hosts → Writes (record { held = K.held sink.old; faults = K.faults sink.old; grows = K.grows sink.old; waiting = writer.old }) result (record { held = K.held sink.new; faults = K.faults sink.new; grows = K.grows sink.new; waiting = writer.new }) (ticks_from ticks 0 hosts) }
     // Whatever was sent, only records of frames are written.
-    ensures records { (frames : List Frame) × Writes (record { held = K.held sink.old; faults = K.faults sink.old; waiting = writer.old }) result (record { held = K.held sink.new; faults = K.faults sink.new; waiting = writer.new }) (flat_map (frame_before ticks) frames) }
+    ensures records { Writes (record { held = K.held sink.old; faults = K.faults sink.old; grows = K.grows sink.old; waiting = writer.old }) result (record { held = K.held sink.new; faults = K.faults sink.new; grows = K.grows sink.new; waiting = writer.new }) (flat_map (frame_before ticks) sent.old) }
 {
-    let frames = match sent_frames(alloc, hosts) {
-        Ok(frames) => frames,
-        Err(_) => return Err(IoFault::OutOfMemory),
-    };
-    let mut packet = match Vec::from_elem(alloc, 0, 65535) {
-        Ok(packet) => packet,
-        Err(_) => return Err(IoFault::OutOfMemory),
-    };
-    write_records(writer, sink, &mut packet, ticks, &frames)
+    write_records(writer, sink, &mut sent.packet, ticks, &sent.frames)
 }
 
 /// The frames that were sent, by their tick.
@@ -208,7 +231,7 @@ fn write_records<K: Sink>(
     frames: &[Frame<'_>],
 ) -> Result<(), IoFault>
     requires { length packet.old ≡ 65535 }
-    ensures { Writes (record { held = K.held sink.old; faults = K.faults sink.old; waiting = writer.old }) result (record { held = K.held sink.new; faults = K.faults sink.new; waiting = writer.new }) (flat_map (frame_before ticks) frames.now) }
+    ensures { Writes (record { held = K.held sink.old; faults = K.faults sink.old; grows = K.grows sink.old; waiting = writer.old }) result (record { held = K.held sink.new; faults = K.faults sink.new; grows = K.grows sink.new; waiting = writer.new }) (flat_map (frame_before ticks) frames.now) }
 {
     for frame in frames {
         write_record(writer, sink, packet, ticks, frame)?;
@@ -225,7 +248,7 @@ fn write_record<K: Sink>(
     frame: &Frame<'_>,
 ) -> Result<(), IoFault>
     requires { length packet.old ≡ 65535 }
-    ensures { Writes (record { held = K.held sink.old; faults = K.faults sink.old; waiting = writer.old }) result (record { held = K.held sink.new; faults = K.faults sink.new; waiting = writer.new }) (frame_before ticks frame.now) }
+    ensures { Writes (record { held = K.held sink.old; faults = K.faults sink.old; grows = K.grows sink.old; waiting = writer.old }) result (record { held = K.held sink.new; faults = K.faults sink.new; grows = K.grows sink.new; waiting = writer.new }) (frame_before ticks frame.now) }
 {
     let seg = Segment {
         src: frame.tuple.laddr,
@@ -256,7 +279,7 @@ fn write_packet<K: Sink>(
     packet: &[u8],
 ) -> Result<(), IoFault>
     requires { length packet.now ≤ 65535 }
-    ensures { Writes (record { held = K.held sink.old; faults = K.faults sink.old; waiting = writer.old }) result (record { held = K.held sink.new; faults = K.faults sink.new; waiting = writer.new }) (record_bytes tick packet.now) }
+    ensures { Writes (record { held = K.held sink.old; faults = K.faults sink.old; grows = K.grows sink.old; waiting = writer.old }) result (record { held = K.held sink.new; faults = K.faults sink.new; grows = K.grows sink.new; waiting = writer.new }) (record_bytes tick packet.now) }
 {
     write_head(writer, sink, tick, packet.len() as u32)?;
     writer.put(sink, packet)
@@ -269,7 +292,7 @@ fn write_head<K: Sink>(
     tick: u32,
     len: u32,
 ) -> Result<(), IoFault>
-    ensures { Writes (record { held = K.held sink.old; faults = K.faults sink.old; waiting = writer.old }) result (record { held = K.held sink.new; faults = K.faults sink.new; waiting = writer.new }) (record_head tick len) }
+    ensures { Writes (record { held = K.held sink.old; faults = K.faults sink.old; grows = K.grows sink.old; waiting = writer.old }) result (record { held = K.held sink.new; faults = K.faults sink.new; grows = K.grows sink.new; waiting = writer.new }) (record_head tick len) }
 {
     let mut head = [0; 16];
     write_record_head(tick, len, &mut head);

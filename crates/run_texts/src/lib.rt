@@ -8,13 +8,15 @@ mod frame_ids;
 mod frames;
 mod hex_digits;
 mod laws;
+mod line_texts;
 mod logs;
+mod text;
 mod texts;
 mod whole;
 mod writer;
 
 pub use flows::write_flow;
-pub use frames::{Frame, HostFrames, write_capture_header, write_frames};
+pub use frames::{Frame, HostFrames, SentFrames, write_capture_header, write_frames};
 pub use laws::segments_have_room;
 pub use logs::write_log;
 pub use whole::{Counts, write_counts, write_end, write_host, write_title};

@@ -5,6 +5,7 @@ ghost use Rattle.run_texts.specs.Writes.{Stand, Writes};
 
 use crate::entries::write_segment;
 use crate::frame_ids::write_frame_id;
+use crate::line_texts::{AcceptText, ListenText, RefusedConnect, RuleText, TickText};
 use crate::texts::{AnswerText, PortText};
 use crate::writer::Writer;
 use tas_model::{FrameId, Head, Seg};
@@ -18,7 +19,7 @@ pub fn write_log<K: Sink>(
     names: &[&[u8]],
     log: &[LogLine],
 ) -> Result<(), IoFault>
-    ensures { Writes (record { held = K.held sink.old; faults = K.faults sink.old; waiting = writer.old }) result (record { held = K.held sink.new; faults = K.faults sink.new; waiting = writer.new }) (log_text (map (λ n. n.now) names.now) log.now) }
+    ensures { Writes (record { held = K.held sink.old; faults = K.faults sink.old; grows = K.grows sink.old; waiting = writer.old }) result (record { held = K.held sink.new; faults = K.faults sink.new; grows = K.grows sink.new; waiting = writer.new }) (log_text (map (λ n. n.now) names.now) log.now) }
 {
     for entry in log {
         write_line(writer, sink, names, entry)?;
@@ -33,10 +34,9 @@ fn write_line<K: Sink>(
     names: &[&[u8]],
     entry: &LogLine,
 ) -> Result<(), IoFault>
-    ensures { Writes (record { held = K.held sink.old; faults = K.faults sink.old; waiting = writer.old }) result (record { held = K.held sink.new; faults = K.faults sink.new; waiting = writer.new }) (line (decimal entry.now.tick ++ codes " " ++ event_text (map (λ n. n.now) names.now) entry.now.event)) }
+    ensures { Writes (record { held = K.held sink.old; faults = K.faults sink.old; grows = K.grows sink.old; waiting = writer.old }) result (record { held = K.held sink.new; faults = K.faults sink.new; grows = K.grows sink.new; waiting = writer.new }) (line (decimal entry.now.tick ++ codes " " ++ event_text (map (λ n. n.now) names.now) entry.now.event)) }
 {
-    let tick = entry.tick;
-    writer.put_text(sink, &format_args!("{tick} "))?;
+    writer.put_text(sink, &TickText(entry.tick))?;
     write_event(writer, sink, names, &entry.event)?;
     writer.put(sink, b"\n")
 }
@@ -48,7 +48,7 @@ fn write_event<K: Sink>(
     names: &[&[u8]],
     event: &LogEvent,
 ) -> Result<(), IoFault>
-    ensures { Writes (record { held = K.held sink.old; faults = K.faults sink.old; waiting = writer.old }) result (record { held = K.held sink.new; faults = K.faults sink.new; waiting = writer.new }) (event_text (map (λ n. n.now) names.now) event.now) }
+    ensures { Writes (record { held = K.held sink.old; faults = K.faults sink.old; grows = K.grows sink.old; waiting = writer.old }) result (record { held = K.held sink.new; faults = K.faults sink.new; grows = K.grows sink.new; waiting = writer.new }) (event_text (map (λ n. n.now) names.now) event.now) }
 {
     match event {
         LogEvent::Listen { app, port, ok } => write_listen(writer, sink, *app, *port, *ok),
@@ -80,10 +80,9 @@ fn write_listen<K: Sink>(
     port: u16,
     ok: bool,
 ) -> Result<(), IoFault>
-    ensures { Writes (record { held = K.held sink.old; faults = K.faults sink.old; waiting = writer.old }) result (record { held = K.held sink.new; faults = K.faults sink.new; waiting = writer.new }) (event_text [] (events.Listen app port ok)) }
+    ensures { Writes (record { held = K.held sink.old; faults = K.faults sink.old; grows = K.grows sink.old; waiting = writer.old }) result (record { held = K.held sink.new; faults = K.faults sink.new; grows = K.grows sink.new; waiting = writer.new }) (event_text [] (events.Listen app port ok)) }
 {
-    let answer = if ok { "ok" } else { "portinuse" };
-    writer.put_text(sink, &format_args!("p{app} listen {port} = {answer}"))
+    writer.put_text(sink, &ListenText { app, port, ok })
 }
 
 /// Writes that an application found no connection at its listener.
@@ -93,9 +92,9 @@ fn write_accept<K: Sink>(
     app: u32,
     port: u16,
 ) -> Result<(), IoFault>
-    ensures { Writes (record { held = K.held sink.old; faults = K.faults sink.old; waiting = writer.old }) result (record { held = K.held sink.new; faults = K.faults sink.new; waiting = writer.new }) (event_text [] (events.AcceptNotYet app port)) }
+    ensures { Writes (record { held = K.held sink.old; faults = K.faults sink.old; grows = K.grows sink.old; waiting = writer.old }) result (record { held = K.held sink.new; faults = K.faults sink.new; grows = K.grows sink.new; waiting = writer.new }) (event_text [] (events.AcceptNotYet app port)) }
 {
-    writer.put_text(sink, &format_args!("p{app} accept {port} = notyet"))
+    writer.put_text(sink, &AcceptText { app, port })
 }
 
 /// Writes why an application's connect was refused.
@@ -107,14 +106,20 @@ fn write_connect<K: Sink>(
     rport: u16,
     no_port: bool,
 ) -> Result<(), IoFault>
-    ensures { Writes (record { held = K.held sink.old; faults = K.faults sink.old; waiting = writer.old }) result (record { held = K.held sink.new; faults = K.faults sink.new; waiting = writer.new }) (event_text [] (events.ConnectRefused app raddr rport no_port)) }
+    ensures { Writes (record { held = K.held sink.old; faults = K.faults sink.old; grows = K.grows sink.old; waiting = writer.old }) result (record { held = K.held sink.new; faults = K.faults sink.new; grows = K.grows sink.new; waiting = writer.new }) (event_text [] (events.ConnectRefused app raddr rport no_port)) }
 {
     let remote = PortText {
         addr: raddr,
         port: rport,
     };
-    let want = if no_port { "noport" } else { "noflowslot" };
-    writer.put_text(sink, &format_args!("p{app} connect {remote} = {want}"))
+    writer.put_text(
+        sink,
+        &RefusedConnect {
+            app,
+            remote,
+            no_port,
+        },
+    )
 }
 
 /// Writes a segment of no flow, and what it was answered.
@@ -126,7 +131,7 @@ fn write_stray<K: Sink>(
     seg: &Seg,
     answer: Option<Head>,
 ) -> Result<(), IoFault>
-    ensures { Writes (record { held = K.held sink.old; faults = K.faults sink.old; waiting = writer.old }) result (record { held = K.held sink.new; faults = K.faults sink.new; waiting = writer.new }) (codes "stray " ++ frame_text (map (λ n. n.now) names.now) frame ++ codes " " ++ seg_text seg.now ++ codes " = " ++ answer_text answer) }
+    ensures { Writes (record { held = K.held sink.old; faults = K.faults sink.old; grows = K.grows sink.old; waiting = writer.old }) result (record { held = K.held sink.new; faults = K.faults sink.new; grows = K.grows sink.new; waiting = writer.new }) (codes "stray " ++ frame_text (map (λ n. n.now) names.now) frame ++ codes " " ++ seg_text seg.now ++ codes " = " ++ answer_text answer) }
 {
     writer.put(sink, b"stray ")?;
     write_frame_id(writer, sink, names, frame)?;
@@ -138,7 +143,7 @@ fn write_stray<K: Sink>(
 
 /// Writes a segment.
 fn write_seg<K: Sink>(writer: &mut Writer, sink: &mut K, seg: &Seg) -> Result<(), IoFault>
-    ensures { Writes (record { held = K.held sink.old; faults = K.faults sink.old; waiting = writer.old }) result (record { held = K.held sink.new; faults = K.faults sink.new; waiting = writer.new }) (seg_text seg.now) }
+    ensures { Writes (record { held = K.held sink.old; faults = K.faults sink.old; grows = K.grows sink.old; waiting = writer.old }) result (record { held = K.held sink.new; faults = K.faults sink.new; grows = K.grows sink.new; waiting = writer.new }) (seg_text seg.now) }
 {
     write_segment(writer, sink, seg.head, seg.bytes.as_slice())
 }
@@ -151,19 +156,22 @@ fn write_dropped<K: Sink>(
     frame: FrameId,
     backlog: bool,
 ) -> Result<(), IoFault>
-    ensures { Writes (record { held = K.held sink.old; faults = K.faults sink.old; waiting = writer.old }) result (record { held = K.held sink.new; faults = K.faults sink.new; waiting = writer.new }) (event_text (map (λ n. n.now) names.now) (events.Dropped frame backlog)) }
+    ensures { Writes (record { held = K.held sink.old; faults = K.faults sink.old; grows = K.grows sink.old; waiting = writer.old }) result (record { held = K.held sink.new; faults = K.faults sink.new; grows = K.grows sink.new; waiting = writer.new }) (event_text (map (λ n. n.now) names.now) (events.Dropped frame backlog)) }
 {
-    let want = want_name(backlog);
     writer.put(sink, b"dropped ")?;
     write_frame_id(writer, sink, names, frame)?;
-    writer.put_text(sink, &format_args!(" = {want}"))
+    writer.put(sink, want_text(backlog))
 }
 
 /// What was wanting for a SYN: room in the listener's backlog, or a slot for the flow.
-fn want_name(backlog: bool) -> &'static str
-    ensures { result.now ≡ (if backlog then codes "backlogfull" else codes "noflowslot") }
+fn want_text(backlog: bool) -> &'static [u8]
+    ensures { result.now ≡ codes " = " ++ (if backlog then codes "backlogfull" else codes "noflowslot") }
 {
-    if backlog { "backlogfull" } else { "noflowslot" }
+    if backlog {
+        b" = backlogfull"
+    } else {
+        b" = noflowslot"
+    }
 }
 
 /// Writes which rule of reading a packet breaks.
@@ -174,9 +182,9 @@ fn write_refused<K: Sink>(
     frame: FrameId,
     number: u8,
 ) -> Result<(), IoFault>
-    ensures { Writes (record { held = K.held sink.old; faults = K.faults sink.old; waiting = writer.old }) result (record { held = K.held sink.new; faults = K.faults sink.new; waiting = writer.new }) (event_text (map (λ n. n.now) names.now) (events.Refused frame number)) }
+    ensures { Writes (record { held = K.held sink.old; faults = K.faults sink.old; grows = K.grows sink.old; waiting = writer.old }) result (record { held = K.held sink.new; faults = K.faults sink.new; grows = K.grows sink.new; waiting = writer.new }) (event_text (map (λ n. n.now) names.now) (events.Refused frame number)) }
 {
     writer.put(sink, b"refused ")?;
     write_frame_id(writer, sink, names, frame)?;
-    writer.put_text(sink, &format_args!(" = {number}"))
+    writer.put_text(sink, &RuleText(number))
 }

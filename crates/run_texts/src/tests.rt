@@ -171,7 +171,8 @@ fn frames_of_two_hosts_go_tick_by_tick(rt: HostRuntime) -> Result<(), Fail> {
     ];
     let mut sink = SureSink::new(rt.alloc());
     let mut writer = Writer::new(rt.alloc())?;
-    assert!(rt; write_frames(rt.alloc(), &mut writer, &mut sink, 2, &hosts).is_ok());
+    let mut sent = SentFrames::of_hosts(rt.alloc(), &hosts)?;
+    assert!(rt; write_frames(&mut writer, &mut sink, 2, &mut sent).is_ok());
     assert!(rt; writer.finish(&mut sink).is_ok());
     assert!(rt; sink.written() == RECORDS.as_slice());
     Ok(())

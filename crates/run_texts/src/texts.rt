@@ -1,71 +1,85 @@
-ghost use Rattle.std.specs.Prelude.{◌≡◌, ℕ, ◌<◌, List, IfSome, IfNone};
-ghost use Rattle.tas_runs.specs.Report.{letter, flags_text, reason_text, phase_text};
+ghost use Rattle.std.specs.Prelude.{◌≡◌, ℕ, ◌<◌, ◌≤◌, List, length, IfSome, IfNone};
+ghost use Rattle.tas_runs.specs.Report.{letter, flags_text, reason_text, phase_text, copy_text};
 
-use std::fmt;
+use crate::buffer::Buffer;
+use crate::text::{Text, add, add_number};
 use tas_model::{Caller, FlowId, FourTuple, FrameId, Head, NO_FLOW, Phase, Reason};
 
 /// The letters of control bits, or `-` where none is set.
 #[derive(Clone, Copy)]
 pub struct FlagsText(pub u8);
 
-impl fmt::Display for FlagsText {
-    ghost use Rattle.std.specs.Prelude.{Some};
+impl Text for FlagsText {
     ghost use Rattle.tas_runs.specs.Report.{flags_text};
 
-    ghost output = { λ t. Some (flags_text t.0) };
+    ghost text = { λ t. flags_text t.0 };
 
-    fn fmt<W: fmt::Write>(&self, f: &mut fmt::Formatter<W>) -> fmt::Result {
+    ghost most = { 8 };
+
+    fn add_to(&self, waiting: &mut Buffer) {
         let flags = self.0;
         if let Some(letters) = usual_letters(flags) {
-            return write!(f, "{letters}");
+            add(waiting, letters);
+            return;
         }
-        let (cwr, ece) = (one(flags, 128, "C"), one(flags, 64, "E"));
-        let (urg, ack) = (one(flags, 32, "U"), one(flags, 16, "A"));
-        let (psh, rst) = (one(flags, 8, "P"), one(flags, 4, "R"));
-        let (syn, fin) = (one(flags, 2, "S"), one(flags, 1, "F"));
-        write!(f, "{cwr}{ece}{urg}{ack}{psh}{rst}{syn}{fin}")
+        add(waiting, one(flags, 128, b"C"));
+        add(waiting, one(flags, 64, b"E"));
+        add(waiting, one(flags, 32, b"U"));
+        add(waiting, one(flags, 16, b"A"));
+        add(waiting, one(flags, 8, b"P"));
+        add(waiting, one(flags, 4, b"R"));
+        add(waiting, one(flags, 2, b"S"));
+        add(waiting, one(flags, 1, b"F"));
     }
 }
 
-/// The letters of the control bits that nearly every segment has, which are written in one piece.
-fn usual_letters(flags: u8) -> Option<&'static str>
+/// The letters of the control bits that nearly every segment has, which are put in one piece.
+fn usual_letters(flags: u8) -> Option<&'static [u8]>
     ensures usual { IfSome result (λ letters. letters.now ≡ flags_text flags) }
+    ensures short { IfSome result (λ letters. length letters.now ≤ 2) }
     ensures some_set { IfNone result (0 < flags) }
 {
     match flags {
-        0 => Some("-"),
-        2 => Some("S"),
-        16 => Some("A"),
-        17 => Some("AF"),
-        18 => Some("AS"),
-        24 => Some("AP"),
+        0 => Some(b"-"),
+        2 => Some(b"S"),
+        16 => Some(b"A"),
+        17 => Some(b"AF"),
+        18 => Some(b"AS"),
+        24 => Some(b"AP"),
         _ => None,
     }
 }
 
 /// The letter of a control bit that is set.
-fn one(flags: u8, bit: u8, text: &'static str) -> &'static str
+fn one(flags: u8, bit: u8, text: &'static [u8]) -> &'static [u8]
     requires { 0 < bit }
-    ensures { result.now ≡ letter flags bit text.now }
+    ensures text { result.now ≡ letter flags bit text.now }
+    ensures short { length result.now ≤ length text.now }
 {
-    if flags / bit % 2 == 1 { text } else { "" }
+    if flags / bit % 2 == 1 { text } else { b"" }
 }
 
 /// A segment without its payload.
 #[derive(Clone, Copy)]
 pub struct HeadText(pub Head);
 
-impl fmt::Display for HeadText {
-    ghost use Rattle.std.specs.Prelude.{Some};
+impl Text for HeadText {
     ghost use Rattle.tas_runs.specs.Report.{head_text};
 
-    ghost output = { λ t. Some (head_text t.0) };
+    ghost text = { λ t. head_text t.0 };
 
-    fn fmt<W: fmt::Write>(&self, f: &mut fmt::Formatter<W>) -> fmt::Result {
+    ghost most = { 58 };
+
+    fn add_to(&self, waiting: &mut Buffer) {
         let head = self.0;
-        let (flags, seq, ack) = (FlagsText(head.flags), head.seq.0, head.ack.0);
-        let (window, mss) = (head.window, MssText(head.mss));
-        write!(f, "{flags} seq {seq} ack {ack} win {window}{mss}")
+        FlagsText(head.flags).add_to(waiting);
+        add(waiting, b" seq ");
+        add_number(waiting, head.seq.0);
+        add(waiting, b" ack ");
+        add_number(waiting, head.ack.0);
+        add(waiting, b" win ");
+        add_number(waiting, head.window);
+        MssText(head.mss).add_to(waiting);
     }
 }
 
@@ -73,16 +87,17 @@ impl fmt::Display for HeadText {
 #[derive(Clone, Copy)]
 struct MssText(Option<u16>);
 
-impl fmt::Display for MssText {
-    ghost use Rattle.std.specs.Prelude.{Some};
+impl Text for MssText {
     ghost use Rattle.tas_runs.specs.Report.{mss_text};
 
-    ghost output = { λ t. Some (mss_text t.0) };
+    ghost text = { λ t. mss_text t.0 };
 
-    fn fmt<W: fmt::Write>(&self, f: &mut fmt::Formatter<W>) -> fmt::Result {
-        match self.0 {
-            Some(mss) => write!(f, " mss {mss}"),
-            None => Ok(()),
+    ghost most = { 10 };
+
+    fn add_to(&self, waiting: &mut Buffer) {
+        if let Some(mss) = self.0 {
+            add(waiting, b" mss ");
+            add_number(waiting, mss);
         }
     }
 }
@@ -91,18 +106,20 @@ impl fmt::Display for MssText {
 #[derive(Clone, Copy)]
 struct FlowText(u32);
 
-impl fmt::Display for FlowText {
-    ghost use Rattle.std.specs.Prelude.{Some};
+impl Text for FlowText {
     ghost use Rattle.tas_runs.specs.Report.{flow_text};
 
-    ghost output = { λ t. Some (flow_text t.0) };
+    ghost text = { λ t. flow_text t.0 };
 
-    fn fmt<W: fmt::Write>(&self, f: &mut fmt::Formatter<W>) -> fmt::Result {
+    ghost most = { 10 };
+
+    fn add_to(&self, waiting: &mut Buffer) {
         let flow = self.0;
         if flow == NO_FLOW {
-            return write!(f, "x");
+            add(waiting, b"x");
+        } else {
+            add_number(waiting, flow);
         }
-        write!(f, "{flow}")
     }
 }
 
@@ -110,16 +127,45 @@ impl fmt::Display for FlowText {
 #[derive(Clone, Copy)]
 pub struct PlaceText(pub FrameId);
 
-impl fmt::Display for PlaceText {
-    ghost use Rattle.std.specs.Prelude.{Some, ◌++◌, codes, decimal};
+impl Text for PlaceText {
+    ghost use Rattle.std.specs.Prelude.{◌++◌, codes, decimal};
     ghost use Rattle.tas_runs.specs.Report.{flow_text, copy_text};
 
-    ghost output = { λ t. Some (codes ":" ++ flow_text t.0.flow ++ codes "." ++ decimal t.0.number ++ copy_text t.0.copy) };
+    ghost text = { λ t. codes ":" ++ flow_text t.0.flow ++ codes "." ++ decimal t.0.number ++ copy_text t.0.copy };
 
-    fn fmt<W: fmt::Write>(&self, f: &mut fmt::Formatter<W>) -> fmt::Result {
-        let (flow, number) = (FlowText(self.0.flow), self.0.number);
-        let mark = if self.0.copy == 0 { "" } else { "+" };
-        write!(f, ":{flow}.{number}{mark}")
+    ghost most = { 33 };
+
+    fn add_to(&self, waiting: &mut Buffer) {
+        add(waiting, b":");
+        FlowText(self.0.flow).add_to(waiting);
+        add(waiting, b".");
+        add_number(waiting, self.0.number);
+        add(waiting, copy_mark(self.0.copy));
+    }
+}
+
+/// The mark of a second copy.
+fn copy_mark(copy: u32) -> &'static [u8]
+    ensures text { result.now ≡ copy_text copy }
+    ensures short { length result.now ≤ 1 }
+{
+    if copy == 0 { b"" } else { b"+" }
+}
+
+/// A record of a capture by its number.
+#[derive(Clone, Copy)]
+pub struct RecordText(pub u64);
+
+impl Text for RecordText {
+    ghost use Rattle.std.specs.Prelude.{◌++◌, codes, decimal};
+
+    ghost text = { λ t. codes "r:" ++ decimal t.0 };
+
+    ghost most = { 22 };
+
+    fn add_to(&self, waiting: &mut Buffer) {
+        add(waiting, b"r:");
+        add_number(waiting, self.0);
     }
 }
 
@@ -127,17 +173,22 @@ impl fmt::Display for PlaceText {
 #[derive(Clone, Copy)]
 pub struct AddrText(pub u32);
 
-impl fmt::Display for AddrText {
-    ghost use Rattle.std.specs.Prelude.{Some};
+impl Text for AddrText {
     ghost use Rattle.tas_runs.specs.Report.{addr_text};
 
-    ghost output = { λ t. Some (addr_text t.0) };
+    ghost text = { λ t. addr_text t.0 };
 
-    fn fmt<W: fmt::Write>(&self, f: &mut fmt::Formatter<W>) -> fmt::Result {
+    ghost most = { 43 };
+
+    fn add_to(&self, waiting: &mut Buffer) {
         let addr = self.0;
-        let (a, b) = (addr / 16777216, addr / 65536 % 256);
-        let (c, d) = (addr / 256 % 256, addr % 256);
-        write!(f, "{a}.{b}.{c}.{d}")
+        add_number(waiting, addr / 16777216);
+        add(waiting, b".");
+        add_number(waiting, addr / 65536 % 256);
+        add(waiting, b".");
+        add_number(waiting, addr / 256 % 256);
+        add(waiting, b".");
+        add_number(waiting, addr % 256);
     }
 }
 
@@ -148,15 +199,17 @@ pub struct PortText {
     pub port: u16,
 }
 
-impl fmt::Display for PortText {
-    ghost use Rattle.std.specs.Prelude.{Some};
+impl Text for PortText {
     ghost use Rattle.tas_runs.specs.Report.{port_text};
 
-    ghost output = { λ t. Some (port_text t.addr t.port) };
+    ghost text = { λ t. port_text t.addr t.port };
 
-    fn fmt<W: fmt::Write>(&self, f: &mut fmt::Formatter<W>) -> fmt::Result {
-        let (addr, port) = (AddrText(self.addr), self.port);
-        write!(f, "{addr}:{port}")
+    ghost most = { 49 };
+
+    fn add_to(&self, waiting: &mut Buffer) {
+        AddrText(self.addr).add_to(waiting);
+        add(waiting, b":");
+        add_number(waiting, self.port);
     }
 }
 
@@ -164,13 +217,14 @@ impl fmt::Display for PortText {
 #[derive(Clone, Copy)]
 pub struct TupleText(pub FourTuple);
 
-impl fmt::Display for TupleText {
-    ghost use Rattle.std.specs.Prelude.{Some};
+impl Text for TupleText {
     ghost use Rattle.tas_runs.specs.Report.{tuple_text};
 
-    ghost output = { λ t. Some (tuple_text t.0) };
+    ghost text = { λ t. tuple_text t.0 };
 
-    fn fmt<W: fmt::Write>(&self, f: &mut fmt::Formatter<W>) -> fmt::Result {
+    ghost most = { 99 };
+
+    fn add_to(&self, waiting: &mut Buffer) {
         let tuple = self.0;
         let local = PortText {
             addr: tuple.laddr,
@@ -180,7 +234,9 @@ impl fmt::Display for TupleText {
             addr: tuple.raddr,
             port: tuple.rport,
         };
-        write!(f, "{local} {remote}")
+        local.add_to(waiting);
+        add(waiting, b" ");
+        remote.add_to(waiting);
     }
 }
 
@@ -188,49 +244,58 @@ impl fmt::Display for TupleText {
 #[derive(Clone, Copy)]
 pub struct CallerText(pub Caller);
 
-impl fmt::Display for CallerText {
-    ghost use Rattle.std.specs.Prelude.{Some};
+impl Text for CallerText {
     ghost use Rattle.tas_runs.specs.Report.{caller_text};
 
-    ghost output = { λ t. Some (caller_text t.0) };
+    ghost text = { λ t. caller_text t.0 };
 
-    fn fmt<W: fmt::Write>(&self, f: &mut fmt::Formatter<W>) -> fmt::Result {
+    ghost most = { 11 };
+
+    fn add_to(&self, waiting: &mut Buffer) {
         match self.0 {
-            Caller::Slow => write!(f, "s"),
-            Caller::Core(core) => write!(f, "c{core}"),
-            Caller::App(app) => write!(f, "p{app}"),
+            Caller::Slow => add(waiting, b"s"),
+            Caller::Core(core) => {
+                add(waiting, b"c");
+                add_number(waiting, core);
+            }
+            Caller::App(app) => {
+                add(waiting, b"p");
+                add_number(waiting, app);
+            }
         }
     }
 }
 
 /// Why an endpoint is closed.
-pub fn reason_name(reason: Reason) -> &'static str
-    ensures { result.now ≡ reason_text reason }
+pub fn reason_name(reason: Reason) -> &'static [u8]
+    ensures text { result.now ≡ reason_text reason }
+    ensures short { length result.now ≤ 8 }
 {
     match reason {
-        Reason::Done => "done",
-        Reason::Reset => "reset",
-        Reason::Refused => "refused",
-        Reason::TimedOut => "timedout",
-        Reason::Aborted => "aborted",
+        Reason::Done => b"done",
+        Reason::Reset => b"reset",
+        Reason::Refused => b"refused",
+        Reason::TimedOut => b"timedout",
+        Reason::Aborted => b"aborted",
     }
 }
 
 /// The state of a connection (RFC 9293, section 3.3.2).
-pub fn phase_name(phase: Phase) -> &'static str
-    ensures { result.now ≡ phase_text phase }
+pub fn phase_name(phase: Phase) -> &'static [u8]
+    ensures text { result.now ≡ phase_text phase }
+    ensures short { length result.now ≤ 12 }
 {
     match phase {
-        Phase::SynSent => "SYN-SENT",
-        Phase::SynReceived => "SYN-RECEIVED",
-        Phase::Established => "ESTABLISHED",
-        Phase::FinWait1 => "FIN-WAIT-1",
-        Phase::FinWait2 => "FIN-WAIT-2",
-        Phase::CloseWait => "CLOSE-WAIT",
-        Phase::Closing => "CLOSING",
-        Phase::LastAck => "LAST-ACK",
-        Phase::TimeWait => "TIME-WAIT",
-        Phase::Closed => "CLOSED",
+        Phase::SynSent => b"SYN-SENT",
+        Phase::SynReceived => b"SYN-RECEIVED",
+        Phase::Established => b"ESTABLISHED",
+        Phase::FinWait1 => b"FIN-WAIT-1",
+        Phase::FinWait2 => b"FIN-WAIT-2",
+        Phase::CloseWait => b"CLOSE-WAIT",
+        Phase::Closing => b"CLOSING",
+        Phase::LastAck => b"LAST-ACK",
+        Phase::TimeWait => b"TIME-WAIT",
+        Phase::Closed => b"CLOSED",
     }
 }
 
@@ -242,15 +307,21 @@ pub struct EntryStart {
     pub number: u64,
 }
 
-impl fmt::Display for EntryStart {
-    ghost use Rattle.std.specs.Prelude.{Some, ◌++◌, codes, decimal};
+impl Text for EntryStart {
+    ghost use Rattle.std.specs.Prelude.{◌++◌, codes, decimal};
     ghost use Rattle.tas_runs.specs.Report.{caller_text};
 
-    ghost output = { λ t. Some (decimal t.tick ++ codes " " ++ caller_text t.caller ++ codes "." ++ decimal t.number ++ codes " ") };
+    ghost text = { λ t. decimal t.tick ++ codes " " ++ caller_text t.caller ++ codes "." ++ decimal t.number ++ codes " " };
 
-    fn fmt<W: fmt::Write>(&self, f: &mut fmt::Formatter<W>) -> fmt::Result {
-        let (tick, caller, number) = (self.tick, CallerText(self.caller), self.number);
-        write!(f, "{tick} {caller}.{number} ")
+    ghost most = { 44 };
+
+    fn add_to(&self, waiting: &mut Buffer) {
+        add_number(waiting, self.tick);
+        add(waiting, b" ");
+        CallerText(self.caller).add_to(waiting);
+        add(waiting, b".");
+        add_number(waiting, self.number);
+        add(waiting, b" ");
     }
 }
 
@@ -258,19 +329,17 @@ impl fmt::Display for EntryStart {
 #[derive(Clone, Copy)]
 pub struct UpdateText(pub Option<Head>);
 
-impl fmt::Display for UpdateText {
-    ghost use Rattle.std.specs.Prelude.{Some};
+impl Text for UpdateText {
     ghost use Rattle.tas_runs.specs.Report.{update_text};
 
-    ghost output = { λ t. Some (update_text t.0) };
+    ghost text = { λ t. update_text t.0 };
 
-    fn fmt<W: fmt::Write>(&self, f: &mut fmt::Formatter<W>) -> fmt::Result {
-        match self.0 {
-            Some(head) => {
-                let head = HeadText(head);
-                write!(f, " then {head}")
-            }
-            None => Ok(()),
+    ghost most = { 64 };
+
+    fn add_to(&self, waiting: &mut Buffer) {
+        if let Some(head) = self.0 {
+            add(waiting, b" then ");
+            HeadText(head).add_to(waiting);
         }
     }
 }
@@ -279,19 +348,17 @@ impl fmt::Display for UpdateText {
 #[derive(Clone, Copy)]
 pub struct AnswerText(pub Option<Head>);
 
-impl fmt::Display for AnswerText {
-    ghost use Rattle.std.specs.Prelude.{Some};
+impl Text for AnswerText {
     ghost use Rattle.tas_runs.specs.Report.{answer_text};
 
-    ghost output = { λ t. Some (answer_text t.0) };
+    ghost text = { λ t. answer_text t.0 };
 
-    fn fmt<W: fmt::Write>(&self, f: &mut fmt::Formatter<W>) -> fmt::Result {
+    ghost most = { 58 };
+
+    fn add_to(&self, waiting: &mut Buffer) {
         match self.0 {
-            Some(head) => {
-                let head = HeadText(head);
-                write!(f, "{head}")
-            }
-            None => write!(f, "none"),
+            Some(head) => HeadText(head).add_to(waiting),
+            None => add(waiting, b"none"),
         }
     }
 }
@@ -303,31 +370,41 @@ pub struct WindowText {
     pub ssthresh: u32,
 }
 
-impl fmt::Display for WindowText {
-    ghost use Rattle.std.specs.Prelude.{Some, ◌++◌, codes, decimal};
+impl Text for WindowText {
+    ghost use Rattle.std.specs.Prelude.{◌++◌, codes, decimal};
 
-    ghost output = { λ t. Some (codes "cwnd " ++ decimal t.cwnd ++ codes " ssthresh " ++ decimal t.ssthresh) };
+    ghost text = { λ t. codes "cwnd " ++ decimal t.cwnd ++ codes " ssthresh " ++ decimal t.ssthresh };
 
-    fn fmt<W: fmt::Write>(&self, f: &mut fmt::Formatter<W>) -> fmt::Result {
-        let (cwnd, ssthresh) = (self.cwnd, self.ssthresh);
-        write!(f, "cwnd {cwnd} ssthresh {ssthresh}")
+    ghost most = { 35 };
+
+    fn add_to(&self, waiting: &mut Buffer) {
+        add(waiting, b"cwnd ");
+        add_number(waiting, self.cwnd);
+        add(waiting, b" ssthresh ");
+        add_number(waiting, self.ssthresh);
     }
 }
 
 /// A flow by its opening number, its slot and the slot's generation.
 #[derive(Clone, Copy)]
 pub struct FlowName {
-    pub number: u32,
+    pub number: u64,
     pub id: FlowId,
 }
 
-impl fmt::Display for FlowName {
-    ghost use Rattle.std.specs.Prelude.{Some, ◌++◌, codes, decimal};
+impl Text for FlowName {
+    ghost use Rattle.std.specs.Prelude.{◌++◌, codes, decimal};
 
-    ghost output = { λ t. Some (codes "flow " ++ decimal t.number ++ codes " slot " ++ decimal t.id.slot ++ codes "." ++ decimal t.id.generation) };
+    ghost text = { λ t. codes "flow " ++ decimal t.number ++ codes " slot " ++ decimal t.id.slot ++ codes "." ++ decimal t.id.generation };
 
-    fn fmt<W: fmt::Write>(&self, f: &mut fmt::Formatter<W>) -> fmt::Result {
-        let (number, slot, generation) = (self.number, self.id.slot, self.id.generation);
-        write!(f, "flow {number} slot {slot}.{generation}")
+    ghost most = { 52 };
+
+    fn add_to(&self, waiting: &mut Buffer) {
+        add(waiting, b"flow ");
+        add_number(waiting, self.number);
+        add(waiting, b" slot ");
+        add_number(waiting, self.id.slot);
+        add(waiting, b".");
+        add_number(waiting, self.id.generation);
     }
 }

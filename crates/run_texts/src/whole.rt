@@ -2,7 +2,7 @@ ghost use Rattle.std.specs.Prelude.{◌≡◌, ℕ, ◌++◌, ◌∷◌, [], Lis
 ghost use Rattle.tas_runs.specs.Report.{line, addr_text};
 ghost use Rattle.run_texts.specs.Writes.{Stand, Writes};
 
-use crate::texts::AddrText;
+use crate::line_texts::{CountsLine, EndLine, HostEnd};
 use crate::writer::Writer;
 use tas_num::{IoFault, Sink};
 
@@ -17,7 +17,7 @@ pub struct Counts {
 
 /// Writes the first line of a report: whether it is of a replay or of a run of scripts.
 pub fn write_title<K: Sink>(writer: &mut Writer, sink: &mut K, replay: bool) -> Result<(), IoFault>
-    ensures { Writes (record { held = K.held sink.old; faults = K.faults sink.old; waiting = writer.old }) result (record { held = K.held sink.new; faults = K.faults sink.new; waiting = writer.new }) (line (codes "tas " ++ (if replay then codes "replay" else codes "run"))) }
+    ensures { Writes (record { held = K.held sink.old; faults = K.faults sink.old; grows = K.grows sink.old; waiting = writer.old }) result (record { held = K.held sink.new; faults = K.faults sink.new; grows = K.grows sink.new; waiting = writer.new }) (line (codes "tas " ++ (if replay then codes "replay" else codes "run"))) }
 {
     if replay {
         writer.put(sink, b"tas replay\n")
@@ -33,12 +33,11 @@ pub fn write_host<K: Sink>(
     name: &[u8],
     addr: u32,
 ) -> Result<(), IoFault>
-    ensures { Writes (record { held = K.held sink.old; faults = K.faults sink.old; waiting = writer.old }) result (record { held = K.held sink.new; faults = K.faults sink.new; waiting = writer.new }) (line (codes "host " ++ name.now ++ codes " " ++ addr_text addr)) }
+    ensures { Writes (record { held = K.held sink.old; faults = K.faults sink.old; grows = K.grows sink.old; waiting = writer.old }) result (record { held = K.held sink.new; faults = K.faults sink.new; grows = K.grows sink.new; waiting = writer.new }) (line (codes "host " ++ name.now ++ codes " " ++ addr_text addr)) }
 {
-    let addr = AddrText(addr);
     writer.put(sink, b"host ")?;
     writer.put(sink, name)?;
-    writer.put_text(sink, &format_args!(" {addr}\n"))
+    writer.put_text(sink, &HostEnd(addr))
 }
 
 /// Writes the counts of a replay.
@@ -47,23 +46,14 @@ pub fn write_counts<K: Sink>(
     sink: &mut K,
     counts: Counts,
 ) -> Result<(), IoFault>
-    ensures { Writes (record { held = K.held sink.old; faults = K.faults sink.old; waiting = writer.old }) result (record { held = K.held sink.new; faults = K.faults sink.new; waiting = writer.new }) (line (codes "records " ++ decimal counts.records ++ codes " frames " ++ decimal counts.frames ++ codes " passed " ++ decimal counts.passed ++ codes " refused " ++ decimal counts.refused)) }
+    ensures { Writes (record { held = K.held sink.old; faults = K.faults sink.old; grows = K.grows sink.old; waiting = writer.old }) result (record { held = K.held sink.new; faults = K.faults sink.new; grows = K.grows sink.new; waiting = writer.new }) (line (codes "records " ++ decimal counts.records ++ codes " frames " ++ decimal counts.frames ++ codes " passed " ++ decimal counts.passed ++ codes " refused " ++ decimal counts.refused)) }
 {
-    let Counts {
-        records,
-        frames,
-        passed,
-        refused,
-    } = counts;
-    writer.put_text(
-        sink,
-        &format_args!("records {records} frames {frames} passed {passed} refused {refused}\n"),
-    )
+    writer.put_text(sink, &CountsLine(counts))
 }
 
 /// Writes the last line of a report: how many ticks there were.
 pub fn write_end<K: Sink>(writer: &mut Writer, sink: &mut K, ticks: u32) -> Result<(), IoFault>
-    ensures { Writes (record { held = K.held sink.old; faults = K.faults sink.old; waiting = writer.old }) result (record { held = K.held sink.new; faults = K.faults sink.new; waiting = writer.new }) (line (codes "end " ++ decimal ticks ++ codes " ticks")) }
+    ensures { Writes (record { held = K.held sink.old; faults = K.faults sink.old; grows = K.grows sink.old; waiting = writer.old }) result (record { held = K.held sink.new; faults = K.faults sink.new; grows = K.grows sink.new; waiting = writer.new }) (line (codes "end " ++ decimal ticks ++ codes " ticks")) }
 {
-    writer.put_text(sink, &format_args!("end {ticks} ticks\n"))
+    writer.put_text(sink, &EndLine(ticks))
 }

@@ -3,20 +3,18 @@ ghost use Rattle.tas_runs.specs.Report.{hex_bytes};
 ghost use Rattle.run_texts.specs.Writes.{Stand, Writes};
 
 use crate::buffer::Buffer;
+use crate::text::Text;
 use std::alloc::{AllocError, Global};
-use std::fmt;
-use std::fmt::Write;
 use std::marker::Model;
 use tas_num::{IoFault, Sink, write_all};
 
-/// Room for the longest text that is formatted at once: so it takes no memory while it is written.
-const LINE: usize = 256;
+/// How many bytes a text has at most that is put together at once.
+const TEXT: usize = 256;
 
 /// Bytes that wait to be written to a sink, seen as their list.
 #[derive(Drop)]
 pub struct Writer {
     waiting: Buffer,
-    line: String,
 }
 
 impl Model for Writer {
@@ -34,13 +32,12 @@ impl Writer {
     {
         Ok(Writer {
             waiting: Buffer::new(alloc)?,
-            line: String::with_capacity(alloc, LINE)?,
         })
     }
 
     /// Writes all that waits. After Ok nothing waits.
     pub fn finish<K: Sink>(&mut self, sink: &mut K) -> Result<(), IoFault>
-        ensures writes { Writes (record { held = K.held sink.old; faults = K.faults sink.old; waiting = self.old }) result (record { held = K.held sink.new; faults = K.faults sink.new; waiting = self.new }) [] }
+        ensures writes { Writes (record { held = K.held sink.old; faults = K.faults sink.old; grows = K.grows sink.old; waiting = self.old }) result (record { held = K.held sink.new; faults = K.faults sink.new; grows = K.grows sink.new; waiting = self.new }) [] }
         ensures empty { OnOk result (self.new ≡ []) }
     {
         flush(sink, &mut self.waiting)
@@ -49,37 +46,30 @@ impl Writer {
     /// Writes these bytes behind all that waits.
     #[inline(always)]
     pub fn put<K: Sink>(&mut self, sink: &mut K, bytes: &[u8]) -> Result<(), IoFault>
-        ensures { Writes (record { held = K.held sink.old; faults = K.faults sink.old; waiting = self.old }) result (record { held = K.held sink.new; faults = K.faults sink.new; waiting = self.new }) bytes.now }
+        ensures { Writes (record { held = K.held sink.old; faults = K.faults sink.old; grows = K.grows sink.old; waiting = self.old }) result (record { held = K.held sink.new; faults = K.faults sink.new; grows = K.grows sink.new; waiting = self.new }) bytes.now }
     {
         push(sink, &mut self.waiting, bytes)
     }
 
     /// Writes the digits of bytes: two of lower case a byte, the higher one first.
     pub fn put_hex<K: Sink>(&mut self, sink: &mut K, bytes: &[u8]) -> Result<(), IoFault>
-        ensures { Writes (record { held = K.held sink.old; faults = K.faults sink.old; waiting = self.old }) result (record { held = K.held sink.new; faults = K.faults sink.new; waiting = self.new }) (hex_bytes bytes.now) }
+        ensures { Writes (record { held = K.held sink.old; faults = K.faults sink.old; grows = K.grows sink.old; waiting = self.old }) result (record { held = K.held sink.new; faults = K.faults sink.new; grows = K.grows sink.new; waiting = self.new }) (hex_bytes bytes.now) }
     {
         push_hex(sink, &mut self.waiting, bytes)
     }
 
     /// Writes a text.
-    pub fn put_text<K: Sink, T: fmt::Display>(
-        &mut self,
-        sink: &mut K,
-        text: &T,
-    ) -> Result<(), IoFault>
-        ensures { IfSome (T.output text.now) (λ bytes. Writes (record { held = K.held sink.old; faults = K.faults sink.old; waiting = self.old }) result (record { held = K.held sink.new; faults = K.faults sink.new; waiting = self.new }) bytes) }
+    pub fn put_text<K: Sink, T: Text>(&mut self, sink: &mut K, text: &T) -> Result<(), IoFault>
+        requires { T.most ≤ 256 }
+        ensures { Writes (record { held = K.held sink.old; faults = K.faults sink.old; grows = K.grows sink.old; waiting = self.old }) result (record { held = K.held sink.new; faults = K.faults sink.new; grows = K.grows sink.new; waiting = self.new }) (T.text text.now) }
     {
-        self.line.clear();
-        if write!(self.line, "{text}").is_err() {
-            return Err(IoFault::OutOfMemory);
-        }
-        push(sink, &mut self.waiting, self.line.as_bytes())
+        push_text(sink, &mut self.waiting, text)
     }
 }
 
 /// Writes all that waits. After Ok nothing waits.
 fn flush<K: Sink>(sink: &mut K, waiting: &mut Buffer) -> Result<(), IoFault>
-    ensures writes { Writes (record { held = K.held sink.old; faults = K.faults sink.old; waiting = waiting.old }) result (record { held = K.held sink.new; faults = K.faults sink.new; waiting = waiting.new }) [] }
+    ensures writes { Writes (record { held = K.held sink.old; faults = K.faults sink.old; grows = K.grows sink.old; waiting = waiting.old }) result (record { held = K.held sink.new; faults = K.faults sink.new; grows = K.grows sink.new; waiting = waiting.new }) [] }
     ensures empty { OnOk result (waiting.new ≡ []) }
 {
     write_all(sink, waiting.as_slice())?;
@@ -90,7 +80,7 @@ fn flush<K: Sink>(sink: &mut K, waiting: &mut Buffer) -> Result<(), IoFault>
 /// Writes all that waits where there is no room for so many bytes more.
 fn make_room<K: Sink>(sink: &mut K, waiting: &mut Buffer, count: usize) -> Result<(), IoFault>
     requires { count ≤ 4096 }
-    ensures writes { Writes (record { held = K.held sink.old; faults = K.faults sink.old; waiting = waiting.old }) result (record { held = K.held sink.new; faults = K.faults sink.new; waiting = waiting.new }) [] }
+    ensures writes { Writes (record { held = K.held sink.old; faults = K.faults sink.old; grows = K.grows sink.old; waiting = waiting.old }) result (record { held = K.held sink.new; faults = K.faults sink.new; grows = K.grows sink.new; waiting = waiting.new }) [] }
     ensures room { OnOk result (length waiting.new + count ≤ 4096) }
 {
     if count > waiting.free() {
@@ -100,10 +90,20 @@ fn make_room<K: Sink>(sink: &mut K, waiting: &mut Buffer, count: usize) -> Resul
     }
 }
 
+/// Writes a text behind all that waits.
+fn push_text<K: Sink, T: Text>(sink: &mut K, waiting: &mut Buffer, text: &T) -> Result<(), IoFault>
+    requires { T.most ≤ 256 }
+    ensures { Writes (record { held = K.held sink.old; faults = K.faults sink.old; grows = K.grows sink.old; waiting = waiting.old }) result (record { held = K.held sink.new; faults = K.faults sink.new; grows = K.grows sink.new; waiting = waiting.new }) (T.text text.now) }
+{
+    make_room(sink, waiting, TEXT)?;
+    text.add_to(waiting);
+    Ok(())
+}
+
 /// Writes bytes behind all that waits. Mostly there is room for all of them.
 #[inline(always)]
 fn push<K: Sink>(sink: &mut K, waiting: &mut Buffer, bytes: &[u8]) -> Result<(), IoFault>
-    ensures { Writes (record { held = K.held sink.old; faults = K.faults sink.old; waiting = waiting.old }) result (record { held = K.held sink.new; faults = K.faults sink.new; waiting = waiting.new }) bytes.now }
+    ensures { Writes (record { held = K.held sink.old; faults = K.faults sink.old; grows = K.grows sink.old; waiting = waiting.old }) result (record { held = K.held sink.new; faults = K.faults sink.new; grows = K.grows sink.new; waiting = waiting.new }) bytes.now }
 {
     if bytes.len() <= waiting.free() {
         waiting.push(bytes);
@@ -114,7 +114,7 @@ fn push<K: Sink>(sink: &mut K, waiting: &mut Buffer, bytes: &[u8]) -> Result<(),
 
 /// Writes bytes behind all that waits, as much at a time as there is room for.
 fn push_pieces<K: Sink>(sink: &mut K, waiting: &mut Buffer, bytes: &[u8]) -> Result<(), IoFault>
-    ensures { Writes (record { held = K.held sink.old; faults = K.faults sink.old; waiting = waiting.old }) result (record { held = K.held sink.new; faults = K.faults sink.new; waiting = waiting.new }) bytes.now }
+    ensures { Writes (record { held = K.held sink.old; faults = K.faults sink.old; grows = K.grows sink.old; waiting = waiting.old }) result (record { held = K.held sink.new; faults = K.faults sink.new; grows = K.grows sink.new; waiting = waiting.new }) bytes.now }
 {
     let mut done = 0;
     while done < bytes.len() {
@@ -128,7 +128,7 @@ fn push_pieces<K: Sink>(sink: &mut K, waiting: &mut Buffer, bytes: &[u8]) -> Res
 
 /// Writes the digits of bytes behind all that waits, as many at a time as there is room for.
 fn push_hex<K: Sink>(sink: &mut K, waiting: &mut Buffer, bytes: &[u8]) -> Result<(), IoFault>
-    ensures { Writes (record { held = K.held sink.old; faults = K.faults sink.old; waiting = waiting.old }) result (record { held = K.held sink.new; faults = K.faults sink.new; waiting = waiting.new }) (hex_bytes bytes.now) }
+    ensures { Writes (record { held = K.held sink.old; faults = K.faults sink.old; grows = K.grows sink.old; waiting = waiting.old }) result (record { held = K.held sink.new; faults = K.faults sink.new; grows = K.grows sink.new; waiting = waiting.new }) (hex_bytes bytes.now) }
 {
     let mut done = 0;
     while done < bytes.len() {

@@ -1,6 +1,6 @@
-use Rattle.std.proofs.Common.{rules, List, ℕ, [], ◌∷◌, ◌++◌, map, codes, if◌then◌else◌, ap, sym, ◌∙◌, append_assoc}
+use Rattle.std.proofs.Common.{rules, List, ℕ, [], ◌∷◌, ◌++◌, map, codes, if◌then◌else◌, sym, append_assoc}
 use Rattle.tas_runs.specs.Report.{frame_text}
-use Rattle.run_texts.proofs.Writing.{wrote_then, wrote_both}
+use Rattle.run_texts.proofs.Writing.{wrote_as, wrote_then, wrote_both}
 use Rattle.run_texts.proofs.FrameIds.{stopped_before}
 use Rattle.run_texts.proofs.logs.write_dropped.Goals as goal
 
@@ -20,5 +20,4 @@ pub returns : goal.returns
 returns g c =
     let frame : List ℕ = frame_text (map (λ n. n.now) c.args.names.now) c.args.frame in
     let want : List ℕ = if c.args.backlog then codes "backlogfull" else codes "noflowslot" in
-    let named : List ℕ = c.want_name-want.result.now in
-    wrote_both _ _ _ _ (codes "dropped " ++ frame) (codes " = " ++ named) (codes "dropped " ++ frame ++ codes " = " ++ want) (sym (append_assoc (codes "dropped " ++ frame) (codes " = ") named) ∙ ap (λ w. codes "dropped " ++ frame ++ codes " = " ++ w) c.want_name-want.ensures) (wrote_then _ _ _ _ (codes "dropped ") frame c.in_ok-put.ensures c.in_ok-write_frame_id.ensures) c.put_text.ensures
+    wrote_both _ _ _ _ (codes "dropped " ++ frame) (codes " = " ++ want) (codes "dropped " ++ frame ++ codes " = " ++ want) (sym (append_assoc (codes "dropped " ++ frame) (codes " = ") want)) (wrote_then _ _ _ _ (codes "dropped ") frame c.in_ok-put.ensures c.in_ok-write_frame_id.ensures) (wrote_as _ _ _ _ _ c.want_text.ensures c.put-2.ensures)
