@@ -1,5 +1,5 @@
 -- What the hosts of a run sent, as it is lent to be written.
-use Rattle.std.proofs.Common.{◌≡◌, ℕ, ◌+◌, ◌≤◌, List, [], ◌∷◌, ◌++◌, length, map, take, slice_get, Some, refl, ap, sym, subst, ◌∙◌}
+use Rattle.std.proofs.Common.{◌≡◌, ℕ, ◌+◌, ◌≤◌, List, [], ◌∷◌, ◌++◌, length, map, take, slice_get, Some, Result, Ok, Err, IfOk, refl, ap, sym, subst, ◌∙◌}
 use Rattle.std.proofs.lemmas.List.{map-append, take_all}
 use Rattle.flow_state.specs.Flow as records
 use Rattle.tas_model.specs.LegalHistory.{Legal}
@@ -7,13 +7,14 @@ use Rattle.tas_model.specs.Valid.{InRange}
 use Rattle.tas_runs.specs.Logs.{Flow, HostRun}
 use Rattle.tas_runs.specs.Rounds.{Each}
 use Rattle.tas_runs.specs.SentFrames.{ticks_from}
+use Rattle.run_texts.specs.declared.frames.Frame.{Frame}
 use Rattle.run_texts.specs.declared.frames.HostFrames.{HostFrames}
-use Rattle.run_texts.specs.Frames.{history_of, seen_host}
+use Rattle.run_texts.specs.Frames.{history_of, seen_host, all_frames, AreShort, IsInOrder}
 use Rattle.run_texts.proofs.Lists.{taken_more}
 use Rattle.run_texts.proofs.Unnamed.{unnamed, ticks_unnamed}
 use Rattle.local_host.specs.Live.{IsLegal}
 use Rattle.tas_round.specs.declared.run.HostRun as code
-use Rattle.tas_round.specs.Runs.{host_in, unnamed_in, AreLegal}
+use Rattle.tas_round.specs.Runs.{host_in, unnamed_in, AreLegal, AreSentBy}
 
 -- one host more
 pub lent_more : (before after : List HostFrames) (hosts : List code.HostRun) (i : ℕ) (x : HostFrames) (h : code.HostRun) → slice_get hosts i ≡ Some h → map seen_host before ≡ map unnamed_in (take i hosts) → seen_host x ≡ unnamed_in h → after ≡ before ++ x ∷ [] → map seen_host after ≡ map unnamed_in (take (i + 1) hosts)
@@ -46,3 +47,8 @@ frames_of count hosts = ap (ticks_from count 0) (same hosts) ∙ ticks_unnamed c
     same : (hs : List code.HostRun) → map unnamed_in hs ≡ unnamed (map host_in hs)
     same [] = refl
     same (h ∷ hs) = ap (λ (l : List HostRun). unnamed_in h ∷ l) (same hs)
+
+-- what was put in order of the hosts that are lent
+pub sent_of : {E : Type 0} (r : Result (List Frame) E) (lent : List HostFrames) (hosts : List code.HostRun) → map seen_host lent ≡ map unnamed_in hosts → AreShort (map seen_host lent) → IfOk r (IsInOrder (all_frames (map seen_host lent))) → IfOk r (AreSentBy hosts)
+sent_of (Ok frames) lent hosts same short order = record { order = subst (λ (hs : List HostRun). IsInOrder (all_frames hs) frames) same order; short = subst AreShort same short }
+sent_of (Err e) lent hosts same short order = tt

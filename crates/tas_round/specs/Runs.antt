@@ -6,7 +6,8 @@ use Rattle.tas_runs.specs.Logs.{Flow, HostRun, RunLog}
 use Rattle.tas_runs.specs.Rounds.{Each}
 use Rattle.tas_model.specs.LegalHistory.{Legal}
 use Rattle.tas_model.specs.Valid.{InRange}
-use Rattle.run_texts.specs.Frames.{history_of, host_of}
+use Rattle.run_texts.specs.declared.frames.Frame.{Frame}
+use Rattle.run_texts.specs.Frames.{history_of, host_of, all_frames, AreShort, IsInOrder}
 use Rattle.tas_runs.specs.Records.{Item}
 use Rattle.tas_runs.specs.Batches.{batches_of}
 use Rattle.tas_runs.specs.Replays.{at_start}
@@ -42,6 +43,11 @@ unnamed_in h = host_of (map history_of h.flows) h.log
 -- each flow of the host has a history of the endpoint, with parameters in their ranges
 abbrev pub AreLegal : HostRun → Type 0
 AreLegal h = Each (λ (f : Flow). InRange f.params × Legal f.params f.entries) h.flows
+
+-- these are the frames that the hosts sent, by their tick, and each has room in a packet
+pub record AreSentBy (hosts : List code_host.HostRun) (frames : List Frame) : Type 0 where
+  pub order : IsInOrder (all_frames (map unnamed_in hosts)) frames
+  pub short : AreShort (map unnamed_in hosts)
 
 -- the host after all ticks of these items, and how many they are
 pub record Ended (local : ℕ) (items : List Item) (ending : Ending) : Type 0 where

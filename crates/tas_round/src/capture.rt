@@ -1,5 +1,5 @@
-ghost use Rattle.std.specs.Prelude.{◌≡◌, ℕ, ◌≤◌, ◌++◌, ◌∷◌, [], List, map, Err, OnOk, OnErr, IfOk};
-ghost use Rattle.std.specs.Io.KnownBytes.{Appends};
+ghost use Rattle.std.specs.Prelude.{◌≡◌, ℕ, ◌≤◌, ◌++◌, ◌∷◌, [], List, map, false, Err, OnOk, OnErr, IfOk};
+ghost use Rattle.std.specs.Io.KnownBytes.{Appends, Keeps};
 ghost use Rattle.tas_num.specs.Causes.{Rose};
 ghost use Rattle.tas_num.specs.Captures.{file_header};
 ghost use Rattle.tas_runs.specs.Rounds.{Each};
@@ -7,72 +7,87 @@ ghost use Rattle.tas_runs.specs.SentFrames.{capture, ticks_from};
 ghost use Rattle.run_texts.specs.Frames.{seen_host};
 ghost use Rattle.run_texts.specs.Writes.{Stand, Writes};
 ghost use Rattle.local_host.specs.Live.{IsLegal};
-ghost use Rattle.tas_round.specs.Runs.{host_in, log_in, unnamed_in, AreLegal};
+ghost use Rattle.tas_round.specs.Runs.{host_in, log_in, unnamed_in, AreLegal, AreSentBy};
 ghost use Rattle.tas_round.specs.Fronts.{AppendsFront};
 
 use crate::run::{HostRun, HostRuns, RunLog};
-use run_texts::{HostFrames, Writer, segments_have_room, write_capture_header, write_frames};
+use run_texts::{
+    HostFrames, SentFrames, Writer, segments_have_room, write_capture_header, write_frames,
+};
 use std::alloc::{AllocError, Global};
 use tas_num::{IoFault, Sink};
 
-/// Writes the frames that a run sent, as a capture with a record for each. After a fault a front of it may have been written.
+/// Writes the frames that a run sent, as a capture with a record for each. After a fault a front of it may have been written; all memory is taken before the first write.
 pub fn write_capture<K: Sink>(alloc: Global, log: &RunLog, sink: &mut K) -> Result<(), IoFault>
     ensures ok { OnOk result (Appends (K.held sink.old) (K.held sink.new) (capture (log_in log.now))) }
     ensures err { OnErr result (AppendsFront (K.held sink.old) (K.held sink.new) (capture (log_in log.now))) }
     ensures failed { result ≡ Err IoFault.Failed → Rose (K.faults sink.old) (K.faults sink.new) }
+    // Want of memory comes before the first write, unless the sink grows.
+    ensures memory { result ≡ Err IoFault.OutOfMemory → K.grows sink.old ≡ false → Keeps (K.held sink.old) (K.held sink.new) }
     ensures later { K.faults sink.old ≤ K.faults sink.new }
 {
+    let Ok(mut sent) = sent_by(alloc, &log.hosts) else {
+        return Err(IoFault::OutOfMemory);
+    };
     let Ok(mut writer) = Writer::new(alloc) else {
         return Err(IoFault::OutOfMemory);
     };
-    put_whole(alloc, &mut writer, sink, log)
+    put_whole(&mut writer, sink, log, &mut sent)
+}
+
+/// The frames that the hosts sent, by their tick. The error is want of memory.
+fn sent_by(alloc: Global, hosts: &HostRuns) -> Result<SentFrames<'_>, AllocError>
+    ensures { IfOk result (AreSentBy hosts.now) }
+{
+    let frames = lent_frames(alloc, hosts)?;
+    // Why each of them has room in a packet.
+    segments_have_room();
+    SentFrames::of_hosts(alloc, &frames)
 }
 
 /// Writes the capture by way of a writer, and then all that waits in it.
 fn put_whole<K: Sink>(
-    alloc: Global,
     writer: &mut Writer,
     sink: &mut K,
     log: &RunLog,
+    sent: &mut SentFrames<'_>,
 ) -> Result<(), IoFault>
-    ensures writes { Writes (record { held = K.held sink.old; faults = K.faults sink.old; waiting = writer.old }) result (record { held = K.held sink.new; faults = K.faults sink.new; waiting = writer.new }) (capture (log_in log.now)) }
+    requires { AreSentBy log.now.hosts sent.old }
+    ensures writes { Writes (record { held = K.held sink.old; faults = K.faults sink.old; grows = K.grows sink.old; waiting = writer.old }) result (record { held = K.held sink.new; faults = K.faults sink.new; grows = K.grows sink.new; waiting = writer.new }) (capture (log_in log.now)) }
     ensures empty { OnOk result (writer.new ≡ []) }
 {
-    put_capture(alloc, writer, sink, log)?;
+    put_capture(writer, sink, log, sent)?;
     writer.finish(sink)
 }
 
 /// Writes the capture by way of a writer: its header, and then the records.
 #[tactic(auto, unfolding(tas_runs::specs::SentFrames::capture))]
 fn put_capture<K: Sink>(
-    alloc: Global,
     writer: &mut Writer,
     sink: &mut K,
     log: &RunLog,
+    sent: &mut SentFrames<'_>,
 ) -> Result<(), IoFault>
-    ensures { Writes (record { held = K.held sink.old; faults = K.faults sink.old; waiting = writer.old }) result (record { held = K.held sink.new; faults = K.faults sink.new; waiting = writer.new }) (capture (log_in log.now)) }
+    requires { AreSentBy log.now.hosts sent.old }
+    ensures { Writes (record { held = K.held sink.old; faults = K.faults sink.old; grows = K.grows sink.old; waiting = writer.old }) result (record { held = K.held sink.new; faults = K.faults sink.new; grows = K.grows sink.new; waiting = writer.new }) (capture (log_in log.now)) }
 {
     write_capture_header(writer, sink)?;
-    put_frames(alloc, writer, sink, log.ticks, &log.hosts)
+    put_frames(writer, sink, log.ticks, &log.hosts, sent)
 }
 
 /// Writes the frames that the hosts sent in the first `ticks` ticks.
 fn put_frames<K: Sink>(
-    alloc: Global,
     writer: &mut Writer,
     sink: &mut K,
     ticks: u32,
     hosts: &HostRuns,
+    sent: &mut SentFrames<'_>,
 ) -> Result<(), IoFault>
-    ensures { Writes (record { held = K.held sink.old; faults = K.faults sink.old; waiting = writer.old }) result (record { held = K.held sink.new; faults = K.faults sink.new; waiting = writer.new }) (ticks_from ticks 0 (map host_in hosts.now)) }
+    requires { AreSentBy hosts.now sent.old }
+    ensures { Writes (record { held = K.held sink.old; faults = K.faults sink.old; grows = K.grows sink.old; waiting = writer.old }) result (record { held = K.held sink.new; faults = K.faults sink.new; grows = K.grows sink.new; waiting = writer.new }) (ticks_from ticks 0 (map host_in hosts.now)) }
 {
-    let frames = match lent_frames(alloc, hosts) {
-        Ok(frames) => frames,
-        Err(_) => return Err(IoFault::OutOfMemory),
-    };
-    // Why each of them has room in a packet.
-    segments_have_room();
-    write_frames(alloc, writer, sink, ticks, &frames)
+    let _hosts = hosts.len();
+    write_frames(writer, sink, ticks, sent)
 }
 
 /// What each host sent. The error is want of memory.

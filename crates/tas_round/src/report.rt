@@ -1,5 +1,5 @@
-ghost use Rattle.std.specs.Prelude.{◌≡◌, ℕ, ◌≤◌, ◌++◌, ◌∷◌, [], List, map, length, codes, Err, OnOk, OnErr, IfOk, if◌then◌else◌};
-ghost use Rattle.std.specs.Io.KnownBytes.{Appends};
+ghost use Rattle.std.specs.Prelude.{◌≡◌, ℕ, ◌≤◌, ◌++◌, ◌∷◌, [], List, map, length, codes, false, Err, OnOk, OnErr, IfOk, if◌then◌else◌};
+ghost use Rattle.std.specs.Io.KnownBytes.{Appends, Keeps};
 ghost use Rattle.tas_num.specs.Causes.{Rose};
 ghost use Rattle.tas_runs.specs.Report.{report, line, names_of, host_text, hosts_text, log_text, flows_text, flow_lines, counts_text, addr_text};
 ghost use Rattle.run_texts.specs.Frames.{history_of};
@@ -15,11 +15,13 @@ use run_texts::{
 use std::alloc::{AllocError, Global};
 use tas_num::{IoFault, Sink};
 
-/// Writes the report of a run. After a fault a front of it may have been written.
+/// Writes the report of a run. After a fault a front of it may have been written; all memory is taken before the first write.
 pub fn write_report<K: Sink>(alloc: Global, log: &RunLog, sink: &mut K) -> Result<(), IoFault>
     ensures ok { OnOk result (Appends (K.held sink.old) (K.held sink.new) (report (log_in log.now))) }
     ensures err { OnErr result (AppendsFront (K.held sink.old) (K.held sink.new) (report (log_in log.now))) }
     ensures failed { result ≡ Err IoFault.Failed → Rose (K.faults sink.old) (K.faults sink.new) }
+    // Want of memory comes before the first write, unless the sink grows.
+    ensures memory { result ≡ Err IoFault.OutOfMemory → K.grows sink.old ≡ false → Keeps (K.held sink.old) (K.held sink.new) }
     ensures later { K.faults sink.old ≤ K.faults sink.new }
 {
     let Ok(names) = lent_names(alloc, &log.hosts) else {
@@ -60,7 +62,7 @@ fn put_whole<K: Sink>(
     log: &RunLog,
 ) -> Result<(), IoFault>
     requires { map (λ n. n.now) names.now ≡ names_of (map host_in log.now.hosts) }
-    ensures writes { Writes (record { held = K.held sink.old; faults = K.faults sink.old; waiting = writer.old }) result (record { held = K.held sink.new; faults = K.faults sink.new; waiting = writer.new }) (report (log_in log.now)) }
+    ensures writes { Writes (record { held = K.held sink.old; faults = K.faults sink.old; grows = K.grows sink.old; waiting = writer.old }) result (record { held = K.held sink.new; faults = K.faults sink.new; grows = K.grows sink.new; waiting = writer.new }) (report (log_in log.now)) }
     ensures empty { OnOk result (writer.new ≡ []) }
 {
     put_report(writer, sink, names, log)?;
@@ -76,7 +78,7 @@ fn put_report<K: Sink>(
     log: &RunLog,
 ) -> Result<(), IoFault>
     requires { map (λ n. n.now) names.now ≡ names_of (map host_in log.now.hosts) }
-    ensures { Writes (record { held = K.held sink.old; faults = K.faults sink.old; waiting = writer.old }) result (record { held = K.held sink.new; faults = K.faults sink.new; waiting = writer.new }) (report (log_in log.now)) }
+    ensures { Writes (record { held = K.held sink.old; faults = K.faults sink.old; grows = K.grows sink.old; waiting = writer.old }) result (record { held = K.held sink.new; faults = K.faults sink.new; grows = K.grows sink.new; waiting = writer.new }) (report (log_in log.now)) }
 {
     write_title(writer, sink, log.replay)?;
     put_hosts(writer, sink, names, &log.hosts)?;
@@ -92,7 +94,7 @@ fn put_hosts<K: Sink>(
     hosts: &HostRuns,
 ) -> Result<(), IoFault>
     requires { map (λ n. n.now) names.now ≡ names_of (map host_in hosts.now) }
-    ensures { Writes (record { held = K.held sink.old; faults = K.faults sink.old; waiting = writer.old }) result (record { held = K.held sink.new; faults = K.faults sink.new; waiting = writer.new }) (hosts_text (names_of (map host_in hosts.now)) (map host_in hosts.now)) }
+    ensures { Writes (record { held = K.held sink.old; faults = K.faults sink.old; grows = K.grows sink.old; waiting = writer.old }) result (record { held = K.held sink.new; faults = K.faults sink.new; grows = K.grows sink.new; waiting = writer.new }) (hosts_text (names_of (map host_in hosts.now)) (map host_in hosts.now)) }
 {
     for i in 0..hosts.len() {
         put_host(writer, sink, names, hosts.item(i))?;
@@ -107,7 +109,7 @@ fn put_host<K: Sink>(
     names: &[&[u8]],
     host: &HostRun,
 ) -> Result<(), IoFault>
-    ensures { Writes (record { held = K.held sink.old; faults = K.faults sink.old; waiting = writer.old }) result (record { held = K.held sink.new; faults = K.faults sink.new; waiting = writer.new }) (host_text (map (λ n. n.now) names.now) (host_in host.now)) }
+    ensures { Writes (record { held = K.held sink.old; faults = K.faults sink.old; grows = K.grows sink.old; waiting = writer.old }) result (record { held = K.held sink.new; faults = K.faults sink.new; grows = K.grows sink.new; waiting = writer.new }) (host_text (map (λ n. n.now) names.now) (host_in host.now)) }
 {
     put_name(writer, sink, host)?;
     put_log(writer, sink, names, host)?;
@@ -116,7 +118,7 @@ fn put_host<K: Sink>(
 
 /// Writes the name and the address of a host.
 fn put_name<K: Sink>(writer: &mut Writer, sink: &mut K, host: &HostRun) -> Result<(), IoFault>
-    ensures { Writes (record { held = K.held sink.old; faults = K.faults sink.old; waiting = writer.old }) result (record { held = K.held sink.new; faults = K.faults sink.new; waiting = writer.new }) (line (codes "host " ++ host.now.name ++ codes " " ++ addr_text host.now.addr)) }
+    ensures { Writes (record { held = K.held sink.old; faults = K.faults sink.old; grows = K.grows sink.old; waiting = writer.old }) result (record { held = K.held sink.new; faults = K.faults sink.new; grows = K.grows sink.new; waiting = writer.new }) (line (codes "host " ++ host.now.name ++ codes " " ++ addr_text host.now.addr)) }
 {
     write_host(writer, sink, host.name.as_slice(), host.addr)
 }
@@ -128,7 +130,7 @@ fn put_log<K: Sink>(
     names: &[&[u8]],
     host: &HostRun,
 ) -> Result<(), IoFault>
-    ensures { Writes (record { held = K.held sink.old; faults = K.faults sink.old; waiting = writer.old }) result (record { held = K.held sink.new; faults = K.faults sink.new; waiting = writer.new }) (log_text (map (λ n. n.now) names.now) host.now.log) }
+    ensures { Writes (record { held = K.held sink.old; faults = K.faults sink.old; grows = K.grows sink.old; waiting = writer.old }) result (record { held = K.held sink.new; faults = K.faults sink.new; grows = K.grows sink.new; waiting = writer.new }) (log_text (map (λ n. n.now) names.now) host.now.log) }
 {
     write_log(writer, sink, names, host.log.lines())
 }
@@ -140,7 +142,7 @@ fn put_flows<K: Sink>(
     names: &[&[u8]],
     flows: &FlowList,
 ) -> Result<(), IoFault>
-    ensures { Writes (record { held = K.held sink.old; faults = K.faults sink.old; waiting = writer.old }) result (record { held = K.held sink.new; faults = K.faults sink.new; waiting = writer.new }) (flows_text (map (λ n. n.now) names.now) 0 (map history_of flows.now)) }
+    ensures { Writes (record { held = K.held sink.old; faults = K.faults sink.old; grows = K.grows sink.old; waiting = writer.old }) result (record { held = K.held sink.new; faults = K.faults sink.new; grows = K.grows sink.new; waiting = writer.new }) (flows_text (map (λ n. n.now) names.now) 0 (map history_of flows.now)) }
 {
     for i in 0..flows.len() {
         put_flow(writer, sink, names, i, flows.item(i))?;
@@ -148,7 +150,7 @@ fn put_flows<K: Sink>(
     Ok(())
 }
 
-/// Writes the lines of one flow. More flows than a u32 counts are more than memory holds.
+/// Writes the lines of one flow.
 fn put_flow<K: Sink>(
     writer: &mut Writer,
     sink: &mut K,
@@ -156,17 +158,14 @@ fn put_flow<K: Sink>(
     i: usize,
     flow: &FlowRecord,
 ) -> Result<(), IoFault>
-    ensures { Writes (record { held = K.held sink.old; faults = K.faults sink.old; waiting = writer.old }) result (record { held = K.held sink.new; faults = K.faults sink.new; waiting = writer.new }) (flow_lines (map (λ n. n.now) names.now) i (history_of flow.now)) }
+    ensures { Writes (record { held = K.held sink.old; faults = K.faults sink.old; grows = K.grows sink.old; waiting = writer.old }) result (record { held = K.held sink.new; faults = K.faults sink.new; grows = K.grows sink.new; waiting = writer.new }) (flow_lines (map (λ n. n.now) names.now) i (history_of flow.now)) }
 {
-    match u32::try_from(i) {
-        Ok(number) => write_flow(writer, sink, names, number, flow),
-        Err(_) => Err(IoFault::OutOfMemory),
-    }
+    write_flow(writer, sink, names, i as u64, flow)
 }
 
 /// Writes the counts of the capture, where the run replays one.
 fn put_counts<K: Sink>(writer: &mut Writer, sink: &mut K, log: &RunLog) -> Result<(), IoFault>
-    ensures { Writes (record { held = K.held sink.old; faults = K.faults sink.old; waiting = writer.old }) result (record { held = K.held sink.new; faults = K.faults sink.new; waiting = writer.new }) (if log.now.replay then counts_text (log_in log.now) else []) }
+    ensures { Writes (record { held = K.held sink.old; faults = K.faults sink.old; grows = K.grows sink.old; waiting = writer.old }) result (record { held = K.held sink.new; faults = K.faults sink.new; grows = K.grows sink.new; waiting = writer.new }) (if log.now.replay then counts_text (log_in log.now) else []) }
 {
     if !log.replay {
         return Ok(());
