@@ -13,7 +13,7 @@ use Rattle.tas_round.specs.Fronts.{AppendsFront}
 use Rattle.tas_main.specs.declared.stop.Stop.{Stop}
 use Rattle.tas_main.specs.declared.stop.Stop.TheVariants.{Words, Input, Read, Write, Memory, TooLong, NotBuilt}
 use Rattle.tas_main.specs.Words.{Request, IsReplay, IsForm, is_built, form_of}
-use Rattle.tas_main.specs.Stops.{Given, Cause, IsNoCapture, status_of, writes_nothing}
+use Rattle.tas_main.specs.Stops.{Given, Cause, IsNoCapture, status_of}
 use Rattle.tas_main.specs.Outputs.{IsRun, IsWhole, output}
 
 -- a fact of all that was read is one of the input, where that is told
@@ -60,21 +60,6 @@ never_zero Write P e = absurd (omega (arith, e))
 never_zero Memory P e = absurd (omega (arith, e))
 never_zero TooLong P e = absurd (omega (arith, e))
 never_zero NotBuilt P e = absurd (omega (arith, e))
-
-abbrev pub EndsEarly : ℕ → Type 0
-EndsEarly status = (status ≡ 2) ⊎ ((status ≡ 3) ⊎ ((status ≡ 4) ⊎ ((status ≡ 7) ⊎ (status ≡ 8))))
-
-not_early : (n : ℕ) → (n ≡ 5) ⊎ (n ≡ 6) → EndsEarly n → ⊥
-not_early n five early = omega (arith, five, early)
-
-pub early_writes_nothing : (stop : Stop) (P : Type 0) → (writes_nothing stop ≡ true → P) → EndsEarly (status_of stop) → P
-early_writes_nothing Words P f early = f refl
-early_writes_nothing (Input number) P f early = f refl
-early_writes_nothing Read P f early = f refl
-early_writes_nothing Write P f early = absurd (not_early 5 (inl refl) early)
-early_writes_nothing Memory P f early = absurd (not_early 6 (inr refl) early)
-early_writes_nothing TooLong P f early = f refl
-early_writes_nothing NotBuilt P f early = f refl
 
 no_fault : (b : List ℕ) (number : ℕ) (c : Capture) → capture_of b ≡ Ok c → IsNoCapture b number → ⊥
 no_fault b number c e none = absurd (cc (e, none.1))

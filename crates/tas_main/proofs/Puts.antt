@@ -1,11 +1,9 @@
 -- Texts that are written one after the other, and what is told of a stop.
-use Rattle.std.proofs.Common.{◌≡◌, inl, inr, ℕ, ◌≤◌, ◌∙◌, List, ◌++◌, append_assoc, sym, ap, subst, Option, IsTrue, Result, Ok, Err, OnOk, OnErr, IsErr, refl, arith}
+use Rattle.std.proofs.Common.{◌≡◌, inl, inr, ℕ, ◌≤◌, ◌∙◌, List, ◌++◌, append_assoc, sym, ap, subst, Option, IsTrue, Result, Ok, Err, IsErr, arith}
 use Rattle.std.specs.Io.KnownBytes.{Appends}
 use Rattle.std.proofs.KnownBytes.{Appends-trans}
 use Rattle.std.proofs.lemmas.Bool.{false≢true}
-use Rattle.tas_num.specs.Causes.{Rose}
 use Rattle.tas_num.specs.declared.outside.IoFault.{IoFault}
-use Rattle.tas_num.specs.declared.outside.IoFault.TheVariants.{Failed, OutOfMemory}
 use Rattle.tas_num.proofs.Writing.{rose_later}
 use Rattle.tas_round.specs.Fronts.{AppendsFront}
 use Rattle.tas_main.specs.declared.stop.Stop.{Stop}

@@ -1,5 +1,5 @@
 -- Why a run of the program stops before all was written.
-use Rattle.std.specs.Prelude.{◌≡◌, ℕ, ◌<◌, List, length, Option, Err, IfSome, Bool, true, false, ⊤}
+use Rattle.std.specs.Prelude.{◌≡◌, ℕ, ◌<◌, List, length, Option, Err, IfSome, Bool, true, false, not, ⊤}
 use Rattle.tas_num.specs.Causes.{Rose}
 use Rattle.tas_num.specs.Captures.{Fault, capture_of, record_of}
 use Rattle.tas_main.specs.Words.{form_of, IsForm, is_built}
@@ -51,11 +51,11 @@ Cause g Memory = ⊤
 Cause g TooLong = IfSome g.input (λ b. most_bytes < length b)
 Cause g NotBuilt = Unasked g.words NotBuilt
 
--- where it stops so, nothing was written
-abbrev pub writes_nothing : Stop → Bool
-writes_nothing Write = false
-writes_nothing Memory = false
-writes_nothing _ = true
+-- where it stops so, nothing was written to a sink of which this says whether it grows
+abbrev pub writes_nothing : (grows : Bool) → Stop → Bool
+writes_nothing grows Write = false
+writes_nothing grows Memory = not grows
+writes_nothing grows _ = true
 
 -- why not all of the input was read, of which there may be so much
 abbrev pub Unread : Option (List ℕ) → (limit : ℕ) → (before after : ℕ) → Stop → Type 0

@@ -1,4 +1,4 @@
-ghost use Rattle.std.specs.Prelude.{◌≡◌, ◌⊎◌, ℕ, ◌≤◌, length, map, string_bytes, true, Ok, IfOk, IfErr, OnOk, OnErr};
+ghost use Rattle.std.specs.Prelude.{◌≡◌, ◌⊎◌, ℕ, ◌≤◌, length, map, string_bytes, true, false, Ok, IfOk, IfErr, OnOk, OnErr};
 ghost use Rattle.std.specs.Io.KnownBytes.{Appends, Keeps};
 ghost use Rattle.std.specs.Net.Addr.{ipv4_bits};
 ghost use Rattle.tas_runs.specs.SerialOrder.{serial_replay};
@@ -42,6 +42,8 @@ pub fn tas<R: Threads + Wait + Sync, S: Source, K: Sink, F: Sink, G: Gate>(
     ensures silent { result ≡ 0 → Keeps (F.held faults.old) (F.held faults.new) }
     // At 5 and 6 by a front of it.
     ensures front { (result ≡ 5) ⊎ (result ≡ 6) → WritesFront (given (map string_bytes words.now) (S.left source.old) (S.faults source.old) (S.faults source.new) (K.faults sink.old) (K.faults sink.new)) (K.held sink.old) (K.held sink.new) }
+    // At 6 it did not grow either, unless it is one that takes memory to grow.
+    ensures memory { result ≡ 6 → K.grows sink.old ≡ false → Keeps (K.held sink.old) (K.held sink.new) }
     // At every other status it did not grow.
     ensures nothing { (result ≡ 2) ⊎ ((result ≡ 3) ⊎ ((result ≡ 4) ⊎ ((result ≡ 7) ⊎ (result ≡ 8)))) → Keeps (K.held sink.old) (K.held sink.new) }
     // Words of a replay on one thread and a capture within its length give status 0, or want of memory, where no stream fails.
@@ -68,7 +70,7 @@ fn serve<R: Threads + Wait + Sync, S: Source, K: Sink, G: Gate>(
     ensures done { OnOk result (WritesAll (given (map string_bytes words.now) (S.left source.old) (S.faults source.old) (S.faults source.new) (K.faults sink.old) (K.faults sink.new)) (K.held sink.old) (K.held sink.new)) }
     ensures cause { IfErr result (Cause (given (map string_bytes words.now) (S.left source.old) (S.faults source.old) (S.faults source.new) (K.faults sink.old) (K.faults sink.new))) }
     ensures front { OnErr result (WritesFront (given (map string_bytes words.now) (S.left source.old) (S.faults source.old) (S.faults source.new) (K.faults sink.old) (K.faults sink.new)) (K.held sink.old) (K.held sink.new)) }
-    ensures kept { IfErr result (λ stop. writes_nothing stop ≡ true → Keeps (K.held sink.old) (K.held sink.new)) }
+    ensures kept { IfErr result (λ stop. writes_nothing (K.grows sink.old) stop ≡ true → Keeps (K.held sink.old) (K.held sink.new)) }
 {
     let asked = read_words(words)?;
     let bytes = read_all(alloc, MOST, source)?;
@@ -115,6 +117,7 @@ fn write_log<K: Sink>(
     ensures ok { OnOk result (Appends (K.held sink.old) (K.held sink.new) (output (request_in asked.now) (log_in log.now))) }
     ensures err { OnErr result (AppendsFront (K.held sink.old) (K.held sink.new) (output (request_in asked.now) (log_in log.now))) }
     ensures cause { IfErr result (Unwritten (K.faults sink.old) (K.faults sink.new)) }
+    ensures kept { IfErr result (λ stop. writes_nothing (K.grows sink.old) stop ≡ true → Keeps (K.held sink.old) (K.held sink.new)) }
 {
     let written = if asked.pcap {
         write_capture(alloc, log, sink)
