@@ -12,7 +12,8 @@ use Rattle.tas_model.specs.LegalHistory.{step, replay}
 use Rattle.tas_runs.specs.Records.{items_of}
 use Rattle.tas_runs.specs.Batches.{batches_of}
 use Rattle.tas_runs.specs.FirstNumbers.{first_number}
-use Rattle.tas_runs.specs.SerialOrder.{serial_tick, serial_ticks, serial_replay}
+use Rattle.host_rounds.specs.SerialOrder.{serial_tick, serial_ticks}
+use Rattle.tas_runs.specs.SerialOrder.{serial_replay}
 use Rattle.tas_runs.specs.Report.{report}
 use Rattle.tas_runs.specs.WorkedTexts.{host_address, replayed}
 use Rattle.tas_runs.specs.WorkedRecords.{damaged_capture, damaged_report, loose_report, two_strays_capture, two_strays_report, other_traffic_capture, other_traffic_report, two_faults_capture, two_faults_report, later_number_capture, later_number_report, counted_openings_capture, counted_openings_report, data_and_end_capture, data_and_end_report, early_data_capture, early_data_report, refused_connect_capture, refused_connect_report, reset_while_opening_capture, reset_while_opening_report, abort_while_opening_capture, abort_while_opening_report, used_again_capture, used_again_report, late_segment_capture, late_segment_report}

@@ -14,7 +14,8 @@ use Rattle.tas_model.specs.LegalHistory.{step, replay}
 use Rattle.tas_runs.specs.Records.{items_of}
 use Rattle.tas_runs.specs.Batches.{batches_of}
 use Rattle.tas_runs.specs.FirstNumbers.{first_number}
-use Rattle.tas_runs.specs.SerialOrder.{serial_tick, serial_ticks, serial_replay}
+use Rattle.host_rounds.specs.SerialOrder.{serial_tick, serial_ticks}
+use Rattle.tas_runs.specs.SerialOrder.{serial_replay}
 use Rattle.tas_runs.specs.Report.{report}
 use Rattle.tas_runs.specs.WorkedTexts.{host_address, replayed, capture_or_none}
 use Rattle.tas_runs.specs.WorkedReplays.{hello_capture, hello_report, hello_sent, cut_capture, late_start_capture, late_start_report, sending_capture, sending_report, both_ends_capture, both_ends_report, resets_capture, resets_report}

@@ -7,7 +7,7 @@ use Rattle.tas_model.specs.declared.entry.Call.{Call}
 use Rattle.tas_model.specs.declared.entry.Call.TheVariants as calls
 use Rattle.tas_runs.specs.Records.{Item}
 use Rattle.tas_runs.specs.Batches.{IsBatch}
-use Rattle.tas_runs.specs.Hosts.{Live}
+use Rattle.host_rounds.specs.Hosts.{Live}
 
 -- ----- places in the script
 -- the place of the call that an application makes among the calls of a script, from 1 on; a script makes no other calls

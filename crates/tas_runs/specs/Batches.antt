@@ -1,13 +1,11 @@
 -- The batches that a capture's records come in. A tick of a replay is a batch.
-use Rattle.std.specs.Prelude.{◌≡◌, ◌<◌, ◌≤◌, ⊤, ◌==◌, ◌&&◌, not, Bool, false, List, [], ◌∷◌, ◌++◌, length, nat_lt, fold, Option, Some, None, if◌then◌else◌}
+use Rattle.std.specs.Prelude.{◌≡◌, ◌<◌, ◌≤◌, ⊤, ◌&&◌, not, Bool, false, List, [], ◌∷◌, ◌++◌, length, nat_lt, fold, Option, Some, None, if◌then◌else◌}
 use Rattle.std.specs.List.{list_any}
 use Rattle.tas_model.specs.declared.entry.FourTuple.{FourTuple}
+use Rattle.host_rounds.specs.Hosts.{same_tuple}
 use Rattle.tas_runs.specs.Records.{Content, Damaged, Remote, Local, Item}
 
 -- ----- flows of segments
-abbrev pub same_tuple : FourTuple → FourTuple → Bool
-same_tuple a b = a.laddr == b.laddr && a.lport == b.lport && a.raddr == b.raddr && a.rport == b.rport
-
 -- Before the run a flow is one four-tuple, whether a connection stands or not. A packet that breaks a rule of reading is of no flow.
 abbrev pub tuple_of : Content → Option FourTuple
 tuple_of (Damaged rule) = None

@@ -3,8 +3,8 @@ use Rattle.std.specs.Prelude.{ℕ, ◌*◌, ◌%◌, ◌^◌, ◌==◌, ◌&&◌
 use Rattle.std.specs.List.{list_any}
 use Rattle.tas_model.specs.declared.entry.FourTuple.{FourTuple}
 use Rattle.tas_model.specs.Segments.{is_syn}
+use Rattle.host_rounds.specs.Hosts.{Numbers, same_tuple}
 use Rattle.tas_runs.specs.Records.{Content, Damaged, Remote, Local, Item}
-use Rattle.tas_runs.specs.Batches.{same_tuple}
 
 -- a number is listed once
 abbrev pub with_new : List ℕ → ℕ → List ℕ
@@ -21,5 +21,5 @@ abbrev pub local_numbers : List Item → FourTuple → List ℕ
 local_numbers items tuple = fold with_new [] (filter_map (λ (x : Item). local_syn tuple x.content) items)
 
 -- The first number of a flow: `k` flows of its four-tuple were opened before it, and `n` flows of the host. It is the number of the capture where there is one for it.
-unfoldable pub first_number : List Item → FourTuple → (k n : ℕ) → ℕ
+unfoldable pub first_number : List Item → Numbers
 first_number items tuple k n = elim (slice_get (local_numbers items tuple) k) [ Some seq ↦ seq | None ↦ 64000 * n % 2 ^ 32 ]

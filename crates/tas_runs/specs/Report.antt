@@ -20,10 +20,10 @@ use Rattle.tas_model.specs.declared.entry.Entry.{Entry}
 use Rattle.tas_model.specs.Endpoint.{Endpoint, phase}
 use Rattle.tas_model.specs.LegalHistory.{replay}
 use Rattle.tas_model.specs.Outputs.{bytes_read}
-use Rattle.tas_runs.specs.declared.log.LogLine.{LogLine}
-use Rattle.tas_runs.specs.declared.log.LogEvent.{LogEvent}
-use Rattle.tas_runs.specs.declared.log.LogEvent.TheVariants as events
-use Rattle.tas_runs.specs.Logs.{Flow, HostRun, RunLog}
+use Rattle.host_rounds.specs.declared.log.LogLine.{LogLine}
+use Rattle.host_rounds.specs.declared.log.LogEvent.{LogEvent}
+use Rattle.host_rounds.specs.declared.log.LogEvent.TheVariants as events
+use Rattle.host_rounds.specs.Logs.{Flow, HostRun, RunLog}
 
 -- a line ends with LF
 abbrev pub line : List ℕ → List ℕ

@@ -9,10 +9,10 @@ use Rattle.tas_model.specs.declared.entry.Seg.{Seg}
 use Rattle.tas_model.specs.declared.entry.Entry.{Entry}
 use Rattle.tas_model.specs.Segments.{bare}
 use Rattle.tas_model.specs.Outputs.{segments_in, sent}
-use Rattle.tas_runs.specs.declared.log.LogLine.{LogLine}
-use Rattle.tas_runs.specs.declared.log.LogEvent.{LogEvent}
-use Rattle.tas_runs.specs.declared.log.LogEvent.TheVariants as events
-use Rattle.tas_runs.specs.Logs.{Flow, HostRun, RunLog}
+use Rattle.host_rounds.specs.declared.log.LogLine.{LogLine}
+use Rattle.host_rounds.specs.declared.log.LogEvent.{LogEvent}
+use Rattle.host_rounds.specs.declared.log.LogEvent.TheVariants as events
+use Rattle.host_rounds.specs.Logs.{Flow, HostRun, RunLog}
 
 -- ----- one packet
 -- the fields of a segment that the local end of this four-tuple sends

@@ -1,7 +1,7 @@
 -- How worked replays are written down: the capture's bytes as hexadecimal digits, and what the program writes for it.
 use Rattle.std.specs.Prelude.{ℕ, ◌+◌, ◌-◌, ◌*◌, List, [], ◌∷◌, ◌++◌, nat_lt, Bool, Result, Ok, Err, if◌then◌else◌}
 use Rattle.tas_num.specs.Captures.{Fault}
-use Rattle.tas_runs.specs.Logs.{RunLog}
+use Rattle.host_rounds.specs.Logs.{RunLog}
 use Rattle.tas_runs.specs.SerialOrder.{serial_replay}
 use Rattle.tas_runs.specs.Report.{line, report}
 use Rattle.tas_runs.specs.SentFrames.{capture}

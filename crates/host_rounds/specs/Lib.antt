@@ -1,0 +1,13 @@
+pub mod Logs
+pub mod Lists
+pub mod Hosts
+pub mod Upkeep
+pub mod Deliveries
+pub mod Scripts
+pub mod Moves
+pub mod Rounds
+pub mod SerialOrder
+pub mod Places
+pub mod Openings
+pub mod Passing
+pub mod Histories

@@ -1,0 +1,45 @@
+-- How the flows of a host are opened.
+use Rattle.std.specs.Prelude.{◌≡◌, ℕ, ◌+◌, ◌<◌, ◌==◌, List, [], ◌∷◌, ◌++◌, length, count_by, Option, Some, None, ⊤}
+use Rattle.tas_model.specs.declared.entry.HostParams.{HostParams}
+use Rattle.tas_model.specs.declared.entry.FourTuple.{FourTuple}
+use Rattle.tas_model.specs.declared.entry.FlowId.{FlowId}
+use Rattle.tas_model.specs.declared.entry.Entry.{Entry}
+use Rattle.tas_model.specs.declared.entry.Call.{Call}
+use Rattle.tas_model.specs.declared.entry.Call.TheVariants as calls
+use Rattle.host_rounds.specs.Logs.{Flow}
+use Rattle.host_rounds.specs.Hosts.{Numbers, same_tuple}
+
+-- What a flow got when it was opened: its slot with a generation, its four-tuple, its parameters, and the first sequence number that its first entry shows.
+pub record Opening : Type 0 where
+  pub id : FlowId
+  pub tuple : FourTuple
+  pub params : HostParams
+  pub number : Option ℕ
+
+abbrev pub number_in : Call → Option ℕ
+number_in (calls.Connect iss) = Some iss.0
+number_in (calls.Passive frame iss seg) = Some iss.0
+number_in _ = None
+
+abbrev pub number_shown : List Entry → Option ℕ
+number_shown [] = None
+number_shown (x ∷ xs) = number_in x.call
+
+abbrev pub opening_of : Flow → Opening
+opening_of f = record { id = f.id; tuple = f.tuple; params = f.params; number = number_shown f.entries }
+
+abbrev pub openings_of : List Flow → List Opening
+openings_of [] = []
+openings_of (f ∷ fs) = opening_of f ∷ openings_of fs
+
+-- The opening is right after those before it: with the host's parameters, in one of its slots, as that slot's next generation, and with the first number that these numbers give.
+pub record IsOpened (numbers : Numbers) (host : HostParams) (before : List Opening) (o : Opening) : Type 0 where
+  pub params : o.params ≡ host
+  pub slot : o.id.slot < host.slots
+  pub generation : o.id.generation ≡ 1 + count_by (λ (earlier : Opening). earlier.id.slot == o.id.slot) before
+  pub number : o.number ≡ Some (numbers o.tuple (count_by (λ (earlier : Opening). same_tuple o.tuple earlier.tuple) before) (length before))
+
+-- Each of these openings is right after those of `before` and those that stand in front of it.
+abbrev pub AreOpened : Numbers → HostParams → (before openings : List Opening) → Type 0
+AreOpened numbers host before [] = ⊤
+AreOpened numbers host before (o ∷ os) = IsOpened numbers host before o × AreOpened numbers host (before ++ o ∷ []) os
