@@ -1,2 +1,11 @@
+pub mod ByMoves
+pub mod Followed
+pub mod AllAsked
+pub mod AllBatches
+pub mod OneRun
+pub mod CaptureBatches
+pub mod Counts
+pub mod Texts
+pub mod Pushes
 pub mod WorkedReplays
 pub mod WorkedRecords

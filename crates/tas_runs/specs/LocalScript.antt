@@ -188,13 +188,13 @@ capture_scripts items =
 abbrev pub record_frame : (number : ℕ) → FrameId
 record_frame n = record { host = 2 ^ 32 - 1; flow = 2 ^ 32 - 1; number = n; copy = 0 }
 
+abbrev pub arrival_by : (number : ℕ) → Content → Option Arrival
+arrival_by n (Damaged rule) = Some (record { frame = record_frame n; packet = damaged rule })
+arrival_by n (Remote tuple seg) = Some (record { frame = record_frame n; packet = segment tuple seg })
+arrival_by n (Local tuple seg) = None
+
 abbrev pub arrival_of : Item → Option Arrival
-arrival_of x =
-    elim x.content [
-      | Damaged rule ↦ Some (record { frame = record_frame x.number; packet = damaged rule })
-      | Remote tuple seg ↦ Some (record { frame = record_frame x.number; packet = segment tuple seg })
-      | Local tuple seg ↦ None
-    ]
+arrival_of x = arrival_by x.number x.content
 
 -- The frames among these records: what the host sent itself does not come to it.
 abbrev pub arrivals_in : List Item → List Arrival
