@@ -2,6 +2,7 @@
 #![tactic(auto)]
 
 
+mod laws;
 mod log;
 
 pub use log::{LogEvent, LogLine};
