@@ -2,6 +2,7 @@ pub mod ByMoves
 pub mod Followed
 pub mod AllAsked
 pub mod AllBatches
+pub mod SerialRun
 pub mod OneRun
 pub mod CaptureBatches
 pub mod Counts
