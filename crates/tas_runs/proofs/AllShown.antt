@@ -1,6 +1,7 @@
 -- The capture of a run leaves out nothing.
-use Rattle.std.proofs.Common.{◌≡◌, ℕ, zero, suc, ◌+◌, ◌≤◌, ◌<◌, ◌==◌, Bool, true, false, List, [], ◌∷◌, ◌++◌, length, map, Result, Ok, Err, refl, sym, subst, ap, ◌∙◌, arith, tests, append_assoc, append-nil, length-map, flat_map, if◌then◌else◌}
+use Rattle.std.proofs.Common.{◌≡◌, ℕ, zero, suc, ◌+◌, ◌≤◌, ◌<◌, ◌==◌, Bool, true, false, List, [], ◌∷◌, ◌++◌, length, map, Result, Ok, Err, refl, sym, subst, ap, ◌∙◌, arith, tests, append_assoc, append-nil, flat_map, if◌then◌else◌}
 use Rattle.std.proofs.lemmas.Grind.{flat_map-append}
+use Rattle.std.proofs.lemmas.List.{length-map}
 use Rattle.tas_num.specs.Captures.{Fault, Capture, capture_of}
 use Rattle.tas_model.specs.declared.entry.Entry.{Entry}
 use Rattle.tas_model.specs.declared.entry.Seg.{Seg}
@@ -158,7 +159,7 @@ IsHostShown ticks h = Each (IsShown ticks) h.flows × AreAnswersShown ticks h.lo
 shown_in : (local records : ℕ) (found : List Item) (log : RunLog) → IsReplayOf local records found log → Each (IsHostShown log.ticks) log.hosts
 shown_in local records found log run =
     let batches : List (List Item) = batches_of found in
-    let count : 0 + length (map due_in batches) ≡ length batches = grind (arith, length-map due_in batches) in
+    let count : 0 + length (map due_in batches) ≡ length batches = grind (arith, length-map batches due_in) in
     let last : HostShown (length batches) run.0.host =
     subst (λ (u : ℕ). HostShown u run.0.host) count
     (rounds_shown (capture_scripts found) 0 (map due_in batches) (at_start local) run.0 (replays_by_moves found) run.1 tt (record { low = tt; flows = tt; log = none_shown line_tick answer_on 0 })) in

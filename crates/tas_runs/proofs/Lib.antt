@@ -1,11 +1,13 @@
 pub mod ByMoves
 pub mod Followed
 pub mod AllAsked
-pub mod AllBatches
 pub mod SerialRun
+pub mod AllBatches
 pub mod OneRun
+pub mod Runs
 pub mod CaptureBatches
 pub mod Counts
+pub mod AllShown
 pub mod Texts
 pub mod Pushes
 pub mod WorkedReplays

@@ -15,7 +15,7 @@ use Rattle.host_rounds.specs.Openings.{Opening, opening_of, openings_of, AreOpen
 use Rattle.host_rounds.specs.Histories.{HasHistory, IsSound, HasSentAll}
 use Rattle.host_rounds.proofs.AllLegal.{round_kept}
 use Rattle.host_rounds.proofs.OnePlace.{round_adds}
-use Rattle.host_rounds.proofs.AllOpened.{round_opened, round_params}
+use Rattle.host_rounds.proofs.AllOpened.{IsRight, rounds_right}
 use Rattle.host_rounds.proofs.Sound.{sound}
 use Rattle.tas_runs.specs.Records.{Item, items_of}
 use Rattle.tas_runs.specs.Batches.{batches_of, flat}
@@ -54,33 +54,13 @@ flows_uses f (l ∷ ls) = let rest : uses_flows f (flows_of ls) ≡ uses_live f 
 abbrev Runs : List Item → ℕ → List (Due Asking) → (before after : Site (List Shown)) → Type 0
 Runs items t dues before after = Rounds (capture_scripts items) t dues before after
 
--- what a host has that began with these parameters
-record IsRight (items : List Item) (p : HostParams) (host : Host) : Type 0 where
-  params : host.params ≡ p
-  legal : Each HasHistory host.flows
-  opened : AreOpened (first_number items) p [] (openings_of (flows_of host.flows))
-
-rounds_right : (items : List Item) (p : HostParams) (t : ℕ) (dues : List (Due Asking)) (before after : Site (List Shown)) → Runs items t dues before after → IsRight items p before.host → IsRight items p after.host
-rounds_right items p t [] before after same right = subst (λ (site : Site (List Shown)). IsRight items p site.host) same right
-rounds_right items p t (due ∷ dues) before after rounds right =
-    let mid : Site (List Shown) = rounds.0 in
-    let moves : AreByMoves (capture_scripts items) = replays_by_moves items in
-    let opened : AreOpened (first_number items) before.host.params [] (openings_of (flows_of mid.host.flows)) =
-    round_opened (capture_scripts items) t due before mid moves rounds.1 right.legal
-    (subst (λ (q : HostParams). AreOpened (first_number items) q [] (openings_of (flows_of before.host.flows))) (sym right.params) right.opened) in
-    rounds_right items p (t + 1) dues mid after rounds.2 (record {
-      params = round_params (capture_scripts items) t due before mid moves rounds.1 right.legal ∙ right.params;
-      legal = round_kept (capture_scripts items) t due before mid moves rounds.1 right.legal;
-      opened = subst (λ (q : HostParams). AreOpened (first_number items) q [] (openings_of (flows_of mid.host.flows))) right.params opened;
-    })
-
-right_in : (local records : ℕ) (found : List Item) (log : RunLog) (run : IsReplayOf local records found log) → IsRight found (replay_params local) run.0.host
+right_in : (local records : ℕ) (found : List Item) (log : RunLog) (run : IsReplayOf local records found log) → IsRight (first_number found) (replay_params local) run.0.host
 right_in local records found log run =
-    rounds_right found (replay_params local) 0 (map due_in (batches_of found)) (at_start local) run.0 run.1 (record { params = refl; legal = tt; opened = tt })
+    rounds_right (capture_scripts found) (replay_params local) 0 (map due_in (batches_of found)) (at_start local) run.0 (replays_by_moves found) run.1 (record { params = refl; legal = tt; opened = tt })
 
 sound_in : (local records : ℕ) (found : List Item) (log : RunLog) → IsReplayOf local records found log → Each (λ (h : HostRun). Each IsSound h.flows) log.hosts
 sound_in local records found log run =
-    let right : IsRight found (replay_params local) run.0.host = right_in local records found log run in
+    let right : IsRight (first_number found) (replay_params local) run.0.host = right_in local records found log run in
     subst (λ (r : RunLog). Each (λ (h : HostRun). Each IsSound h.flows) r.hosts) (sym run.2)
     (flows_sound (first_number found) (replay_params local) [] run.0.host.flows (params_fit local) right.opened right.legal, tt)
 
