@@ -11,3 +11,4 @@ pub mod Places
 pub mod Openings
 pub mod Passing
 pub mod Histories
+pub mod WorkedTicks

@@ -3,5 +3,7 @@
 
 mod laws;
 mod log;
+mod worked;
 
 pub use log::{LogEvent, LogLine};
+pub use worked::worked_ticks;
