@@ -1,5 +1,5 @@
 -- A tick takes nothing back, and all that it adds bears it.
-use Rattle.std.proofs.Common.{◌≡◌, ℕ, ◌+◌, ◌≤◌, ◌&&◌, Bool, true, false, List, [], ◌∷◌, map, fold, Option, Some, None, refl, subst, arith}
+use Rattle.std.proofs.Common.{ℕ, ◌+◌, ◌≤◌, ◌&&◌, Bool, true, false, List, [], ◌∷◌, map, fold, Option, Some, None, refl, subst, arith}
 use Rattle.tas_model.specs.declared.entry.FourTuple.{FourTuple}
 use Rattle.tas_model.specs.declared.entry.FrameId.{FrameId}
 use Rattle.tas_model.specs.declared.entry.Seg.{Seg}
@@ -10,9 +10,9 @@ use Rattle.host_rounds.specs.declared.log.LogEvent.{LogEvent}
 use Rattle.host_rounds.specs.Lists.{Each}
 use Rattle.host_rounds.specs.Hosts.{Live, Host, Numbers, next_number, with_call, logged, is_known, is_indexed_as, is_listening, is_full, lowest_free}
 use Rattle.host_rounds.specs.Upkeep.{swept, all_swept, timed, emits}
-use Rattle.host_rounds.specs.Deliveries.{Packet, Damaged, Segment, Arrival, received, opens, opened_by_syn, met_no_flow, arrived, delivered_packet}
+use Rattle.host_rounds.specs.Deliveries.{Packet, Damaged, Segment, received, opens, opened_by_syn, met_no_flow, arrived, delivered_packet}
 use Rattle.host_rounds.specs.Scripts.{Site, Scripts}
-use Rattle.host_rounds.specs.Moves.{Move, Calls, Opens, Notes, Holds, Listens, moved, MayMove, AreByMoves}
+use Rattle.host_rounds.specs.Moves.{Move, Calls, Opens, Notes, Holds, Listens, moved, AreByMoves}
 use Rattle.host_rounds.specs.Rounds.{Action, Timer, Frame, Ask, Emission, Deed, done_by, does, on_host, Due, Round}
 use Rattle.host_rounds.specs.Passing.{AllGrew, Went, IsUpTo}
 use Rattle.host_rounds.proofs.AllLegal.{AreLegal, asked_keeps, done_kept, all_swept_kept}

@@ -6,7 +6,7 @@ use Rattle.tas_model.specs.declared.entry.Seg.{Seg}
 use Rattle.tas_model.specs.declared.entry.Caller.{Caller}
 use Rattle.tas_model.specs.declared.entry.Call.{Call}
 use Rattle.host_rounds.specs.Lists.{Each, change_first, change_at}
-use Rattle.host_rounds.specs.Hosts.{Live, Host, Numbers, next_number, is_known, is_indexed_as, is_listening, is_full, lowest_free, with_call, at_flow}
+use Rattle.host_rounds.specs.Hosts.{Live, Host, Numbers, next_number, is_known, is_indexed_as, is_listening, is_full, lowest_free, with_call}
 use Rattle.host_rounds.specs.Upkeep.{swept, all_swept, timed, emits}
 use Rattle.host_rounds.specs.Deliveries.{Packet, Damaged, Segment, Arrival, received, opens, opened_by_syn, met_no_flow, arrived, delivered_packet, delivered}
 use Rattle.host_rounds.specs.Histories.{HasHistory}

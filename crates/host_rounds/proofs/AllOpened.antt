@@ -1,5 +1,5 @@
 -- Every flow is opened rightly.
-use Rattle.std.proofs.Common.{◌≡◌, ℕ, zero, suc, ◌+◌, ◌<◌, ◌==◌, ◌&&◌, Bool, true, false, List, [], ◌∷◌, ◌++◌, length, map, fold, Option, Some, None, refl, sym, subst, ap, ◌∙◌, arith, append_assoc, append-nil}
+use Rattle.std.proofs.Common.{◌≡◌, ℕ, zero, suc, ◌+◌, ◌<◌, ◌==◌, ◌&&◌, Bool, true, false, List, [], ◌∷◌, ◌++◌, fold, Option, Some, None, refl, sym, subst, ap, ◌∙◌, arith, append_assoc, append-nil}
 use Rattle.std.specs.List.{list_any}
 use Rattle.tas_model.specs.declared.entry.HostParams.{HostParams}
 use Rattle.tas_model.specs.declared.entry.FourTuple.{FourTuple}
@@ -8,14 +8,13 @@ use Rattle.tas_model.specs.declared.entry.Seg.{Seg}
 use Rattle.tas_model.specs.declared.entry.Entry.{Entry}
 use Rattle.tas_model.specs.declared.entry.Caller.{Caller}
 use Rattle.tas_model.specs.declared.entry.Call.TheVariants as calls
-use Rattle.host_rounds.specs.Lists.{change_at}
 use Rattle.host_rounds.specs.Hosts.{Live, Host, Holder, Numbers, next_number, with_call, at_flow, changed, is_known, is_indexed_as, same_tuple, is_listening, is_full, is_in_slot, free_from, lowest_free, new_flow, opened_in}
 use Rattle.host_rounds.specs.Upkeep.{swept, all_swept, timed, emits}
-use Rattle.host_rounds.specs.Deliveries.{Packet, Damaged, Segment, Arrival, received, opens, opened_by_syn, met_no_flow, arrived, delivered_packet}
+use Rattle.host_rounds.specs.Deliveries.{Packet, Damaged, Segment, received, opens, opened_by_syn, met_no_flow, arrived, delivered_packet}
 use Rattle.host_rounds.specs.Scripts.{Site, Scripts}
 use Rattle.host_rounds.specs.Moves.{Move, Calls, Opens, Notes, Holds, Listens, moved, MayMove, AreByMoves}
 use Rattle.host_rounds.specs.Rounds.{Action, Timer, Frame, Ask, Emission, Deed, done_by, does, on_host, Due, Round, Rounds}
-use Rattle.host_rounds.specs.Openings.{Opening, number_in, opening_of, openings_of, IsOpened, AreOpened}
+use Rattle.host_rounds.specs.Openings.{Opening, number_in, opening_of, IsOpened, AreOpened}
 use Rattle.host_rounds.proofs.AllLegal.{AreLegal, asked_keeps, move_kept, done_kept, all_swept_kept}
 use Rattle.host_rounds.proofs.Keeps.{openings, openings_push, count_is, length_is, Keeps, map_keeps, first_keeps, at_keeps, call_keeps, swept_keeps, timed_keeps, emits_keeps}
 

@@ -1,5 +1,5 @@
 -- In a tick each open flow has one Tick.
-use Rattle.std.proofs.Common.{◌≡◌, ℕ, zero, suc, ◌+◌, ◌≤◌, ◌<◌, ◌==◌, ◌&&◌, Bool, true, false, cond, List, [], ◌∷◌, ◌++◌, length, map, fold, filter, Option, Some, None, refl, sym, subst, ap, ◌∙◌, arith, tests}
+use Rattle.std.proofs.Common.{◌≡◌, ℕ, suc, ◌+◌, ◌≤◌, ◌<◌, ◌==◌, ◌&&◌, Bool, true, false, cond, List, [], ◌∷◌, ◌++◌, length, map, fold, filter, Option, Some, None, refl, sym, subst, ap, ◌∙◌, arith, tests}
 use Rattle.tas_model.specs.declared.entry.FourTuple.{FourTuple}
 use Rattle.tas_model.specs.declared.entry.FrameId.{FrameId}
 use Rattle.tas_model.specs.declared.entry.Seg.{Seg}
@@ -9,8 +9,7 @@ use Rattle.tas_model.specs.Segments.{one_if}
 use Rattle.host_rounds.specs.Lists.{Each}
 use Rattle.host_rounds.specs.Hosts.{Live, Host, Numbers, next_number, with_call, is_known, is_indexed_as, is_listening, is_full, lowest_free}
 use Rattle.host_rounds.specs.Upkeep.{swept, all_swept, timed, emits}
-use Rattle.host_rounds.specs.Deliveries.{Packet, Damaged, Segment, Arrival, received, opens, opened_by_syn, met_no_flow, arrived, delivered_packet}
-use Rattle.host_rounds.specs.Histories.{HasHistory}
+use Rattle.host_rounds.specs.Deliveries.{Packet, Damaged, Segment, received, opens, opened_by_syn, met_no_flow, arrived, delivered_packet}
 use Rattle.host_rounds.specs.Scripts.{Site, Scripts}
 use Rattle.host_rounds.specs.Moves.{Move, Calls, Opens, Notes, Holds, Listens, moved, MayMove, AreByMoves}
 use Rattle.host_rounds.specs.Rounds.{Action, Timer, Frame, Ask, Emission, Deed, done_by, does, on_host, Due, timers_from, due_actions, OfFlow, is_by, actions_of, Round}

@@ -1,5 +1,5 @@
 -- Each frame that comes has exactly one place.
-use Rattle.std.proofs.Common.{◌≡◌, ℕ, zero, suc, ◌+◌, ◌&&◌, Bool, true, false, cond, List, [], ◌∷◌, ◌++◌, map, fold, filter, Option, Some, None, refl, sym, ap, ◌∙◌, arith}
+use Rattle.std.proofs.Common.{◌≡◌, ℕ, ◌+◌, ◌&&◌, Bool, true, false, cond, List, [], ◌∷◌, ◌++◌, map, fold, filter, Option, Some, None, refl, sym, ap, ◌∙◌, arith}
 use Rattle.tas_model.specs.declared.entry.FourTuple.{FourTuple}
 use Rattle.tas_model.specs.declared.entry.FrameId.{FrameId}
 use Rattle.tas_model.specs.declared.entry.Seg.{Seg}
@@ -13,7 +13,7 @@ use Rattle.host_rounds.specs.Deliveries.{Packet, Damaged, Segment, Arrival, same
 use Rattle.host_rounds.specs.Scripts.{Site, Scripts}
 use Rattle.host_rounds.specs.Moves.{Move, Calls, Opens, Notes, Holds, Listens, moved, MayMove, AreByMoves}
 use Rattle.host_rounds.specs.Rounds.{Action, Timer, Frame, Ask, Emission, Deed, done_by, does, on_host, Due, timers_from, due_actions, OfFrame, is_by, actions_of, Round}
-use Rattle.host_rounds.specs.Places.{is_call_with, is_line_with, uses_in, uses_live, uses, coming}
+use Rattle.host_rounds.specs.Places.{uses_in, uses_live, uses, coming}
 use Rattle.host_rounds.proofs.AllLegal.{AreLegal, asked_keeps, call_cases, done_kept, all_swept_kept}
 use Rattle.host_rounds.proofs.AppCalls.{app_takes_none, line_takes_none}
 use Rattle.host_rounds.proofs.Uses.{flows_push, line_adds, first_adds, map_same, flow_adds, call_adds, same_plus, swept_adds, timed_adds, emits_adds}

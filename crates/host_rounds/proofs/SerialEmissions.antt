@@ -1,5 +1,5 @@
 -- The emissions of a tick in serial order, as deeds.
-use Rattle.std.proofs.Common.{◌≡◌, ℕ, zero, suc, ◌+◌, Bool, false, List, [], ◌∷◌, ◌++◌, length, map, fold, filter, Option, Some, None, refl, sym, ap, ◌∙◌, append_assoc}
+use Rattle.std.proofs.Common.{◌≡◌, ℕ, zero, suc, ◌+◌, false, List, [], ◌∷◌, ◌++◌, length, map, fold, filter, Option, Some, None, refl, sym, ap, ◌∙◌, append_assoc}
 use Rattle.tas_model.specs.declared.entry.Caller.TheVariants.{Core}
 use Rattle.tas_model.specs.declared.entry.Call.TheVariants as calls
 use Rattle.tas_model.specs.NextSegment.{Going, going}
@@ -7,7 +7,7 @@ use Rattle.host_rounds.specs.Lists.{Each, change_at}
 use Rattle.host_rounds.specs.Hosts.{Live, endpoint, with_call}
 use Rattle.host_rounds.specs.Upkeep.{emits, emits_where, quieted_within, quieted}
 use Rattle.host_rounds.specs.Scripts.{Site, Scripts}
-use Rattle.host_rounds.specs.Rounds.{Action, Emission, Deed, does, Agent, OfFlow, OfFrame, OfScript, is_by, actions_of, IsWorker}
+use Rattle.host_rounds.specs.Rounds.{Emission, Deed, does, Agent, OfFlow, OfFrame, OfScript, is_by, actions_of, IsWorker}
 use Rattle.host_rounds.proofs.Lists.{fold_append, map_append, filter_append, each_append, change_past, length_push}
 use Rattle.host_rounds.proofs.SerialFrames.{at_flows}
 

@@ -1,5 +1,5 @@
 -- The timers, the frames and the asks of a tick in serial order, as deeds.
-use Rattle.std.proofs.Common.{◌≡◌, ℕ, zero, suc, ◌+◌, ◌&&◌, Bool, true, false, List, [], ◌∷◌, ◌++◌, length, map, fold, refl, sym, ap, ◌∙◌, append_assoc, if◌then◌else◌}
+use Rattle.std.proofs.Common.{◌≡◌, ℕ, ◌+◌, Bool, true, false, List, [], ◌∷◌, ◌++◌, length, map, fold, refl, sym, ap, ◌∙◌, append_assoc, if◌then◌else◌}
 use Rattle.tas_model.specs.declared.entry.FourTuple.{FourTuple}
 use Rattle.tas_model.specs.declared.entry.FrameId.{FrameId}
 use Rattle.tas_model.specs.declared.entry.Seg.{Seg}
@@ -10,7 +10,7 @@ use Rattle.host_rounds.specs.Hosts.{Live, Host, Numbers, next_number, endpoint, 
 use Rattle.host_rounds.specs.Upkeep.{timed}
 use Rattle.host_rounds.specs.Deliveries.{Packet, Damaged, Segment, Arrival, received, received_serially, rx_caller, is_fast, arrived, delivered_packet, delivered}
 use Rattle.host_rounds.specs.Scripts.{Site, Scripts}
-use Rattle.host_rounds.specs.Rounds.{Action, Timer, Frame, Ask, Deed, does, on_host, timers_from, actions_of, IsWorker}
+use Rattle.host_rounds.specs.Rounds.{Action, Frame, Ask, Deed, does, on_host, timers_from, actions_of, IsWorker}
 use Rattle.host_rounds.proofs.Lists.{change_past, length_push}
 
 -- ----- what the slow path does by itself

@@ -1,5 +1,5 @@
 -- What becomes of a frame that comes to a host (RFC 9293, sections 3.10.7.1 and 3.10.7.2).
-use Rattle.std.specs.Prelude.{ℕ, ◌&&◌, ◌||◌, ◌==◌, not, Bool, true, false, List, [], Option, Some, None, if◌then◌else◌}
+use Rattle.std.specs.Prelude.{ℕ, ◌&&◌, ◌||◌, ◌==◌, not, Bool, true, false, [], Option, Some, None, if◌then◌else◌}
 use Rattle.segment_fields.specs.ControlBits.{urg}
 use Rattle.tas_model.specs.declared.entry.FourTuple.{FourTuple}
 use Rattle.tas_model.specs.declared.entry.FrameId.{FrameId}

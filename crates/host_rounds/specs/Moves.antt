@@ -1,8 +1,8 @@
 -- What an application may do to its host, step by step.
-use Rattle.std.specs.Prelude.{◌≡◌, ℕ, ◌==◌, not, Bool, true, false, List, [], ◌∷◌, ◌++◌, filter, slice_get, Option, Some, None, IsSome, IfSome, ⊤}
+use Rattle.std.specs.Prelude.{◌≡◌, ℕ, false, List, [], ◌∷◌, slice_get, Some, IsSome, IfSome, ⊤}
 use Rattle.tas_model.specs.declared.entry.FourTuple.{FourTuple}
 use Rattle.tas_model.specs.declared.entry.Caller.{Caller}
-use Rattle.tas_model.specs.declared.entry.Caller.TheVariants.{Slow, Core, App}
+use Rattle.tas_model.specs.declared.entry.Caller.TheVariants.{Slow, App}
 use Rattle.tas_model.specs.declared.entry.Call.{Call}
 use Rattle.tas_model.specs.declared.entry.Call.TheVariants as calls
 use Rattle.tas_model.specs.LegalHistory.{Offers, shown, step}

@@ -1,6 +1,7 @@
 ghost use Rattle.std.specs.Prelude.{◌≡◌, ℕ, ◌+◌, ◌≤◌, ◌<◌, List, [], Bool, true, false, Some, None};
 ghost use Rattle.std.specs.List.{list_any};
 ghost use Rattle.tas_model.specs.LegalHistory.{Legal};
+ghost use Rattle.tas_model.specs.Valid.{InRange};
 ghost use Rattle.tas_model.specs.declared.entry.FrameId.{FrameId};
 ghost use Rattle.host_rounds.specs.Logs.{Flow};
 ghost use Rattle.host_rounds.specs.Lists.{Each};
@@ -24,9 +25,9 @@ pub fn ticks_keep_histories<S, A>()
     ensures { (scripts : Scripts S A) (t : ℕ) (due : Due A) (before after : Site S) → AreByMoves scripts → Round scripts t due before after → Each HasHistory before.host.flows → Each HasHistory after.host.flows }
 {}
 
-/// A flow with a history of the endpoint is sound: it read a prefix of every stream that its peer may have sent, and acknowledged only what stands in order.
+/// A flow with a history of the endpoint, and with parameters in their ranges, is sound: it read a prefix of every stream that its peer may have sent, and acknowledged only what stands in order.
 pub fn histories_are_sound()
-    ensures { (f : Flow) → Legal f.params f.entries → IsSound f }
+    ensures { (f : Flow) → InRange f.params → Legal f.params f.entries → IsSound f }
 {}
 
 /// In a tick each frame that comes gets exactly one place in the histories and the log, and no other frame gets one.
