@@ -106,7 +106,7 @@ wanted_row numbers Shutting content s t host n l f here wanted same =
 wanted_row numbers Aborting content s t host n l f here wanted same =
     one_call numbers t host n l calls.Abort [] f here (record { kind = tt; offers = tt; steps = λ u. abort_steps (endpoint l) u (shown (endpoint l) []) }) same
 wanted_row numbers Receiving content s t host n l f here wanted same =
-    one_call numbers t host n l (calls.Recv 65535) [] f here (record { kind = tt; offers = tt; steps = λ u. recv_steps (endpoint l) u 65535 (shown (endpoint l) []) }) same
+    one_call numbers t host n l (calls.Recv _) [] f here (record { kind = tt; offers = tt; steps = λ u. recv_steps (endpoint l) u _ (shown (endpoint l) []) }) same
 wanted_row numbers Leaving content s t host n l f here wanted same = no_call numbers t host n l f here same
 
 asked_row : (numbers : Numbers) (stage : Stage) (content : Content) (s : Shown) (t : ℕ) (host : Host) (n : ℕ) (l : Live) (f : Live → Live) → slice_get host.flows n ≡ Some l

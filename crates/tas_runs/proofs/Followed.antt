@@ -270,7 +270,7 @@ asked_follows f Accepting t s l asks = one_more f Accepting t calls.Accept [] l 
 asked_follows f Sending t s l asks = one_more f Sending t (calls.Send _) s.pending l (asked Sending t s l) asks refl refl
 asked_follows f Shutting t s l asks = one_more f Shutting t calls.Shut [] l (asked Shutting t s l) asks refl refl
 asked_follows f Aborting t s l asks = one_more f Aborting t calls.Abort [] l (asked Aborting t s l) asks refl refl
-asked_follows f Receiving t s l asks = one_more f Receiving t (calls.Recv 65535) [] l (asked Receiving t s l) asks refl refl
+asked_follows f Receiving t s l asks = one_more f Receiving t (calls.Recv _) [] l (asked Receiving t s l) asks refl refl
 asked_follows f Leaving t s l asks = stays f l
 
 asked_where_follows : (b : Bool) (f : FourTuple → List Stage) (stage : Stage) (t : ℕ) (s : Shown) (l : Live) → f l.flow.tuple ≡ stage ∷ [] → Follows f l (asked_where b stage t s l)
