@@ -10,4 +10,5 @@ pub mod SerialOrder
 pub mod Places
 pub mod Openings
 pub mod Passing
+pub mod Standing
 pub mod Histories
