@@ -10,5 +10,6 @@ pub mod SerialOrder
 pub mod Places
 pub mod Openings
 pub mod Passing
+pub mod Standing
 pub mod Histories
 pub mod WorkedTicks

@@ -13,6 +13,7 @@ ghost use Rattle.host_rounds.specs.SerialOrder.{serial_tick};
 ghost use Rattle.host_rounds.specs.Places.{uses, coming};
 ghost use Rattle.host_rounds.specs.Openings.{AreOpened, openings_of};
 ghost use Rattle.host_rounds.specs.Passing.{AreTimed, Went, IsUpTo};
+ghost use Rattle.host_rounds.specs.Standing.{AreApart, AreFiled};
 ghost use Rattle.host_rounds.specs.Histories.{HasHistory, IsSound};
 
 /// The serial order of a tick is one of the right orders, whatever the scripts are.
@@ -57,4 +58,12 @@ pub fn ticks_only_add<S, A>()
 pub fn slots_are_given_from_below()
     ensures lowest { (host : Host) (slot : ℕ) → slot < host.params.slots → list_any (is_in_slot slot) host.flows ≡ false → ((lower : ℕ) → lower < slot → list_any (is_in_slot lower) host.flows ≡ true) → lowest_free host ≡ Some slot }
     ensures none { (host : Host) → ((slot : ℕ) → slot < host.params.slots → list_any (is_in_slot slot) host.flows ≡ true) → lowest_free host ≡ None }
+{}
+
+/// A flow keeps its slot until it is closed and no application holds it, and none other gets it meanwhile.
+pub fn slots_are_kept<S, A>()
+    // In a tick those flows are filed that were closed before it and that no application held, and no others.
+    ensures filed { (scripts : Scripts S A) (t : ℕ) (due : Due A) (before after : Site S) → AreByMoves scripts → Each HasHistory before.host.flows → Round scripts t due before after → AreFiled before.host.flows after.host.flows }
+    // No two flows stand in one slot.
+    ensures apart { (scripts : Scripts S A) (t : ℕ) (due : Due A) (before after : Site S) → AreByMoves scripts → Each HasHistory before.host.flows → Round scripts t due before after → AreApart before.host.flows → AreApart after.host.flows }
 {}
