@@ -12,3 +12,4 @@ pub mod Openings
 pub mod Passing
 pub mod Standing
 pub mod Histories
+pub mod EveryTick
