@@ -8,6 +8,7 @@ use Rattle.tas_model.specs.Endpoint.{is_closed}
 use Rattle.tas_model.specs.Segments.{one_if}
 use Rattle.tas_model.specs.NextSegment.{Going, going}
 use Rattle.tas_model.proofs.Histories.{replay_push}
+use Rattle.tas_model.proofs.Tests.{on_cond}
 use Rattle.host_rounds.specs.Lists.{Each, change_first, change_at}
 use Rattle.host_rounds.specs.Hosts.{Live, Holder, endpoint, is_over, is_running, is_held, with_call}
 use Rattle.host_rounds.specs.Upkeep.{swept, is_control_tick, controlled_where, controlled, timed, timed_unless, emits, emits_where}
@@ -68,10 +69,8 @@ timed_advances by t l legal = by_over (is_over l) refl where
       both 1 0 l m (controlled by t m) ticked (controlled_advances by t m kept)
 
 pub swept_advances : (l : Live) → Advances 0 l (swept l)
-swept_advances l = by_over (is_over l) where
-  by_over : (b : Bool) → Advances 0 l (if b then record l { indexed = false; filed = l.filed || not (is_held l) } else l)
-  by_over true = record { one = λ h. omega arith; most = omega arith; over = λ h. (h, refl) }
-  by_over false = stays l
+swept_advances l =
+    on_cond (Advances 0 l) (is_over l) _ _ (λ t. record { one = λ h. omega arith; most = omega arith; over = λ h. (h, refl) }) (λ f. stays l)
 
 pub emits_advances : (by : Caller) (t : ℕ) (l : Live) → HasHistory l → Advances 0 l (emits by t l)
 emits_advances by t l legal = by_going (going (endpoint l)) where

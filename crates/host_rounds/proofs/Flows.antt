@@ -8,6 +8,7 @@ use Rattle.tas_model.specs.declared.entry.Call.TheVariants as calls
 use Rattle.tas_model.specs.NextSegment.{Going, going}
 use Rattle.tas_model.specs.LegalHistory.{step, Offers, shown}
 use Rattle.tas_model.proofs.Grows.{legal_by}
+use Rattle.tas_model.proofs.Tests.{on_cond}
 use Rattle.host_rounds.specs.Hosts.{Live, endpoint, is_over, is_running, is_held, with_call}
 use Rattle.host_rounds.specs.Upkeep.{swept, is_control_tick, controlled_where, controlled, timed_unless, timed, emits_where, emits}
 use Rattle.host_rounds.specs.Deliveries.{received}
@@ -21,10 +22,7 @@ pub call_kept : (l : Live) (by : Caller) (t : ℕ) (call : Call) (offer : List �
 call_kept l by t call offer legal offers steps = legal_by l.flow.params l.flow.entries by t call offer legal offers (steps _)
 
 pub swept_kept : (l : Live) → HasHistory l → HasHistory (swept l)
-swept_kept l legal = by_over (is_over l) where
-  by_over : (b : Bool) → HasHistory (if b then record l { indexed = false; filed = l.filed || not (is_held l) } else l)
-  by_over true = legal
-  by_over false = legal
+swept_kept l legal = on_cond HasHistory (is_over l) _ _ (λ t. legal) (λ f. legal)
 
 pub and_right : (a b : Bool) → (a && b) ≡ true → b ≡ true
 and_right true b h = h

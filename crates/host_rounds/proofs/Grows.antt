@@ -6,6 +6,7 @@ use Rattle.tas_model.specs.declared.entry.Call.{Call}
 use Rattle.tas_model.specs.declared.entry.Call.TheVariants as calls
 use Rattle.tas_model.specs.NextSegment.{Going, going}
 use Rattle.tas_model.specs.LegalHistory.{last_tick}
+use Rattle.tas_model.proofs.Tests.{on_cond}
 use Rattle.host_rounds.specs.declared.log.LogLine.{LogLine}
 use Rattle.host_rounds.specs.Lists.{Each, change_first, change_at}
 use Rattle.host_rounds.specs.Hosts.{Live, endpoint, is_over, is_running, is_held, with_call}
@@ -74,10 +75,7 @@ timed_grows by t l = by_over (is_over l) where
       (controlled_grows by t m (grew_low t l.flow.entries m.flow.entries low one))
 
 pub swept_grows : (t : ℕ) (l : Live) → Grows t l (swept l)
-swept_grows t l = by_over (is_over l) where
-  by_over : (b : Bool) → Grows t l (if b then record l { indexed = false; filed = l.filed || not (is_held l) } else l)
-  by_over true = stays t l
-  by_over false = stays t l
+swept_grows t l = on_cond (Grows t l) (is_over l) _ _ (λ h. stays t l) (λ h. stays t l)
 
 pub emits_grows : (by : Caller) (t : ℕ) (l : Live) → Grows t l (emits by t l)
 emits_grows by t l = by_going (going (endpoint l)) where

@@ -7,6 +7,7 @@ use Rattle.tas_model.specs.declared.entry.Call.{Call}
 use Rattle.tas_model.specs.declared.entry.Call.TheVariants as calls
 use Rattle.tas_model.specs.NextSegment.{Going, going}
 use Rattle.tas_model.specs.LegalHistory.{Legal}
+use Rattle.tas_model.proofs.Tests.{on_cond}
 use Rattle.host_rounds.specs.Lists.{Each, change_first, change_at}
 use Rattle.host_rounds.specs.Hosts.{Live, endpoint, is_over, is_running, is_held, with_call, flows_of}
 use Rattle.host_rounds.specs.Upkeep.{swept, is_control_tick, controlled_where, controlled, timed, timed_unless, emits, emits_where}
@@ -69,10 +70,7 @@ call_keeps by t call offer l legal =
     of_number m n = record { id = m.flow.id; tuple = m.flow.tuple; params = m.flow.params; number = n }
 
 pub swept_keeps : Keeps swept
-swept_keeps l legal = by_over (is_over l) where
-  by_over : (b : Bool) → opening_of (if b then record l { indexed = false; filed = l.filed || not (is_held l) } else l).flow ≡ opening_of l.flow
-  by_over true = refl
-  by_over false = refl
+swept_keeps l legal = on_cond (λ (m : Live). opening_of m.flow ≡ opening_of l.flow) (is_over l) _ _ (λ t. refl) (λ f. refl)
 
 controlled_keeps : (by : Caller) (t : ℕ) → Keeps (controlled by t)
 controlled_keeps by t l legal = by_due (is_control_tick l.flow.params.fixed t && is_running l) where

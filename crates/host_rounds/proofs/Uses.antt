@@ -8,6 +8,7 @@ use Rattle.tas_model.specs.declared.entry.Call.{Call}
 use Rattle.tas_model.specs.declared.entry.Call.TheVariants as calls
 use Rattle.tas_model.specs.Segments.{one_if}
 use Rattle.tas_model.specs.NextSegment.{Going, going}
+use Rattle.tas_model.proofs.Tests.{on_cond}
 use Rattle.host_rounds.specs.declared.log.LogLine.{LogLine}
 use Rattle.host_rounds.specs.declared.log.LogEvent.{LogEvent}
 use Rattle.host_rounds.specs.Lists.{change_first, change_at}
@@ -78,10 +79,8 @@ pub same_plus : (a : ℕ) → a ≡ a + 0
 same_plus a = omega arith
 
 pub swept_adds : (f : FrameId) → Adds f 0 swept
-swept_adds f l = by_over (is_over l) where
-  by_over : (b : Bool) → uses_in f (if b then record l { indexed = false; filed = l.filed || not (is_held l) } else l).flow.entries ≡ uses_in f l.flow.entries + 0
-  by_over true = same_plus _
-  by_over false = same_plus _
+swept_adds f l =
+    on_cond (λ (m : Live). uses_in f m.flow.entries ≡ uses_in f l.flow.entries + 0) (is_over l) _ _ (λ t. same_plus _) (λ f. same_plus _)
 
 controlled_adds : (f : FrameId) (by : Caller) (t : ℕ) → Adds f 0 (controlled by t)
 controlled_adds f by t l = by_due (is_control_tick l.flow.params.fixed t && is_running l) where
