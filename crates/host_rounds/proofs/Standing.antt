@@ -7,9 +7,10 @@ use Rattle.tas_model.specs.declared.entry.Call.TheVariants as calls
 use Rattle.tas_model.specs.NextSegment.{Going, going}
 use Rattle.tas_model.proofs.Tests.{on_cond}
 use Rattle.host_rounds.specs.Lists.{Each, change_first, change_at}
-use Rattle.host_rounds.specs.Hosts.{Live, endpoint, is_over, is_running, is_held, with_call, is_in_slot, free_from}
-use Rattle.host_rounds.specs.Upkeep.{swept, is_control_tick, controlled_where, controlled, timed, timed_unless, emits, emits_where}
+use Rattle.host_rounds.specs.Hosts.{Live, endpoint, is_over, is_held, with_call, is_in_slot, free_from}
+use Rattle.host_rounds.specs.Upkeep.{swept, controlled, timed, timed_unless, emits, emits_where}
 use Rattle.host_rounds.specs.Standing.{AreApart, AreFiled}
+use Rattle.host_rounds.proofs.Flows.{on_control}
 
 -- ----- one flow
 -- it stands where it stood
@@ -17,10 +18,8 @@ abbrev pub KeepsPlace : (Live → Live) → Type 0
 KeepsPlace f = (l : Live) → ((f l).filed ≡ l.filed) × ((f l).flow.id.slot ≡ l.flow.id.slot)
 
 controlled_place : (by : Caller) (t : ℕ) → KeepsPlace (controlled by t)
-controlled_place by t l = by_due (is_control_tick l.flow.params.fixed t && is_running l) where
-  by_due : (b : Bool) → ((controlled_where b by t l).filed ≡ l.filed) × ((controlled_where b by t l).flow.id.slot ≡ l.flow.id.slot)
-  by_due true = (refl, refl)
-  by_due false = (refl, refl)
+controlled_place by t l =
+    on_control (λ (m : Live). (m.filed ≡ l.filed) × (m.flow.id.slot ≡ l.flow.id.slot)) _ by t l (λ h. (refl, refl)) (λ h. (refl, refl))
 
 pub timed_place : (by : Caller) (t : ℕ) → KeepsPlace (timed by t)
 timed_place by t l = by_over (is_over l) where
