@@ -12,4 +12,4 @@ pub mod Openings
 pub mod Passing
 pub mod Standing
 pub mod Histories
-pub mod WorkedTicks
+pub mod EveryTick
