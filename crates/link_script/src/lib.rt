@@ -1,0 +1,8 @@
+//! The link between the hosts of a scenario: what its lines do to frames, and which frames are due in a tick.
+#![tactic(auto)]
+
+mod frames;
+mod script;
+
+pub use frames::{DueList, Sent, SentList};
+pub use script::{DropEach, LinkAct, LinkScript, Target};
