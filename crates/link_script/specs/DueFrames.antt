@@ -1,8 +1,8 @@
 -- The frames that are due in a tick: which ones, in which order, and what became of them on their way.
-use Rattle.std.specs.Prelude.{ℕ, Bool, true, false, not, ◌&&◌, ◌||◌, ◌==◌, ◌%◌, ◌-◌, ◌+◌, nat_le, List, [], ◌∷◌, Option, Some, None, if◌then◌else◌, length, nat_lt, slice_set, slice_index}
+use Rattle.std.specs.Prelude.{ℕ, Bool, true, false, not, ◌&&◌, ◌||◌, ◌==◌, ◌%◌, ◌-◌, ◌+◌, nat_le, List, [], ◌∷◌, Option, Some, None, if◌then◌else◌, length, filter, nat_lt, slice_set, slice_index}
 use Rattle.std.specs.List.{flat_map}
 use Rattle.std.specs.declared.cmp.Ordering.{Ordering}
-use Rattle.std.specs.Ordering.{ordering_then, nat_cmp, is_gt}
+use Rattle.std.specs.Ordering.{ordering_then, nat_cmp, is_lt}
 use Rattle.tas_model.specs.declared.entry.FrameId.{FrameId}
 use Rattle.link_script.specs.LinkLines.{LinkLines, line_on, drop_each_of}
 use Rattle.link_script.specs.declared.script.LinkAct.{LinkAct}
@@ -58,10 +58,13 @@ abbrev pub due_cmp : Sent → Sent → Ordering
 due_cmp a b = ordering_then (nat_cmp a.tick b.tick) (ordering_then (nat_cmp a.id.host b.id.host) (ordering_then (nat_cmp a.id.flow b.id.flow)
     (ordering_then (nat_cmp a.id.number b.id.number) (nat_cmp a.id.copy b.id.copy))))
 
--- a frame before the first one that it is not behind
+abbrev pub goes_before : Sent → Sent → Bool
+goes_before a b = is_lt (due_cmp a b)
+
+-- a frame behind those that go before it
 abbrev pub placed : Sent → List Sent → List Sent
 placed f [] = f ∷ []
-placed f (g ∷ gs) = elim (is_gt (due_cmp f g)) [ true ↦ g ∷ placed f gs | false ↦ f ∷ g ∷ gs ]
+placed f (g ∷ gs) = elim (goes_before g f) [ true ↦ g ∷ placed f gs | false ↦ f ∷ g ∷ gs ]
 
 abbrev pub in_due_order : List Sent → List Sent
 in_due_order [] = []
@@ -70,3 +73,9 @@ in_due_order (f ∷ fs) = placed f (in_due_order fs)
 -- All frames that are due in a tick, of those that were sent.
 abbrev pub due : LinkLines → (sent : List Sent) → (tick : ℕ) → List Sent
 due lines sent tick = in_due_order (flat_map (coming_of lines tick) sent)
+
+-- ----- how they are found
+-- what comes in a tick of the frames that were sent so many ticks earlier, and one
+abbrev pub coming_after : LinkLines → (sent : List Sent) → (tick delay : ℕ) → List Sent
+coming_after lines sent tick delay =
+    if nat_le (delay + 1) tick then flat_map (coming_of lines tick) (filter (λ (f : Sent). f.tick == tick - delay - 1) sent) else []

@@ -129,6 +129,13 @@ impl DueList {
         }
     }
 
+    /// Frames that were collected elsewhere.
+    pub fn of(frames: Vec<Sent>) -> DueList
+        ensures { result ≡ frames.items }
+    {
+        DueList { frames }
+    }
+
     /// Appends a frame. The error is want of memory, and leaves the list as it was.
     pub fn push(&mut self, s: Sent) -> Result<(), AllocError>
         ensures ok { OnOk result (self.new ≡ self.old ++ s ∷ []) }

@@ -1,9 +1,14 @@
-ghost use Rattle.std.specs.Prelude.{◌≡◌, ◌≤◌, IsNone, IfOk, OnOk, OnErr};
-ghost use Rattle.link_script.specs.LinkLines.{no_lines, line_on, drop_each_of, with_act, with_drop_each, TakesDelay};
+ghost use Rattle.std.specs.Prelude.{◌≡◌, ◌≤◌, IsNone, IfSome, IfOk, OnOk, OnErr};
+ghost use Rattle.link_script.specs.DueFrames.{act_on, is_kth};
+ghost use Rattle.link_script.specs.LinkLines.{no_lines, line_on, drop_each_of, with_act, with_drop_each, TakesDelay, AreDelays};
 
 use std::alloc::{AllocError, Global};
 use std::collections::{BTreeMap, BTreeSet};
 use std::marker::Model;
+use tas_model::{FrameId, NO_FLOW};
+
+/// The highest number of a frame that a line can name.
+const MOST_NUMBER: u64 = 4_294_967_294;
 
 /// A frame that a line names: the host that sends it, the opening number of the flow on that host, and the frame's number in the flow, all from 0 on.
 #[derive(Clone, Copy, PartialEq, Eq, PartialOrd, Ord, Debug)]
@@ -42,13 +47,13 @@ pub struct LinkScript {
 }
 
 impl Model for LinkScript {
-    ghost use Rattle.link_script.specs.LinkLines.{LinkLines, HasDelays};
+    ghost use Rattle.link_script.specs.LinkLines.{LinkLines, HasDelays, ArePositive};
 
     ghost Value = { LinkLines };
 
     ghost view = { λ s. record { acts = s.acts.entries; drops = s.drops.items } };
 
-    ghost invariant = { λ s. HasDelays s.acts s.delays };
+    ghost invariant = { λ s. record { delays : HasDelays s.acts s.delays; positive : ArePositive s.drops.items } };
 }
 
 impl LinkScript {
@@ -103,9 +108,17 @@ impl LinkScript {
 
     /// The k of the host's line, where it has one.
     pub fn drop_each_of(&self, host: u32) -> Option<u32>
-        ensures { result ≡ drop_each_of self.now.drops host }
+        ensures line { result ≡ drop_each_of self.now.drops host }
+        ensures positive { IfSome result (λ k. 1 ≤ k) }
     {
         self.drops.iter().find(|line| line.host == host).map(|line| line.k)
+    }
+
+    /// The delays of all lines, and 0, which is the delay of all other frames.
+    pub fn delays(&self) -> &BTreeSet<u32>
+        ensures { AreDelays self.now result.now }
+    {
+        &self.delays
     }
 
     /// The line on this frame, where there is one.
@@ -113,6 +126,30 @@ impl LinkScript {
         ensures { result ≡ line_on self.now target.now }
     {
         self.acts.get(target).copied()
+    }
+
+    /// The line that a frame meets, where there is one.
+    pub fn act_on(&self, id: &FrameId) -> Option<LinkAct>
+        ensures { result ≡ act_on self.now id.now }
+    {
+        if id.number > MOST_NUMBER {
+            return None;
+        }
+        self.line_on(&Target {
+            host: id.host,
+            flow: id.flow,
+            number: id.number as u32,
+        })
+    }
+
+    /// Whether a frame is lost by its host's line.
+    pub fn is_kth(&self, id: &FrameId) -> bool
+        ensures { result ≡ is_kth (drop_each_of self.now.drops id.now.host) id.now }
+    {
+        match self.drop_each_of(id.host) {
+            Some(k) => id.flow != NO_FLOW && id.number % k as u64 == k as u64 - 1,
+            None => false,
+        }
     }
 }
 
