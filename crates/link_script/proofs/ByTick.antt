@@ -7,7 +7,6 @@ use Rattle.std.proofs.lemmas.List.Sorted.{IsNonDecreasingBy-insert}
 use Rattle.link_script.specs.Emitted.{behind_earlier}
 use Rattle.link_script.specs.declared.frames.Sent.{Sent}
 
-
 -- the frames up to a place pass a test, and those from there on do not
 record Cut (p : Sent → Bool) (fs : List Sent) (i : ℕ) : Type 0 where
   front : (k : ℕ) (d : Sent) → k < i → p (get_or fs k d) ≡ true
@@ -69,8 +68,8 @@ stays_cut : (fs : List Sent) (s : Sent) (i : ℕ) → i ≤ length fs → Cut (�
     → IsNonDecreasingBy (λ (f : Sent). f.tick) fs → IsNonDecreasingBy (λ (f : Sent). f.tick) (insert fs i s)
 stays_cut fs s i h p up =
     IsNonDecreasingBy-insert (λ (f : Sent). f.tick) fs i s up h
-      (λ k d l. let e : leb (get_or fs k d).tick s.tick ≡ true = p.front k d l in grind (arith, nat_tests))
-      (λ k d l m. let e : leb (get_or fs k d).tick s.tick ≡ false = p.rest k d l m in grind (arith, nat_tests))
+    (λ k d l. let e : leb (get_or fs k d).tick s.tick ≡ true = p.front k d l in grind (arith, nat_tests))
+    (λ k d l m. let e : leb (get_or fs k d).tick s.tick ≡ false = p.rest k d l m in grind (arith, nat_tests))
 
 -- the same by what `partition_point` says of the list that the code holds
 pub pushed : (now items part after : List Sent) (s : Sent) (i : ℕ) → part ≡ items → items ≡ now → after ≡ insert items i s → i ≤ length part

@@ -164,7 +164,7 @@ module _ (lines : LinkLines) (sent : List Sent) (tick : ℕ) (x : Sent) where
       by_due f e false q i = refl
       by_due f e true q i =
           let there : list_any (λ (d : ℕ). eqb (x.tick + 1 + d) tick) delays.keys ≡ true
-                  = any_from x.tick tick (delay_by (act_on lines f.id)) delays.keys (delay_among lines delays (act_on lines f.id) f.id h refl) (grind (arith, nat_tests)) in
+          = any_from x.tick tick (delay_by (act_on lines f.id)) delays.keys (delay_among lines delays (act_on lines f.id) f.id h refl) (grind (arith, nat_tests)) in
           absurd (cc (there, none))
 
   -- The frames found by the delays are those that are due, in what ties with x.

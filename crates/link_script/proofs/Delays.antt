@@ -13,9 +13,9 @@ use Rattle.link_script.specs.declared.script.LinkAct.TheVariants as acts
 pub has_delays_more : {m n : BTreeMap Target LinkAct} {ds es : BTreeSet ℕ} {act : LinkAct} (target : Target)
     → HasDelays m ds → TakesDelay ds es act → ((q : Target) → get target_cmp n q ≡ cond (is_at (target_cmp target) q) (Some act) (get target_cmp m q)) → HasDelays n es
 has_delays_more {m} {n} {ds} {es} {act} target h t u = record {
-    none = t.kept 0 h.none;
-    each = λ q ticks is. by_key q ticks (is_at (target_cmp target) q) (sym (u q) ∙ is);
-  }
+  none = t.kept 0 h.none;
+  each = λ q ticks is. by_key q ticks (is_at (target_cmp target) q) (sym (u q) ∙ is);
+}
   where
     by_key : (q : Target) (ticks : ℕ) (b : Bool) → cond b (Some act) (get target_cmp m q) ≡ Some (acts.Delay ticks) → contains nat_cmp es ticks ≡ true
     by_key q ticks true e = t.taken ticks (cc (e))

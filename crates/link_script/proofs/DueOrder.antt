@@ -43,8 +43,8 @@ both_false false true e = absurd (cc (e))
 ties_itself : IsStrictWeakOrder goes_before → (f : Sent) → tied f f ≡ true
 ties_itself o f =
     by_test (goes_before f f) (tied f f ≡ true)
-      (λ t. absurd (let n : goes_before f f ≡ false = o.one_way f f t in cc))
-      (λ n. rw n refl)
+    (λ t. absurd (let n : goes_before f f ≡ false = o.one_way f f t in cc))
+    (λ n. rw n refl)
 
 -- frames of which one goes before the other do not both tie with a third
 not_both : IsStrictWeakOrder goes_before → (x f g : Sent) → goes_before g f ≡ true → tied x f ≡ true → tied x g ≡ true → ⊥
@@ -134,8 +134,10 @@ heads_tie o x y xs ys nx ny h = by_tests (tied x y) (tied y x) refl refl
   where
     front : filter (tied x) (x ∷ xs) ≡ x ∷ filter (tied x) xs
     front = let e : tied x x ≡ true = ties_itself o x in rw e refl
+
     back : filter (tied y) (y ∷ ys) ≡ y ∷ filter (tied y) ys
     back = let e : tied y y ≡ true = ties_itself o y in rw e refl
+
     by_tests : (p q : Bool) → tied x y ≡ p → tied y x ≡ q → x ≡ y
     by_tests true q ep eq =
         let there : filter (tied x) (y ∷ ys) ≡ y ∷ filter (tied x) ys = rw ep refl in

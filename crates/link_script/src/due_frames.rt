@@ -23,7 +23,12 @@ struct Turn {
 
 /// The frames that are due in a tick, of those that were sent: a frame of the tick before, but for what the lines do to it. They stand by tick of emission, then by host, flow, number and copy.
 /// The error is want of memory. It looks at the frames alone that were sent one tick earlier, or earlier by a delay that a line has.
-pub fn due(alloc: Global, script: &LinkScript, emitted: &SentList, tick: u32) -> Result<DueList, AllocError>
+pub fn due(
+    alloc: Global,
+    script: &LinkScript,
+    emitted: &SentList,
+    tick: u32,
+) -> Result<DueList, AllocError>
     ensures { IfOk result (λ d. d ≡ frames.due script.now emitted.now tick) }
 {
     let mut frames = coming(alloc, script, emitted, tick, script.delays())?;
@@ -32,7 +37,13 @@ pub fn due(alloc: Global, script: &LinkScript, emitted: &SentList, tick: u32) ->
 }
 
 /// What comes in a tick of the frames that were sent earlier by one of these delays, and one. The error is want of memory.
-fn coming(alloc: Global, script: &LinkScript, emitted: &SentList, tick: u32, delays: &BTreeSet<u32>) -> Result<Vec<Sent>, AllocError>
+fn coming(
+    alloc: Global,
+    script: &LinkScript,
+    emitted: &SentList,
+    tick: u32,
+    delays: &BTreeSet<u32>,
+) -> Result<Vec<Sent>, AllocError>
     ensures frames { IfOk result (λ frames. frames.items ≡ flat_map (coming_after script.now emitted.now tick) delays.now.keys) }
     ensures delays { OnOk result (IsStrictlySortedBy nat_cmp delays.now.keys) }
 {
@@ -57,7 +68,14 @@ fn turn_of(frame: &Sent) -> Turn
 }
 
 /// Takes what comes of the frames that were sent so many ticks earlier, and one. The error is want of memory.
-fn take_after(alloc: Global, script: &LinkScript, emitted: &SentList, tick: u32, delay: u32, frames: &mut Vec<Sent>) -> Result<(), AllocError>
+fn take_after(
+    alloc: Global,
+    script: &LinkScript,
+    emitted: &SentList,
+    tick: u32,
+    delay: u32,
+    frames: &mut Vec<Sent>,
+) -> Result<(), AllocError>
     ensures { OnOk result (frames.new.items ≡ frames.old.items ++ coming_after script.now emitted.now tick delay) }
 {
     let Some(before) = tick.checked_sub(delay) else {
@@ -73,7 +91,13 @@ fn take_after(alloc: Global, script: &LinkScript, emitted: &SentList, tick: u32,
 }
 
 /// Takes what comes of a frame in a tick. The error is want of memory.
-fn take_coming(alloc: Global, script: &LinkScript, tick: u32, frame: &Sent, frames: &mut Vec<Sent>) -> Result<(), AllocError>
+fn take_coming(
+    alloc: Global,
+    script: &LinkScript,
+    tick: u32,
+    frame: &Sent,
+    frames: &mut Vec<Sent>,
+) -> Result<(), AllocError>
     ensures { OnOk result (frames.new.items ≡ frames.old.items ++ coming_of script.now tick frame.now) }
 {
     let act = script.act_on(&frame.id);

@@ -4,6 +4,8 @@
 mod due_frames;
 mod frames;
 mod script;
+#[cfg(test)]
+mod tests;
 
 pub use due_frames::due;
 pub use frames::{DueList, Sent, SentList};

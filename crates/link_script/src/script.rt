@@ -111,7 +111,10 @@ impl LinkScript {
         ensures line { result ≡ drop_each_of self.now.drops host }
         ensures positive { IfSome result (λ k. 1 ≤ k) }
     {
-        self.drops.iter().find(|line| line.host == host).map(|line| line.k)
+        self.drops
+            .iter()
+            .find(|line| line.host == host)
+            .map(|line| line.k)
     }
 
     /// The delays of all lines, and 0, which is the delay of all other frames.
