@@ -1,0 +1,4 @@
+pub mod Delays
+pub mod ByTick
+pub mod DueOrder
+pub mod Coming

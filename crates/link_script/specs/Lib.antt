@@ -1,0 +1,3 @@
+pub mod LinkLines
+pub mod Emitted
+pub mod DueFrames

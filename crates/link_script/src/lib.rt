@@ -1,0 +1,12 @@
+//! The link between the hosts of a scenario: what its lines do to frames, and which frames are due in a tick.
+#![tactic(auto)]
+
+mod due_frames;
+mod frames;
+mod script;
+#[cfg(test)]
+mod tests;
+
+pub use due_frames::due;
+pub use frames::{DueList, Sent, SentList};
+pub use script::{DropEach, LinkAct, LinkScript, Target};

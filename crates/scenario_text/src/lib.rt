@@ -1,0 +1,9 @@
+//! The text of scenarios: which texts are scenarios, the text of a scenario, and made scenarios.
+#![tactic(auto)]
+
+mod lists;
+mod scenario;
+mod words;
+
+pub use lists::{AppList, HostList, KillList, MoveList, StepList};
+pub use scenario::{AppLine, HostLine, KillLine, MoveLine, Scenario, Step};
