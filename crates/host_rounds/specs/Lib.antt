@@ -13,3 +13,4 @@ pub mod Passing
 pub mod Standing
 pub mod Histories
 pub mod EveryTick
+pub mod WorkedTicks

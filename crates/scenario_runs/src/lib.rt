@@ -1,0 +1,2 @@
+//! The runs of scenarios.
+#![tactic(auto)]
