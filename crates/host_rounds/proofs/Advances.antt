@@ -1,5 +1,5 @@
 -- How many timers of a flow had their turn.
-use Rattle.std.proofs.Common.{◌≡◌, ℕ, zero, suc, ◌+◌, ◌≤◌, ◌==◌, ◌&&◌, ◌||◌, not, Bool, true, false, List, [], ◌∷◌, ◌++◌, map, Option, Some, None, refl, sym, subst, ap, ◌∙◌, true≢false, arith, tests, if◌then◌else◌}
+use Rattle.std.proofs.Common.{◌≡◌, ℕ, zero, suc, ◌+◌, ◌≤◌, ◌==◌, Bool, true, false, List, [], ◌∷◌, ◌++◌, map, Option, Some, None, refl, sym, subst, ap, ◌∙◌, true≢false, arith, tests}
 use Rattle.tas_model.specs.declared.entry.Entry.{Entry}
 use Rattle.tas_model.specs.declared.entry.Caller.{Caller}
 use Rattle.tas_model.specs.declared.entry.Call.{Call}
@@ -8,13 +8,14 @@ use Rattle.tas_model.specs.Endpoint.{is_closed}
 use Rattle.tas_model.specs.Segments.{one_if}
 use Rattle.tas_model.specs.NextSegment.{Going, going}
 use Rattle.tas_model.proofs.Histories.{replay_push}
+use Rattle.tas_model.proofs.Tests.{on_cond}
 use Rattle.host_rounds.specs.Lists.{Each, change_first, change_at}
-use Rattle.host_rounds.specs.Hosts.{Live, Holder, endpoint, is_over, is_running, is_held, with_call}
-use Rattle.host_rounds.specs.Upkeep.{swept, is_control_tick, controlled_where, controlled, timed, timed_unless, emits, emits_where}
+use Rattle.host_rounds.specs.Hosts.{Live, Holder, endpoint, is_over, with_call}
+use Rattle.host_rounds.specs.Upkeep.{swept, controlled, timed, timed_unless, emits, emits_where}
 use Rattle.host_rounds.specs.Passing.{is_tick, ticks_in, ticks_of}
 use Rattle.host_rounds.specs.Histories.{HasHistory}
 use Rattle.host_rounds.proofs.Steps.{tick_steps}
-use Rattle.host_rounds.proofs.Flows.{call_kept}
+use Rattle.host_rounds.proofs.Flows.{call_kept, on_control}
 use Rattle.host_rounds.proofs.ClosedStays.{closed_stays}
 
 -- ----- one flow
@@ -51,10 +52,7 @@ call_advances by t call offer l legal plain =
     record { one = λ h. omega arith; most = omega arith; over = λ h. (call_over by t call offer l legal h, omega arith) }
 
 controlled_advances : (by : Caller) (t : ℕ) (l : Live) → HasHistory l → Advances 0 l (controlled by t l)
-controlled_advances by t l legal = by_due (is_control_tick l.flow.params.fixed t && is_running l) where
-  by_due : (b : Bool) → Advances 0 l (controlled_where b by t l)
-  by_due true = call_advances by t calls.Control [] l legal refl
-  by_due false = stays l
+controlled_advances by t l legal = on_control (Advances 0 l) _ by t l (λ h. call_advances by t calls.Control [] l legal refl) (λ h. stays l)
 
 pub timed_advances : (by : Caller) (t : ℕ) (l : Live) → HasHistory l → Advances 1 l (timed by t l)
 timed_advances by t l legal = by_over (is_over l) refl where
@@ -68,10 +66,8 @@ timed_advances by t l legal = by_over (is_over l) refl where
       both 1 0 l m (controlled by t m) ticked (controlled_advances by t m kept)
 
 pub swept_advances : (l : Live) → Advances 0 l (swept l)
-swept_advances l = by_over (is_over l) where
-  by_over : (b : Bool) → Advances 0 l (if b then record l { indexed = false; filed = l.filed || not (is_held l) } else l)
-  by_over true = record { one = λ h. omega arith; most = omega arith; over = λ h. (h, refl) }
-  by_over false = stays l
+swept_advances l =
+    on_cond (Advances 0 l) (is_over l) _ _ (λ t. record { one = λ h. omega arith; most = omega arith; over = λ h. (h, refl) }) (λ f. stays l)
 
 pub emits_advances : (by : Caller) (t : ℕ) (l : Live) → HasHistory l → Advances 0 l (emits by t l)
 emits_advances by t l legal = by_going (going (endpoint l)) where

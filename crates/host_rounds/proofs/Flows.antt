@@ -1,5 +1,5 @@
 -- One flow: each of its calls keeps its history legal.
-use Rattle.std.proofs.Common.{◌≡◌, ℕ, ◌&&◌, ◌||◌, not, Bool, true, false, List, [], Option, Some, None, IsSome, refl, sym, true≢false, if◌then◌else◌}
+use Rattle.std.proofs.Common.{◌≡◌, ℕ, ◌&&◌, Bool, true, false, List, [], Option, Some, None, IsSome, refl, sym, true≢false}
 use Rattle.tas_model.specs.declared.entry.FrameId.{FrameId}
 use Rattle.tas_model.specs.declared.entry.Seg.{Seg}
 use Rattle.tas_model.specs.declared.entry.Caller.{Caller}
@@ -8,8 +8,9 @@ use Rattle.tas_model.specs.declared.entry.Call.TheVariants as calls
 use Rattle.tas_model.specs.NextSegment.{Going, going}
 use Rattle.tas_model.specs.LegalHistory.{step, Offers, shown}
 use Rattle.tas_model.proofs.Grows.{legal_by}
-use Rattle.host_rounds.specs.Hosts.{Live, endpoint, is_over, is_running, is_held, with_call}
-use Rattle.host_rounds.specs.Upkeep.{swept, is_control_tick, controlled_where, controlled, timed_unless, timed, emits_where, emits}
+use Rattle.tas_model.proofs.Tests.{on_cond}
+use Rattle.host_rounds.specs.Hosts.{Live, endpoint, is_over, is_running, with_call}
+use Rattle.host_rounds.specs.Upkeep.{swept, controlled_where, controlled, timed_unless, timed, emits_where, emits}
 use Rattle.host_rounds.specs.Deliveries.{received}
 use Rattle.host_rounds.specs.Histories.{HasHistory}
 use Rattle.host_rounds.proofs.Steps.{tick_steps, control_steps, rx_steps, emit_steps}
@@ -21,22 +22,23 @@ pub call_kept : (l : Live) (by : Caller) (t : ℕ) (call : Call) (offer : List �
 call_kept l by t call offer legal offers steps = legal_by l.flow.params l.flow.entries by t call offer legal offers (steps _)
 
 pub swept_kept : (l : Live) → HasHistory l → HasHistory (swept l)
-swept_kept l legal = by_over (is_over l) where
-  by_over : (b : Bool) → HasHistory (if b then record l { indexed = false; filed = l.filed || not (is_held l) } else l)
-  by_over true = legal
-  by_over false = legal
+swept_kept l legal = on_cond HasHistory (is_over l) _ _ (λ t. legal) (λ f. legal)
 
 pub and_right : (a b : Bool) → (a && b) ≡ true → b ≡ true
 and_right true b h = h
 and_right false b h = absurd (true≢false (sym h))
 
+-- what holds with the Control and without it
+pub on_control : (P : Live → Type 0) (due : Bool) (by : Caller) (t : ℕ) (l : Live) → (due ≡ true → P (with_call l by t calls.Control []))
+    → (due ≡ false → P l) → P (controlled_where due by t l)
+on_control P true by t l f g = f refl
+on_control P false by t l f g = g refl
+
 controlled_kept : (by : Caller) (t : ℕ) (l : Live) → HasHistory l → HasHistory (controlled by t l)
-controlled_kept by t l legal = by_due (is_control_tick l.flow.params.fixed t && is_running l) refl where
-  by_due : (b : Bool) → (is_control_tick l.flow.params.fixed t && is_running l) ≡ b → HasHistory (controlled_where b by t l)
-  by_due false h = legal
-  by_due true h =
-      let runs : is_running l ≡ true = and_right (is_control_tick l.flow.params.fixed t) (is_running l) h in
-      call_kept l by t calls.Control [] legal tt (λ u. control_steps (endpoint l) u (shown (endpoint l) []) runs)
+controlled_kept by t l legal =
+    on_control HasHistory _ by t l
+    (λ h. call_kept l by t calls.Control [] legal tt (λ u. control_steps (endpoint l) u (shown (endpoint l) []) (and_right _ (is_running l) h)))
+    (λ h. legal)
 
 pub timed_kept : (by : Caller) (t : ℕ) (l : Live) → HasHistory l → HasHistory (timed by t l)
 timed_kept by t l legal = by_over (is_over l) refl where

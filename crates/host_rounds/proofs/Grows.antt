@@ -1,16 +1,18 @@
 -- A tick takes nothing back: lists that grow by entries of a tick.
-use Rattle.std.proofs.Common.{◌≡◌, ℕ, zero, suc, ◌≤◌, ◌&&◌, ◌||◌, not, Bool, true, false, List, [], ◌∷◌, ◌++◌, map, max, Option, Some, None, refl, sym, subst, ap, ◌∙◌, arith, append_assoc, append-nil, if◌then◌else◌}
+use Rattle.std.proofs.Common.{◌≡◌, ℕ, zero, suc, ◌≤◌, Bool, true, false, List, [], ◌∷◌, ◌++◌, map, max, Option, Some, None, refl, sym, subst, ap, ◌∙◌, arith, append_assoc, append-nil}
 use Rattle.tas_model.specs.declared.entry.Entry.{Entry}
 use Rattle.tas_model.specs.declared.entry.Caller.{Caller}
 use Rattle.tas_model.specs.declared.entry.Call.{Call}
 use Rattle.tas_model.specs.declared.entry.Call.TheVariants as calls
 use Rattle.tas_model.specs.NextSegment.{Going, going}
 use Rattle.tas_model.specs.LegalHistory.{last_tick}
+use Rattle.tas_model.proofs.Tests.{on_cond}
 use Rattle.host_rounds.specs.declared.log.LogLine.{LogLine}
 use Rattle.host_rounds.specs.Lists.{Each, change_first, change_at}
-use Rattle.host_rounds.specs.Hosts.{Live, endpoint, is_over, is_running, is_held, with_call}
-use Rattle.host_rounds.specs.Upkeep.{swept, is_control_tick, controlled_where, controlled, timed, timed_unless, emits, emits_where}
+use Rattle.host_rounds.specs.Hosts.{Live, endpoint, is_over, with_call}
+use Rattle.host_rounds.specs.Upkeep.{swept, controlled, timed, timed_unless, emits, emits_where}
 use Rattle.host_rounds.specs.Passing.{AllAt, LinesAt, Grew, LogGrew, AllGrew, IsUpTo}
+use Rattle.host_rounds.proofs.Flows.{on_control}
 
 -- ----- lists of entries and lines
 at_append : (t : ℕ) (xs ys : List Entry) → AllAt t xs → AllAt t ys → AllAt t (xs ++ ys)
@@ -58,10 +60,7 @@ call_grows by t call offer l low =
     (_, refl, (same, tt))
 
 controlled_grows : (by : Caller) (t : ℕ) (l : Live) → Grows t l (controlled by t l)
-controlled_grows by t l = by_due (is_control_tick l.flow.params.fixed t && is_running l) where
-  by_due : (b : Bool) → Grows t l (controlled_where b by t l)
-  by_due true = call_grows by t calls.Control [] l
-  by_due false = stays t l
+controlled_grows by t l = on_control (Grows t l) _ by t l (λ h. call_grows by t calls.Control [] l) (λ h. stays t l)
 
 pub timed_grows : (by : Caller) (t : ℕ) (l : Live) → Grows t l (timed by t l)
 timed_grows by t l = by_over (is_over l) where
@@ -74,10 +73,7 @@ timed_grows by t l = by_over (is_over l) where
       (controlled_grows by t m (grew_low t l.flow.entries m.flow.entries low one))
 
 pub swept_grows : (t : ℕ) (l : Live) → Grows t l (swept l)
-swept_grows t l = by_over (is_over l) where
-  by_over : (b : Bool) → Grows t l (if b then record l { indexed = false; filed = l.filed || not (is_held l) } else l)
-  by_over true = stays t l
-  by_over false = stays t l
+swept_grows t l = on_cond (Grows t l) (is_over l) _ _ (λ h. stays t l) (λ h. stays t l)
 
 pub emits_grows : (by : Caller) (t : ℕ) (l : Live) → Grows t l (emits by t l)
 emits_grows by t l = by_going (going (endpoint l)) where

@@ -1,5 +1,5 @@
 -- What is done to a flow keeps its opening: its slot, its four-tuple, its parameters and its first number.
-use Rattle.std.proofs.Common.{◌≡◌, ℕ, zero, suc, ◌&&◌, ◌||◌, not, Bool, true, false, cond, List, [], ◌∷◌, ◌++◌, length, map, fold, count_by, Option, Some, None, refl, ap, ◌∙◌, ◌+◌, if◌then◌else◌}
+use Rattle.std.proofs.Common.{◌≡◌, ℕ, zero, suc, Bool, true, false, cond, List, [], ◌∷◌, ◌++◌, length, map, fold, count_by, Option, Some, None, refl, ap, ◌∙◌, ◌+◌}
 use Rattle.tas_model.specs.declared.entry.HostParams.{HostParams}
 use Rattle.tas_model.specs.declared.entry.Entry.{Entry}
 use Rattle.tas_model.specs.declared.entry.Caller.{Caller}
@@ -7,13 +7,14 @@ use Rattle.tas_model.specs.declared.entry.Call.{Call}
 use Rattle.tas_model.specs.declared.entry.Call.TheVariants as calls
 use Rattle.tas_model.specs.NextSegment.{Going, going}
 use Rattle.tas_model.specs.LegalHistory.{Legal}
+use Rattle.tas_model.proofs.Tests.{on_cond}
 use Rattle.host_rounds.specs.Lists.{Each, change_first, change_at}
-use Rattle.host_rounds.specs.Hosts.{Live, endpoint, is_over, is_running, is_held, with_call, flows_of}
-use Rattle.host_rounds.specs.Upkeep.{swept, is_control_tick, controlled_where, controlled, timed, timed_unless, emits, emits_where}
+use Rattle.host_rounds.specs.Hosts.{Live, endpoint, is_over, with_call, flows_of}
+use Rattle.host_rounds.specs.Upkeep.{swept, controlled, timed, timed_unless, emits, emits_where}
 use Rattle.host_rounds.specs.Openings.{Opening, number_shown, opening_of, openings_of}
 use Rattle.host_rounds.specs.Histories.{HasHistory}
 use Rattle.host_rounds.proofs.Steps.{tick_steps}
-use Rattle.host_rounds.proofs.Flows.{call_kept}
+use Rattle.host_rounds.proofs.Flows.{call_kept, on_control}
 
 -- ----- openings of a list
 abbrev pub openings : List Live → List Opening
@@ -69,16 +70,11 @@ call_keeps by t call offer l legal =
     of_number m n = record { id = m.flow.id; tuple = m.flow.tuple; params = m.flow.params; number = n }
 
 pub swept_keeps : Keeps swept
-swept_keeps l legal = by_over (is_over l) where
-  by_over : (b : Bool) → opening_of (if b then record l { indexed = false; filed = l.filed || not (is_held l) } else l).flow ≡ opening_of l.flow
-  by_over true = refl
-  by_over false = refl
+swept_keeps l legal = on_cond (λ (m : Live). opening_of m.flow ≡ opening_of l.flow) (is_over l) _ _ (λ t. refl) (λ f. refl)
 
 controlled_keeps : (by : Caller) (t : ℕ) → Keeps (controlled by t)
-controlled_keeps by t l legal = by_due (is_control_tick l.flow.params.fixed t && is_running l) where
-  by_due : (b : Bool) → opening_of (controlled_where b by t l).flow ≡ opening_of l.flow
-  by_due true = call_keeps by t calls.Control [] l legal
-  by_due false = refl
+controlled_keeps by t l legal =
+    on_control (λ (m : Live). opening_of m.flow ≡ opening_of l.flow) _ by t l (λ h. call_keeps by t calls.Control [] l legal) (λ h. refl)
 
 pub timed_keeps : (by : Caller) (t : ℕ) → Keeps (timed by t)
 timed_keeps by t l legal = by_over (is_over l) refl where

@@ -5,10 +5,12 @@ use Rattle.std.proofs.lemmas.List.Folds.{list_any-append}
 use Rattle.tas_model.specs.declared.entry.Caller.{Caller}
 use Rattle.tas_model.specs.declared.entry.Call.TheVariants as calls
 use Rattle.tas_model.specs.NextSegment.{Going, going}
+use Rattle.tas_model.proofs.Tests.{on_cond}
 use Rattle.host_rounds.specs.Lists.{Each, change_first, change_at}
-use Rattle.host_rounds.specs.Hosts.{Live, endpoint, is_over, is_running, is_held, with_call, is_in_slot, free_from}
-use Rattle.host_rounds.specs.Upkeep.{swept, is_control_tick, controlled_where, controlled, timed, timed_unless, emits, emits_where}
+use Rattle.host_rounds.specs.Hosts.{Live, endpoint, is_over, is_held, with_call, is_in_slot, free_from}
+use Rattle.host_rounds.specs.Upkeep.{swept, controlled, timed, timed_unless, emits, emits_where}
 use Rattle.host_rounds.specs.Standing.{AreApart, AreFiled}
+use Rattle.host_rounds.proofs.Flows.{on_control}
 
 -- ----- one flow
 -- it stands where it stood
@@ -16,10 +18,8 @@ abbrev pub KeepsPlace : (Live → Live) → Type 0
 KeepsPlace f = (l : Live) → ((f l).filed ≡ l.filed) × ((f l).flow.id.slot ≡ l.flow.id.slot)
 
 controlled_place : (by : Caller) (t : ℕ) → KeepsPlace (controlled by t)
-controlled_place by t l = by_due (is_control_tick l.flow.params.fixed t && is_running l) where
-  by_due : (b : Bool) → ((controlled_where b by t l).filed ≡ l.filed) × ((controlled_where b by t l).flow.id.slot ≡ l.flow.id.slot)
-  by_due true = (refl, refl)
-  by_due false = (refl, refl)
+controlled_place by t l =
+    on_control (λ (m : Live). (m.filed ≡ l.filed) × (m.flow.id.slot ≡ l.flow.id.slot)) _ by t l (λ h. (refl, refl)) (λ h. (refl, refl))
 
 pub timed_place : (by : Caller) (t : ℕ) → KeepsPlace (timed by t)
 timed_place by t l = by_over (is_over l) where
@@ -179,10 +179,7 @@ swept_filed l = by_over (is_over l) where
   by_over false = with_false l.filed
 
 swept_slot : (l : Live) → (swept l).flow.id.slot ≡ l.flow.id.slot
-swept_slot l = by_over (is_over l) where
-  by_over : (b : Bool) → (if b then record l { indexed = false; filed = l.filed || not (is_held l) } else l).flow.id.slot ≡ l.flow.id.slot
-  by_over true = refl
-  by_over false = refl
+swept_slot l = on_cond (λ (m : Live). m.flow.id.slot ≡ l.flow.id.slot) (is_over l) _ _ (λ t. refl) (λ f. refl)
 
 in_before : (filed given_up : Bool) (i slot : ℕ) → (not filed && i == slot) ≡ false → (not (filed || given_up) && i == slot) ≡ false
 in_before true given_up i slot h = refl

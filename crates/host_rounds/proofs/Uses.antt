@@ -1,5 +1,5 @@
 -- In how many places a frame stands, after one call, one line and one opening.
-use Rattle.std.proofs.Common.{◌≡◌, ℕ, zero, suc, ◌+◌, ◌&&◌, ◌||◌, not, Bool, true, false, List, [], ◌∷◌, ◌++◌, map, Option, Some, None, refl, sym, true≢false, arith, if◌then◌else◌}
+use Rattle.std.proofs.Common.{◌≡◌, ℕ, zero, suc, ◌+◌, ◌||◌, Bool, true, false, List, [], ◌∷◌, ◌++◌, map, Option, Some, None, refl, sym, true≢false, arith}
 use Rattle.std.specs.List.{list_any}
 use Rattle.tas_model.specs.declared.entry.FrameId.{FrameId}
 use Rattle.tas_model.specs.declared.entry.Entry.{Entry}
@@ -8,12 +8,14 @@ use Rattle.tas_model.specs.declared.entry.Call.{Call}
 use Rattle.tas_model.specs.declared.entry.Call.TheVariants as calls
 use Rattle.tas_model.specs.Segments.{one_if}
 use Rattle.tas_model.specs.NextSegment.{Going, going}
+use Rattle.tas_model.proofs.Tests.{on_cond}
 use Rattle.host_rounds.specs.declared.log.LogLine.{LogLine}
 use Rattle.host_rounds.specs.declared.log.LogEvent.{LogEvent}
 use Rattle.host_rounds.specs.Lists.{change_first, change_at}
-use Rattle.host_rounds.specs.Hosts.{Live, Host, endpoint, is_over, is_running, is_held, with_call, logged}
-use Rattle.host_rounds.specs.Upkeep.{swept, is_control_tick, controlled_where, controlled, timed, timed_unless, emits_where, emits}
+use Rattle.host_rounds.specs.Hosts.{Live, Host, endpoint, is_over, with_call, logged}
+use Rattle.host_rounds.specs.Upkeep.{swept, controlled, timed, timed_unless, emits_where, emits}
 use Rattle.host_rounds.specs.Places.{is_call_with, is_line_with, uses_in, uses_live, lines_with, uses}
+use Rattle.host_rounds.proofs.Flows.{on_control}
 
 -- ----- lists
 uses_push : (f : FrameId) (h : List Entry) (x : Entry) → uses_in f (h ++ x ∷ []) ≡ uses_in f h + one_if (is_call_with f x.call)
@@ -78,16 +80,12 @@ pub same_plus : (a : ℕ) → a ≡ a + 0
 same_plus a = omega arith
 
 pub swept_adds : (f : FrameId) → Adds f 0 swept
-swept_adds f l = by_over (is_over l) where
-  by_over : (b : Bool) → uses_in f (if b then record l { indexed = false; filed = l.filed || not (is_held l) } else l).flow.entries ≡ uses_in f l.flow.entries + 0
-  by_over true = same_plus _
-  by_over false = same_plus _
+swept_adds f l =
+    on_cond (λ (m : Live). uses_in f m.flow.entries ≡ uses_in f l.flow.entries + 0) (is_over l) _ _ (λ t. same_plus _) (λ f. same_plus _)
 
 controlled_adds : (f : FrameId) (by : Caller) (t : ℕ) → Adds f 0 (controlled by t)
-controlled_adds f by t l = by_due (is_control_tick l.flow.params.fixed t && is_running l) where
-  by_due : (b : Bool) → uses_in f (controlled_where b by t l).flow.entries ≡ uses_in f l.flow.entries + 0
-  by_due true = call_adds f by t calls.Control [] l
-  by_due false = same_plus _
+controlled_adds f by t l =
+    on_control (λ (m : Live). uses_in f m.flow.entries ≡ uses_in f l.flow.entries + 0) _ by t l (λ h. call_adds f by t calls.Control [] l) (λ h. same_plus _)
 
 pub timed_adds : (f : FrameId) (by : Caller) (t : ℕ) → Adds f 0 (timed by t)
 timed_adds f by t l = by_over (is_over l) where

@@ -12,4 +12,5 @@ pub mod Openings
 pub mod Passing
 pub mod Standing
 pub mod Histories
+pub mod EveryTick
 pub mod WorkedTicks

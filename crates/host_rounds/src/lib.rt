@@ -1,4 +1,5 @@
-//! One host in a run: how its ticks go under any scripts of its applications, which orders of a tick are right, and the laws of these.
+//! One host in a run: how its ticks go under any scripts of its applications, which orders of a tick are right, and the
+//! laws of these.
 #![tactic(auto)]
 
 mod laws;
