@@ -1,18 +1,18 @@
 -- The application asks in the order of its scripts.
-use Rattle.std.proofs.Common.{◌≡◌, ℕ, zero, suc, ◌+◌, ◌≤◌, ◌<◌, ◌==◌, Bool, true, false, cond, List, [], ◌∷◌, ◌++◌, map, fold, filter, filter_map, Option, Some, None, ◌||◌, refl, sym, subst, ap, ◌∙◌, true≢false, arith, tests, append_assoc, if◌then◌else◌}
+use Rattle.std.proofs.Common.{◌≡◌, ℕ, ◌+◌, ◌≤◌, ◌<◌, ◌==◌, Bool, true, false, cond, List, [], ◌∷◌, ◌++◌, map, fold, filter, ◌||◌, refl, sym, subst, ap, ◌∙◌, true≢false, arith, tests, append_assoc, if◌then◌else◌}
 use Rattle.std.specs.List.{list_any}
 use Rattle.tas_model.specs.declared.entry.FourTuple.{FourTuple}
 use Rattle.host_rounds.specs.Lists.{Each}
-use Rattle.host_rounds.specs.Hosts.{Live, Host}
+use Rattle.host_rounds.specs.Hosts.{Live}
 use Rattle.host_rounds.specs.Upkeep.{swept, all_swept}
 use Rattle.host_rounds.specs.Deliveries.{Arrival}
 use Rattle.host_rounds.specs.Scripts.{Site}
-use Rattle.host_rounds.specs.Rounds.{Timer, Frame, Ask, Emission, Due, does, timers_from, due_actions, OfScript, is_by, actions_of, on_host, Round}
+use Rattle.host_rounds.specs.Rounds.{Timer, Frame, Ask, Emission, does, timers_from, due_actions, OfScript, is_by, actions_of, on_host, Round}
 use Rattle.tas_runs.specs.Records.{Content, Damaged, Remote, Local, Item}
 use Rattle.tas_runs.specs.Batches.{is_of, clashes, NoneClash}
-use Rattle.tas_runs.specs.LocalScript.{Stage, Beginning, Accepting, Sending, Shutting, Aborting, Receiving, Leaving, stages, Asking, Shown, capture_scripts, arrivals_in, asks_of, asks_in, due_in}
+use Rattle.tas_runs.specs.LocalScript.{Stage, Beginning, Accepting, Sending, Shutting, Aborting, Receiving, Leaving, stages, Shown, capture_scripts, arrivals_in, asks_of, asks_in, due_in}
 use Rattle.tas_runs.specs.Asking.{RisesWithin, AreAsked, NumbersRise, IsCaptureBatch}
-use Rattle.tas_runs.proofs.Followed.{same_number, same_is, number_same, stage_place, stage_places, Act, ask, stage_for, stages_for, AllFollow, all_both, map_follows, none, swept_follows, all_stages, all_follow}
+use Rattle.tas_runs.proofs.Followed.{same_number, same_is, number_same, stage_places, Act, ask, stage_for, stages_for, AllFollow, all_both, map_follows, none, swept_follows, all_stages, all_follow}
 
 -- ----- the scripts of a batch
 -- one record at most is of a four-tuple: where one is, none of a batch behind it is

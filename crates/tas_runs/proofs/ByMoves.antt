@@ -1,21 +1,20 @@
 -- Whatever a replay's script asks is a row of moves of its application.
-use Rattle.std.proofs.Common.{◌≡◌, ℕ, zero, suc, ◌&&◌, ◌||◌, not, Bool, true, false, List, [], ◌∷◌, ◌++◌, length, map, fold, slice_get, get_or, position, Option, Some, None, IfSome, refl, sym, subst, ap, ◌∙◌, true≢false, if◌then◌else◌}
-use Rattle.std.specs.List.{list_any}
+use Rattle.std.proofs.Common.{◌≡◌, ℕ, zero, suc, ◌&&◌, not, Bool, true, false, List, [], ◌∷◌, length, slice_get, get_or, position, Option, Some, None, refl, sym, subst, ap, ◌∙◌, true≢false}
 use Rattle.tas_model.specs.declared.entry.FourTuple.{FourTuple}
 use Rattle.tas_model.specs.declared.entry.Seg.{Seg}
 use Rattle.tas_model.specs.declared.entry.Call.{Call}
 use Rattle.tas_model.specs.declared.entry.Call.TheVariants as calls
-use Rattle.tas_model.specs.LegalHistory.{Offers, shown}
+use Rattle.tas_model.specs.LegalHistory.{shown}
 use Rattle.host_rounds.specs.declared.log.LogEvent.TheVariants as events
-use Rattle.host_rounds.specs.Lists.{Each, change_at}
-use Rattle.host_rounds.specs.Hosts.{Live, Host, Holder, Application, GivenUp, Numbers, next_number, endpoint, is_over, is_running, is_held, with_call, logged, at_flow, is_known, is_indexed_as, lowest_free}
+use Rattle.host_rounds.specs.Lists.{change_at}
+use Rattle.host_rounds.specs.Hosts.{Live, Host, Holder, Application, GivenUp, Numbers, next_number, endpoint, is_over, is_running, is_held, with_call, at_flow, is_known, is_indexed_as, lowest_free}
 use Rattle.host_rounds.specs.Scripts.{Site}
 use Rattle.host_rounds.specs.Moves.{Move, Calls, Opens, Notes, Holds, MayCall, MayMove, moved, AreMoves, AreByMoves}
 use Rattle.host_rounds.specs.Rounds.{on_host}
 use Rattle.host_rounds.proofs.Steps.{accept_steps, send_steps, shut_steps, abort_steps, recv_steps}
 use Rattle.tas_runs.specs.Records.{Content, Damaged, Remote, Local, Item}
 use Rattle.tas_runs.specs.FirstNumbers.{first_number}
-use Rattle.tas_runs.specs.LocalScript.{Stage, Beginning, Accepting, Sending, Shutting, Aborting, Receiving, Leaving, Asking, Shown, nothing_shown, all_shown, the_app, connects, opened_by_connect, connected_where, connected, is_wanted, asked, asked_where, given_up, at_stage, shown_after, served_at, served_where, served_flow, served_content, capture_scripts}
+use Rattle.tas_runs.specs.LocalScript.{Stage, Beginning, Accepting, Sending, Shutting, Aborting, Receiving, Leaving, Shown, nothing_shown, all_shown, the_app, connects, opened_by_connect, connected_where, connected, is_wanted, asked, asked_where, given_up, at_stage, served_at, served_where, served_flow, served_content, capture_scripts}
 
 -- ----- lists
 -- the change of an item that is known

@@ -1,5 +1,5 @@
 -- What a tick asks of each flow of a replay: which stages, in which order.
-use Rattle.std.proofs.Common.{◌≡◌, ℕ, zero, suc, ◌+◌, ◌≤◌, ◌<◌, ◌==◌, ◌&&◌, ◌||◌, not, Bool, true, false, cond, List, [], ◌∷◌, ◌++◌, length, map, fold, slice_get, get_or, position, Option, Some, None, IfSome, refl, sym, subst, ap, ◌∙◌, true≢false, arith, tests, append_assoc, append-nil, if◌then◌else◌}
+use Rattle.std.proofs.Common.{◌≡◌, ℕ, zero, suc, ◌≤◌, ◌<◌, ◌==◌, ◌&&◌, ◌||◌, not, Bool, true, false, cond, List, [], ◌∷◌, ◌++◌, map, fold, slice_get, get_or, position, Option, Some, None, IfSome, refl, sym, subst, ap, ◌∙◌, true≢false, arith, tests, append_assoc, append-nil, if◌then◌else◌}
 use Rattle.std.proofs.lemmas.Grind.{flat_map-append}
 use Rattle.std.proofs.lemmas.List.{map-append}
 use Rattle.std.proofs.lemmas.List.Quantifiers.{position-Some}
@@ -16,10 +16,10 @@ use Rattle.tas_model.specs.NextSegment.{Going, going}
 use Rattle.host_rounds.specs.Logs.{Flow}
 use Rattle.host_rounds.specs.Lists.{Each, change_first, change_at}
 use Rattle.host_rounds.specs.Hosts.{Live, Host, GivenUp, Numbers, next_number, endpoint, is_over, is_running, is_held, with_call, is_known, is_indexed_as, is_listening, is_full, lowest_free, same_tuple}
-use Rattle.host_rounds.specs.Upkeep.{swept, all_swept, is_control_tick, controlled, controlled_where, timed, timed_unless, emits, emits_where}
-use Rattle.host_rounds.specs.Deliveries.{Arrival, Packet, received, opened_by_syn, met_no_flow, arrived, delivered_packet, opens}
+use Rattle.host_rounds.specs.Upkeep.{swept, is_control_tick, controlled, controlled_where, timed, timed_unless, emits, emits_where}
+use Rattle.host_rounds.specs.Deliveries.{Packet, received, opened_by_syn, met_no_flow, arrived, delivered_packet, opens}
 use Rattle.host_rounds.specs.Deliveries.{Damaged as damaged, Segment as segment}
-use Rattle.host_rounds.specs.Scripts.{Site, Scripts}
+use Rattle.host_rounds.specs.Scripts.{Site}
 use Rattle.host_rounds.specs.Rounds.{Action, Timer, Frame, Ask, Emission, Deed, IsWorker, done_by, does, actions_of, on_host}
 use Rattle.tas_runs.specs.Records.{Content, Damaged, Remote, Local, Item}
 use Rattle.tas_runs.specs.Batches.{tuple_of, is_of}

@@ -6,10 +6,10 @@ use Rattle.tas_model.specs.Segments.{one_if}
 use Rattle.tas_num.specs.Captures.{Fault, CutShort, TooLong, Form, Record, Next, most_captured, captured_len, next_at, first_record, joined, records_within, records_from, packet_of}
 use Rattle.host_rounds.specs.Deliveries.{Arrival, same_frame}
 use Rattle.host_rounds.specs.Places.{coming}
-use Rattle.host_rounds.specs.Rounds.{Due}
+use Rattle.host_rounds.proofs.Runs.{coming_in}
 use Rattle.tas_runs.specs.Records.{Content, Damaged, Remote, Local, Item, item_of, content_of_packet}
 use Rattle.tas_runs.specs.Batches.{Cut, joins, cut_at, closed_cut, batches_of, flat}
-use Rattle.tas_runs.specs.LocalScript.{Asking, record_frame, arrival_by, arrival_of, arrivals_in, due_in}
+use Rattle.tas_runs.specs.LocalScript.{record_frame, arrival_by, arrival_of, arrivals_in, due_in}
 
 -- ----- batches lose nothing
 flat_push : (bs : List (List Item)) (b : List Item) → flat (bs ++ b ∷ []) ≡ flat bs ++ b
@@ -51,11 +51,6 @@ arrivals_append (x ∷ xs) ys = by_arrival (arrival_of x) (arrivals_append xs ys
 coming_append : (f : FrameId) (xs ys : List Arrival) → coming f (xs ++ ys) ≡ coming f xs + coming f ys
 coming_append f [] ys = omega arith
 coming_append f (x ∷ xs) ys = let rest : coming f (xs ++ ys) ≡ coming f xs + coming f ys = coming_append f xs ys in omega arith
-
--- how often a frame comes in all these ticks
-abbrev pub coming_in : FrameId → List (Due Asking) → ℕ
-coming_in f [] = 0
-coming_in f (due ∷ dues) = coming f due.frames + coming_in f dues
 
 pub coming_flat : (f : FrameId) (batches : List (List Item)) → coming_in f (map due_in batches) ≡ coming f (arrivals_in (flat batches))
 coming_flat f [] = refl

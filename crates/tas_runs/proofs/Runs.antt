@@ -1,29 +1,24 @@
 -- What holds of every run of a capture.
-use Rattle.std.proofs.Common.{◌≡◌, ℕ, ◌+◌, ◌≤◌, Bool, List, [], ◌∷◌, ◌++◌, length, map, drop, Result, Ok, Err, refl, sym, subst, ap, ◌∙◌, arith}
+use Rattle.std.proofs.Common.{◌≡◌, ℕ, ◌+◌, ◌≤◌, Bool, List, [], length, map, drop, Result, Ok, Err, refl, sym, subst, ap, ◌∙◌, arith}
 use Rattle.tas_num.specs.Captures.{Fault, Form, Record, Capture, form_of, records_from, capture_with, capture_of}
 use Rattle.tas_model.specs.declared.entry.HostParams.{HostParams}
 use Rattle.tas_model.specs.declared.entry.FrameId.{FrameId}
 use Rattle.tas_model.specs.Valid.{InRange}
 use Rattle.host_rounds.specs.Logs.{HostRun, RunLog}
 use Rattle.host_rounds.specs.Lists.{Each}
-use Rattle.host_rounds.specs.Hosts.{Live, Host, Numbers, flows_of}
-use Rattle.host_rounds.specs.Scripts.{Site, Scripts}
-use Rattle.host_rounds.specs.Moves.{AreByMoves}
-use Rattle.host_rounds.specs.Rounds.{Due, IsQuiet, Rounds}
+use Rattle.host_rounds.specs.Hosts.{flows_of}
 use Rattle.host_rounds.specs.Places.{uses_flows, uses_hosts, uses_live, uses, coming}
-use Rattle.host_rounds.specs.Openings.{Opening, opening_of, openings_of, AreOpened}
-use Rattle.host_rounds.specs.Histories.{HasHistory, IsSound, HasSentAll}
-use Rattle.host_rounds.proofs.AllLegal.{round_kept}
-use Rattle.host_rounds.proofs.OnePlace.{round_adds}
+use Rattle.host_rounds.specs.Openings.{openings_of, AreOpened}
+use Rattle.host_rounds.specs.Histories.{IsSound, HasSentAll}
 use Rattle.host_rounds.proofs.AllOpened.{IsRight, rounds_right}
-use Rattle.host_rounds.proofs.Sound.{sound}
+use Rattle.host_rounds.proofs.Runs.{flows_sound, flows_quiet, flows_uses, rounds_quiet, coming_in, rounds_add}
 use Rattle.tas_runs.specs.Records.{Item, items_of}
-use Rattle.tas_runs.specs.Batches.{batches_of, flat}
+use Rattle.tas_runs.specs.Batches.{batches_of}
 use Rattle.tas_runs.specs.FirstNumbers.{first_number}
-use Rattle.tas_runs.specs.LocalScript.{Shown, Asking, capture_scripts, arrivals_in, due_in}
+use Rattle.tas_runs.specs.LocalScript.{capture_scripts, arrivals_in, due_in}
 use Rattle.tas_runs.specs.Replays.{items_found, items_in, replay_params, at_start, IsReplayOf, IsReplayFound, Replay}
 use Rattle.tas_runs.proofs.ByMoves.{replays_by_moves}
-use Rattle.tas_runs.proofs.OneRun.{batches_whole, coming_in, coming_flat, AreNumbered, AllNumbered, records_numbered, at_most_once}
+use Rattle.tas_runs.proofs.OneRun.{batches_whole, coming_flat, AreNumbered, AllNumbered, records_numbered, at_most_once}
 
 -- ----- from the host to its log
 -- the parameters of a replay are in range
@@ -37,23 +32,7 @@ params_fit local =
       backlog = (omega arith, omega arith);
     }
 
-flows_sound : (numbers : Numbers) (p : HostParams) (before : List Opening) (ls : List Live) → InRange p → AreOpened numbers p before (openings_of (flows_of ls)) → Each HasHistory ls → Each IsSound (flows_of ls)
-flows_sound numbers p before [] fits opened each = tt
-flows_sound numbers p before (l ∷ ls) fits opened each =
-    (sound l.flow (subst InRange (sym opened.0.params) fits) each.0, flows_sound numbers p (before ++ opening_of l.flow ∷ []) ls fits opened.1 each.1)
-
-flows_quiet : (ls : List Live) → Each IsQuiet ls → Each HasSentAll (flows_of ls)
-flows_quiet [] each = tt
-flows_quiet (l ∷ ls) each = (each.0, flows_quiet ls each.1)
-
-flows_uses : (f : FrameId) (ls : List Live) → uses_flows f (flows_of ls) ≡ uses_live f ls
-flows_uses f [] = refl
-flows_uses f (l ∷ ls) = let rest : uses_flows f (flows_of ls) ≡ uses_live f ls = flows_uses f ls in omega arith
-
 -- ----- a run of these records
-abbrev Runs : List Item → ℕ → List (Due Asking) → (before after : Site (List Shown)) → Type 0
-Runs items t dues before after = Rounds (capture_scripts items) t dues before after
-
 right_in : (local records : ℕ) (found : List Item) (log : RunLog) (run : IsReplayOf local records found log) → IsRight (first_number found) (replay_params local) run.0.host
 right_in local records found log run =
     rounds_right (capture_scripts found) (replay_params local) 0 (map due_in (batches_of found)) (at_start local) run.0 (replays_by_moves found) run.1 (record { params = refl; legal = tt; opened = tt })
@@ -71,30 +50,15 @@ opened_in : (local records : ℕ) (found : List Item) (log : RunLog) → IsRepla
 opened_in local records found log run =
     subst (λ (r : RunLog). Each (AllOpened found (replay_params local)) r.hosts) (sym run.2) ((right_in local records found log run).opened, tt)
 
-rounds_quiet : (items : List Item) (t : ℕ) (dues : List (Due Asking)) (before after : Site (List Shown)) → Runs items t dues before after → Each IsQuiet before.host.flows → Each IsQuiet after.host.flows
-rounds_quiet items t [] before after same each = subst (λ (site : Site (List Shown)). Each IsQuiet site.host.flows) same each
-rounds_quiet items t (due ∷ dues) before after rounds each = rounds_quiet items (t + 1) dues rounds.0 after rounds.2 rounds.1.quiet
-
 quiet_in : (local records : ℕ) (found : List Item) (log : RunLog) → IsReplayOf local records found log → Each (λ (h : HostRun). Each HasSentAll h.flows) log.hosts
 quiet_in local records found log run =
     subst (λ (r : RunLog). Each (λ (h : HostRun). Each HasSentAll h.flows) r.hosts) (sym run.2)
-    (flows_quiet run.0.host.flows (rounds_quiet found 0 (map due_in (batches_of found)) (at_start local) run.0 run.1 tt), tt)
-
-rounds_add : (items : List Item) (f : FrameId) (t : ℕ) (dues : List (Due Asking)) (before after : Site (List Shown)) → Runs items t dues before after → Each HasHistory before.host.flows
-    → uses f after.host ≡ uses f before.host + coming_in f dues
-rounds_add items f t [] before after same legal = let e : uses f before.host ≡ uses f after.host = ap (λ (site : Site (List Shown)). uses f site.host) same in omega arith
-rounds_add items f t (due ∷ dues) before after rounds legal =
-    let mid : Site (List Shown) = rounds.0 in
-    let moves : AreByMoves (capture_scripts items) = replays_by_moves items in
-    let one : uses f mid.host ≡ uses f before.host + coming f due.frames = round_adds (capture_scripts items) t due before mid f moves rounds.1 legal in
-    let rest : uses f after.host ≡ uses f mid.host + coming_in f dues =
-    rounds_add items f (t + 1) dues mid after rounds.2 (round_kept (capture_scripts items) t due before mid moves rounds.1 legal) in
-    omega arith
+    (flows_quiet run.0.host.flows (rounds_quiet (capture_scripts found) 0 (map due_in (batches_of found)) (at_start local) run.0 run.1 tt), tt)
 
 place_in : (f : FrameId) (local records : ℕ) (found : List Item) (log : RunLog) → IsReplayOf local records found log → uses_hosts f log.hosts ≡ coming f (arrivals_in found)
 place_in f local records found log run =
     let host : uses f run.0.host ≡ uses f (at_start local).host + coming_in f (map due_in (batches_of found)) =
-    rounds_add found f 0 (map due_in (batches_of found)) (at_start local) run.0 run.1 tt in
+    rounds_add (capture_scripts found) 0 (map due_in (batches_of found)) (at_start local) run.0 f (replays_by_moves found) run.1 tt in
     let same : coming_in f (map due_in (batches_of found)) ≡ coming f (arrivals_in found) =
     coming_flat f (batches_of found) ∙ ap (λ (xs : List Item). coming f (arrivals_in xs)) (batches_whole found) in
     let flows : uses_flows f (flows_of run.0.host.flows) ≡ uses_live f run.0.host.flows = flows_uses f run.0.host.flows in

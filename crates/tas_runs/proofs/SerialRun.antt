@@ -1,5 +1,5 @@
 -- The run in serial order is one of the right runs.
-use Rattle.std.proofs.Common.{◌≡◌, ℕ, Bool, List, length, map, Result, Ok, Err, IfOk, refl}
+use Rattle.std.proofs.Common.{ℕ, Bool, List, length, map, Result, Ok, Err, IfOk, refl}
 use Rattle.tas_num.specs.Captures.{Fault, Capture, capture_of}
 use Rattle.host_rounds.specs.SerialOrder.{serial_ticks}
 use Rattle.host_rounds.proofs.SerialRounds.{serial_rounds}

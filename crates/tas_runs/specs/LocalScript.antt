@@ -10,7 +10,7 @@ use Rattle.tas_model.specs.declared.entry.Call.TheVariants as calls
 use Rattle.tas_model.specs.Segments.{is_fin, is_syn, is_rst, is_ack, one_if}
 use Rattle.host_rounds.specs.declared.log.LogEvent.TheVariants as events
 use Rattle.host_rounds.specs.Lists.{change_at}
-use Rattle.host_rounds.specs.Hosts.{Live, Host, Holder, Application, GivenUp, Numbers, next_number, endpoint, is_over, is_opening, is_running, is_held, with_call, logged, is_known, is_indexed_as, at_flow, lowest_free, first_entry, opened_in}
+use Rattle.host_rounds.specs.Hosts.{Live, Host, Application, GivenUp, Numbers, next_number, endpoint, is_over, is_opening, is_running, is_held, with_call, logged, is_known, is_indexed_as, at_flow, lowest_free, first_entry, opened_in}
 use Rattle.host_rounds.specs.Deliveries.{Arrival}
 use Rattle.host_rounds.specs.Deliveries.{Damaged as damaged, Segment as segment}
 use Rattle.host_rounds.specs.Scripts.{Scripts, Site}
