@@ -1,1 +1,6 @@
 pub mod Applications
+pub mod Worlds
+pub mod Runs
+pub mod WorkedParts
+pub mod WorkedTalks
+pub mod WorkedEnds

@@ -1,0 +1,2 @@
+pub mod WorkedTalks
+pub mod WorkedEnds

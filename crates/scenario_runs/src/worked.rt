@@ -1,0 +1,30 @@
+ghost use Rattle.std.specs.Prelude.{◌≡◌};
+ghost use Rattle.scenario_runs.specs.WorkedParts.{reported};
+ghost use Rattle.scenario_runs.specs.WorkedTalks.{hello, hello_report, lost, lost_report, doubled, doubled_report, damaged, damaged_report, wrapped, wrapped_report, nobody, nobody_report, lone, lone_report};
+ghost use Rattle.scenario_runs.specs.WorkedEnds.{unanswered, unanswered_report, killed_late, killed_late_report, killed_after, killed_after_report, killed_early, killed_early_report, one_slot, one_slot_report, slot_kept, slot_kept_report, stalled, stalled_report, cut_short, cut_short_report, open_flows, open_flows_report, no_such_byte, no_such_byte_report, all_steps, all_steps_report};
+
+/// Reports that another program wrote for scenarios whose frames are lost, doubled and damaged are those of the run in serial order.
+pub fn worked_talks()
+    ensures hello { reported hello ≡ hello_report }
+    ensures lost { reported lost ≡ lost_report }
+    ensures doubled { reported doubled ≡ doubled_report }
+    ensures damaged { reported damaged ≡ damaged_report }
+    ensures wrapped { reported wrapped ≡ wrapped_report }
+    ensures nobody { reported nobody ≡ nobody_report }
+    ensures lone { reported lone ≡ lone_report }
+{}
+
+/// The same of kills, slots, refused connects and limits.
+pub fn worked_ends()
+    ensures unanswered { reported unanswered ≡ unanswered_report }
+    ensures killed_late { reported killed_late ≡ killed_late_report }
+    ensures killed_after { reported killed_after ≡ killed_after_report }
+    ensures killed_early { reported killed_early ≡ killed_early_report }
+    ensures one_slot { reported one_slot ≡ one_slot_report }
+    ensures slot_kept { reported slot_kept ≡ slot_kept_report }
+    ensures stalled { reported stalled ≡ stalled_report }
+    ensures cut_short { reported cut_short ≡ cut_short_report }
+    ensures open_flows { reported open_flows ≡ open_flows_report }
+    ensures no_such_byte { reported no_such_byte ≡ no_such_byte_report }
+    ensures all_steps { reported all_steps ≡ all_steps_report }
+{}
