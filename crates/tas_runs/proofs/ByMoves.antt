@@ -1,5 +1,5 @@
 -- Whatever a replay's script asks is a row of moves of its application.
-use Rattle.std.proofs.Common.{◌≡◌, ℕ, zero, suc, ◌&&◌, not, Bool, true, false, List, [], ◌∷◌, length, slice_get, get_or, position, Option, Some, None, refl, sym, subst, ap, ◌∙◌, true≢false}
+use Rattle.std.proofs.Common.{◌≡◌, ℕ, ◌&&◌, not, Bool, true, false, List, [], ◌∷◌, length, slice_get, get_or, position, Option, Some, None, refl, sym, ap, ◌∙◌, true≢false}
 use Rattle.tas_model.specs.declared.entry.FourTuple.{FourTuple}
 use Rattle.tas_model.specs.declared.entry.Seg.{Seg}
 use Rattle.tas_model.specs.declared.entry.Call.{Call}
@@ -9,53 +9,13 @@ use Rattle.host_rounds.specs.declared.log.LogEvent.TheVariants as events
 use Rattle.host_rounds.specs.Lists.{change_at}
 use Rattle.host_rounds.specs.Hosts.{Live, Host, Holder, Application, GivenUp, Numbers, next_number, endpoint, is_over, is_running, is_held, with_call, at_flow, is_known, is_indexed_as, lowest_free}
 use Rattle.host_rounds.specs.Scripts.{Site}
-use Rattle.host_rounds.specs.Moves.{Move, Calls, Opens, Notes, Holds, MayCall, MayMove, moved, AreMoves, AreByMoves}
+use Rattle.host_rounds.specs.Moves.{Calls, Opens, Notes, Holds, MayCall, MayMove, AreByMoves}
 use Rattle.host_rounds.specs.Rounds.{on_host}
+use Rattle.host_rounds.proofs.Rows.{change_known, change_twice, change_none, with_flows, Row, none, joined}
 use Rattle.host_rounds.proofs.Steps.{accept_steps, send_steps, shut_steps, abort_steps, recv_steps}
 use Rattle.tas_runs.specs.Records.{Content, Damaged, Remote, Local, Item}
 use Rattle.tas_runs.specs.FirstNumbers.{first_number}
 use Rattle.tas_runs.specs.LocalScript.{Stage, Beginning, Accepting, Sending, Shutting, Aborting, Receiving, Leaving, Shown, nothing_shown, all_shown, the_app, connects, opened_by_connect, connected_where, connected, is_wanted, asked, asked_where, given_up, at_stage, served_at, served_where, served_flow, served_content, capture_scripts}
-
--- ----- lists
--- the change of an item that is known
-change_known : {X : Type 0} (n : ℕ) (f g : X → X) (xs : List X) (x : X) → slice_get xs n ≡ Some x → f x ≡ g x → change_at n f xs ≡ change_at n g xs
-change_known n f g [] x here same = refl
-change_known {X} zero f g (y ∷ xs) x here same =
-    let e : y ≡ x = cc (here) in
-    ap (λ (z : X). z ∷ xs) (ap f e ∙ same ∙ ap g (sym e))
-change_known {X} (suc n) f g (y ∷ xs) x here same = ap (λ (zs : List X). y ∷ zs) (change_known n f g xs x here same)
-
--- two changes of one item
-change_twice : {X : Type 0} (n : ℕ) (f g : X → X) (xs : List X) → change_at n g (change_at n f xs) ≡ change_at n (λ (x : X). g (f x)) xs
-change_twice n f g [] = refl
-change_twice zero f g (x ∷ xs) = refl
-change_twice {X} (suc n) f g (x ∷ xs) = ap (λ (zs : List X). x ∷ zs) (change_twice n f g xs)
-
--- no change
-change_none : {X : Type 0} (n : ℕ) (xs : List X) → change_at n (λ (x : X). x) xs ≡ xs
-change_none n [] = refl
-change_none zero (x ∷ xs) = refl
-change_none {X} (suc n) (x ∷ xs) = ap (λ (zs : List X). x ∷ zs) (change_none n xs)
-
--- ----- rows of moves
-abbrev Row : Numbers → ℕ → Host → Host → Type 0
-Row numbers t before after = (moves : List Move) × AreMoves numbers t before moves after
-
-none : (numbers : Numbers) (t : ℕ) (host : Host) → Row numbers t host host
-none numbers t host = ([], refl)
-
-abbrev with_flows : Host → List Live → Host
-with_flows host ls = record host { flows = ls }
-
--- no move leads to what is the same
-same_row : (numbers : Numbers) (t : ℕ) (a b c : Host) → b ≡ c → Row numbers t a b → Row numbers t a c
-same_row numbers t a b c e row = subst (λ (h : Host). Row numbers t a h) e row
-
-joined : (numbers : Numbers) (t : ℕ) (a b c : Host) (ms : List Move) → AreMoves numbers t a ms b → Row numbers t b c → Row numbers t a c
-joined numbers t a b c [] same row = subst (λ (h : Host). Row numbers t h c) (sym same) row
-joined numbers t a b c (m ∷ ms) are row =
-    let rest : Row numbers t (moved numbers t a m) c = joined numbers t (moved numbers t a m) b c ms are.1 row in
-    (m ∷ rest.0, (are.0, rest.1))
 
 -- ----- a call of a flow that stands
 may_call : (host : Host) (n : ℕ) (l : Live) (call : Call) (offer : List ℕ) → slice_get host.flows n ≡ Some l → MayCall l the_app call offer → MayMove host (Calls n the_app call offer)
