@@ -117,7 +117,7 @@ moved_right : (numbers : Numbers) (p : HostParams) (t : ℕ) (host : Host) (m : 
     → AreLegal (moved numbers t host m) → IsRight numbers p (moved numbers t host m)
 moved_right numbers p t host (Calls n by call offer) may right legal =
     flow_right n (λ (l : Live). with_call l by t call offer) numbers p host (call_keeps by t call offer) right legal
-moved_right numbers p t host (Opens slot tuple app) may right legal = opens_rightly numbers p host slot tuple _ _ right legal may.0 refl
+moved_right numbers p t host (Opens slot tuple app) may right legal = opens_rightly numbers p host slot tuple _ _ right legal may refl
 moved_right numbers p t host (Notes event) may right legal = record { params = right.params; legal = right.legal; opened = right.opened }
 moved_right numbers p t host (Holds n holder) may right legal =
     flow_right n (λ (l : Live). record l { holder = holder }) numbers p host (λ l one. refl) right legal

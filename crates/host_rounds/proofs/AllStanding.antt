@@ -40,7 +40,7 @@ packet_stands by numbers t host frame (Segment tuple seg) = arrived_stands (is_k
 -- ----- moves
 move_stands : (numbers : Numbers) (t : ℕ) (host : Host) (m : Move) → MayMove host m → Stands host.flows (moved numbers t host m).flows
 move_stands numbers t host (Calls n by call offer) may = at_stands n (λ (l : Live). with_call l by t call offer) (λ l. (refl, refl)) host.flows
-move_stands numbers t host (Opens slot tuple app) may = push_stands host.params.slots host.flows _ may.0 refl
+move_stands numbers t host (Opens slot tuple app) may = push_stands host.params.slots host.flows _ may refl
 move_stands numbers t host (Notes event) may = stands host.flows
 move_stands numbers t host (Holds n holder) may = at_stands n (λ (l : Live). record l { holder = holder }) (λ l. (refl, refl)) host.flows
 move_stands numbers t host (Listens listeners) may = stands host.flows

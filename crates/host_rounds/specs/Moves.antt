@@ -60,7 +60,7 @@ pub record MayCall (l : Live) (by : Caller) (call : Call) (offer : List ℕ) : T
 
 abbrev pub MayMove : Host → Move → Type 0
 MayMove host (Calls n by call offer) = IfSome (slice_get host.flows n) (λ l. MayCall l by call offer)
-MayMove host (Opens slot tuple app) = (lowest_free host ≡ Some slot) × (is_known host tuple ≡ false)
+MayMove host (Opens slot tuple app) = lowest_free host ≡ Some slot
 MayMove host (Notes event) = IsCallLine event
 MayMove host (Holds n holder) = ⊤
 MayMove host (Listens listeners) = ⊤

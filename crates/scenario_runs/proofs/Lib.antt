@@ -1,2 +1,4 @@
+pub mod ByMoves
+pub mod AllRuns
 pub mod WorkedTalks
 pub mod WorkedEnds

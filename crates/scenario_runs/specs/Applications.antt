@@ -85,14 +85,19 @@ on_script f x = record x { script = f x.script }
 abbrev pub is_listened : (port : ℕ) → Host → Bool
 is_listened port host = list_any (λ (l : Listener). l.port == port) host.listeners
 
-abbrev pub listens : (tick : ℕ) → (name : List ℕ) → (port : ℕ) → Turn → Turn
-listens t name port x =
-    if is_listened port x.host then on_script stepped (record x { host = logged x.host t (events.Listen x.script.number port false) })
-    else on_script (λ (s : Script). stepped (bind name (AListener port) s)) (record x {
+abbrev pub listens_where : (taken : Bool) → (tick : ℕ) → (name : List ℕ) → (port : ℕ) → Turn → Turn
+listens_where true t name port x =
+    on_script stepped (record x { host = logged x.host t (events.Listen x.script.number port false) })
+listens_where false t name port x =
+    on_script (λ (s : Script). stepped (bind name (AListener port) s)) (record x {
       host = record (logged x.host t (events.Listen x.script.number port true)) {
         listeners = x.host.listeners ++ (record { port = port; app = x.script.number }) ∷ [];
       };
     })
+
+-- refused where another listener has the port
+abbrev pub listens : (tick : ℕ) → (name : List ℕ) → (port : ℕ) → Turn → Turn
+listens t name port x = listens_where (is_listened port x.host) t name port x
 
 -- a connection that waits at the port and is past its opening
 abbrev pub is_ready : (port : ℕ) → Live → Bool
@@ -129,13 +134,17 @@ opens numbers slot t socket tuple x =
       script = record (bind socket (ASocket (length x.host.flows)) x.script) { begun = true };
     }
 
+abbrev pub opens_where : (left : Bool) → Numbers → (slot port tick : ℕ) → (socket : List ℕ) → (raddr rport : ℕ) → Turn → Turn
+opens_where true numbers slot port t socket raddr rport x =
+    opens numbers slot t socket (record { laddr = x.host.params.addr; lport = port; raddr = raddr; rport = rport }) x
+opens_where false numbers slot port t socket raddr rport x = refused true t raddr rport x
+
 -- The slot is looked at first, and then the port.
 abbrev pub connects : Numbers → (free : Option ℕ) → (tick : ℕ) → (socket : List ℕ) → (raddr rport : ℕ) → Turn → Turn
 connects numbers None t socket raddr rport x = refused false t raddr rport x
 connects numbers (Some slot) t socket raddr rport x =
     let port : ℕ = first_port + ports_given x.host in
-    if nat_lt port (2 ^ 16) then opens numbers slot t socket (record { laddr = x.host.params.addr; lport = port; raddr = raddr; rport = rport }) x
-    else refused true t raddr rport x
+    opens_where (nat_lt port (2 ^ 16)) numbers slot port t socket raddr rport x
 
 abbrev pub is_not_yet : Reply → Bool
 is_not_yet replies.NotYet = true
@@ -145,7 +154,7 @@ is_not_yet _ = false
 abbrev pub waits_for : (flow : ℕ) → (tick : ℕ) → Call → Turn → Turn
 waits_for n t call x =
     let after : Turn = called n t call [] x in
-    if is_not_yet (answer_of n after.host) then after else on_script stepped after
+    on_script (λ (s : Script). if is_not_yet (answer_of n after.host) then s else stepped s) after
 
 -- ----- send, recv
 -- At most so many bytes are offered or asked in one call.
@@ -262,6 +271,10 @@ abbrev pub goes_on : Numbers → (address : List ℕ → ℕ) → (tick : ℕ) �
 goes_on numbers address t [] x = x
 goes_on numbers address t (step ∷ rest) x = step_of numbers address t step x
 
+abbrev pub turn_where : (killed_now : Bool) → Numbers → (address : List ℕ → ℕ) → (tick : ℕ) → Turn → Turn
+turn_where true numbers address t x = killed t x
+turn_where false numbers address t x = goes_on numbers address t x.script.left x
+
 -- What the application asks in this tick: it is killed, or makes the call of its step; one that has ended asks nothing.
 abbrev pub turn : Numbers → (address : List ℕ → ℕ) → (tick : ℕ) → Turn → Turn
-turn numbers address t x = if is_killed_at t x.script.kill then killed t x else goes_on numbers address t x.script.left x
+turn numbers address t x = turn_where (is_killed_at t x.script.kill) numbers address t x

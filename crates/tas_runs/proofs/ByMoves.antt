@@ -104,22 +104,21 @@ where_row numbers (Some n) stage t content site = at_row numbers n (slice_get si
 flow_row : (numbers : Numbers) (stage : Stage) (t : ℕ) (content : Content) (tuple : FourTuple) (site : Site (List Shown)) → Row numbers t site.host (served_flow stage t content tuple site).host
 flow_row numbers stage t content tuple site = where_row numbers (position (is_indexed_as tuple) site.host.flows) stage t content site
 
-free_row : (numbers : Numbers) (o : Option ℕ) (t : ℕ) (host : Host) (tuple : FourTuple) → lowest_free host ≡ o → is_known host tuple ≡ false
+free_row : (numbers : Numbers) (o : Option ℕ) (t : ℕ) (host : Host) (tuple : FourTuple) → lowest_free host ≡ o
     → Row numbers t host (opened_by_connect o (next_number numbers host tuple) t host tuple)
-free_row numbers None t host tuple free fresh = (Notes (events.ConnectRefused 0 tuple.raddr tuple.rport false) ∷ [], (tt, refl))
-free_row numbers (Some slot) t host tuple free fresh = (Opens slot tuple 0 ∷ [], ((free, fresh), refl))
+free_row numbers None t host tuple free = (Notes (events.ConnectRefused 0 tuple.raddr tuple.rport false) ∷ [], (tt, refl))
+free_row numbers (Some slot) t host tuple free = (Opens slot tuple 0 ∷ [], (free, refl))
 
-connect_row : (numbers : Numbers) (connects known : Bool) (t : ℕ) (host : Host) (tuple : FourTuple) → is_known host tuple ≡ known
-    → Row numbers t host (connected_where (connects && not known) (next_number numbers host tuple) t host tuple)
-connect_row numbers true false t host tuple h = free_row numbers (lowest_free host) t host tuple refl h
-connect_row numbers true true t host tuple h = none numbers t host
-connect_row numbers false known t host tuple h = none numbers t host
+connect_row : (numbers : Numbers) (wanted : Bool) (t : ℕ) (host : Host) (tuple : FourTuple)
+    → Row numbers t host (connected_where wanted (next_number numbers host tuple) t host tuple)
+connect_row numbers true t host tuple = free_row numbers (lowest_free host) t host tuple refl
+connect_row numbers false t host tuple = none numbers t host
 
 begin_row : (numbers : Numbers) (t : ℕ) (tuple : FourTuple) (seg : Seg) (site : Site (List Shown))
     → Row numbers t site.host (served_flow Beginning t (Local tuple seg) tuple (on_host (connected numbers t tuple seg) site)).host
 begin_row numbers t tuple seg site =
     let opened : Host = connected numbers t tuple seg site.host in
-    let first : Row numbers t site.host opened = connect_row numbers (connects seg) (is_known site.host tuple) t site.host tuple refl in
+    let first : Row numbers t site.host opened = connect_row numbers (connects seg && not (is_known site.host tuple)) t site.host tuple in
     joined numbers t site.host opened _ first.0 first.1 (flow_row numbers Beginning t (Local tuple seg) tuple (on_host (connected numbers t tuple seg) site))
 
 content_row : (numbers : Numbers) (stage : Stage) (t : ℕ) (content : Content) (site : Site (List Shown)) → Row numbers t site.host (served_content numbers stage t content site).host

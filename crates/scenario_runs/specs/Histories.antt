@@ -1,0 +1,9 @@
+-- What holds of the flows of a run of a scenario.
+use Rattle.std.specs.Prelude.{List, [], ⊤, ◌∷◌}
+use Rattle.tas_model.specs.Valid.{InRange}
+use Rattle.host_rounds.specs.Lists.{Each}
+use Rattle.scenario_text.specs.declared.scenario.HostLine.{HostLine}
+
+-- each host's parameters are in their ranges
+abbrev pub AreInRange : List HostLine → Type 0
+AreInRange hosts = Each (λ (h : HostLine). InRange h.params) hosts
