@@ -2,3 +2,4 @@ pub mod ByMoves
 pub mod AllRuns
 pub mod WorkedTalks
 pub mod WorkedEnds
+pub mod WorkedLinks

@@ -5,3 +5,4 @@ pub mod Histories
 pub mod WorkedParts
 pub mod WorkedTalks
 pub mod WorkedEnds
+pub mod WorkedLinks
