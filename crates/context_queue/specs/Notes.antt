@@ -26,10 +26,16 @@ pub record Receiver : Type 0 where
   pub senders : ℕ
   pub taken : List Letter
 
+-- the receiver has taken this note, of some sender, and else nothing changed
+abbrev pub HasTaken : Note → (before after : Receiver) → Type 0
+HasTaken n before after =
+    (from : ℕ) × (after ≡ record before { taken = before.taken ++ record { from = from; note = n } ∷ [] })
+
 -- The queue held these letters, behind others that were taken before; those of the sender are what it had posted.
 abbrev pub HoldsPosts : Sender → List Letter → Type 0
 HoldsPosts s waiting = (taken : List Letter) × (notes_of s.number (taken ++ waiting) ≡ s.posts)
 
--- The queue held these letters, behind those that the receiver had taken; together they are what each sender had posted.
+-- The queue held these letters, behind those that the receiver had taken; together they are what was posted.
 abbrev pub HoldsRest : Receiver → List Letter → Type 0
-HoldsRest r waiting = (posts : ℕ → List Note) × ((sender : ℕ) → notes_of sender (r.taken ++ waiting) ≡ posts sender)
+HoldsRest r waiting =
+    (posts : ℕ → List Note) × ((sender : ℕ) → notes_of sender (r.taken ++ waiting) ≡ posts sender)

@@ -3,7 +3,8 @@ use crate::note::{Letter, Note};
 use crossbeam_queue::protocol::{Lesson, Outcome, Protocol, Split};
 use std::collections::LinkedList;
 
-/// What a pass knows: whether it sends, by which number and what it posted, and whether it receives, what it took and how many senders it made. No value of it is made.
+/// What a pass knows: whether it sends, by which number and what it posted; whether it receives, what it took and how
+/// many senders it made. No value of it is made.
 pub struct View {
     pub sends: bool,
     pub number: u64,

@@ -1,6 +1,6 @@
 ghost use Rattle.std.specs.Prelude.{◌≡◌, ℕ, ◌<◌, ◌≤◌, ◌+◌, [], ◌∷◌, ◌++◌, IfOk, IsOk, IfSome, IfNone, OnOk, OnErr};
 ghost use Rattle.crossbeam_queue.specs.Fifo.{Held};
-ghost use Rattle.context_queue.specs.Notes.{HoldsPosts, HoldsRest};
+ghost use Rattle.context_queue.specs.Notes.{HasTaken, HoldsPosts, HoldsRest};
 
 use crate::delivery::{Delivery, Drain, NextSender, Post, View};
 use crate::note::{Letter, Note};
@@ -9,7 +9,8 @@ use std::alloc::{AllocError, Global};
 use std::marker::Model;
 use std::sync::Wait;
 
-/// A queue of notes from many senders to one receiver. Threads share it by `&`, each sender with a `SenderPass` of its own.
+/// A queue of notes from many senders to one receiver.
+/// Threads share it by `&`, each sender with a `SenderPass` of its own.
 ///
 /// It is seen as its place: which queue it is, and its room, in notes. What stands in it is known by passes alone.
 #[derive(Drop)]
@@ -44,7 +45,8 @@ impl Model for SenderPass {
     ghost invariant = { λ s. (s.pass.me.0.client ≡ sender s.number s.pass.me.0.client.posts) × (s.pass.me.1 ≡ []) };
 }
 
-/// The right of the one receiver to take notes, and to make senders. It is seen as its queue, the number of senders that were made, and the notes taken, each with its sender's number.
+/// The right of the one receiver to take notes, and to make senders. It is seen as its queue, the number of senders
+/// that were made, and the notes taken, each with its sender's number.
 #[derive(Drop)]
 pub struct ReceiverPass {
     senders: u32,
@@ -79,7 +81,8 @@ impl ContextQueue {
         Ok((ContextQueue { line }, ReceiverPass { senders: 0, pass }))
     }
 
-    /// The pass of the next sender. Senders are numbered from 0 in the order in which they are made. It takes no memory, and never fails.
+    /// The pass of the next sender. Senders are numbered from 0 in the order in which they are made.
+    /// It takes no memory, and never fails.
     pub fn sender(&self, _alloc: Global, r: &mut ReceiverPass) -> Result<SenderPass, AllocError>
         requires own { r.old.line ≡ self.now.line }
         requires few { r.old.senders < 4294967295 }
@@ -93,7 +96,8 @@ impl ContextQueue {
         Ok(SenderPass { number, pass })
     }
 
-    /// Posts a note behind all that stand in the queue. `Full` comes only where the queue was full at some moment of the call, and then nothing was posted.
+    /// Posts a note behind all that stand in the queue. `Full` comes only where the queue was full at some moment of
+    /// the call, and then nothing was posted.
     pub fn post<R: Wait>(&self, rt: &R, s: &mut SenderPass, n: Note) -> Result<(), Full>
         requires own { s.old.line ≡ self.now.line }
         ensures posted { OnOk result (s.new ≡ record s.old { posts = s.old.posts ++ n ∷ [] }) }
@@ -110,10 +114,11 @@ impl ContextQueue {
         }
     }
 
-    /// Takes the note that has stood in the queue the longest. `None` comes only where the queue was empty at some moment of the call, and then nothing was taken.
+    /// Takes the note that has stood in the queue the longest. `None` comes only where the queue was empty at some
+    /// moment of the call, and then nothing was taken.
     pub fn drain_one<R: Wait>(&self, rt: &R, r: &mut ReceiverPass) -> Option<Note>
         requires own { r.old.line ≡ self.now.line }
-        ensures taken { IfSome result (λ n. (from : ℕ) × (r.new ≡ record r.old { taken = r.old.taken ++ record { from = from; note = n } ∷ [] })) }
+        ensures taken { IfSome result (λ n. HasTaken n r.old r.new) }
         ensures empty { IfNone result (Held 0 (HoldsRest r.old)) }
         ensures none { IfNone result (r.new ≡ r.old) }
     {

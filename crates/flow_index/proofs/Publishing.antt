@@ -16,7 +16,8 @@ module _ {A B : Type 0} (v w : Sight) (x y : Store) (before after : List Change)
   Said r = MatchResult r (λ _. looked v x y w) (λ _. w ≡ v)
 
   abbrev pub Valued : Result A B → Type 0
-  Valued r = MatchResult r (λ _. (y.map.entries ≡ fold changed x.map.entries before) × (after ≡ [])) (λ _. (y ≡ x) × (after ≡ before))
+  Valued r = MatchResult r (λ _. (y.map.entries ≡ fold changed x.map.entries before) × (after ≡ [])) (λ _. (y ≡ x)
+      × (after ≡ before))
 
   pub later : (r : Result A B) → Said r → Begins v.seen w.seen
   later (Ok _) h = h.0
@@ -31,6 +32,8 @@ module _ {A B : Type 0} (v w : Sight) (x y : Store) (before after : List Change)
   made (Err _) h e was = subst (λ (s : Sight). IsMadeBy y s) (sym h) (subst (λ (z : Store). IsMadeBy z v) (sym e.0) was)
 
 -- what is found in what is published is what the changes that were then seen say
-pub found_seen : (x y : Store) (v w : Sight) (t : FourTuple) (found : Found) → found ≡ found_in y.map.entries t → y ≡ x → IsMadeBy x v → w ≡ v → found ≡ found_after t w.seen
+pub found_seen : (x y : Store) (v w : Sight) (t : FourTuple) (found : Found) → found ≡ found_in y.map.entries t
+    → y ≡ x → IsMadeBy x v → w ≡ v → found ≡ found_after t w.seen
 found_seen x y v w t found is same made seen =
-    is ∙ (ap (λ (s : Store). found_in s.map.entries t) same ∙ (ap (λ es. found_in es t) made ∙ (found_made v.seen t ∙ ap (λ (s : Sight). found_after t s.seen) (sym seen))))
+    is ∙ (ap (λ (s : Store). found_in s.map.entries t) same
+    ∙ (ap (λ es. found_in es t) made ∙ (found_made v.seen t ∙ ap (λ (s : Sight). found_after t s.seen) (sym seen))))

@@ -18,7 +18,7 @@ after_change t before (Remove u) = if is_same u t then Absent else before
 abbrev pub found_from : FourTuple → (before : Found) → List Change → Found
 found_from t before changes = fold (after_change t) before changes
 
--- The answer for `t` after these changes of an empty index: the flow that was put last, unless the four-tuple was removed since.
+-- The answer for `t` after these changes of an empty index: the flow that was put last, unless it was removed since.
 abbrev pub found_after : FourTuple → List Change → Found
 found_after t changes = found_from t Absent changes
 
@@ -30,8 +30,12 @@ Begins changes longer = (rest : List Change) × (longer ≡ changes ++ rest)
 abbrev pub AnswerAlike : List Change → List Change → Type 0
 AnswerAlike changes others = (t : FourTuple) → found_after t changes ≡ found_after t others
 
--- What a writer is seen as: the changes that are published, those that are pending, and how many readers may still be made.
+-- What a writer is seen as: the changes that are published and those that are pending, and how many readers may still
+-- be made.
 pub record Writing : Type 0 where
   pub published : List Change
   pub pending : List Change
   pub left : ℕ
+
+abbrev pub writing : (published pending : List Change) → (left : ℕ) → Writing
+writing published pending left = record { published = published; pending = pending; left = left }

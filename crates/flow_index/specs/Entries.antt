@@ -20,7 +20,9 @@ key_of t = record { laddr = t.laddr; lport = t.lport; raddr = t.raddr; rport = t
 
 -- the order of keys, field by field
 abbrev pub key_cmp : Key → Key → Ordering
-key_cmp = then_cmp (on (λ k. k.laddr) nat_cmp) (then_cmp (on (λ k. k.lport) nat_cmp) (then_cmp (on (λ k. k.raddr) nat_cmp) (on (λ k. k.rport) nat_cmp)))
+key_cmp =
+    then_cmp (on (λ k. k.laddr) nat_cmp)
+    (then_cmp (on (λ k. k.lport) nat_cmp) (then_cmp (on (λ k. k.raddr) nat_cmp) (on (λ k. k.rport) nat_cmp)))
 
 abbrev pub changed : Entries → Change → Entries
 changed es (Put t flow) = insert_entry key_cmp es (key_of t) flow

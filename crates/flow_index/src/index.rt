@@ -3,7 +3,7 @@ ghost use Rattle.left_right.specs.Sides.{view};
 ghost use Rattle.flow_index.specs.declared.change.Change.TheVariants.{Put, Remove};
 ghost use Rattle.flow_index.specs.Changes.{Begins, AnswerAlike, found_after};
 ghost use Rattle.flow_index.specs.Entries.{changed};
-ghost use Rattle.flow_index.specs.Published.{newcomer, IsMadeBy};
+ghost use Rattle.flow_index.specs.Published.{newcomer, IsMadeBy, Shows};
 
 use crate::change::{Change, Found};
 use crate::order::{Look, Order, Sight};
@@ -31,12 +31,12 @@ pub struct IndexWriter {
 
 impl Model for IndexWriter {
     ghost use Rattle.std.specs.Prelude.{◌≡◌, drop};
-    ghost use Rattle.flow_index.specs.Changes.{Writing};
+    ghost use Rattle.flow_index.specs.Changes.{Writing, writing};
     ghost use Rattle.flow_index.specs.Entries.{entries_of};
 
     ghost Value = { Writing };
 
-    ghost view = { λ w. record { published = w.writer.desk.place.me.0.client.seen; pending = drop w.writer.behind w.writer.log.items; left = w.left } };
+    ghost view = { λ w. writing w.writer.desk.place.me.0.client.seen (drop w.writer.behind w.writer.log.items) w.left };
 
     ghost invariant = { λ w. w.writer.desk.shown.value.map.entries ≡ entries_of w.writer.desk.place.me.0.client.seen };
 }
@@ -70,10 +70,14 @@ fn sit_down<R: Wait>(rt: &R, factory: &Factory<Store, Sight, Order>) -> StoreRea
 
 fn publish_all<R: Wait>(rt: &R, writer: StoreWriter) -> (StoreWriter, Result<(), AllocError>)
     ensures later { Begins (view writer.desk.place).seen (view result.0.desk.place).seen }
-    ensures published { IsMadeBy writer.desk.shown.value (view writer.desk.place) → OnOk result.1 (AnswerAlike (view result.0.desk.place).seen ((view writer.desk.place).seen ++ drop writer.behind writer.log.items)) }
+    ensures published { IsMadeBy writer.desk.shown.value (view writer.desk.place)
+        → OnOk result.1
+        (Shows (view writer.desk.place) (drop writer.behind writer.log.items) (view result.0.desk.place)) }
     ensures pending { OnOk result.1 (drop result.0.behind result.0.log.items ≡ []) }
-    ensures err { OnErr result.1 ((view result.0.desk.place ≡ view writer.desk.place) × (drop result.0.behind result.0.log.items ≡ drop writer.behind writer.log.items)) }
-    ensures made { IsMadeBy writer.desk.shown.value (view writer.desk.place) → IsMadeBy result.0.desk.shown.value (view result.0.desk.place) }
+    ensures seen { OnErr result.1 (view result.0.desk.place ≡ view writer.desk.place) }
+    ensures kept { OnErr result.1 (drop result.0.behind result.0.log.items ≡ drop writer.behind writer.log.items) }
+    ensures made { IsMadeBy writer.desk.shown.value (view writer.desk.place)
+        → IsMadeBy result.0.desk.shown.value (view result.0.desk.place) }
 {
     writer.publish_as::<Look, R>(rt)
 }
@@ -134,7 +138,8 @@ impl IndexWriter {
             .map_err(|_| AllocError)
     }
 
-    /// Shows readers all pending changes at once. It waits for those that still read the older of its two copies. The error is want of memory, and leaves what was published and what is pending.
+    /// Shows readers all pending changes at once. It waits for those that still read the older of its two copies.
+    /// The error is want of memory, and leaves what was published and what is pending.
     pub fn publish<R: Wait>(&mut self, rt: &R) -> Result<(), AllocError>
         ensures later { Begins self.old.published self.new.published }
         ensures published { OnOk result (AnswerAlike self.new.published (self.old.published ++ self.old.pending)) }

@@ -1,5 +1,6 @@
 -- Tables kept in words.
-use Rattle.std.proofs.Common.{◌≡◌, ◌≢◌, ℕ, zero, suc, ◌+◌, ◌-◌, ◌*◌, ◌/◌, ◌%◌, ◌<◌, List, length, set, get_or, sym, refl, ap, ◌∙◌, arith}
+use Rattle.std.proofs.Common.{◌≡◌, ◌≢◌, ℕ, zero, suc, ◌+◌, ◌-◌, ◌*◌, ◌/◌, ◌%◌, ◌<◌, List, length, set, get_or, sym}
+use Rattle.std.proofs.Common.{refl, ap, ◌∙◌, arith}
 use Rattle.std.specs.Prelude.{slice_index}
 use mathlib.Core.Logic.{dite}
 use native.Mathlib.Decide.{ℕ_discrete}
@@ -16,31 +17,44 @@ unfolding cores_from
 cores-length cores words group zero = refl
 cores-length cores words group (suc k) = ap suc (cores-length cores words (suc group) k)
 
-pub cores_at : (cores : ℕ) (words : List ℕ) (group k i : ℕ) → i < k → get_or (cores_from cores words group k) i 0 ≡ (group + i + distance words (group + i)) % cores
+pub cores_at : (cores : ℕ) (words : List ℕ) (group k i : ℕ) → i < k
+    → get_or (cores_from cores words group k) i 0 ≡ (group + i + distance words (group + i)) % cores
 unfolding cores_from
 cores_at cores words group zero i h = absurd (omega arith)
-cores_at cores words group (suc k) zero h = let e : group ≡ group + 0 = omega arith in ap (λ g. (g + distance words g) % cores) e
+cores_at cores words group (suc k) zero h = let e : group ≡ group + 0 = omega arith in
+    ap (λ g. (g + distance words g) % cores) e
 cores_at cores words group (suc k) (suc i) h =
     let e : suc group + i ≡ group + suc i = omega arith in
     cores_at cores words (suc group) k i (omega arith) ∙ ap (λ g. (g + distance words g) % cores) e
 
-pub table_at : (cores : ℕ) (words : List ℕ) (group : ℕ) → group < 64 → core_in (table_of cores words) group ≡ (group + distance words group) % cores
-table_at cores words group h = let e : 0 + group ≡ group = omega arith in cores_at cores words 0 64 group h ∙ ap (λ g. (g + distance words g) % cores) e
+pub table_at : (cores : ℕ) (words : List ℕ) (group : ℕ) → group < 64
+    → core_in (table_of cores words) group ≡ (group + distance words group) % cores
+table_at cores words group h = let e : 0 + group ≡ group = omega arith in
+    cores_at cores words 0 64 group h ∙ ap (λ g. (g + distance words g) % cores) e
 
-module _ (words : List ℕ) (group word new : ℕ) (fits : group / 16 < length words) (is : digits 16 word ≡ set (digits 16 (slice_index words (group / 16))) (group % 16) new) where
+-- the word of a group, with other bits for it
+abbrev IsWordFor : List ℕ → (group new word : ℕ) → Type 0
+IsWordFor words group new word = digits 16 word ≡ set (digits 16 (slice_index words (group / 16))) (group % 16) new
+
+module _ (words : List ℕ) (group word new : ℕ) (fits : group / 16 < length words)
+    (is : IsWordFor words group new word) where
   abbrev changed : List ℕ
   changed = set words (group / 16) word
 
   pub distance_same : distance changed group ≡ new
   distance_same =
-      let e : digits 16 (slice_index changed (group / 16)) ≡ digits 16 word = ap (digits 16) (get_or-set_same words (group / 16) word 0 fits) in
-      let room : group % 16 < length (digits 16 (slice_index words (group / 16))) = let l = digits-length 16 (slice_index words (group / 16)) in omega arith in
-      ap (λ l. slice_index l (group % 16)) (e ∙ is) ∙ get_or-set_same (digits 16 (slice_index words (group / 16))) (group % 16) new 0 room
+      let e : digits 16 (slice_index changed (group / 16)) ≡ digits 16 word =
+      ap (digits 16) (get_or-set_same words (group / 16) word 0 fits) in
+      let room : group % 16 < length (digits 16 (slice_index words (group / 16))) = let l =
+      digits-length 16 (slice_index words (group / 16)) in omega arith in
+      ap (λ l. slice_index l (group % 16)) (e ∙ is)
+      ∙ get_or-set_same (digits 16 (slice_index words (group / 16))) (group % 16) new 0 room
 
   pub distance_other : (other : ℕ) → other ≢ group → distance changed other ≡ distance words other
   distance_other other apart = dite (ℕ_discrete (other / 16) (group / 16))
       (λ same.
-      let e : slice_index changed (other / 16) ≡ word = ap (slice_index changed) same ∙ get_or-set_same words (group / 16) word 0 fits in
+      let e : slice_index changed (other / 16) ≡ word = ap (slice_index changed) same
+      ∙ get_or-set_same words (group / 16) word 0 fits in
       let place : other % 16 ≢ group % 16 = λ p. apart (omega arith) in
       ap (λ w. slice_index (digits 16 w) (other % 16)) e
       ∙ (ap (λ l. slice_index l (other % 16)) is
@@ -48,7 +62,8 @@ module _ (words : List ℕ) (group word new : ℕ) (fits : group / 16 < length w
       ∙ ap (λ w. slice_index (digits 16 (slice_index words w)) (other % 16)) (sym same))))
       (λ ne. ap (λ w. slice_index (digits 16 w) (other % 16)) (get_or-set_other words (group / 16) (other / 16) word 0 ne))
 
-  pub table_moved : (cores core : ℕ) → group < 64 → (group + new) % cores ≡ core → table_of cores changed ≡ moved (table_of cores words) group core
+  pub table_moved : (cores core : ℕ) → group < 64 → (group + new) % cores ≡ core
+      → table_of cores changed ≡ moved (table_of cores words) group core
   table_moved cores core small on =
       let old : Table = table_of cores words in
       ext_get_or 0 (table_of cores changed) (set old group core)
@@ -73,7 +88,8 @@ reached group core cores below =
     let d : ℕ = core + cores - group % cores in
     let whole : group + d ≡ core + (group / cores + 1) * cores = omega arith in
     let inner : (group + d % cores) % cores ≡ (group + d) % cores =
-    add-mod group (d % cores) cores ∙ (ap (λ x. (group % cores + x) % cores) (mod-mod d cores) ∙ sym (add-mod group d cores)) in
+    add-mod group (d % cores) cores
+    ∙ (ap (λ x. (group % cores + x) % cores) (mod-mod d cores) ∙ sym (add-mod group d cores)) in
     inner ∙ (ap (λ x. x % cores) whole ∙ (add-mul-mod_self_right core (group / cores + 1) cores ∙ mod-eq_of_lt below))
 
 pub first_is_spread : (cores : ℕ) → table_of cores first_words ≡ first_table cores
@@ -89,4 +105,5 @@ pub spread_at : (cores group k i : ℕ) → i < k → get_or (spread cores group
 unfolding spread
 spread_at cores group zero i h = absurd (omega arith)
 spread_at cores group (suc k) zero h = let e : group ≡ group + 0 = omega arith in ap (λ g. g % cores) e
-spread_at cores group (suc k) (suc i) h = let e : suc group + i ≡ group + suc i = omega arith in spread_at cores (suc group) k i (omega arith) ∙ ap (λ g. g % cores) e
+spread_at cores group (suc k) (suc i) h = let e : suc group + i ≡ group + suc i = omega arith in
+    spread_at cores (suc group) k i (omega arith) ∙ ap (λ g. g % cores) e

@@ -1,5 +1,6 @@
 -- Each step keeps the order.
-use Rattle.std.proofs.Common.{◌≡◌, ℕ, zero, suc, List, [], ◌∷◌, ◌++◌, set, map, sym, refl, ap, ◌∙◌, subst, ⊎_elim, append_assoc, append-nil}
+use Rattle.std.proofs.Common.{◌≡◌, ℕ, zero, suc, List, [], ◌∷◌, ◌++◌, set, map, sym, refl, ap, ◌∙◌, subst, ⊎_elim}
+use Rattle.std.proofs.Common.{append_assoc, append-nil}
 use mathlib.Core.Option.{some, some-ne-none, some-injective}
 use lib.ListN.{get_elem?}
 use Rattle.std.proofs.lemmas.List.{map-append}
@@ -13,9 +14,12 @@ begins_more : (xs ys zs : List (List ℕ)) → Begins xs ys → Begins xs (ys ++
 begins_more xs ys zs b = (b.0 ++ zs, ap (λ l. l ++ zs) b.1 ∙ append_assoc xs b.0 zs)
 
 -- one pass knows more, and the others what they knew
-others : (views : List Seen) (log : List (List ℕ)) (id : ℕ) (w : Seen) → Begins w.words log → ((k : ℕ) (v : Seen) → get_elem? views k ≡ some v → Begins v.words log) → (k : ℕ) (v : Seen) → get_elem? (set views id w) k ≡ some v → Begins v.words log
+others : (views : List Seen) (log : List (List ℕ)) (id : ℕ) (w : Seen) → Begins w.words log
+    → ((k : ℕ) (v : Seen) → get_elem? views k ≡ some v → Begins v.words log) → (k : ℕ) (v : Seen)
+    → get_elem? (set views id w) k ≡ some v → Begins v.words log
 others views log id w mine h k v e =
-    ⊎_elim (λ (t : (k ≡ id) × (w ≡ v)). subst (λ (u : Seen). Begins u.words log) t.1 mine) (λ t. h k v t.1) (at_set views id k w v e)
+    ⊎_elim (λ (t : (k ≡ id)
+    × (w ≡ v)). subst (λ (u : Seen). Begins u.words log) t.1 mine) (λ t. h k v t.1) (at_set views id k w v e)
 
 pub begins : OneOrder first_words (newcomer ∷ [])
 begins = (first_words ∷ [], ([], refl), one)
@@ -33,9 +37,10 @@ pub swaps : (id : ℕ) (v : Seen) (new : List ℕ) → Turns OneOrder id v (λ _
 swaps id v new cell views h at =
     let log = h.0 ++ new ∷ [] in
     let w : Seen = record { words = log } in
+    let more = λ (k : ℕ) (u : Seen) (e : get_elem? views k ≡ some u). begins_more u.words h.0 (new ∷ []) (h.2 k u e) in
     let b = h.2 id v at in (
       w,
-      (log, (h.0, refl), others views log id w ([], sym (append-nil log)) (λ k u e. begins_more u.words h.0 (new ∷ []) (h.2 k u e))),
+      (log, (h.0, refl), others views log id w ([], sym (append-nil log)) more),
       (b.0, ap (λ l. l ++ new ∷ []) b.1),
     )
 
@@ -57,6 +62,7 @@ module _ (f : List ℕ → Table) where
   pub ends_mapped : (x : List ℕ) (xs : List (List ℕ)) → EndsWith x xs → EndsWith (f x) (map f xs)
   ends_mapped x xs e = (map f e.0, ap (map f) e.1 ∙ map-append f e.0 (x ∷ []))
 
-  pub swap_mapped : (now between ws : List (List ℕ)) (new : List ℕ) (table : Table) → ws ≡ (now ++ between) ++ new ∷ [] → f new ≡ table → map f ws ≡ (map f now ++ map f between) ++ table ∷ []
+  pub swap_mapped : (now between ws : List (List ℕ)) (new : List ℕ) (table : Table)
+      → ws ≡ (now ++ between) ++ new ∷ [] → f new ≡ table → map f ws ≡ (map f now ++ map f between) ++ table ∷ []
   swap_mapped now between ws new table e is =
       ap (map f) e ∙ (map-append f (now ++ between) (new ∷ []) ∙ (λ i. map-append f now between i ++ is i ∷ []))

@@ -36,16 +36,20 @@ pub record Place : Type 0 where
   pub cell : TableId
   pub cores : ℕ
 
--- What a pass has seen of its steering: the tables in the order in which they came, up to the last one that it knows of.
+-- What a pass has seen of its steering: the tables in the order in which they came, up to the last that it knows of.
 pub record Sight : Type 0 where
   pub place : Place
   pub tables : List Table
+
+abbrev pub sight : TableId → (cores : ℕ) → List Table → Sight
+sight cell cores tables = record { place = record { cell = cell; cores = cores }; tables = tables }
 
 -- a core of the group, as the last of these tables has it
 abbrev pub IsCoreIn : List Table → (group core : ℕ) → Type 0
 IsCoreIn tables group core = (table : Table) × EndsWith table tables × (core ≡ core_in table group)
 
--- What an assign adds to the tables that a pass has seen: those up to one table, then those that others assigned in between, then its own, which is that one table with the group moved.
+-- What an assign adds to the tables that a pass has seen: those up to one table, then those that others assigned in
+-- between, then its own, which is that one table with the group moved.
 pub record Assigned (group core : ℕ) (before after : List Table) : Type 0 where
   pub now : List Table
   pub table : Table

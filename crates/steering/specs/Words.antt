@@ -1,4 +1,5 @@
--- How a table is kept: in four words, 16 groups a word, four bits a group, the lowest group in the lowest bits. The bits of a group say by how many cores it stands past its first one.
+-- How a table is kept: in four words, 16 groups a word, four bits a group, the lowest group in the lowest bits.
+-- The bits of a group say by how many cores it stands past its first one.
 use Rattle.std.specs.Prelude.{ℕ, zero, suc, ◌+◌, ◌/◌, ◌%◌, List, [], ◌∷◌, slice_index}
 use Rattle.steering.specs.Tables.{Table}
 

@@ -3,9 +3,9 @@ ghost use Rattle.steering.specs.Tables.{Table, core_in, moved, first_table};
 
 /// An assign puts its group on its core and moves no other group.
 pub fn an_assign_moves_one_group()
-    ensures moved { (table : Table) (group core : ℕ) → group < length table → core_in (moved table group core) group ≡ core }
-    ensures stays { (table : Table) (group core other : ℕ) → other ≢ group → core_in (moved table group core) other ≡ core_in table other }
-    ensures size { (table : Table) (group core : ℕ) → length (moved table group core) ≡ length table }
+    ensures moved { (t : Table) (group core : ℕ) → group < length t → core_in (moved t group core) group ≡ core }
+    ensures stays { (t : Table) (group core h : ℕ) → h ≢ group → core_in (moved t group core) h ≡ core_in t h }
+    ensures size { (t : Table) (group core : ℕ) → length (moved t group core) ≡ length t }
 {}
 
 /// At first there are 64 groups, and each is on the core of its own number modulo the cores.

@@ -9,7 +9,8 @@ use std::marker::Model;
 use std::sync::Wait;
 use tas_model::FourTuple;
 
-/// The group of a flow, below 64: the sum of both addresses and both ports, modulo 64. All frames of a flow are of one group.
+/// The group of a flow, below 64: the sum of both addresses and both ports, modulo 64.
+/// All frames of a flow are of one group.
 pub fn group(t: &FourTuple) -> u32
     ensures group { result ≡ group_of t.now }
     ensures below { result < 64 }
@@ -19,9 +20,11 @@ pub fn group(t: &FourTuple) -> u32
     ((addresses + ports) % 64) as u32
 }
 
-/// The table of steering: the core of each of the 64 groups of flows. Threads share it by `&`, each with a `SteerPass` of its own.
+/// The table of steering: the core of each of the 64 groups of flows.
+/// Threads share it by `&`, each with a `SteerPass` of its own.
 ///
-/// It is seen as its place: which steering it is, and the number of its cores. What stands in it is known by passes alone, since any of them may change it.
+/// It is seen as its place: which steering it is, and the number of its cores.
+/// What stands in it is known by passes alone, since any of them may change it.
 #[derive(Drop)]
 pub struct Steering {
     cores: u32,
@@ -39,7 +42,7 @@ impl Model for Steering {
     ghost invariant = { λ s. (0 < s.cores) × (s.cores ≤ 16) };
 }
 
-/// What one user of a steering has seen of it. It has no bytes of the table, and is no lock: any number of them may be in use at once.
+/// What one user of a steering has seen of it. It is no lock: any number of them may be in use at once.
 ///
 /// It is seen as the place of its steering and the tables that it has seen, in the order in which they came.
 #[derive(Drop)]
@@ -51,16 +54,17 @@ pub struct SteerPass {
 impl Model for SteerPass {
     ghost use Rattle.std.specs.Prelude.{map};
     ghost use Rattle.crossbeam_utils.specs.Seq.{cell_view};
-    ghost use Rattle.steering.specs.Tables.{Sight};
+    ghost use Rattle.steering.specs.Tables.{Sight, sight};
     ghost use Rattle.steering.specs.Words.{table_of};
 
     ghost Value = { Sight };
 
-    ghost view = { λ p. record { place = record { cell = p.pass.table_id; cores = p.cores }; tables = map (table_of p.cores) (cell_view p.pass).words } };
+    ghost view = { λ p. sight (p.pass.table_id) p.cores (map (table_of p.cores) (cell_view p.pass).words) };
 }
 
 impl Steering {
-    /// A steering of 1 to 16 cores, with group g on core g modulo the cores, and its first pass, which has seen that table. The error is want of memory.
+    /// A steering of 1 to 16 cores, with group g on core g modulo the cores, and its first pass, which has seen
+    /// that table. The error is want of memory.
     pub fn new(alloc: Global, cores: u32) -> Result<(Steering, SteerPass), AllocError>
         requires cores { (0 < cores) × (cores ≤ 16) }
         ensures cores { IfOk result (λ made. made.0.cores ≡ cores) }
@@ -85,7 +89,8 @@ impl Steering {
         })
     }
 
-    /// The core of a group below 64, in one whole table: the last of those that the pass has then seen, which begin with all that it had seen.
+    /// The core of a group below 64, in one whole table: the last of those that the pass has then seen.
+    /// They begin with all that it had seen.
     pub fn core_of<R: Wait>(&self, rt: &R, p: &mut SteerPass, group: u32) -> u32
         requires own { p.old.place ≡ self.now }
         requires group { group < 64 }
@@ -98,7 +103,10 @@ impl Steering {
         core_at(&words, group, self.cores)
     }
 
-    /// Puts a group below 64 on a core below the number of cores, from then on. It takes one table and puts the changed one in its place, so two passes that assign at once may undo one another's change: let one of them assign.
+    /// Puts a group below 64 on a core below the number of cores, from then on.
+    ///
+    /// It takes one table and puts the changed one in its place, so two passes that assign at once may undo one
+    /// another's change: let one of them assign.
     pub fn assign<R: Wait>(&self, rt: &R, p: &mut SteerPass, group: u32, core: u32)
         requires own { p.old.place ≡ self.now }
         requires group { group < 64 }

@@ -6,4 +6,5 @@ pub enter_as-requires : goal.enter_as-requires
 enter_as-requires g c = looks _ _
 
 pub returns-in-Ok-clause-found : goal.returns-in-Ok-clause-found
-returns-in-Ok-clause-found g c = found_seen _ _ _ _ c.args.t _ c.find-found.ensures c.get.ensures c.in-Ok.ensures.1.1 c.leave-reader.ensures.1
+returns-in-Ok-clause-found g c =
+    found_seen _ _ _ _ c.args.t _ c.find-found.ensures c.get.ensures c.in-Ok.ensures.1.1 c.leave-reader.ensures.1

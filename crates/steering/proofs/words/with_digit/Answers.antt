@@ -16,6 +16,8 @@ pub returns : goal.returns
 returns c =
     let k : ℕ = c.args.place in
     let mask : 15 * 2 ^ (4 * k) % 18446744073709551616 ≡ 15 * 16 ^ k = fits k 15 c.requires.place (omega arith) in
-    let number : c.from.result * 2 ^ (4 * k) % 18446744073709551616 ≡ c.args.digit * 16 ^ k = ap (λ d. d * 2 ^ (4 * k) % 18446744073709551616) c.from.ensures ∙ fits k c.args.digit c.requires.place c.requires.digit in
+    let number : c.from.result * 2 ^ (4 * k) % 18446744073709551616 ≡ c.args.digit * 16 ^ k =
+    ap (λ d. d * 2 ^ (4 * k) % 18446744073709551616) c.from.ensures
+    ∙ fits k c.args.digit c.requires.place c.requires.digit in
     (λ i. digits 16 (bit_or (bit_and c.args.word (18446744073709551615 - mask i)) (number i)))
     ∙ replaced_digits 16 k c.args.word c.args.digit c.requires.place c.ranges.word.fits c.requires.digit

@@ -14,5 +14,6 @@ returns-clause-taken g c =
     let letter = c.in_ok-letter.letter in
     let line = c.in_ok-letter.ensures.queue.0 ∙ ap (λ (r : Receiver). r.line) c.r.view_is in
     let senders = ap (λ (r : Receiver). r.senders) c.r.view_is in
-    let taken = ap (λ (v : View). v.taken) c.in_ok-letter.ensures.rule ∙ ap (λ (r : Receiver). r.taken ++ letter ∷ []) c.r.view_is in
+    let taken = ap (λ (v : View). v.taken) c.in_ok-letter.ensures.rule
+    ∙ ap (λ (r : Receiver). r.taken ++ letter ∷ []) c.r.view_is in
     (letter.from, λ i. record { line = line i; senders = senders i; taken = taken i })

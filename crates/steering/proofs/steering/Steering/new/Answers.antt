@@ -10,4 +10,5 @@ ruled-requires c = (search rules, (search rules, begins))
 
 pub returns-clause-first : goal.returns-clause-first
 returns-clause-first c =
-    ap (λ (v : Seen). map (table_of c.args.cores) v.words) c.in_ok-cell.ensures.1 ∙ ap (λ t. t ∷ []) (first_is_spread c.args.cores)
+    ap (λ (v : Seen). map (table_of c.args.cores) v.words) c.in_ok-cell.ensures.1
+    ∙ ap (λ t. t ∷ []) (first_is_spread c.args.cores)
