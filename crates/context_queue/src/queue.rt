@@ -81,18 +81,19 @@ impl ContextQueue {
         Ok((ContextQueue { line }, ReceiverPass { senders: 0, pass }))
     }
 
-    /// The pass of the next sender. Senders are numbered from 0 in the order in which they are made.
-    /// It takes no memory, and never fails.
+    /// The pass of the next sender. Senders are numbered from 0 in the order in which they are made. It takes no
+    /// memory, and fails only where all numbers were given; then nothing changes.
     pub fn sender(&self, _alloc: Global, r: &mut ReceiverPass) -> Result<SenderPass, AllocError>
         requires own { r.old.line ≡ self.now.line }
-        requires few { r.old.senders < 4294967295 }
-        ensures made { IsOk result }
+        ensures made { r.old.senders < 4294967295 → IsOk result }
         ensures new { IfOk result (λ s. s ≡ record { line = self.now.line; number = r.old.senders; posts = [] }) }
-        ensures counted { r.new ≡ record r.old { senders = r.old.senders + 1 } }
+        ensures counted { OnOk result (r.new ≡ record r.old { senders = r.old.senders + 1 }) }
+        ensures err { OnErr result (r.new ≡ r.old) }
     {
         let number = r.senders;
+        let next = number.checked_add(1).ok_or(AllocError)?;
         let pass = self.line.another::<NextSender>(&mut r.pass);
-        r.senders = number + 1;
+        r.senders = next;
         Ok(SenderPass { number, pass })
     }
 
