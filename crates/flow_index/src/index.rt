@@ -23,6 +23,7 @@ type StoreReader = Reader<Store, Sight, Order>;
 
 /// The one writer of an index. Its changes are pending until they are published.
 ///
+/// It is seen as the changes that are published, those that are pending, and how many readers may still be made.
 /// It is no `Drop`: `end` it.
 pub struct IndexWriter {
     writer: StoreWriter,
@@ -103,7 +104,8 @@ impl IndexWriter {
         })
     }
 
-    /// A further reader, which has seen nothing yet. Fewer were made than `new` was told.
+    /// A further reader, which has seen nothing yet; `new` was told of more readers than were made before.
+    /// It takes no memory, and never fails.
     pub fn reader<R: Wait>(&mut self, rt: &R) -> Result<IndexReader, AllocError>
         requires left { 0 < self.old.left }
         ensures made { IsOk result }
