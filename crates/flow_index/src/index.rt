@@ -1,8 +1,7 @@
-ghost use Rattle.std.specs.Prelude.{◌≡◌, ◌<◌, ◌+◌, [], ◌∷◌, ◌++◌, IfOk, IsOk, OnOk, OnErr, MatchResult, drop, fold};
+ghost use Rattle.std.specs.Prelude.{◌≡◌, ◌<◌, ◌+◌, [], ◌∷◌, ◌++◌, IfOk, IsOk, OnOk, OnErr, drop};
 ghost use Rattle.left_right.specs.Sides.{view};
 ghost use Rattle.flow_index.specs.declared.change.Change.TheVariants.{Put, Remove};
 ghost use Rattle.flow_index.specs.Changes.{Begins, AnswerAlike, found_after};
-ghost use Rattle.flow_index.specs.Entries.{changed};
 ghost use Rattle.flow_index.specs.Published.{newcomer, IsMadeBy, Shows};
 
 use crate::change::{Change, Found};
