@@ -1,0 +1,12 @@
+//! Which core each group of flows is on, in a table that threads share.
+#![tactic(auto)]
+
+mod laws;
+mod order;
+mod steering;
+#[cfg(test)]
+mod tests;
+mod words;
+
+pub use laws::{an_assign_moves_one_group, groups_start_on_their_numbers};
+pub use steering::{SteerPass, Steering, group};
