@@ -9,3 +9,4 @@ mod Taking
 mod Opening
 mod Freeing
 mod Moving
+mod Closing

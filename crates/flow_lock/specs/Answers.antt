@@ -15,6 +15,8 @@ use Rattle.flow_lock.specs.declared.view.History.{History}
 use Rattle.flow_lock.specs.declared.view.Mark.{Mark}
 use Rattle.flow_lock.specs.declared.pass.PinRefused.{PinRefused}
 use Rattle.flow_lock.specs.declared.pass.PinRefused.TheVariants.{Stale, Moved}
+use Rattle.flow_lock.specs.declared.closed.CloseRefused.{CloseRefused}
+use Rattle.flow_lock.specs.declared.closed.CloseRefused.TheVariants.{OutOfMemory, StillOut}
 
 -- ----- the slow path's list
 abbrev pub is_free : Mark → Bool
@@ -87,3 +89,8 @@ IsHeldBack id v w n =
     × ((x.pins ≡ n) × (n ≢ 1))
     × IsKnown v id.slot x
     × ((w ≡ counted id.slot x v) ⊎ ((y : Word) × (w ≡ counted id.slot x (counted id.slot y v))))
+
+-- passes are out that weren't joined, or memory is wanting
+abbrev pub IsCloseRefused : View → CloseRefused → Type 0
+IsCloseRefused v OutOfMemory = v.parts ≡ 4097
+IsCloseRefused v (StillOut n) = (n ≢ 0) × (n + v.parts ≡ 4097)

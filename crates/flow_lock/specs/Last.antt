@@ -11,7 +11,7 @@ use Rattle.flow_lock.specs.declared.view.Held.{Held}
 use Rattle.flow_lock.specs.declared.view.History.{History}
 use Rattle.flow_lock.specs.declared.view.Mark.{Mark}
 
--- the flows of the slots from i on, in the order of slots
+-- the flows of the slots from i on that have one, in the order of slots
 abbrev pub flows_from : ℕ → List Mark → List FlowId
 flows_from i [] = []
 flows_from i (m ∷ ms) = cond m.live (flow_at i m.generation ∷ flows_from (i + 1) ms) (flows_from (i + 1) ms)

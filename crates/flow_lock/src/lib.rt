@@ -2,6 +2,7 @@
 #![tactic(auto)]
 
 mod barrier;
+mod closed;
 mod pass;
 mod plays;
 mod slow;
@@ -9,6 +10,7 @@ mod table;
 mod view;
 mod word;
 
+pub use closed::{CloseRefused, Closed};
 pub use pass::{Full, Pass, Pin, PinRefused, Pinned, SlowPass};
 pub use table::FlowTable;
 pub use view::{Deed, Held, History, Mark, Sight, Span, Turn, View};

@@ -16,6 +16,9 @@ use crate::view::Mark;
 use crate::word::{DOOMED, Word, read_word, write_word};
 use tas_model::{FlowId, Recorded};
 
+/// The pins of a flow that the slow path alone has pinned.
+const SOLE: u16 = 1;
+
 impl<R: Recorded + Drop> FlowTable<R> {
     /// Opens the lowest free slot for the record, which has one entry and bears the id that `next_flow` gives. The
     /// answer has the slow path's pin. `Full` comes exactly where every slot has a flow.
@@ -129,7 +132,7 @@ impl<R: Recorded + Drop> FlowTable<R> {
         let shared = &self.table.shared;
         let old = shared.load::<Inspect>(&mut pass.seat, at);
         let pins = read_word(old).pins;
-        if pins != 1 {
+        if pins != SOLE {
             return Err(Pinned(pins));
         }
         let dead = write_word(pin.flow.generation, 0, false);
