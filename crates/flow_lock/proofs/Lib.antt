@@ -1,0 +1,12 @@
+mod Words
+mod Sums
+mod Histories
+mod Ordering
+mod Acting
+mod Changes
+mod Pinning
+mod Taking
+mod Opening
+mod Freeing
+mod Moving
+mod Closing

@@ -1,0 +1,9 @@
+pub mod Words
+pub mod Histories
+pub mod Orders
+pub mod Claims
+pub mod Steps
+pub mod Passes
+pub mod Plays
+pub mod Answers
+pub mod Last
