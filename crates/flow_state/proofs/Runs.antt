@@ -1,5 +1,5 @@
 -- Runs of quiet ticks, and one tick more.
-use Rattle.std.proofs.Common.{◌≡◌, ℕ, zero, suc, ◌+◌, ◌<◌, ◌≤◌, ◌^◌, Bool, true, false, ◌&&◌, eqb, List, [], ◌∷◌, ◌++◌, length, get_or, set, slice_get, Some, refl, sym, ◌∙◌, ap, subst, arith, append_assoc, append-nil}
+use Rattle.std.proofs.Common.{◌≡◌, ℕ, zero, suc, ◌+◌, ◌<◌, Bool, true, false, ◌&&◌, eqb, List, [], ◌∷◌, ◌++◌, length, get_or, set, slice_get, Some, refl, sym, ◌∙◌, ap, arith, append_assoc, append-nil}
 use Rattle.std.proofs.lemmas.Bool.Decides.{nat_tests}
 use Rattle.tas_model.specs.declared.entry.Caller.{Caller}
 use Rattle.tas_model.specs.declared.entry.Entry.{Entry}
@@ -11,9 +11,9 @@ use Rattle.flow_state.specs.declared.slot.ReplySlot.TheVariants as rs
 use Rattle.flow_state.specs.declared.slot.Slot.{Slot}
 use Rattle.flow_state.specs.declared.stretch.QuietRun.{QuietRun}
 use Rattle.flow_state.specs.declared.stretch.Stretch.{Stretch}
-use Rattle.flow_state.specs.declared.stretch.Stretch.TheVariants.{One, Quiet}
+use Rattle.flow_state.specs.declared.stretch.Stretch.TheVariants.{Quiet}
 use Rattle.flow_state.specs.Slots.{entry_of, call_in, reply_in}
-use Rattle.flow_state.specs.Stretches.{quiet_tick, quiet_ticks, run_entries, entries_in, entries_of, IsRun, StretchWithin, AllWithin, is_quiet_pair, is_quiet_tick, comes_next}
+use Rattle.flow_state.specs.Stretches.{quiet_tick, quiet_ticks, run_entries, entries_in, entries_of, StretchWithin, AllWithin, is_quiet_pair, is_quiet_tick, comes_next}
 use Rattle.flow_state.proofs.Counting.{caller_is}
 
 -- the last of so many and one more

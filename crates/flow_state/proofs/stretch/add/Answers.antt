@@ -1,5 +1,4 @@
-use Rattle.std.proofs.Common.{◌≡◌, List, subst, sym}
-use Rattle.flow_state.specs.declared.stretch.Stretch.{Stretch}
+use Rattle.std.proofs.Common.{subst, sym}
 use Rattle.flow_state.specs.Stretches.{AllWithin}
 use Rattle.flow_state.proofs.Runs.{within_push}
 use Rattle.flow_state.proofs.stretch.add.Goals as goal

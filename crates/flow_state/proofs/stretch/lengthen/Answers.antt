@@ -1,6 +1,4 @@
-use Rattle.std.proofs.Common.{◌≡◌, ℕ, suc, ◌+◌, ◌-◌, true, length, get_or, List, sym, ◌∙◌, arith}
-use Rattle.flow_state.specs.declared.slot.Slot.{Slot}
-use Rattle.flow_state.specs.declared.stretch.QuietRun.{QuietRun}
+use Rattle.std.proofs.Common.{◌≡◌, suc, ◌+◌, ◌-◌, true, length, get_or, List, sym, ◌∙◌, arith}
 use Rattle.flow_state.specs.declared.stretch.Stretch.{Stretch}
 use Rattle.flow_state.specs.declared.stretch.Stretch.TheVariants.{Quiet}
 use Rattle.flow_state.specs.Stretches.{comes_next, is_quiet_tick}

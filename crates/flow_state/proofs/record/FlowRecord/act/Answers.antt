@@ -3,18 +3,16 @@ use Rattle.tas_model.specs.LegalHistory.{extended_by, replay, last_tick, same_ca
 use Rattle.flow_state.specs.Flow.{Flow, reply_to}
 use Rattle.flow_state.specs.Calls.{call_of, offer_of, answer_of}
 use Rattle.flow_state.specs.Counts.{counted_for}
-use Rattle.flow_state.specs.Stands.{Stands}
 use Rattle.flow_state.specs.Slots.{entry_of}
 use Rattle.flow_state.specs.Stretches.{AllWithin, entries_of}
 use Rattle.flow_state.specs.declared.counts.CallerCount.{CallerCount}
-use Rattle.flow_state.specs.declared.parts.Parts.{Parts}
 use Rattle.flow_state.specs.declared.stretch.Stretch.{Stretch}
 use Rattle.tas_model.specs.declared.entry.Caller.{Caller}
 use Rattle.tas_model.specs.declared.entry.Entry.{Entry}
 use Rattle.tas_model.specs.declared.entry.HostParams.{HostParams}
 use Rattle.tas_model.proofs.MovesLaws.{places_of}
 use Rattle.flow_state.proofs.Near.{near_of}
-use Rattle.flow_state.proofs.Acting.{Added, Grown, kept_after}
+use Rattle.flow_state.proofs.Acting.{Grown, kept_after}
 use Rattle.flow_state.proofs.record.FlowRecord.act.Goals as goal
 use Rattle.flow_state.proofs.record.FlowRecord.act.Goals.{After-add}
 use Rattle.flow_state.proofs.record.FlowRecord.act.Given

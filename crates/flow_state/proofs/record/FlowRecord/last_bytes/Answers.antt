@@ -3,7 +3,7 @@ use Rattle.tas_model.specs.declared.entry.Reply.{Reply}
 use Rattle.flow_state.specs.declared.stretch.Stretch.{Stretch}
 use Rattle.flow_state.specs.Calls.{reply_bytes}
 use Rattle.flow_state.specs.Flow.{Flow, last_reply}
-use Rattle.flow_state.specs.Stretches.{StretchWithin, entries_in, entries_of}
+use Rattle.flow_state.specs.Stretches.{StretchWithin, entries_in}
 use Rattle.flow_state.proofs.Looking.{within_last, last_reply_stretches}
 use Rattle.flow_state.proofs.record.FlowRecord.last_bytes.Goals as goal
 

@@ -1,6 +1,4 @@
-use Rattle.std.proofs.Common.{◌≡◌, suc, length, List, ap, arith}
-use Rattle.tas_model.specs.declared.entry.Entry.{Entry}
-use Rattle.flow_state.specs.Stretches.{run_entries}
+use Rattle.std.proofs.Common.{◌≡◌, suc, length, arith}
 use Rattle.flow_state.specs.Views.{seen_stretch}
 use Rattle.flow_state.proofs.Runs.{length_ticks}
 use Rattle.flow_state.proofs.stretches.StretchView.entry.Goals as goal

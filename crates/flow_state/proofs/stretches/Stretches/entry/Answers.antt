@@ -1,6 +1,4 @@
-use Rattle.std.proofs.Common.{◌≡◌, ◌+◌, List, length, flat_map, take, slice_get, Some, subst, ap, ◌∙◌, arith, length-append}
-use Rattle.std.proofs.lemmas.List.{take_more}
-use Rattle.std.proofs.lemmas.List.Concat.{flat_map-append}
+use Rattle.std.proofs.Common.{◌≡◌, List, flat_map, slice_get, Some, subst, arith}
 use Rattle.tas_model.specs.declared.entry.Entry.{Entry}
 use Rattle.flow_state.specs.Views.{seen_entry, seen_stretch}
 use Rattle.flow_state.proofs.Looking.{got_in, front_more}

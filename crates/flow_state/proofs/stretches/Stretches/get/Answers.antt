@@ -1,4 +1,4 @@
-use Rattle.std.proofs.Common.{◌≡◌, ◌<◌, List, length, get_or, slice_get, Some, sym, ◌∙◌, ap, arith}
+use Rattle.std.proofs.Common.{◌<◌, List, length, slice_get, Some, sym, ◌∙◌, ap, arith}
 use Rattle.std.proofs.lemmas.List.{length-map}
 use Rattle.tas_model.specs.declared.entry.Entry.{Entry}
 use Rattle.flow_state.specs.Stretches.{entries_in}
