@@ -39,8 +39,7 @@ pub quiet_text : (names : List (List ℕ)) (c : Caller) (n t k : ℕ) → flat_m
 quiet_text names c n t zero = refl
 quiet_text names c n t (suc k) = ap (λ (xs : List ℕ). entry_text [] (quiet_tick c n t) ++ xs) (quiet_text names c (n + 1) (t + 1) k)
 
--- four pieces behind a text, in one
-pub four_behind : (w s a b c d : List ℕ) → (w ++ s) ++ (a ++ (b ++ (c ++ d))) ≡ w ++ ((((s ++ a) ++ b) ++ c) ++ d)
-four_behind w s a b c d =
-    append_assoc w s (a ++ (b ++ (c ++ d)))
-    ∙ ap (λ t. w ++ t) (sym (append_assoc (((s ++ a) ++ b)) c d ∙ (append_assoc (s ++ a) b (c ++ d) ∙ append_assoc s a (b ++ (c ++ d)))))
+-- the pieces of a line behind a text
+pub line_behind : (w t s k p n s' a b c d : List ℕ)
+    → (((w ++ t) ++ ((s ++ k) ++ p)) ++ n) ++ (s' ++ (a ++ (b ++ (c ++ d)))) ≡ w ++ (((((((((t ++ s) ++ k) ++ p) ++ n) ++ s') ++ a) ++ b) ++ c) ++ d)
+line_behind w t s k p n s' a b c d = simp append_assoc refl

@@ -1,14 +1,14 @@
-ghost use Rattle.std.specs.Prelude.{◌≡◌, ℕ, ◌+◌, ◌<◌, ◌≤◌, ◌++◌, [], List, length, map, flat_map};
+ghost use Rattle.std.specs.Prelude.{◌≡◌, ℕ, ◌+◌, ◌<◌, ◌≤◌, ◌++◌, [], List, length, map, flat_map, codes};
 ghost use Rattle.tas_model.specs.Outputs.{bytes_read};
-ghost use Rattle.tas_runs.specs.Report.{entries_text, entry_text};
+ghost use Rattle.tas_runs.specs.Report.{entries_text, entry_text, caller_text};
 ghost use Rattle.flow_state.specs.Views.{seen_entry, seen_stretch, IsFit};
 ghost use Rattle.flow_state.specs.Stretches.{run_entries, quiet_tick, IsRun};
 ghost use Rattle.run_texts.specs.Writes.{Stand, Writes};
 
 use crate::buffer::Buffer;
 use crate::entries::write_entry;
-use crate::text::{Text, add};
-use crate::texts::EntryStart;
+use crate::text::{Text, add, add_number};
+use crate::texts::CallerText;
 use crate::writer::Writer;
 use flow_state::{QuietRun, StretchView};
 use tas_model::Caller;
@@ -73,12 +73,26 @@ impl Text for QuietLine {
     ghost most = { 57 };
 
     fn add_to(&self, waiting: &mut Buffer) {
-        let start = EntryStart {
-            tick: self.tick,
-            caller: self.caller,
-            number: self.number,
-        };
-        start.add_to(waiting);
-        add(waiting, b"tick = quiet\n");
+        add_number(waiting, self.tick);
+        add_caller(waiting, self.caller);
+        add_number(waiting, self.number);
+        add(waiting, b" tick = quiet\n");
+    }
+}
+
+/// Puts a caller between a tick and a number. Mostly it is the slow path.
+#[inline(always)]
+fn add_caller(waiting: &mut Buffer, caller: Caller)
+    requires room { length waiting.old + 13 ≤ 4096 }
+    ensures text { waiting.new ≡ waiting.old ++ (codes " " ++ caller_text caller ++ codes ".") }
+    ensures short { length waiting.new ≤ length waiting.old + 13 }
+{
+    match caller {
+        Caller::Slow => add(waiting, b" s."),
+        _ => {
+            add(waiting, b" ");
+            CallerText(caller).add_to(waiting);
+            add(waiting, b".");
+        }
     }
 }
