@@ -4,6 +4,11 @@
 one-6.pcap, one-60.pcap: one upload of 6 and of 60 MB in segments of 1,460 bytes.
 many-60.pcap: 1,000 uploads of 60 MB in all, a segment of each in turn.
 short-100k.pcap: 100,000 connections, each a SYN and a reset.
+idle.pcap: 1,000 connections, and then 23,000 ticks in which only one of them gets anything.
+syns.pcap: 1,190,000 SYNs, each from another end.
+reopened.pcap: 500,000 times a SYN and a reset on one four-tuple.
+empty.pcap: 4,194,000 records without a byte.
+small.pcap: 1,170,000 segments of one byte, in order.
 """
 import os
 import struct
@@ -71,6 +76,72 @@ def resets(path, count):
         capture.add(packet(1024 + i % 50_000, 101, 0, 4, b"", 0, remote))
 
 
+class Short:
+    """Segments of a remote host with no payload or one byte, made fast: record head and packet in one piece."""
+
+    FORM = struct.Struct(">BBHHHBBHIIHHIIBBHHH")
+
+    def __init__(self, capture):
+        self.file = capture.file
+
+    def add(self, raddr, port, seq, ack, flags, payload=b""):
+        length = 40 + len(payload)
+        laddr = int.from_bytes(LOCAL, "big")
+        ends = (raddr >> 16) + (raddr & 0xFFFF) + (laddr >> 16) + (laddr & 0xFFFF)
+        ip_sum = checksum(0x4500 + length + 0x4000 + 0x4006 + ends)
+        numbers = (seq >> 16) + (seq & 0xFFFF) + (ack >> 16) + (ack & 0xFFFF)
+        body = payload[0] << 8 if payload else 0
+        tcp_sum = checksum(ends + 6 + 20 + len(payload) + port + 80 + numbers + 0x5000 + flags + 65535 + body)
+        head = struct.pack("<IIII", 0, 0, length, length)
+        packet = self.FORM.pack(
+            0x45, 0, length, 0, 0x4000, 64, 6, ip_sum, raddr, laddr, port, 80, seq, ack, 0x50, flags, 65535, tcp_sum, 0
+        )
+        self.file.write(head + packet + payload)
+
+
+REMOTE_NUMBER = int.from_bytes(REMOTE, "big")
+
+
+def idle(path, flows, ticks):
+    """So many connections that stand, and then so many ticks, each with an acknowledgement of the first of them."""
+    capture = Short(Capture(path))
+    for i in range(flows):
+        capture.add(REMOTE_NUMBER, 20000 + i, 100, 0, 2)
+    for i in range(flows):
+        capture.add(REMOTE_NUMBER, 20000 + i, 101, (64000 * i + 1) % 2**32, 16)
+    for _ in range(ticks):
+        capture.add(REMOTE_NUMBER, 20000, 101, 1, 16)
+
+
+def syns(path, count):
+    """So many SYNs, each from another end."""
+    capture = Short(Capture(path))
+    for i in range(count):
+        capture.add(0x0B000001 + i // 50_000, 1024 + i % 50_000, 100, 0, 2)
+
+
+def reopened(path, count):
+    """So many times a SYN and a reset on one four-tuple."""
+    capture = Short(Capture(path))
+    for _ in range(count):
+        capture.add(REMOTE_NUMBER, 20000, 100, 0, 2)
+        capture.add(REMOTE_NUMBER, 20000, 101, 0, 4)
+
+
+def empty(path, count):
+    """So many records without a byte."""
+    Capture(path).file.write(bytes(16 * count))
+
+
+def small(path, count):
+    """So many segments of one byte, in order."""
+    capture = Short(Capture(path))
+    capture.add(REMOTE_NUMBER, 20000, 100, 0, 2)
+    capture.add(REMOTE_NUMBER, 20000, 101, 1, 16)
+    for i in range(count):
+        capture.add(REMOTE_NUMBER, 20000, (101 + i) % 2**32, 1, 24, b"a")
+
+
 def main():
     folder = sys.argv[1]
     os.makedirs(folder, exist_ok=True)
@@ -78,6 +149,11 @@ def main():
     uploads(os.path.join(folder, "one-60.pcap"), 1, 60_000_000)
     uploads(os.path.join(folder, "many-60.pcap"), 1000, 60_000_000)
     resets(os.path.join(folder, "short-100k.pcap"), 100_000)
+    idle(os.path.join(folder, "idle.pcap"), 1000, 23_000)
+    syns(os.path.join(folder, "syns.pcap"), 1_190_000)
+    reopened(os.path.join(folder, "reopened.pcap"), 500_000)
+    empty(os.path.join(folder, "empty.pcap"), 4_194_000)
+    small(os.path.join(folder, "small.pcap"), 1_170_000)
 
 
 if __name__ == "__main__":

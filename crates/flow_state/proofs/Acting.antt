@@ -1,6 +1,5 @@
 -- A record with one entry more.
-use Rattle.std.proofs.Common.{◌≡◌, ℕ, ◌+◌, ◌≤◌, cond, List, [], ◌∷◌, ◌++◌, length, take, drop, max, Option, Some, None, refl, sym, ◌∙◌, ap, subst, arith, take-append-drop}
-use Rattle.std.proofs.lemmas.List.{map-append}
+use Rattle.std.proofs.Common.{◌≡◌, ℕ, ◌+◌, ◌^◌, ◌<◌, ◌≤◌, cond, List, [], ◌∷◌, ◌++◌, length, take, drop, max, Option, Some, None, refl, sym, ◌∙◌, ap, subst, arith, take-append-drop, length-append}
 use Rattle.tas_model.specs.declared.entry.HostParams.{HostParams}
 use Rattle.tas_model.specs.declared.entry.Entry.{Entry}
 use Rattle.tas_model.specs.declared.entry.Caller.{Caller}
@@ -26,10 +25,14 @@ use Rattle.flow_state.specs.Counts.{counted_for, AreCounts}
 use Rattle.flow_state.specs.Flow.{next_entry, reply_to}
 use Rattle.flow_state.specs.Made.{IsStep, IsMadeWith, IsMadeAt}
 use Rattle.flow_state.specs.Record.{IsRecord}
-use Rattle.flow_state.specs.Slots.{entries_of, entry_of, CallWithin, ReplyWithin, IsWithin, AllWithin}
+use Rattle.flow_state.specs.declared.stretch.Stretch.{Stretch}
+use Rattle.flow_state.specs.declared.stretch.Stretch.TheVariants.{One, Quiet}
+use Rattle.flow_state.specs.Slots.{entry_of, CallWithin, ReplyWithin, IsWithin}
+use Rattle.flow_state.specs.Stretches.{entries_of, StretchWithin, AllWithin}
 use Rattle.flow_state.specs.Stands.{Stands}
 use Rattle.flow_state.proofs.Counting.{counts_push, counts_first}
 use Rattle.flow_state.proofs.Entries.{entries_kept}
+use Rattle.flow_state.proofs.Runs.{last_push}
 use Rattle.flow_state.proofs.Sending.{step_again, answer_is}
 
 -- what an outcome that is there says
@@ -79,71 +82,86 @@ reply_longer n m (rs.Took bytes) le is = omega arith
 reply_longer n m (rs.Got bytes update) le is = omega arith
 reply_longer n m _ le is = tt
 
-within_longer : (n m : ℕ) (slots : List Slot) → n ≤ m → AllWithin n slots → AllWithin m slots
+stretch_longer : (n m : ℕ) (s : Stretch) → n ≤ m → StretchWithin n s → StretchWithin m s
+stretch_longer n m (One s) le is = record { call = call_longer n m s.call le is.call; reply = reply_longer n m s.reply le is.reply }
+stretch_longer n m (Quiet r) le is = is
+
+within_longer : (n m : ℕ) (stretches : List Stretch) → n ≤ m → AllWithin n stretches → AllWithin m stretches
 within_longer n m [] le all = tt
-within_longer n m (s ∷ slots) le all =
-    (record { call = call_longer n m s.call le all.0.call; reply = reply_longer n m s.reply le all.0.reply }, within_longer n m slots le all.1)
+within_longer n m (s ∷ stretches) le all = (stretch_longer n m s le all.0, within_longer n m stretches le all.1)
 
-pub within_push : (n m : ℕ) (slots : List Slot) (s : Slot) → n ≤ m → AllWithin n slots → IsWithin m s → AllWithin m (slots ++ s ∷ [])
-within_push n m [] s le all is = (is, tt)
-within_push n m (x ∷ slots) s le all is = let w : AllWithin m (x ∷ slots) = within_longer n m (x ∷ slots) le all in (w.0, within_push n m slots s le all.1 is)
+-- the stretches with one entry more
+pub record Added (before after : List Stretch) (s : Slot) : Type 0 where
+  pub entries : (arena : List ℕ) → entries_of arena after ≡ entries_of arena before ++ entry_of arena s ∷ []
+  pub within : (n : ℕ) → AllWithin n before → IsWithin n s → AllWithin n after
+  pub few : (arena : List ℕ) → last_tick 0 (entries_of arena before) ≤ s.tick → length before + last_tick 0 (entries_of arena before) + 1 ≤ length after + s.tick
 
--- the entries with one slot more, in memory that grew
-pub entries_push : (old new : List ℕ) (slots : List Slot) (s : Slot) (x : Entry) → take (length old) new ≡ old → AllWithin (length old) slots
-    → entry_of new s ≡ x → entries_of new (slots ++ s ∷ []) ≡ entries_of old slots ++ x ∷ []
-entries_push old new slots s x front within is =
+-- their entries in memory that grew
+entries_push : (old new : List ℕ) (before after : List Stretch) (s : Slot) (x : Entry) → take (length old) new ≡ old → AllWithin (length old) before
+    → entry_of new s ≡ x → Added before after s → entries_of new after ≡ entries_of old before ++ x ∷ []
+entries_push old new before after s x front within is added =
     let whole : old ++ drop (length old) new ≡ new = ap (λ (f : List ℕ). f ++ drop (length old) new) (sym front) ∙ take-append-drop (length old) new in
-    let kept : entries_of new slots ≡ entries_of old slots = subst (λ (n : List ℕ). entries_of n slots ≡ entries_of old slots) whole (entries_kept old (drop (length old) new) slots within) in
-    let last : entries_of new (s ∷ []) ≡ x ∷ [] = ap (λ (y : Entry). y ∷ []) is in
-    map-append (entry_of new) slots (s ∷ []) ∙ (ap (λ (es : List Entry). es ++ entries_of new (s ∷ [])) kept ∙ ap (λ (es : List Entry). entries_of old slots ++ es) last)
+    let kept : entries_of new before ≡ entries_of old before = subst (λ (n : List ℕ). entries_of n before ≡ entries_of old before) whole (entries_kept old (drop (length old) new) before within) in
+    added.entries new ∙ (ap (λ (es : List Entry). es ++ entry_of new s ∷ []) kept ∙ ap (λ (y : Entry). entries_of old before ++ y ∷ []) is)
 
 -- what one more entry leaves
-pub record Grown (before after : Parts) (old new : List ℕ) (slots slots' : List Slot) (counts : List CallerCount) (caller : Caller) (tick : ℕ) (call : CallIn) (a : Answer) : Type 0 where
-  pub kept : IsRecord after new slots' counts
-  pub exact : entries_of new slots' ≡ extended_by before.params (entries_of old slots) caller tick (call_of call) (offer_of call)
-  pub answer : a ≡ answer_of (reply_to before.params (entries_of old slots) tick (call_of call) (offer_of call))
+pub record Grown (before after : Parts) (old new : List ℕ) (stretches stretches' : List Stretch) (counts : List CallerCount) (made last : ℕ) (caller : Caller) (tick : ℕ) (call : CallIn) (a : Answer) : Type 0 where
+  pub kept : IsRecord after new stretches' counts made last
+  pub exact : entries_of new stretches' ≡ extended_by before.params (entries_of old stretches) caller tick (call_of call) (offer_of call)
+  pub answer : a ≡ answer_of (reply_to before.params (entries_of old stretches) tick (call_of call) (offer_of call))
 
 -- all that the record keeps true, after one more entry
-pub kept_after : (before after : Parts) (old new : List ℕ) (slots slots' : List Slot) (s : Slot) (counts counts' : List CallerCount) (caller : Caller) (tick number t : ℕ) (call : CallIn) (answer : Answer)
-    → IsRecord before old slots counts → after.params ≡ before.params → take (length old) new ≡ old → length old ≤ length new
-    → number ≡ counted_for caller counts → t ≡ max tick (last_tick 0 (entries_of old slots)) → slots' ≡ slots ++ s ∷ []
+pub kept_after : (before after : Parts) (old new : List ℕ) (stretches stretches' : List Stretch) (s : Slot) (counts counts' : List CallerCount) (made last : ℕ) (caller : Caller) (tick number t : ℕ) (call : CallIn) (answer : Answer)
+    → IsRecord before old stretches counts made last → after.params ≡ before.params → take (length old) new ≡ old → length old ≤ length new
+    → number ≡ counted_for caller counts → t ≡ max tick last → t < 2 ^ 32 → Added stretches stretches' s
     → ((other : Caller) → counted_for other counts' ≡ counted_for other counts + cond (same_caller caller other) 1 0)
-    → IsMadeAt before after new caller number t call answer s → Grown before after old new slots slots' counts' caller tick call answer
-kept_after before after old new slots slots' s counts counts' caller tick number t call answer is same front longer n-is t-is slots-is more made =
-    let h : List Entry = entries_of old slots in
+    → IsMadeAt before after new caller number t call answer s → Grown before after old new stretches stretches' counts' (made + 1) t caller tick call answer
+kept_after before after old new stretches stretches' s counts counts' made last caller tick number t call answer is same front longer n-is t-at low added more done =
+    let h : List Entry = entries_of old stretches in
     let n-is' : number ≡ next_number caller h = n-is ∙ is.counts caller in
-    let made' : IsMadeWith before after new caller (next_number caller h) (max tick (last_tick 0 h)) call answer s made.0 = rw (← n-is', ← t-is) made.1 in
-    let x : Entry = next_entry h caller tick (call_of call) (reply_of answer made.0) in
-    let grown : entries_of new slots' ≡ h ++ x ∷ [] = ap (entries_of new) slots-is ∙ entries_push old new slots s x front is.within made'.entry in
-    let all = follows before.params h caller tick call before after new answer s made.0 is.fits is.legal is.stands made' in
+    let t-is : t ≡ max tick (last_tick 0 h) = t-at ∙ ap (max tick) is.last in
+    let done' : IsMadeWith before after new caller (next_number caller h) (max tick (last_tick 0 h)) call answer s done.0 = rw (← n-is', ← t-is) done.1 in
+    let x : Entry = next_entry h caller tick (call_of call) (reply_of answer done.0) in
+    let grown : entries_of new stretches' ≡ h ++ x ∷ [] = entries_push old new stretches stretches' s x front is.within done'.entry added in
+    let at : s.tick ≡ t = ap (λ (y : Entry). y.tick) done'.entry ∙ sym t-is in
+    let all = follows before.params h caller tick call before after new answer s done.0 is.fits is.legal is.stands done' in
     let P : HostParams → List Entry → Type 0 = λ p es. Legal p es × Stands after (replay p es) in
-    let there : P after.params (entries_of new slots') =
-    subst (λ (p : HostParams). P p (entries_of new slots')) (sym same) (subst (P before.params) (sym grown) (all.legal, all.stands)) in
+    let there : P after.params (entries_of new stretches') =
+    subst (λ (p : HostParams). P p (entries_of new stretches')) (sym same) (subst (P before.params) (sym grown) (all.legal, all.stands)) in
+    let few : length stretches + last_tick 0 h + 1 ≤ length stretches' + s.tick = added.few old (omega (arith, at, t-is)) in
     record {
       kept = record {
         fits = subst InRange (sym same) is.fits;
         legal = there.0;
         stands = there.1;
-        within = subst (AllWithin (length new)) (sym slots-is) (within_push (length old) (length new) slots s longer is.within made'.within);
+        within = added.within (length new) (within_longer (length old) (length new) stretches longer is.within) done'.within;
         counts = subst (AreCounts counts') (sym grown) (counts_push counts counts' h x is.counts more);
+        made = omega (arith, is.made, ap (length {A = Entry}) grown, length-append h (x ∷ []));
+        last = t-is ∙ sym (ap (last_tick 0) grown ∙ last_push 0 h x);
+        few = omega (arith, few, at, is.few, is.last);
+        low = low;
       };
       exact = grown ∙ all.exact;
       answer = all.answer;
     }
 
 -- a record with its first entry
-pub opens_record : (p : Parts) (params : HostParams) (arena : List ℕ) (slots : List Slot) (counts : List CallerCount) (s : Slot) (x : Entry)
-    → InRange params → p.params ≡ params → slots ≡ s ∷ [] → entry_of arena s ≡ x → IsWithin (length arena) s → IsFirst x
-    → counts ≡ record { caller = x.caller; made = 1 } ∷ [] → Stands p (opened params x.call) → IsRecord p arena slots counts
-opens_record p params arena slots counts s x fits same one is within first counted stands =
-    let entries : entries_of arena slots ≡ x ∷ [] = ap (entries_of arena) one ∙ ap (λ (y : Entry). y ∷ []) is in
+pub opens_record : (p : Parts) (params : HostParams) (arena : List ℕ) (stretches : List Stretch) (counts : List CallerCount) (s : Slot) (x : Entry)
+    → x.tick < 2 ^ 32 → InRange params → p.params ≡ params → stretches ≡ One s ∷ [] → entry_of arena s ≡ x → IsWithin (length arena) s → IsFirst x
+    → counts ≡ record { caller = x.caller; made = 1 } ∷ [] → Stands p (opened params x.call) → IsRecord p arena stretches counts 1 x.tick
+opens_record p params arena stretches counts s x low fits same one is within first counted stands =
+    let entries : entries_of arena stretches ≡ x ∷ [] = ap (entries_of arena) one ∙ ap (λ (y : Entry). y ∷ []) is in
     let P : HostParams → List Entry → Type 0 = λ q es. Legal q es × Stands p (replay q es) in
     let begun : P params (x ∷ []) = ((first, tt), subst (Stands p) (sym (replay_first params x)) stands) in
-    let there : P p.params (entries_of arena slots) = subst (λ (q : HostParams). P q (entries_of arena slots)) (sym same) (subst (P params) (sym entries) begun) in
+    let there : P p.params (entries_of arena stretches) = subst (λ (q : HostParams). P q (entries_of arena stretches)) (sym same) (subst (P params) (sym entries) begun) in
     record {
       fits = subst InRange (sym same) fits;
       legal = there.0;
       stands = there.1;
       within = subst (AllWithin (length arena)) (sym one) (within, tt);
-      counts = subst (λ (cs : List CallerCount). AreCounts cs (entries_of arena slots)) (sym counted) (subst (AreCounts (record { caller = x.caller; made = 1 } ∷ [])) (sym entries) (counts_first x.caller x refl));
+      counts = subst (λ (cs : List CallerCount). AreCounts cs (entries_of arena stretches)) (sym counted) (subst (AreCounts (record { caller = x.caller; made = 1 } ∷ [])) (sym entries) (counts_first x.caller x refl));
+      made = sym (ap (length {A = Entry}) entries);
+      last = sym (ap (last_tick 0) entries);
+      few = omega (arith, ap (length {A = Stretch}) one);
+      low = low;
     }

@@ -1,4 +1,5 @@
 pub mod Entries
+pub mod Runs
 pub mod Counting
 pub mod Memory
 pub mod Sending

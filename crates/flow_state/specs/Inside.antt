@@ -2,21 +2,21 @@
 use Rattle.std.specs.Prelude.{◌-◌, min, vec_len, vec_capacity}
 use Rattle.flow_state.specs.declared.record.FlowRecord.TheInside.{Inside}
 use Rattle.flow_state.specs.Flow.{Flow}
-use Rattle.flow_state.specs.Slots.{entries_of}
+use Rattle.flow_state.specs.Stretches.{entries_of}
 use Rattle.flow_state.specs.Record.{IsRecord}
 
--- an entry needs a slot, and a count where its caller is a new one
+-- an entry needs a stretch, and a count where its caller is a new one
 abbrev pub flow_of : Inside → Flow
 flow_of r = record {
   id = r.id;
   tuple = r.parts.tuple;
   params = r.parts.params;
-  entries = entries_of r.arena.bytes r.slots.items;
+  entries = entries_of r.arena.bytes r.stretches.items;
   parts = r.parts;
-  spare_entries = min (vec_capacity r.slots - vec_len r.slots) (vec_capacity r.counts - vec_len r.counts);
+  spare_entries = min (vec_capacity r.stretches - vec_len r.stretches) (vec_capacity r.counts - vec_len r.counts);
   spare_bytes = r.arena.spare;
 }
 
 -- what it keeps true
 abbrev pub IsKept : Inside → Type 0
-IsKept r = IsRecord r.parts r.arena.bytes r.slots.items r.counts.items
+IsKept r = IsRecord r.parts r.arena.bytes r.stretches.items r.counts.items r.made r.last

@@ -1,6 +1,7 @@
 pub mod Calls
 pub mod Stands
 pub mod Slots
+pub mod Stretches
 pub mod Made
 pub mod Arena
 pub mod Flow

@@ -1,5 +1,5 @@
 -- Which entry a slot means: its bytes stand in the record's memory.
-use Rattle.std.specs.Prelude.{◌≡◌, ℕ, ◌+◌, ◌≤◌, List, [], ◌∷◌, length, take, drop, map, ⊤}
+use Rattle.std.specs.Prelude.{◌≡◌, ℕ, ◌+◌, ◌≤◌, List, length, take, drop, ⊤}
 use Rattle.tas_model.specs.declared.entry.Call.{Call}
 use Rattle.tas_model.specs.declared.entry.Call.TheVariants as calls
 use Rattle.tas_model.specs.declared.entry.Reply.{Reply}
@@ -63,7 +63,6 @@ reply_in arena (rs.Window cwnd ssthresh) = replies.Window cwnd ssthresh
 abbrev pub entry_of : List ℕ → Slot → Entry
 entry_of arena s = record { caller = s.caller; number = s.number; tick = s.tick; call = call_in arena s.call; reply = reply_in arena s.reply }
 
--- its bytes stand in the first n of the memory
 -- ----- spans that lie in memory
 -- of a call
 abbrev pub CallWithin : ℕ → CallSlot → Type 0
@@ -82,12 +81,3 @@ ReplyWithin n _ = ⊤
 pub record IsWithin (n : ℕ) (s : Slot) : Type 0 where
   pub call : CallWithin n s.call
   pub reply : ReplyWithin n s.reply
-
--- of all slots
-abbrev pub AllWithin : ℕ → List Slot → Type 0
-AllWithin n [] = ⊤
-AllWithin n (s ∷ ss) = IsWithin n s × AllWithin n ss
-
--- the history that the slots mean
-abbrev pub entries_of : List ℕ → List Slot → List Entry
-entries_of arena slots = map (entry_of arena) slots

@@ -1,4 +1,5 @@
 -- The entry that a view shows.
+use Rattle.std.specs.Prelude.{List, [], ◌∷◌, ⊤}
 use Rattle.tas_model.specs.declared.entry.Call.{Call}
 use Rattle.tas_model.specs.declared.entry.Call.TheVariants as calls
 use Rattle.tas_model.specs.declared.entry.Reply.{Reply}
@@ -11,6 +12,9 @@ use Rattle.flow_state.specs.declared.view.CallView.TheVariants as cv
 use Rattle.flow_state.specs.declared.view.ReplyView.{ReplyView}
 use Rattle.flow_state.specs.declared.view.ReplyView.TheVariants as rv
 use Rattle.flow_state.specs.declared.view.EntryView.{EntryView}
+use Rattle.flow_state.specs.declared.stretches.StretchView.{StretchView}
+use Rattle.flow_state.specs.declared.stretches.StretchView.TheVariants as sv
+use Rattle.flow_state.specs.Stretches.{run_entries, IsRun}
 
 -- its segment, with the payload as a list
 abbrev pub seen_seg : SegView → Seg
@@ -54,3 +58,13 @@ seen_reply (rv.Window cwnd ssthresh) = replies.Window cwnd ssthresh
 -- all of it
 abbrev pub seen_entry : EntryView → Entry
 seen_entry x = record { caller = x.caller; number = x.number; tick = x.tick; call = seen_call x.call; reply = seen_reply x.reply }
+
+-- the entries of a stretch
+abbrev pub seen_stretch : StretchView → List Entry
+seen_stretch (sv.One x) = seen_entry x ∷ []
+seen_stretch (sv.Quiet r) = run_entries r
+
+-- numbers and ticks of a stretch can be written
+abbrev pub IsFit : StretchView → Type 0
+IsFit (sv.One x) = ⊤
+IsFit (sv.Quiet r) = IsRun r

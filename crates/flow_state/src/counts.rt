@@ -12,7 +12,8 @@ pub struct CallerCount {
     pub made: u64,
 }
 
-fn is_same(one: Caller, other: Caller) -> bool
+/// Whether they are one caller.
+pub fn is_same(one: Caller, other: Caller) -> bool
     ensures { result ≡ same_caller one other }
 {
     match (one, other) {

@@ -15,6 +15,8 @@ mod reading;
 mod record;
 mod slot;
 mod stage;
+mod stretch;
+mod stretches;
 mod view;
 
 pub use app::AppCalls;
@@ -23,6 +25,8 @@ pub use engine::{Engine, cost};
 pub use parts::Parts;
 pub use record::FlowRecord;
 pub use stage::Stage;
+pub use stretch::QuietRun;
+pub use stretches::{StretchView, Stretches};
 pub use view::{CallView, EntryView, ReplyView, SegView};
 
 #[cfg(test)]

@@ -1,11 +1,11 @@
-ghost use Rattle.std.specs.Prelude.{◌≡◌, ℕ, ◌+◌, ◌-◌, ◌^◌, ◌<◌, ◌≤◌, ◌++◌, ◌∷◌, ◌↔◌, [], List, length, take, slice_get, Some, replicate, max, vec_len, vec_capacity, IfOk, IfSome, IfNone, IsSome, OnErr, OnOk, IsOk};
+ghost use Rattle.std.specs.Prelude.{◌≡◌, ℕ, ◌+◌, ◌-◌, ◌^◌, ◌<◌, ◌≤◌, ◌++◌, ◌∷◌, ◌↔◌, [], List, length, take, slice_get, Some, replicate, max, vec_len, vec_capacity, flat_map, IfOk, IfSome, IfNone, IsSome, OnErr, OnOk, IsOk};
 ghost use Rattle.tas_model.specs.Endpoint.{phase};
-ghost use Rattle.tas_model.specs.LegalHistory.{Legal, replay, extended_by, last_tick};
+ghost use Rattle.tas_model.specs.LegalHistory.{Legal, replay, extended_by};
 ghost use Rattle.tas_model.specs.Valid.{InRange};
 ghost use Rattle.flow_state.specs.Stands.{Stands, IsNear};
 ghost use Rattle.flow_state.specs.Calls.{call_of, offer_of, answer_of, reply_bytes, payload_of, seg_of, cost_of, IsSmall, IsTimely};
 ghost use Rattle.flow_state.specs.Flow.{Flow, reply_to, last_reply, first_passive, first_connect};
-ghost use Rattle.flow_state.specs.Slots.{entries_of};
+ghost use Rattle.flow_state.specs.Stretches.{entries_of, entries_in, StretchWithin};
 ghost use Rattle.flow_state.specs.Made.{IsMadeAt};
 ghost use Rattle.flow_state.specs.Views.{seen_entry};
 
@@ -15,8 +15,10 @@ use crate::counts::{CallerCount, count_one, number_of};
 use crate::engine::{Engine, cost};
 use crate::open::{connect_parts, passive_parts};
 use crate::parts::Parts;
-use crate::slot::{Slot, connect_slot, passive_slot};
-use crate::view::{EntryView, entry_view, reply_view};
+use crate::slot::{connect_slot, passive_slot};
+use crate::stretch::{Stretch, add};
+use crate::stretches::Stretches;
+use crate::view::{EntryView, reply_view};
 use segment_fields::Segment;
 use std::alloc::{AllocError, Global};
 use std::marker::Model;
@@ -25,14 +27,18 @@ use tas_num::Seq;
 
 /// The record of one flow, seen as its history.
 ///
-/// The parts hold the present endpoint; the history stands in slots of one size, whose bytes stand in one piece of memory.
+/// The parts hold the present endpoint; the history stands in stretches of one size, whose bytes stand in one piece of memory: an entry each, or a run of quiet ticks, so that a flow that nothing comes to takes no memory with time.
 #[derive(Drop)]
 pub struct FlowRecord {
     id: FlowId,
     parts: Parts,
-    slots: Vec<Slot>,
+    stretches: Vec<Stretch>,
     arena: Arena,
     counts: Vec<CallerCount>,
+    /// How many entries there are.
+    made: usize,
+    /// The tick of the last.
+    last: u32,
 }
 
 impl Model for FlowRecord {
@@ -77,8 +83,8 @@ impl FlowRecord {
     {
         let parts = passive_parts(alloc, tuple, params, iss, seg)?;
         let arena = Arena::copy(alloc, seg.payload)?;
-        let mut slots = Vec::new(alloc);
-        slots.push(passive_slot(iss, frame, seg, tick))?;
+        let mut stretches = Vec::new(alloc);
+        stretches.push(Stretch::One(passive_slot(iss, frame, seg, tick)))?;
         let mut counts = Vec::new(alloc);
         counts.push(CallerCount {
             caller: Caller::Slow,
@@ -87,9 +93,11 @@ impl FlowRecord {
         Ok(FlowRecord {
             id,
             parts,
-            slots,
+            stretches,
             arena,
             counts,
+            made: 1,
+            last: tick,
         })
     }
 
@@ -110,16 +118,18 @@ impl FlowRecord {
         ensures entries { IfOk result (λ r. r.entries ≡ first_connect caller tick iss ∷ []) }
     {
         let parts = connect_parts(alloc, tuple, params, iss)?;
-        let mut slots = Vec::new(alloc);
-        slots.push(connect_slot(caller, iss, tick))?;
+        let mut stretches = Vec::new(alloc);
+        stretches.push(Stretch::One(connect_slot(caller, iss, tick)))?;
         let mut counts = Vec::new(alloc);
         counts.push(CallerCount { caller, made: 1 })?;
         Ok(FlowRecord {
             id,
             parts,
-            slots,
+            stretches,
             arena: Arena::new(alloc),
             counts,
+            made: 1,
+            last: tick,
         })
     }
 
@@ -133,7 +143,7 @@ impl FlowRecord {
         ensures entries { self.new.entries ≡ self.old.entries }
         ensures parts { self.new.parts ≡ self.old.parts }
     {
-        self.slots.reserve(entries)?;
+        self.stretches.reserve(entries)?;
         self.counts.reserve(entries)?;
         self.arena.reserve(bytes)
     }
@@ -164,24 +174,30 @@ impl FlowRecord {
         ensures count { result ≡ length self.now.entries }
         ensures legal { Legal self.now.params self.now.entries }
     {
-        self.slots.len()
+        self.made
     }
 
-    /// The `i`-th entry of its history, counted from 0, the oldest first.
-    #[inline(always)]
+    /// Its history in stretches, the oldest first: to look at all entries takes time by their number.
+    pub fn stretches(&self) -> Stretches<'_>
+        ensures { flat_map (λ xs. xs) result ≡ self.now.entries }
+    {
+        Stretches::new(self.arena.as_slice(), &self.stretches)
+    }
+
+    /// The `i`-th entry of its history, counted from 0, the oldest first. It looks for it from the first stretch on.
     pub fn entry(&self, i: usize) -> EntryView<'_>
         requires { i < length self.now.entries }
         ensures { slice_get self.now.entries i ≡ Some (seen_entry result) }
     {
-        entry_view(self.arena.as_slice(), &self.slots[i])
+        self.stretches().entry(i)
     }
 
     /// The bytes of the last entry's reply.
     pub fn last_bytes(&self) -> &[u8]
         ensures { result.now ≡ reply_bytes (last_reply self.now.entries) }
     {
-        match self.slots.last() {
-            Some(slot) => reply_view(self.arena.as_slice(), slot.reply).bytes(),
+        match self.stretches.last() {
+            Some(stretch) => last_bytes_of(self.arena.as_slice(), stretch),
             None => &[],
         }
     }
@@ -226,9 +242,9 @@ impl FlowRecord {
         ensures tuple { self.new.tuple ≡ self.old.tuple }
         ensures params { self.new.params ≡ self.old.params }
     {
-        let tick = tick.max(last_tick_of(&self.slots));
+        let tick = tick.max(self.last);
         let number = number_of(&self.counts, caller);
-        self.slots.reserve(1)?;
+        self.stretches.reserve(1)?;
         self.counts.reserve(1)?;
         self.arena.reserve(cost(&self.parts, call))?;
         let Some((answer, slot)) = self
@@ -237,21 +253,21 @@ impl FlowRecord {
         else {
             return Ok(None);
         };
+        self.made += 1;
+        self.last = tick;
         count_one(&mut self.counts, caller);
-        match self.slots.push(slot) {
-            Ok(()) => Ok(Some(answer)),
-            Err(_) => unreachable!(),
-        }
+        add(&mut self.stretches, &slot);
+        Ok(Some(answer))
     }
 }
 
-/// The tick of the last slot.
-#[tactic(auto, using(crate::proofs::Entries::last_tick_slots))]
-fn last_tick_of(slots: &[Slot]) -> u32
-    ensures { (arena : List ℕ) → result ≡ last_tick 0 (entries_of arena slots.now) }
+/// The bytes of the reply of a stretch's last entry.
+fn last_bytes_of<'a>(arena: &'a [u8], stretch: &Stretch) -> &'a [u8]
+    requires { StretchWithin (length arena.now) stretch.now }
+    ensures { result.now ≡ reply_bytes (last_reply (entries_in arena.now stretch.now)) }
 {
-    match slots.last() {
-        Some(slot) => slot.tick,
-        None => 0,
+    match stretch {
+        Stretch::One(slot) => reply_view(arena, slot.reply).bytes(),
+        Stretch::Quiet(_) => &[],
     }
 }

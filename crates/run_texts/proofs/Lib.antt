@@ -8,3 +8,4 @@ pub mod Digits
 pub mod Sixteen
 pub mod FrameIds
 pub mod Unnamed
+pub mod Quiet

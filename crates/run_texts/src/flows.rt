@@ -4,14 +4,14 @@ ghost use Rattle.tas_model.specs.LegalHistory.{replay};
 ghost use Rattle.tas_model.specs.Outputs.{given_bytes, bytes_read};
 ghost use Rattle.tas_runs.specs.Logs.{Flow};
 ghost use Rattle.tas_runs.specs.Report.{line, hex, hex_bytes, read_text, state_text, tuple_text, entries_text, flow_lines};
-ghost use Rattle.flow_state.specs.Views.{seen_entry, seen_reply};
+ghost use Rattle.flow_state.specs.Views.{seen_reply, seen_stretch};
 ghost use Rattle.run_texts.specs.Writes.{Stand, Writes};
 
-use crate::entries::write_entry;
 use crate::line_texts::{ClosedLine, FlowLine, ReadText, StateLine};
+use crate::stretches::write_stretch;
 use crate::texts::FlowName;
 use crate::writer::Writer;
-use flow_state::{FlowRecord, ReplyView};
+use flow_state::{FlowRecord, ReplyView, StretchView};
 use tas_num::{IoFault, Sink};
 
 /// Writes the lines of a flow: its ends, its entries, its state and the bytes that were read. `number` is its opening number, from 0 on.
@@ -58,8 +58,9 @@ fn write_entries<K: Sink>(
 ) -> Result<(), IoFault>
     ensures { Writes (record { held = K.held sink.old; faults = K.faults sink.old; grows = K.grows sink.old; waiting = writer.old }) result (record { held = K.held sink.new; faults = K.faults sink.new; grows = K.grows sink.new; waiting = writer.new }) (entries_text (map (λ n. n.now) names.now) flow.now.entries) }
 {
-    for i in 0..flow.entries() {
-        write_entry(writer, sink, names, &flow.entry(i))?;
+    let stretches = flow.stretches();
+    for i in 0..stretches.len() {
+        write_stretch(writer, sink, names, &stretches.get(i))?;
     }
     Ok(())
 }
@@ -130,10 +131,21 @@ fn write_digits_read<K: Sink>(
 ) -> Result<(), IoFault>
     ensures { Writes (record { held = K.held sink.old; faults = K.faults sink.old; grows = K.grows sink.old; waiting = writer.old }) result (record { held = K.held sink.new; faults = K.faults sink.new; grows = K.grows sink.new; waiting = writer.new }) (hex_bytes (bytes_read flow.now.entries)) }
 {
-    for i in 0..flow.entries() {
-        writer.put_hex(sink, given(flow.entry(i).reply))?;
+    let stretches = flow.stretches();
+    for i in 0..stretches.len() {
+        writer.put_hex(sink, given_in(stretches.get(i)))?;
     }
     Ok(())
+}
+
+/// The bytes that the replies of a stretch gave to the application.
+fn given_in<'a>(stretch: StretchView<'a>) -> &'a [u8]
+    ensures { result.now ≡ bytes_read (seen_stretch stretch.entry) }
+{
+    match stretch {
+        StretchView::One(entry) => given(entry.reply),
+        StretchView::Quiet(_) => &[],
+    }
 }
 
 /// The bytes that a reply gave to the application.

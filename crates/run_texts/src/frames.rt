@@ -4,12 +4,12 @@ ghost use Rattle.tas_runs.specs.SentFrames.{ticks_from};
 ghost use Rattle.tas_runs.specs.Logs.{HostRun};
 ghost use Rattle.tas_model.specs.Segments.{bare as bare_of};
 ghost use Rattle.tas_model.specs.Outputs.{segments_in};
-ghost use Rattle.flow_state.specs.Views.{seen_seg, seen_reply, seen_entry};
+ghost use Rattle.flow_state.specs.Views.{seen_seg, seen_reply, seen_entry, seen_stretch};
 ghost use Rattle.run_texts.specs.Frames.{frame_before, seen_frame, segments_of, frames_in, entry_frames, flow_frames, answer_frames, host_frames, all_frames, history_of, seen_host, AreShort, IsInOrder};
 ghost use Rattle.run_texts.specs.Writes.{Stand, Writes};
 
 use crate::writer::Writer;
-use flow_state::{EntryView, FlowRecord, ReplyView, SegView};
+use flow_state::{EntryView, FlowRecord, ReplyView, SegView, StretchView};
 use pcap_frames::{write_header, write_record_head};
 use segment_fields::{Flags, Segment, write};
 use std::alloc::{AllocError, Global};
@@ -131,10 +131,25 @@ fn add_flows<'a>(frames: &mut Vec<Frame<'a>>, flows: &'a [FlowRecord]) -> Result
 fn add_flow<'a>(frames: &mut Vec<Frame<'a>>, flow: &'a FlowRecord) -> Result<(), AllocError>
     ensures { OnOk result (map seen_frame frames.new.items ≡ map seen_frame frames.old.items ++ flow_frames (history_of flow.now)) }
 {
-    for i in 0..flow.entries() {
-        add_entry(frames, flow.tuple(), flow.entry(i))?;
+    let stretches = flow.stretches();
+    for i in 0..stretches.len() {
+        add_stretch(frames, flow.tuple(), stretches.get(i))?;
     }
     Ok(())
+}
+
+/// Adds the segments of the entries of a stretch. A quiet tick has none.
+fn add_stretch<'a>(
+    frames: &mut Vec<Frame<'a>>,
+    tuple: FourTuple,
+    stretch: StretchView<'a>,
+) -> Result<(), AllocError>
+    ensures { OnOk result (map seen_frame frames.new.items ≡ map seen_frame frames.old.items ++ flat_map (entry_frames tuple) (seen_stretch stretch.entry)) }
+{
+    match stretch {
+        StretchView::One(entry) => add_entry(frames, tuple, entry),
+        StretchView::Quiet(_) => Ok(()),
+    }
 }
 
 /// Adds the segment of an entry, where it has one.

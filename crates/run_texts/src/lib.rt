@@ -10,6 +10,7 @@ mod hex_digits;
 mod laws;
 mod line_texts;
 mod logs;
+mod stretches;
 mod text;
 mod texts;
 mod whole;

@@ -1,0 +1,67 @@
+-- The history that stretches mean: a stretch is one entry, or a run of quiet ticks.
+use Rattle.std.specs.Prelude.{ℕ, zero, suc, ◌+◌, ◌^◌, ◌<◌, ◌==◌, ◌&&◌, Bool, true, false, List, [], ◌∷◌, flat_map, ⊤}
+use Rattle.tas_model.specs.declared.entry.Caller.{Caller}
+use Rattle.tas_model.specs.declared.entry.Call.TheVariants as calls
+use Rattle.tas_model.specs.declared.entry.Reply.TheVariants as replies
+use Rattle.tas_model.specs.declared.entry.Entry.{Entry}
+use Rattle.tas_model.specs.LegalHistory.{same_caller}
+use Rattle.flow_state.specs.declared.slot.CallSlot.{CallSlot}
+use Rattle.flow_state.specs.declared.slot.CallSlot.TheVariants as cs
+use Rattle.flow_state.specs.declared.slot.ReplySlot.{ReplySlot}
+use Rattle.flow_state.specs.declared.slot.ReplySlot.TheVariants as rs
+use Rattle.flow_state.specs.declared.slot.Slot.{Slot}
+use Rattle.flow_state.specs.declared.stretch.QuietRun.{QuietRun}
+use Rattle.flow_state.specs.declared.stretch.Stretch.{Stretch}
+use Rattle.flow_state.specs.declared.stretch.Stretch.TheVariants.{One, Quiet}
+use Rattle.flow_state.specs.Slots.{entry_of, IsWithin}
+
+-- a call of Tick that nothing came of
+abbrev pub quiet_tick : Caller → (number tick : ℕ) → Entry
+quiet_tick caller number tick = record { caller = caller; number = number; tick = tick; call = calls.Tick; reply = replies.Quiet }
+
+-- so many of one caller, each at the tick after the one before; the first has this number and tick
+abbrev pub quiet_ticks : Caller → (number tick count : ℕ) → List Entry
+quiet_ticks caller number tick zero = []
+quiet_ticks caller number tick (suc n) = quiet_tick caller number tick ∷ quiet_ticks caller (number + 1) (tick + 1) n
+
+-- those of a run
+abbrev pub run_entries : QuietRun → List Entry
+run_entries r = quiet_ticks r.caller r.number r.tick (suc r.more)
+
+-- those of a stretch
+abbrev pub entries_in : List ℕ → Stretch → List Entry
+entries_in arena (One s) = entry_of arena s ∷ []
+entries_in arena (Quiet r) = run_entries r
+
+-- the whole history
+abbrev pub entries_of : List ℕ → List Stretch → List Entry
+entries_of arena stretches = flat_map (entries_in arena) stretches
+
+-- ----- conditions
+-- numbers and ticks of a run can be written
+pub record IsRun (r : QuietRun) : Type 0 where
+  pub number : r.number + r.more < 2 ^ 64
+  pub tick : r.tick + r.more < 2 ^ 32
+
+-- the bytes of a stretch stand in the first n of the memory
+abbrev pub StretchWithin : ℕ → Stretch → Type 0
+StretchWithin n (One s) = IsWithin n s
+StretchWithin n (Quiet r) = IsRun r
+
+-- those of all
+abbrev pub AllWithin : ℕ → List Stretch → Type 0
+AllWithin n [] = ⊤
+AllWithin n (s ∷ ss) = StretchWithin n s × AllWithin n ss
+
+-- ----- tests
+abbrev pub is_quiet_pair : CallSlot → ReplySlot → Bool
+is_quiet_pair cs.Tick rs.Quiet = true
+is_quiet_pair _ _ = false
+
+-- it is the entry of a quiet tick
+abbrev pub is_quiet_tick : Slot → Bool
+is_quiet_tick s = is_quiet_pair s.call s.reply
+
+-- with its caller, number and tick it is the next one of the run
+abbrev pub comes_next : QuietRun → Slot → Bool
+comes_next r s = same_caller r.caller s.caller && s.number == r.number + r.more + 1 && s.tick == r.tick + r.more + 1

@@ -1,0 +1,124 @@
+ghost use Rattle.std.specs.Prelude.{◌≡◌, ℕ, ◌+◌, ◌≤◌, ◌<◌, ◌++◌, ◌∷◌, [], List, length, true, false, slice_get, Some, vec_len, vec_capacity, IsTrue, IsFalse};
+ghost use Rattle.tas_model.specs.LegalHistory.{last_tick};
+ghost use Rattle.flow_state.specs.Slots.{IsWithin, entry_of};
+ghost use Rattle.flow_state.specs.Stretches.{AllWithin, entries_of, entries_in, StretchWithin, IsRun, is_quiet_tick as model_quiet, comes_next as model_next};
+
+use crate::counts::is_same;
+use crate::slot::{CallSlot, ReplySlot, Slot};
+use tas_model::Caller;
+
+/// A run of quiet ticks: calls of Tick by one caller that nothing came of, each at the tick after the one before.
+#[derive(Clone, Copy, PartialEq, Eq, Debug)]
+pub struct QuietRun {
+    pub caller: Caller,
+    /// The caller's number of the first.
+    pub number: u64,
+    /// The tick of the first.
+    pub tick: u32,
+    /// How many more there are.
+    pub more: u32,
+}
+
+/// Entries that stand together in the record's memory.
+#[derive(Clone, Copy)]
+pub enum Stretch {
+    /// One entry.
+    One(Slot),
+    /// Quiet ticks.
+    Quiet(QuietRun),
+}
+
+/// Whether it is the entry of a quiet tick.
+fn is_quiet_tick(slot: &Slot) -> bool
+    ensures { result ≡ model_quiet slot.now }
+{
+    matches!((slot.call, slot.reply), (CallSlot::Tick, ReplySlot::Quiet))
+}
+
+/// Whether a quiet tick with this caller, number and tick is the next one of the run.
+fn comes_next(run: &QuietRun, slot: &Slot) -> bool
+    ensures { result ≡ model_next run.now slot.now }
+{
+    is_same(run.caller, slot.caller)
+        && u128::from(slot.number) == u128::from(run.number) + u128::from(run.more) + 1
+        && u64::from(slot.tick) == u64::from(run.tick) + u64::from(run.more) + 1
+}
+
+/// Lengthens the last run by a quiet tick, where the entry is its next one, and tells whether it is.
+fn lengthen(stretches: &mut Vec<Stretch>, slot: &Slot) -> bool
+    ensures entries { (arena : List ℕ) → result ≡ true → entries_of arena stretches.new.items ≡ entries_of arena stretches.old.items ++ entry_of arena slot.now ∷ [] }
+    ensures tick { (arena : List ℕ) → result ≡ true → slot.now.tick ≡ last_tick 0 (entries_of arena stretches.old.items) + 1 }
+    ensures within { (n : ℕ) → AllWithin n stretches.old.items → AllWithin n stretches.new.items }
+    ensures unmade { result ≡ false → stretches.new ≡ stretches.old }
+    ensures len { vec_len stretches.new ≡ vec_len stretches.old }
+    ensures capacity { vec_capacity stretches.new ≡ vec_capacity stretches.old }
+{
+    let n = stretches.len();
+    if n == 0 || !is_quiet_tick(slot) {
+        return false;
+    }
+    let Stretch::Quiet(run) = stretches[n - 1] else {
+        return false;
+    };
+    if !comes_next(&run, slot) {
+        return false;
+    }
+    stretches[n - 1] = Stretch::Quiet(QuietRun {
+        more: run.more + 1,
+        ..run
+    });
+    true
+}
+
+/// Adds a stretch behind the others, which have room for it.
+fn push(stretches: &mut Vec<Stretch>, stretch: Stretch)
+    requires { vec_len stretches.old < vec_capacity stretches.old }
+    ensures items { stretches.new.items ≡ stretches.old.items ++ stretch ∷ [] }
+    ensures len { vec_len stretches.new ≡ vec_len stretches.old + 1 }
+    ensures capacity { vec_capacity stretches.old ≤ vec_capacity stretches.new }
+{
+    match stretches.push(stretch) {
+        Ok(()) => {}
+        Err(_) => unreachable!(),
+    }
+}
+
+/// A run of one quiet tick.
+fn first_of(caller: Caller, number: u64, tick: u32) -> QuietRun
+    ensures run { result ≡ record { caller = caller; number = number; tick = tick; more = 0 } }
+    ensures fits { IsRun result }
+{
+    QuietRun {
+        caller,
+        number,
+        tick,
+        more: 0,
+    }
+}
+
+/// The stretch of one entry.
+pub fn stretch_of(slot: &Slot) -> Stretch
+    ensures entries { (arena : List ℕ) → entries_in arena result ≡ entry_of arena slot.now ∷ [] }
+    ensures within { (n : ℕ) → IsWithin n slot.now → StretchWithin n result }
+{
+    if is_quiet_tick(slot) {
+        Stretch::Quiet(first_of(slot.caller, slot.number, slot.tick))
+    } else {
+        Stretch::One(*slot)
+    }
+}
+
+/// Adds an entry behind the others, which have room for one: a quiet tick to the run before it, where it is the next of that.
+pub fn add(stretches: &mut Vec<Stretch>, slot: &Slot)
+    requires { vec_len stretches.old < vec_capacity stretches.old }
+    ensures entries { (arena : List ℕ) → entries_of arena stretches.new.items ≡ entries_of arena stretches.old.items ++ entry_of arena slot.now ∷ [] }
+    ensures within { (n : ℕ) → AllWithin n stretches.old.items → IsWithin n slot.now → AllWithin n stretches.new.items }
+    // Where no stretch came to the others, a tick passed.
+    ensures few { (arena : List ℕ) → last_tick 0 (entries_of arena stretches.old.items) ≤ slot.now.tick → vec_len stretches.old + last_tick 0 (entries_of arena stretches.old.items) + 1 ≤ vec_len stretches.new + slot.now.tick }
+    ensures len { vec_len stretches.new ≤ vec_len stretches.old + 1 }
+    ensures capacity { vec_capacity stretches.old ≤ vec_capacity stretches.new }
+{
+    if !lengthen(stretches, slot) {
+        push(stretches, stretch_of(slot));
+    }
+}
