@@ -3,7 +3,8 @@ use Rattle.std.proofs.Common.{◌≡◌, ◌==◌, ◌^◌, ◌-◌, ℕ, false,
 use Rattle.tas_num.specs.declared.outside.IoFault.{IoFault}
 use Rattle.tas_model.specs.declared.entry.FrameId.{FrameId}
 use Rattle.tas_runs.specs.Report.{name_at, flow_text, copy_text, frame_text}
-use Rattle.run_texts.specs.Writes.{Stand, Writes}
+use Rattle.tas_num.specs.Streams.{SinkState}
+use Rattle.run_texts.specs.Writes.{Writes}
 use Rattle.run_texts.proofs.Writing.{stopped_at}
 
 -- ----- a frame
@@ -28,6 +29,9 @@ joined x [] = x
 joined x (y ∷ ys) = joined (x ++ y) ys
 
 -- A text that was not written, and all that were to follow it.
-pub stopped_before : (a b : Stand) (r q : Result (Unit {0}) IoFault) (x : List ℕ) (ys : List (List ℕ)) → IsErr r → r ≡ q → Writes a q b x → Writes a r b (joined x ys)
-stopped_before a b r q x [] h same first = subst (λ (s : Result (Unit {0}) IoFault). Writes a s b x) (sym same) first
-stopped_before a b r q x (y ∷ ys) h same first = stopped_before a b r r (x ++ y) ys h refl (stopped_at a b r q x y h same first)
+pub stopped_before : {v w : List ℕ} (a b : SinkState) (r q : Result (Unit {0}) IoFault) (x : List ℕ)
+    (ys : List (List ℕ)) → IsErr r → r ≡ q → Writes a v q b w x → Writes a v r b w (joined x ys)
+stopped_before {v} {w} a b r q x [] h same first =
+    subst (λ (s : Result (Unit {0}) IoFault). Writes a v s b w x) (sym same) first
+stopped_before a b r q x (y ∷ ys) h same first =
+    stopped_before a b r r (x ++ y) ys h refl (stopped_at a b r q x y h same first)

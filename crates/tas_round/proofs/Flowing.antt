@@ -3,11 +3,12 @@ use Rattle.std.proofs.Common.{◌≡◌, ℕ, ◌+◌, ◌≤◌, [], ◌∷◌,
 use Rattle.std.proofs.lemmas.List.{take_all}
 use Rattle.std.proofs.lemmas.Option.{slice_get_within}
 use Rattle.tas_num.specs.declared.outside.IoFault.{IoFault}
+use Rattle.tas_num.specs.Streams.{SinkState}
 use Rattle.tas_runs.specs.Logs.{Flow}
 use Rattle.tas_runs.specs.Report.{flow_lines, flows_text, host_text, hosts_text, names_of}
 use Rattle.tas_round.specs.declared.run.HostRun as code
 use Rattle.tas_round.specs.Runs.{host_in}
-use Rattle.run_texts.specs.Writes.{Stand, Writes}
+use Rattle.run_texts.specs.Writes.{Writes}
 use Rattle.run_texts.proofs.Lists.{taken_more}
 use Rattle.run_texts.proofs.Writing.{wrote_both, stopped_in, wrote_as}
 
@@ -33,19 +34,33 @@ flows_rest names fs i inside =
     let len : i ≡ 0 + length (take i fs) = omega (arith, inside, length-take i fs) in
     sym (flows_append names 0 i (take i fs) (drop i fs) len) ∙ ap (flows_text names 0) (take-append-drop i fs)
 
-pub wrote_flow : (names : List (List ℕ)) (fs : List Flow) (i : ℕ) (f : Flow) (a b c : Stand) (r : Result (Unit {0}) IoFault) → slice_get fs i ≡ Some f
-    → Writes a (Ok tt) b (flows_text names 0 (take i fs)) → Writes b r c (flow_lines names i f) → Writes a r c (flows_text names 0 (take (i + 1) fs))
-wrote_flow names fs i f a b c r e first second = wrote_both a b c r (flows_text names 0 (take i fs)) (flow_lines names i f) (flows_text names 0 (take (i + 1) fs)) (flows_more names fs i f e) first second
+pub wrote_flow : {v w u : List ℕ} (names : List (List ℕ)) (fs : List Flow) (i : ℕ) (f : Flow) (a b c : SinkState)
+    (r : Result (Unit {0}) IoFault) → slice_get fs i ≡ Some f
+    → Writes a v (Ok tt) b w (flows_text names 0 (take i fs)) → Writes b w r c u (flow_lines names i f)
+    → Writes a v r c u (flows_text names 0 (take (i + 1) fs))
+wrote_flow names fs i f a b c r e first second =
+    let more = flows_more names fs i f e in
+    wrote_both a b c r (flows_text names 0 (take i fs)) (flow_lines names i f) (flows_text names 0 (take (i + 1) fs)) more first second
 
-pub stopped_flow : (names : List (List ℕ)) (fs : List Flow) (i : ℕ) (f : Flow) (a b c : Stand) (r q : Result (Unit {0}) IoFault) → slice_get fs i ≡ Some f → IsErr r → r ≡ q
-    → Writes a (Ok tt) b (flows_text names 0 (take i fs)) → Writes b q c (flow_lines names i f) → Writes a r c (flows_text names 0 fs)
-stopped_flow names fs i f a b c r q e failed same first second =
-    let last : Writes b r c (flow_lines names i f) = subst (λ (s : Result (Unit {0}) IoFault). Writes b s c (flow_lines names i f)) (sym same) second in
+pub stopped_flow : {v w u : List ℕ} (names : List (List ℕ)) (fs : List Flow) (i : ℕ) (f : Flow) (a b c : SinkState)
+    (r q : Result (Unit {0}) IoFault) → slice_get fs i ≡ Some f → IsErr r → r ≡ q
+    → Writes a v (Ok tt) b w (flows_text names 0 (take i fs)) → Writes b w q c u (flow_lines names i f)
+    → Writes a v r c u (flows_text names 0 fs)
+stopped_flow {v} {w} {u} names fs i f a b c r q e failed same first second =
+    let handed = λ (s : Result (Unit {0}) IoFault). Writes b w s c u (flow_lines names i f) in
+    let last : Writes b w r c u (flow_lines names i f) = subst handed (sym same) second in
     let inside : i < length fs = slice_get_within fs i f e in
-    stopped_in a c r (flows_text names 0 (take (i + 1) fs)) (flows_text names (i + 1) (drop (i + 1) fs)) (flows_text names 0 fs) (flows_rest names fs (i + 1) (omega (arith, inside))) failed (wrote_flow names fs i f a b c r e first last)
+    let rest = flows_text names (i + 1) (drop (i + 1) fs) in
+    let all = flows_rest names fs (i + 1) (omega (arith, inside)) in
+    let more = wrote_flow names fs i f a b c r e first last in
+    stopped_in a c r (flows_text names 0 (take (i + 1) fs)) rest (flows_text names 0 fs) all failed more
 
-pub wrote_flows : (names : List (List ℕ)) (fs : List Flow) (n : ℕ) (a b : Stand) (r : Result (Unit {0}) IoFault) → length fs ≤ n → Writes a r b (flows_text names 0 (take n fs)) → Writes a r b (flows_text names 0 fs)
-wrote_flows names fs n a b r e h = wrote_as a b r (flows_text names 0 (take n fs)) (flows_text names 0 fs) (ap (flows_text names 0) (take_all n fs e)) h
+pub wrote_flows : {v w : List ℕ} (names : List (List ℕ)) (fs : List Flow) (n : ℕ) (a b : SinkState)
+    (r : Result (Unit {0}) IoFault) → length fs ≤ n → Writes a v r b w (flows_text names 0 (take n fs))
+    → Writes a v r b w (flows_text names 0 fs)
+wrote_flows names fs n a b r e h =
+    let all = ap (flows_text names 0) (take_all n fs e) in
+    wrote_as a b r (flows_text names 0 (take n fs)) (flows_text names 0 fs) all h
 
 -- ----- hosts
 abbrev pub host_lines : (names : List (List ℕ)) → code.HostRun → List ℕ
