@@ -143,3 +143,7 @@ pub record IsReplay (words : List (List ℕ)) (r : Request) : Type 0 where
   pub text : List ℕ
   pub form : form_of words ≡ Replay text None r.pcap r.loose
   pub address : IsIpv4Text text r.local
+
+-- The words are a replay's on one thread.
+abbrev pub IsAsked : (words : List (List ℕ)) → Type 0
+IsAsked words = (r : Request) × IsReplay words r

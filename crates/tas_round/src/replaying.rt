@@ -70,7 +70,23 @@ pub fn replay<R: Threads + Wait + Sync, G: Gate>(
     // Whatever the mode, it is a run of the capture.
     ensures run { IfOk result (λ log. Replay local capture.now loose (log_in log)) }
     // On one thread it is the one in serial order.
-    ensures serial { mode ≡ Mode.Serial → IfOk result (λ log. serial_replay local capture.now loose ≡ Ok (log_in log)) }
+    ensures serial { mode ≡ Mode.Serial
+        → IfOk result (λ log. serial_replay local capture.now loose ≡ Ok (log_in log)) }
+    ensures refused { IfErr result (Refuses capture.now) }
+{
+    replay_serially(alloc, local, capture, loose)
+}
+
+/// The same on one thread: it waits for nobody, and so always returns.
+pub fn replay_serially(
+    alloc: Global,
+    local: u32,
+    capture: &[u8],
+    loose: bool,
+) -> Result<RunLog, ReplayFault>
+    requires small { length capture.now ≤ 67108864 }
+    ensures run { IfOk result (λ log. Replay local capture.now loose (log_in log)) }
+    ensures serial { IfOk result (λ log. serial_replay local capture.now loose ≡ Ok (log_in log)) }
     ensures refused { IfErr result (Refuses capture.now) }
 {
     let found = match find_items(alloc, capture, local, loose) {
