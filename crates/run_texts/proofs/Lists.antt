@@ -1,5 +1,7 @@
 -- Texts of lists, an element at a time.
-use Rattle.std.proofs.Common.{◌≡◌, codes, decimal, ℕ, ◌+◌, ◌≤◌, [], ◌∷◌, ◌++◌, List, length, take, drop, flat_map, slice_get, Some, Result, Ok, IsErr, refl, ap, subst, sym, ◌∙◌, append-nil, take-append-drop}
+use Rattle.std.proofs.Common.{◌≡◌, codes, decimal, ℕ, ◌+◌, ◌≤◌, [], ◌∷◌, ◌++◌, List, length, take, drop, flat_map}
+use Rattle.std.proofs.Common.{slice_get, Some, Result, Ok, IsErr, refl, ap, subst, sym, ◌∙◌, append-nil}
+use Rattle.std.proofs.Common.{take-append-drop}
 use Rattle.std.proofs.lemmas.List.{take_all, take_more}
 use Rattle.std.proofs.lemmas.Option.{slice_get_within, get_or_from_slice_get}
 use Rattle.std.proofs.lemmas.List.Concat.{flat_map-append}
@@ -12,16 +14,21 @@ use Rattle.run_texts.specs.Writes.{Writes}
 use Rattle.run_texts.proofs.Writing.{wrote_as, wrote_both, stopped_in, hex_bytes-append}
 
 -- an element more
-pub taken_more : {X : Type 0} (xs : List X) (i : ℕ) (x : X) → slice_get xs i ≡ Some x → take (i + 1) xs ≡ take i xs ++ x ∷ []
-taken_more xs i x e = take_more xs i x (slice_get_within xs i x e) ∙ ap (λ y. take i xs ++ y ∷ []) (get_or_from_slice_get xs i x x e)
+pub taken_more : {X : Type 0} (xs : List X) (i : ℕ) (x : X) → slice_get xs i ≡ Some x → take (i + 1) xs
+    ≡ take i xs ++ x ∷ []
+taken_more xs i x e = take_more xs i x (slice_get_within xs i x e)
+    ∙ ap (λ y. take i xs ++ y ∷ []) (get_or_from_slice_get xs i x x e)
 
 -- the text of an element more
-pub text_more : {X : Type 0} (f : X → List ℕ) (xs : List X) (i : ℕ) (x : X) → slice_get xs i ≡ Some x → flat_map f (take i xs) ++ f x ≡ flat_map f (take (i + 1) xs)
+pub text_more : {X : Type 0} (f : X → List ℕ) (xs : List X) (i : ℕ) (x : X) → slice_get xs i ≡ Some x
+    → flat_map f (take i xs) ++ f x ≡ flat_map f (take (i + 1) xs)
 text_more f xs i x e =
-    sym (ap (flat_map f) (taken_more xs i x e) ∙ (flat_map-append f (take i xs) (x ∷ []) ∙ ap (λ t. flat_map f (take i xs) ++ t) (append-nil (f x))))
+    sym (ap (flat_map f) (taken_more xs i x e)
+    ∙ (flat_map-append f (take i xs) (x ∷ []) ∙ ap (λ t. flat_map f (take i xs) ++ t) (append-nil (f x))))
 
 -- and of all that are left
-pub text_rest : {X : Type 0} (f : X → List ℕ) (xs : List X) (i : ℕ) → flat_map f (take i xs) ++ flat_map f (drop i xs) ≡ flat_map f xs
+pub text_rest : {X : Type 0} (f : X → List ℕ) (xs : List X) (i : ℕ) → flat_map f (take i xs) ++ flat_map f (drop i xs)
+    ≡ flat_map f xs
 text_rest f xs i = sym (flat_map-append f (take i xs) (drop i xs)) ∙ ap (flat_map f) (take-append-drop i xs)
 
 pub wrote_more : {v w u : List ℕ} {X : Type 0} (f : X → List ℕ) (xs : List X) (i : ℕ) (x : X) (a b c : SinkState)
@@ -51,7 +58,8 @@ pub entries_are : (names : List (List ℕ)) (h : List Entry) → flat_map (entry
 entries_are names [] = refl
 entries_are names (x ∷ xs) = ap (λ t. entry_text names x ++ t) (entries_are names xs)
 
-pub digits_are : {X : Type 0} (g : X → List ℕ) (xs : List X) → flat_map (λ x. hex_bytes (g x)) xs ≡ hex_bytes (flat_map g xs)
+pub digits_are : {X : Type 0} (g : X → List ℕ) (xs : List X) → flat_map (λ x. hex_bytes (g x)) xs
+    ≡ hex_bytes (flat_map g xs)
 digits_are g [] = refl
 digits_are g (x ∷ xs) = ap (λ t. hex_bytes (g x) ++ t) (digits_are g xs) ∙ sym (hex_bytes-append (g x) (flat_map g xs))
 

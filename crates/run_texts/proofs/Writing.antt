@@ -1,5 +1,7 @@
 -- What several writes do, one after the other.
-use Rattle.std.proofs.Common.{IsTrue, ◌≡◌, ◌==◌, codes, ℕ, ◌+◌, ◌-◌, ◌≤◌, ◌/◌, ◌%◌, false, [], ◌∷◌, ◌++◌, List, take, drop, length, Result, Ok, Err, IsOk, IsErr, take-append-drop, refl, ap, subst, sym, ◌∙◌, append_assoc, append-nil, arith}
+use Rattle.std.proofs.Common.{IsTrue, ◌≡◌, ◌==◌, codes, ℕ, ◌+◌, ◌-◌, ◌≤◌, ◌/◌, ◌%◌, false, [], ◌∷◌, ◌++◌, List, take}
+use Rattle.std.proofs.Common.{drop, length, Result, Ok, Err, IsOk, IsErr, take-append-drop, refl, ap, subst, sym, ◌∙◌}
+use Rattle.std.proofs.Common.{append_assoc, append-nil, arith}
 use Rattle.std.proofs.Math.Seq.{take-add}
 use Rattle.std.proofs.lemmas.Bool.{false≢true}
 use Rattle.std.specs.Io.KnownBytes.{Appends}
@@ -117,16 +119,22 @@ put_behind {v} {w} a b x y waiting more before =
     }
 
 -- eight texts behind bytes, one after the other
-pub eight_behind : (w0 w1 w2 w3 w4 w5 w6 w7 w8 a b c d e f g h : List ℕ) → w1 ≡ w0 ++ a → w2 ≡ w1 ++ b → w3 ≡ w2 ++ c → w4 ≡ w3 ++ d → w5 ≡ w4 ++ e → w6 ≡ w5 ++ f → w7 ≡ w6 ++ g → w8 ≡ w7 ++ h
+pub eight_behind : (w0 w1 w2 w3 w4 w5 w6 w7 w8 a b c d e f g h : List ℕ) → w1 ≡ w0 ++ a → w2 ≡ w1 ++ b → w3 ≡ w2 ++ c
+    → w4 ≡ w3 ++ d → w5 ≡ w4 ++ e → w6 ≡ w5 ++ f → w7 ≡ w6 ++ g → w8 ≡ w7 ++ h
     → w8 ≡ w0 ++ (a ++ b ++ c ++ d ++ e ++ f ++ g ++ h)
 eight_behind w0 w1 w2 w3 w4 w5 w6 w7 w8 a b c d e f g h e1 e2 e3 e4 e5 e6 e7 e8 =
-    two w7 w8 (a ++ b ++ c ++ d ++ e ++ f ++ g) h (two w6 w7 (a ++ b ++ c ++ d ++ e ++ f) g (two w5 w6 (a ++ b ++ c ++ d ++ e) f (two w4 w5 (a ++ b ++ c ++ d) e (two w3 w4 (a ++ b ++ c) d (two w2 w3 (a ++ b) c (two w1 w2 a b e1 e2) e3) e4) e5) e6) e7) e8
+    two w7 w8 (a ++ b ++ c ++ d ++ e ++ f ++ g) h
+    (two w6 w7 (a ++ b ++ c ++ d ++ e ++ f) g
+    (two w5 w6 (a ++ b ++ c ++ d ++ e) f
+    (two w4 w5 (a ++ b ++ c ++ d) e (two w3 w4 (a ++ b ++ c) d (two w2 w3 (a ++ b) c (two w1 w2 a b e1 e2) e3) e4)
+    e5) e6) e7) e8
   where
     two : (v w x y : List ℕ) → v ≡ w0 ++ x → w ≡ v ++ y → w ≡ w0 ++ (x ++ y)
     two v w x y first second = second ∙ ap (λ t. t ++ y) first ∙ append_assoc w0 x y
 
 -- ----- pieces
-pub text_more : (bytes : List ℕ) (from to : ℕ) → from ≤ to → take from bytes ++ take (to - from) (drop from bytes) ≡ take to bytes
+pub text_more : (bytes : List ℕ) (from to : ℕ) → from ≤ to → take from bytes ++ take (to - from) (drop from bytes)
+    ≡ take to bytes
 text_more bytes from to order =
     let sum : from + (to - from) ≡ to = omega (arith, order) in
     sym (take-add from (to - from) bytes) ∙ ap (λ n. take n bytes) sum
@@ -134,13 +142,16 @@ text_more bytes from to order =
 -- ----- digits
 pub hex_bytes-append : (xs ys : List ℕ) → hex_bytes (xs ++ ys) ≡ hex_bytes xs ++ hex_bytes ys
 hex_bytes-append [] ys = refl
-hex_bytes-append (x ∷ xs) ys = ap (λ t. digit_glyph false (x / 16) ∷ digit_glyph false (x % 16) ∷ t) (hex_bytes-append xs ys)
+hex_bytes-append (x ∷ xs) ys = ap (λ t. digit_glyph false (x / 16) ∷ digit_glyph false (x % 16) ∷ t)
+    (hex_bytes-append xs ys)
 
 -- a piece more
-pub hex_more : (bytes : List ℕ) (from to : ℕ) → from ≤ to → hex_bytes (take from bytes) ++ hex_bytes (take (to - from) (drop from bytes)) ≡ hex_bytes (take to bytes)
+pub hex_more : (bytes : List ℕ) (from to : ℕ) → from ≤ to
+    → hex_bytes (take from bytes) ++ hex_bytes (take (to - from) (drop from bytes)) ≡ hex_bytes (take to bytes)
 hex_more bytes from to order =
     let sum : from + (to - from) ≡ to = omega (arith, order) in
-    sym (hex_bytes-append (take from bytes) (take (to - from) (drop from bytes))) ∙ ap hex_bytes (sym (take-add from (to - from) bytes) ∙ ap (λ n. take n bytes) sum)
+    sym (hex_bytes-append (take from bytes) (take (to - from) (drop from bytes)))
+    ∙ ap hex_bytes (sym (take-add from (to - from) bytes) ∙ ap (λ n. take n bytes) sum)
 
 -- and all that is left
 pub hex_rest : (bytes : List ℕ) (to : ℕ) → hex_bytes (take to bytes) ++ hex_bytes (drop to bytes) ≡ hex_bytes bytes

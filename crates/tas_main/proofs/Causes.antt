@@ -1,5 +1,7 @@
 -- From what the parts of the program found to what the program promises.
-use Rattle.std.proofs.Common.{◌≡◌, ◌⊎◌, inl, inr, ℕ, ◌<◌, ◌≤◌, List, [], length, Bool, IsTrue, not, true, false, Option, Some, None, Result, Ok, Err, IfOk, IfErr, OnOk, OnErr, IfSome, subst, refl, sym, ap, ◌∙◌, arith}
+use Rattle.std.proofs.Common.{◌≡◌, ◌⊎◌, inl, inr, ℕ, ◌<◌, ◌≤◌, List, [], length, Bool, IsTrue, not, true, false, Option}
+use Rattle.std.proofs.Common.{Some, None, Result, Ok, Err, IfOk, IfErr, OnOk, OnErr, IfSome, subst, refl, sym, ap, ◌∙◌}
+use Rattle.std.proofs.Common.{arith}
 use Rattle.std.proofs.lemmas.Bool.{true≢false, false≢true}
 use Rattle.std.proofs.KnownBytes.{Keeps-refl}
 use Rattle.std.specs.Io.KnownBytes.{Keeps, IsAtEnd}
@@ -16,11 +18,13 @@ use Rattle.tas_num.specs.declared.outside.IoFault.TheVariants.{Failed, OutOfMemo
 use Rattle.tas_main.specs.declared.stop.Stop.{Stop}
 use Rattle.tas_main.specs.declared.stop.Stop.TheVariants.{Words, Input, Read, Write, Memory, TooLong, NotBuilt}
 use Rattle.tas_main.specs.Words.{Request, IsReplay, IsForm, is_built, form_of}
-use Rattle.tas_main.specs.Stops.{Given, Cause, IsNoCapture, Unreplayed, Unwritten, SinkCalm, ReadsAll, ReadBefore, writes_nothing, status_of}
+use Rattle.tas_main.specs.Stops.{Given, Cause, IsNoCapture, Unreplayed, Unwritten, SinkCalm, ReadsAll, ReadBefore}
+use Rattle.tas_main.specs.Stops.{writes_nothing, status_of}
 use Rattle.tas_main.specs.Outputs.{IsRun, IsWhole, WritesAll, WritesFront, output}
 
 -- a fact of all that was read is one of the input, where that is told
-pub of_input : (input : Option (List ℕ)) (b : List ℕ) (P : List ℕ → Type 0) → IfSome input (λ bytes. b ≡ bytes) → P b → IfSome input P
+pub of_input : (input : Option (List ℕ)) (b : List ℕ) (P : List ℕ → Type 0) → IfSome input (λ bytes. b ≡ bytes) → P b
+    → IfSome input P
 of_input None b P same fact = tt
 of_input (Some bytes) b P same fact = subst P same fact
 
@@ -36,9 +40,12 @@ told input b P e fact = subst (λ (i : Option (List ℕ)). IfSome i P) e fact
 of_ok : (r : Result RunLog Fault) (P : RunLog → Type 0) (log : RunLog) → r ≡ Ok log → IfOk r P → P log
 of_ok r P log e fact = subst (λ (x : Result RunLog Fault). IfOk x P) e fact
 
-pub is_run : (words : List (List ℕ)) (b : List ℕ) (r : Request) (log : RunLog) → IsReplay words r → serial_replay (ipv4_bits r.local) b r.loose ≡ Ok log → IsRun words b r log
+pub is_run : (words : List (List ℕ)) (b : List ℕ) (r : Request) (log : RunLog) → IsReplay words r
+    → serial_replay (ipv4_bits r.local) b r.loose ≡ Ok log → IsRun words b r log
 is_run words b r log asked serial =
-    let run : Replay (ipv4_bits r.local) b r.loose log = of_ok (serial_replay (ipv4_bits r.local) b r.loose) (λ (l : RunLog). Replay (ipv4_bits r.local) b r.loose l) log serial (serial_is_replay (ipv4_bits r.local) b r.loose) in
+    let run : Replay (ipv4_bits r.local) b r.loose log = of_ok (serial_replay (ipv4_bits r.local) b r.loose)
+    (λ (l : RunLog). Replay (ipv4_bits r.local) b r.loose l) log serial
+    (serial_is_replay (ipv4_bits r.local) b r.loose) in
     record { asked = asked; serial = serial; run = run; sound = replays_sound (ipv4_bits r.local) b r.loose log run }
 
 pub writes_all : (g : Given) (b : List ℕ) (r : Request) (log : RunLog) → IfSome g.source.left (λ bytes. b ≡ bytes)
@@ -46,7 +53,8 @@ pub writes_all : (g : Given) (b : List ℕ) (r : Request) (log : RunLog) → IfS
     → Wrote g.sink (Ok tt) g.written (output r log) [] → WritesAll g
 writes_all g b r log same asked serial wrote =
     of_input g.source.left b
-    (λ (bytes : List ℕ). (r : Request) × (log : RunLog) × IsRun g.words bytes r log × Wrote g.sink (Ok tt) g.written (output r log) [])
+    (λ (bytes : List ℕ). (r : Request) × (log : RunLog) × IsRun g.words bytes r log
+    × Wrote g.sink (Ok tt) g.written (output r log) [])
     same (r, log, is_run g.words b r log asked serial, wrote)
 
 -- what a fault left of the text
@@ -79,7 +87,8 @@ writes_none g kept = of_any g.source.left (Front g) (λ b. inl kept)
 pub unwritten_kept : (a b : SinkState) (text : List ℕ) (stop : Stop) → Unwritten a b text stop
     → writes_nothing a.grows stop ≡ true → Keeps a.held b.held
 unwritten_kept a b text Write why e = absurd (true≢false (sym e))
-unwritten_kept a b text Memory (inl same) e = subst (λ (s : SinkState). Keeps a.held s.held) (sym same) (Keeps-refl a.held)
+unwritten_kept a b text Memory (inl same) e = subst (λ (s : SinkState). Keeps a.held s.held) (sym same)
+    (Keeps-refl a.held)
 unwritten_kept a b text Memory (inr wrote) e = absurd (grown a.grows (wrote.memory refl) e)
   where
     grown : (grows : Bool) → IsTrue grows → not grows ≡ true → ⊥
@@ -113,7 +122,9 @@ asked_built words r asked = ap is_built asked.form
 
 pub whole_ends_well : (g : Given) (stop : Stop) → Cause g stop → IsWhole g → (status_of stop ≡ 0) ⊎ (status_of stop ≡ 6)
 whole_ends_well g Words cause w = absurd (cause (asked_form g.words w.request w.asked))
-whole_ends_well g (Input number) cause w = absurd (no_fault w.input number w.found w.reads (told g.source.left w.input (λ (b : List ℕ). IsNoCapture b number) w.told cause))
+whole_ends_well g (Input number) cause w = absurd
+    (no_fault w.input number w.found w.reads
+    (told g.source.left w.input (λ (b : List ℕ). IsNoCapture b number) w.told cause))
 whole_ends_well g Read cause w = absurd (w.read cause)
 whole_ends_well g Write cause w = absurd (w.written cause)
 whole_ends_well g Memory cause w = inr refl

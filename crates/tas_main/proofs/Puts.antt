@@ -1,5 +1,6 @@
 -- Texts that are written one after the other.
-use Rattle.std.proofs.Common.{◌≡◌, ℕ, ◌∙◌, List, [], ◌++◌, append_assoc, append-nil, sym, ap, subst, IsTrue, Result, Ok, Err, IsErr}
+use Rattle.std.proofs.Common.{◌≡◌, ℕ, ◌∙◌, List, [], ◌++◌, append_assoc, append-nil, sym, ap, subst, IsTrue, Result, Ok}
+use Rattle.std.proofs.Common.{Err, IsErr}
 use Rattle.std.proofs.KnownBytes.{Appends-trans}
 use Rattle.std.proofs.lemmas.Bool.{false≢true}
 use Rattle.tas_num.specs.declared.outside.IoFault.{IoFault}

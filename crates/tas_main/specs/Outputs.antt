@@ -15,8 +15,10 @@ use Rattle.tas_runs.specs.SentFrames.{capture}
 use Rattle.tas_main.specs.Words.{Request, IsReplay}
 use Rattle.tas_main.specs.Stops.{Given, most_bytes}
 
--- The log is that of the replay which the words ask for, of all bytes of the input. It is the one in serial order; it is
--- a run of its capture, each frame that comes and each call of the local script in it once; and each flow in it is sound:
+-- The log is that of the replay which the words ask for, of all bytes of the input. It is the one in serial order; it
+-- is
+-- a run of its capture, each frame that comes and each call of the local script in it once; and each flow in it is
+-- sound:
 -- it has a history of the endpoint, has read a prefix of every one stream that its peer may have sent, and acknowledged
 -- only what stands in order.
 pub record IsRun (words : List (List ℕ)) (b : List ℕ) (r : Request) (log : RunLog) : Type 0 where

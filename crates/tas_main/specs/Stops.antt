@@ -1,5 +1,6 @@
 -- Why a run of the program stops before all was written, and what became of its streams.
-use Rattle.std.specs.Prelude.{◌≡◌, ◌⊎◌, ℕ, ◌+◌, ◌<◌, ◌≤◌, List, [], length, Option, Err, IfSome, Bool, true, false, not, ⊤}
+use Rattle.std.specs.Prelude.{◌≡◌, ◌⊎◌, ℕ, ◌+◌, ◌<◌, ◌≤◌, List, [], length, Option, Err, IfSome, Bool, true, false, not}
+use Rattle.std.specs.Prelude.{⊤}
 use Rattle.std.specs.Io.KnownBytes.{Consumes, IsAtEnd}
 use Rattle.tas_num.specs.Causes.{Rose}
 use Rattle.tas_num.specs.Captures.{Fault, capture_of, record_of}
@@ -39,7 +40,8 @@ given words source read sink written =
 abbrev pub IsNoCapture : List ℕ → (number : ℕ) → Type 0
 IsNoCapture b number = (fault : Fault) × (capture_of b ≡ Err fault) × (record_of fault ≡ number)
 
--- why the words are not those of a replay on one thread: they are of no form of the program, or of one that is not built
+-- why the words are not those of a replay on one thread: they are of no form of the program, or of one that is not
+-- built
 abbrev pub Unasked : (words : List (List ℕ)) → Stop → Type 0
 Unasked words Words = ¬ IsForm (form_of words)
 Unasked words NotBuilt = IsForm (form_of words) × (is_built (form_of words) ≡ false)

@@ -6,7 +6,8 @@ use crate::stop::Stop;
 use itoa::Buffer;
 use tas_num::{IoFault, Sink, write_all};
 
-/// Tells of a stop by its fault line. Where that can't be written, the status alone tells. It takes no memory but what the sink takes.
+/// Tells of a stop by its fault line. Where that can't be written, the status alone tells. It takes no memory but what
+/// the sink takes.
 pub fn tell<F: Sink>(faults: &mut F, stop: Stop)
     ensures { IsTold stop (F.state faults.old) (F.state faults.new) }
 {
@@ -30,7 +31,8 @@ fn put_line<F: Sink>(faults: &mut F, stop: Stop) -> Result<(), IoFault>
 
 /// Writes the fault line of an input with this record at fault.
 fn put_numbered<F: Sink>(faults: &mut F, number: u32) -> Result<(), IoFault>
-    ensures { Wrote (F.state faults.old) result (F.state faults.new) (codes "tas: input record " ++ numbered number) [] }
+    ensures { Wrote (F.state faults.old) result (F.state faults.new)
+        (codes "tas: input record " ++ numbered number) [] }
 {
     put(faults, "tas: input record ")?;
     put_end(faults, number)

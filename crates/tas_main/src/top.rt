@@ -39,7 +39,8 @@ pub fn tas<R: Threads + Wait + Sync, S: Source, K: Sink, F: Sink, G: Gate>(
     _gate: &G,
 ) -> u8
     // At status 0 the sink grew by exactly the text of the run that was asked for.
-    ensures headline { result ≡ 0 → WritesAll (given (map string_bytes words.now) (S.state source.old) (S.state source.new)
+    ensures headline { result ≡ 0
+        → WritesAll (given (map string_bytes words.now) (S.state source.old) (S.state source.new)
         (K.state sink.old) (K.state sink.new)) }
     // Every other status has its cause, and the fault line tells of it.
     ensures cause { (result ≡ 0) ⊎ ((stop : Stop) × (result ≡ status_of stop)
@@ -52,13 +53,15 @@ pub fn tas<R: Threads + Wait + Sync, S: Source, K: Sink, F: Sink, G: Gate>(
     ensures order { (result ≡ 2) ⊎ ((result ≡ 8) ⊎ IsAsked (map string_bytes words.now)) }
     ensures unread { (result ≡ 2) ⊎ (result ≡ 8) → S.state source.new ≡ S.state source.old }
     // Then all of the input is read, which is within its length at 0, 3 and 5; at 7 one byte past that was taken.
-    ensures read { (result ≡ 0) ⊎ ((result ≡ 3) ⊎ (result ≡ 5)) → ReadsAll 67108864 (S.state source.old) (S.state source.new) }
+    ensures read { (result ≡ 0) ⊎ ((result ≡ 3) ⊎ (result ≡ 5))
+        → ReadsAll 67108864 (S.state source.old) (S.state source.new) }
     ensures past { result ≡ 7 → ReadsPast 67108864 (S.state source.old) (S.state source.new) }
     // A fault of a stream is told as its own status.
     ensures reading { (result ≡ 4) ⊎ ((S.state source.new).faults ≡ (S.state source.old).faults) }
     ensures writing { (result ≡ 5) ⊎ ((K.state sink.new).faults ≡ (K.state sink.old).faults) }
     // At 5 and 6 the sink grew by a front of the text.
-    ensures front { (result ≡ 5) ⊎ (result ≡ 6) → WritesFront (given (map string_bytes words.now) (S.state source.old) (S.state source.new)
+    ensures front { (result ≡ 5) ⊎ (result ≡ 6)
+        → WritesFront (given (map string_bytes words.now) (S.state source.old) (S.state source.new)
         (K.state sink.old) (K.state sink.new)) }
     // At 6 it did not grow either, unless it is one that takes memory to grow.
     ensures memory { result ≡ 6 → (K.state sink.old).grows ≡ false
@@ -92,7 +95,8 @@ fn serve<S: Source, K: Sink>(
         (K.state sink.old) (K.state sink.new))) }
     ensures cause { IfErr result (Cause (given (map string_bytes words.now) (S.state source.old) (S.state source.new)
         (K.state sink.old) (K.state sink.new))) }
-    ensures front { OnErr result (WritesFront (given (map string_bytes words.now) (S.state source.old) (S.state source.new)
+    ensures front { OnErr result
+        (WritesFront (given (map string_bytes words.now) (S.state source.old) (S.state source.new)
         (K.state sink.old) (K.state sink.new))) }
     ensures kept { IfErr result (λ stop. writes_nothing (K.state sink.old).grows stop ≡ true
         → Keeps (K.state sink.old).held (K.state sink.new).held) }

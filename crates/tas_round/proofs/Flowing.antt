@@ -23,7 +23,7 @@ flows_append names n m [] ys e =
 flows_append names n m (x ∷ xs) ys e =
     let next : m ≡ (n + 1) + length xs = omega (arith, e) in
     ap (λ (t : List ℕ). flow_lines names n x ++ t) (flows_append names (n + 1) m xs ys next)
-        ∙ sym (append_assoc (flow_lines names n x) (flows_text names (n + 1) xs) (flows_text names m ys))
+    ∙ sym (append_assoc (flow_lines names n x) (flows_text names (n + 1) xs) (flows_text names m ys))
 
 -- one flow more
 pub flows_more : (names : List (List ℕ)) (fs : List Flow) (i : ℕ) (f : Flow) → slice_get fs i ≡ Some f
@@ -32,8 +32,8 @@ flows_more names fs i f e =
     let inside : i < length fs = slice_get_within fs i f e in
     let len : i ≡ 0 + length (take i fs) = omega (arith, inside, length-take i fs) in
     sym (ap (flows_text names 0) (taken_more fs i f e)
-        ∙ (flows_append names 0 i (take i fs) (f ∷ []) len ∙ ap (λ (t : List ℕ). flows_text names 0 (take i fs) ++ t)
-        (append-nil (flow_lines names i f))))
+    ∙ (flows_append names 0 i (take i fs) (f ∷ []) len ∙ ap (λ (t : List ℕ). flows_text names 0 (take i fs) ++ t)
+    (append-nil (flow_lines names i f))))
 
 -- and all that are left
 pub flows_rest : (names : List (List ℕ)) (fs : List Flow) (i : ℕ) → i ≤ length fs
@@ -49,7 +49,7 @@ pub wrote_flow : {v w u : List ℕ} (names : List (List ℕ)) (fs : List Flow) (
 wrote_flow names fs i f a b c r e first second =
     let more = flows_more names fs i f e in
     wrote_both a b c r (flows_text names 0 (take i fs)) (flow_lines names i f) (flows_text names 0 (take (i + 1) fs))
-        more first second
+    more first second
 
 pub stopped_flow : {v w u : List ℕ} (names : List (List ℕ)) (fs : List Flow) (i : ℕ) (f : Flow) (a b c : SinkState)
     (r q : Result (Unit {0}) IoFault) → slice_get fs i ≡ Some f → IsErr r → r ≡ q
@@ -86,8 +86,8 @@ pub names_more : (before after : List (List ℕ)) (hs : List code.HostRun) (i : 
     → after ≡ names_of (map host_in (take (i + 1) hs))
 names_more before after hs i h here first more =
     more ∙ (ap (λ (l : List (List ℕ)). l ++ h.name ∷ []) first
-        ∙ (sym (names_and (take i hs)) ∙ ap (λ (l : List code.HostRun). names_of (map host_in l))
-        (sym (taken_more hs i h here))))
+    ∙ (sym (names_and (take i hs)) ∙ ap (λ (l : List code.HostRun). names_of (map host_in l))
+    (sym (taken_more hs i h here))))
   where
     names_and : (xs : List code.HostRun) → names_of (map host_in (xs ++ h ∷ [])) ≡ names_of (map host_in xs) ++ h.name
         ∷ []

@@ -26,8 +26,8 @@ lent_more before after hosts i x h here first same more =
     ∙ (map-append seen_host before (x ∷ [])
     ∙ (ap (λ (l : List HostRun). l ++ seen_host x ∷ []) first
     ∙ (ap (λ (r : HostRun). map unnamed_in (take i hosts) ++ r ∷ []) same
-        ∙ (sym (map-append unnamed_in (take i hosts) (h ∷ []))
-        ∙ ap (map unnamed_in) (sym (taken_more hosts i h here))))))
+    ∙ (sym (map-append unnamed_in (take i hosts) (h ∷ []))
+    ∙ ap (map unnamed_in) (sym (taken_more hosts i h here))))))
 
 pub lent_whole : (runs : List HostRun) (hosts : List code.HostRun) (n : ℕ) → length hosts ≤ n
     → runs ≡ map unnamed_in (take n hosts) → runs ≡ map unnamed_in hosts
@@ -43,7 +43,7 @@ pub legal_more : (before after : List HostFrames) (x : HostFrames) (h : code.Hos
 legal_more before after x h more all same one =
     let here : AreLegal (seen_host x) = subst AreLegal (sym same) (flows_legal h.flows one) in
     subst (Each AreLegal) (sym (ap (map seen_host) more ∙ map-append seen_host before (x ∷ [])))
-        (each_and AreLegal (map seen_host before) (seen_host x) all here)
+    (each_and AreLegal (map seen_host before) (seen_host x) all here)
   where
     flows_legal : (rs : List records.Flow) → Each IsLegal rs
         → Each (λ (f : Flow). InRange f.params × Legal f.params f.entries) (map history_of rs)
@@ -64,6 +64,9 @@ pub sent_of : {E : Type 0} (r : Result (List Frame) E) (lent : List HostFrames) 
     → map seen_host lent ≡ map unnamed_in hosts → AreShort (map seen_host lent)
     → IfOk r (IsInOrder (all_frames (map seen_host lent))) → IfOk r (AreSentBy hosts)
 sent_of (Ok frames) lent hosts same short
-    order = record { order = subst (λ (hs : List HostRun). IsInOrder (all_frames hs) frames) same order; short = subst
-    AreShort same short }
+    order = record {
+      order = subst (λ (hs : List HostRun). IsInOrder (all_frames hs) frames) same order;
+      short = subst
+          AreShort same short;
+    }
 sent_of (Err e) lent hosts same short order = tt

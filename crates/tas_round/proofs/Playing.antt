@@ -13,14 +13,14 @@ use Rattle.capture_items.proofs.Replays.{ticks_next}
 pub one_batch : {X : Type 0} (f : X → Item) (items : List Item) (rest : List X) (n t : ℕ) (host next whole : Host)
     → batches_of (map f rest) ≡ take n (map f rest) ∷ batches_of (drop n (map f rest))
     → next ≡ serial_tick items t host (map f (take n rest)) → serial_ticks items t host (batches_of (map f rest))
-        ≡ whole
+    ≡ whole
     → serial_ticks items (t + 1) next (batches_of (map f (drop n rest))) ≡ whole
 one_batch {X} f items rest n t host next whole first made so_far =
     let made' : next ≡ serial_tick items t host (take n (map f rest)) = made
-        ∙ ap (serial_tick items t host) (sym (take-map f n rest)) in
+    ∙ ap (serial_tick items t host) (sym (take-map f n rest)) in
     ap (λ (h : Host). serial_ticks items (t + 1) h (batches_of (map f (drop n rest)))) made'
     ∙ (ap (λ (xs : List Item). serial_ticks items (t + 1) (serial_tick items t host (take n (map f rest)))
-        (batches_of xs)) (sym (drop-map f n rest))
+    (batches_of xs)) (sym (drop-map f n rest))
     ∙ (sym (ticks_next items (map f rest) n t host first) ∙ so_far))
 
 pub one_tick : {X : Type 0} (f : X → Item) (rest : List X) (n t whole : ℕ) → batches_of (map f rest)
@@ -29,7 +29,7 @@ pub one_tick : {X : Type 0} (f : X → Item) (rest : List X) (n t whole : ℕ) �
 one_tick {X} f rest n t whole first so_far =
     let len : length (batches_of (map f rest)) ≡ suc (length (batches_of (drop n (map f rest)))) = ap length first in
     let same : length (batches_of (map f (drop n rest))) ≡ length (batches_of (drop n (map f rest))) = ap
-        (λ (xs : List Item). length (batches_of xs)) (sym (drop-map f n rest)) in
+    (λ (xs : List Item). length (batches_of xs)) (sym (drop-map f n rest)) in
     omega (arith, len, same, so_far)
 
 pub no_more : {X : Type 0} (f : X → Item) (items : List Item) (rest : List X) (t : ℕ) (host whole : Host) → rest ≡ []
@@ -42,7 +42,7 @@ pub no_more_ticks : {X : Type 0} (f : X → Item) (rest : List X) (t whole : ℕ
     → t + length (batches_of (map f rest)) ≡ whole → t ≡ whole
 no_more_ticks {X} f rest t whole none so_far =
     let empty : length (batches_of (map f rest)) ≡ 0 = ap (λ (xs : List X). length (batches_of (map f xs))) none
-        ∙ ap length no_batch in
+    ∙ ap length no_batch in
     omega (arith, empty, so_far)
 
 -- ----- by places in the list of all items
@@ -51,33 +51,33 @@ rest_is at xs = take_all (length xs - at) (drop at xs) (omega (arith, length-dro
 
 pub next_played : {X : Type 0} (f : X → Item) (items : List Item) (xs : List X) (at n t : ℕ) (host next whole : Host)
     → batches_of (map f (take (length xs - at) (drop at xs))) ≡ take n (map f (take (length xs - at) (drop at xs)))
-        ∷ batches_of (drop n (map f (take (length xs - at) (drop at xs))))
+    ∷ batches_of (drop n (map f (take (length xs - at) (drop at xs))))
     → next ≡ serial_tick items t host (map f (take n (take (length xs - at) (drop at xs))))
-        → serial_ticks items t host (batches_of (map f (drop at xs))) ≡ whole
+    → serial_ticks items t host (batches_of (map f (drop at xs))) ≡ whole
     → serial_ticks items (t + 1) next (batches_of (map f (drop (at + n) xs))) ≡ whole
 next_played {X} f items xs at n t host next whole first made so_far =
     let same = rest_is at xs in
     let first' : batches_of (map f (drop at xs)) ≡ take n (map f (drop at xs))
-        ∷ batches_of (drop n (map f (drop at xs))) =
+    ∷ batches_of (drop n (map f (drop at xs))) =
     subst (λ (rest : List X). batches_of (map f rest) ≡ take n (map f rest) ∷ batches_of (drop n (map f rest))) same
-        first in
+    first in
     let made' : next ≡ serial_tick items t host (map f (take n (drop at xs))) = subst
-        (λ (rest : List X). next ≡ serial_tick items t host (map f (take n rest))) same made in
+    (λ (rest : List X). next ≡ serial_tick items t host (map f (take n rest))) same made in
     ap (λ (rest : List X). serial_ticks items (t + 1) next (batches_of (map f rest))) (sym (drop-drop n at xs))
-        ∙ one_batch f items (drop at xs) n t host next whole first' made' so_far
+    ∙ one_batch f items (drop at xs) n t host next whole first' made' so_far
 
 pub next_counted : {X : Type 0} (f : X → Item) (xs : List X) (at n t whole : ℕ)
     → batches_of (map f (take (length xs - at) (drop at xs))) ≡ take n (map f (take (length xs - at) (drop at xs)))
-        ∷ batches_of (drop n (map f (take (length xs - at) (drop at xs))))
+    ∷ batches_of (drop n (map f (take (length xs - at) (drop at xs))))
     → t + length (batches_of (map f (drop at xs))) ≡ whole → (t + 1) + length (batches_of (map f (drop (at + n) xs)))
-        ≡ whole
+    ≡ whole
 next_counted {X} f xs at n t whole first so_far =
     let first' : batches_of (map f (drop at xs)) ≡ take n (map f (drop at xs))
-        ∷ batches_of (drop n (map f (drop at xs))) =
+    ∷ batches_of (drop n (map f (drop at xs))) =
     subst (λ (rest : List X). batches_of (map f rest) ≡ take n (map f rest) ∷ batches_of (drop n (map f rest)))
-        (rest_is at xs) first in
+    (rest_is at xs) first in
     ap (λ (rest : List X). (t + 1) + length (batches_of (map f rest))) (sym (drop-drop n at xs))
-        ∙ one_tick f (drop at xs) n t whole first' so_far
+    ∙ one_tick f (drop at xs) n t whole first' so_far
 
 pub none_left : {X : Type 0} (at : ℕ) (xs : List X) → length xs ≤ at → drop at xs ≡ []
 none_left zero [] h = refl
@@ -89,7 +89,7 @@ pub still_inside : {X : Type 0} (xs : List X) (at n : ℕ) → at ≤ length xs
     → n ≤ length (take (length xs - at) (drop at xs)) → at + n ≤ length xs
 still_inside xs at n h m =
     let len : length (take (length xs - at) (drop at xs)) ≡ length xs - at = ap length (rest_is at xs)
-        ∙ length-drop at xs in
+    ∙ length-drop at xs in
     omega (arith, h, m, len)
 
 -- what holds of an answer that is known

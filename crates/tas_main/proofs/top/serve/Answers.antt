@@ -5,9 +5,9 @@ use Rattle.tas_round.specs.Runs.{log_in}
 use Rattle.tas_main.specs.Stops.{given, Cause, ReadsAll, ReadBefore, Unreplayed}
 use Rattle.tas_main.specs.Outputs.{output}
 use Rattle.tas_main.specs.Requests.{request_in}
-use Rattle.tas_main.proofs.Causes.{writes_all, writes_front, writes_none, unwritten_kept, unwritten_read}
-use Rattle.tas_main.proofs.Causes.{reads_all, unreplayed_why, unreplayed_read, kept_same, at_err, after_ok}
-use Rattle.tas_main.proofs.Causes.{on_ok, on_err, if_err, whichever}
+use Rattle.tas_main.proofs.Causes.{writes_all, writes_front, writes_none, unwritten_kept, unwritten_read, reads_all}
+use Rattle.tas_main.proofs.Causes.{unreplayed_why, unreplayed_read, kept_same, at_err, after_ok, on_ok, on_err, if_err}
+use Rattle.tas_main.proofs.Causes.{whichever}
 use Rattle.tas_main.proofs.top.serve.Goals as goal
 
 pub returns-clause-done : goal.returns-clause-done
@@ -58,7 +58,8 @@ returns-clause-before g c =
     let before = g.S.Source.state c.args.source.now in
     let after = g.S.Source.state c.read_all.new.source in
     let bytes = c.in_ok-bytes.bytes.items in
-    let all : ReadsAll 67108864 before after = reads_all before after bytes (search rules) (search rules) (search rules) in
+    let all : ReadsAll 67108864 before after = reads_all before after bytes (search rules) (search rules)
+    (search rules) in
     let text = output (request_in c.in_ok-asked.asked) (log_in c.in_ok-log.log) in
     let sink = g.K.Sink.state c.args.sink.now in
     let written = g.K.Sink.state c.write_log.new.sink in
@@ -106,7 +107,8 @@ returns-in_err-log-clause-before g c =
     let before = g.S.Source.state c.args.source.now in
     let after = g.S.Source.state c.read_all.new.source in
     let bytes = c.in_ok-bytes.bytes.items in
-    let all : ReadsAll 67108864 before after = reads_all before after bytes (search rules) (search rules) (search rules) in
+    let all : ReadsAll 67108864 before after = reads_all before after bytes (search rules) (search rules)
+    (search rules) in
     let why : Unreplayed bytes c.in_err-log.field-0.0 = search rules in
     let stop = c.in_err-log.field-0.0 in
     let result = c.from_residual-in_err-log.result in
