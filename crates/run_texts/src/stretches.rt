@@ -3,7 +3,7 @@ ghost use Rattle.tas_model.specs.Outputs.{bytes_read};
 ghost use Rattle.tas_runs.specs.Report.{entries_text, entry_text, caller_text};
 ghost use Rattle.flow_state.specs.Views.{seen_entry, seen_stretch, IsFit};
 ghost use Rattle.flow_state.specs.Stretches.{run_entries, quiet_tick, IsRun};
-ghost use Rattle.run_texts.specs.Writes.{Stand, Writes};
+ghost use Rattle.run_texts.specs.Writes.{Writes};
 
 use crate::buffer::Buffer;
 use crate::entries::write_entry;
@@ -22,7 +22,7 @@ pub fn write_stretch<K: Sink>(
     stretch: &StretchView<'_>,
 ) -> Result<(), IoFault>
     requires { IsFit stretch.now }
-    ensures { Writes (record { held = K.held sink.old; faults = K.faults sink.old; grows = K.grows sink.old; waiting = writer.old }) result (record { held = K.held sink.new; faults = K.faults sink.new; grows = K.grows sink.new; waiting = writer.new }) (entries_text (map (λ n. n.now) names.now) (seen_stretch stretch.now)) }
+    ensures { Writes (K.state sink.old) writer.old result (K.state sink.new) writer.new (entries_text (map (λ n. n.now) names.now) (seen_stretch stretch.now)) }
 {
     match stretch {
         StretchView::One(entry) => write_entry(writer, sink, names, entry),
@@ -33,7 +33,7 @@ pub fn write_stretch<K: Sink>(
 /// Writes the lines of a run of quiet ticks.
 fn write_run<K: Sink>(writer: &mut Writer, sink: &mut K, run: &QuietRun) -> Result<(), IoFault>
     requires { IsRun run.now }
-    ensures { (names : List (List ℕ)) → Writes (record { held = K.held sink.old; faults = K.faults sink.old; grows = K.grows sink.old; waiting = writer.old }) result (record { held = K.held sink.new; faults = K.faults sink.new; grows = K.grows sink.new; waiting = writer.new }) (entries_text names (run_entries run.now)) }
+    ensures { (names : List (List ℕ)) → Writes (K.state sink.old) writer.old result (K.state sink.new) writer.new (entries_text names (run_entries run.now)) }
 {
     for j in 0..u64::from(run.more) + 1 {
         writer.put_text(sink, &line_of(run, j as u32))?;

@@ -1,10 +1,12 @@
+use crate::input::read_all;
+use crate::streams::{StderrSink, StdinSource, StdoutSink, StreamSink, StreamSource};
 use crate::top::tas;
 use std::alloc::Global;
 use std::process::Abort;
 use std::sync::Wait;
 use std::test::*;
 use std::thread::Threads;
-use tas_num::{MemSink, MemSource, NoGate, SureSink, SureSource};
+use tas_num::{IoFault, MemSink, MemSource, NoGate, Sink, Source, SureSink, SureSource, write_all};
 
 /// A capture of raw IP, least significant byte first: a SYN, an ACK and a segment with the bytes `hi`.
 pub const FIRST_CAPTURE: [u8; 194] = [
@@ -195,4 +197,71 @@ fn a_small_sink_holds_the_front_of_the_report(rt: HostRuntime) -> Result<(), Fai
     assert_eq!(rt; sink.written(), b"tas replay".as_slice());
     assert_eq!(rt; faults.written(), b"tas: write\n".as_slice());
     Ok(())
+}
+
+/// A source that counts how it is asked.
+#[derive(Drop)]
+struct Asked {
+    source: SureSource,
+    /// How often it was asked.
+    calls: u64,
+    /// The most bytes that a call asked for.
+    most: usize,
+    /// Whether it was asked after its end.
+    again: bool,
+    ended: bool,
+}
+
+impl Source for Asked {
+    ghost use Rattle.std.specs.Prelude.{Some};
+    ghost use Rattle.tas_num.specs.Memory.{surely_left};
+
+    ghost state = { λ s. record { left = Some (surely_left s.source); faults = 0 } };
+
+    fn read(&mut self, buf: &mut [u8]) -> Result<usize, IoFault> {
+        self.calls = self.calls.saturating_add(1);
+        self.most = self.most.max(buf.len());
+        self.again = self.again || self.ended;
+        let read = self.source.read(buf);
+        self.ended = read == Ok(0);
+        read
+    }
+}
+
+/// 10,000 bytes take three pieces of at most 4,096 bytes, and a call that finds the end.
+#[test]
+fn a_source_is_asked_for_whole_pieces_until_its_end(rt: HostRuntime) -> Result<(), Fail> {
+    let alloc = rt.alloc();
+    let mut source = Asked {
+        source: SureSource::new(alloc, &[7; 10000])?,
+        calls: 0,
+        most: 0,
+        again: false,
+        ended: false,
+    };
+    let bytes = read_all(alloc, 67_108_864, &mut source);
+    assert!(rt; matches!(bytes, Ok(bytes) if bytes.len() == 10000));
+    assert_eq!(rt; source.calls, 4);
+    assert_eq!(rt; source.most, 4096);
+    assert!(rt; !source.again);
+    Ok(())
+}
+
+#[test]
+fn the_real_streams_take_empty_pieces(rt: HostRuntime) {
+    assert_eq!(rt; StdinSource::new(rt.stdin()).read(&mut []), Ok(0));
+    assert_eq!(rt; StdoutSink::new(rt.stdout()).write(b""), Ok(0));
+    assert_eq!(rt; StderrSink::new(rt.stderr()).write(b""), Ok(0));
+}
+
+#[test]
+fn a_stream_that_takes_nothing_has_failed(rt: HostRuntime) {
+    let mut room = [0u8; 3];
+    let mut source = StreamSource::new(b"abc".as_slice());
+    let mut buf = [0u8; 2];
+    assert_eq!(rt; source.read(&mut buf), Ok(2));
+    assert_eq!(rt; source.read(&mut buf), Ok(1));
+    assert_eq!(rt; source.read(&mut buf), Ok(0));
+    let mut sink = StreamSink::new(room.as_mut_slice());
+    assert_eq!(rt; write_all(&mut sink, b"abcd"), Err(IoFault::Failed));
 }
