@@ -1,0 +1,12 @@
+use Rattle.std.proofs.Common.{◌≡◌}
+use Rattle.host_rounds.specs.Hosts.{endpoint}
+use Rattle.host_rounds.specs.Upkeep.{quieted}
+use Rattle.fast_tx.specs.Going.{left_in}
+use Rattle.local_host.proofs.live.LiveFlow.send_all.Given as goal
+
+-- what is left to send leads to the same end
+abbrev pub invariant-loop-self : goal.invariant-loop-self
+invariant-loop-self l = quieted l.tick l.self ≡ quieted l.tick l.fn.self
+
+abbrev pub decreases-loop-self : goal.decreases-loop-self
+decreases-loop-self l = left_in (endpoint l.self)
