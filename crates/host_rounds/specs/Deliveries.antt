@@ -1,5 +1,5 @@
 -- What becomes of a frame that comes to a host (RFC 9293, sections 3.10.7.1 and 3.10.7.2).
-use Rattle.std.specs.Prelude.{ℕ, ◌&&◌, ◌||◌, ◌==◌, not, Bool, true, false, List, [], Option, Some, None, if◌then◌else◌}
+use Rattle.std.specs.Prelude.{ℕ, ◌&&◌, ◌||◌, ◌==◌, not, Bool, true, false, [], Option, Some, None, if◌then◌else◌}
 use Rattle.segment_fields.specs.ControlBits.{urg}
 use Rattle.tas_model.specs.declared.entry.FourTuple.{FourTuple}
 use Rattle.tas_model.specs.declared.entry.FrameId.{FrameId}
@@ -15,10 +15,12 @@ use Rattle.tas_model.specs.declared.entry.Call.TheVariants as calls
 use Rattle.tas_model.specs.Endpoint.{Endpoint, phase}
 use Rattle.tas_model.specs.Segments.{has, is_fin, is_syn, is_rst, is_ack, resets, stray_reply}
 use Rattle.host_rounds.specs.declared.log.LogEvent.TheVariants as events
-use Rattle.host_rounds.specs.Hosts.{Live, Host, Waiting, Numbers, next_number, endpoint, with_call, logged, is_known, changed, is_listening, is_full, lowest_free, first_entry, opened_in}
+use Rattle.host_rounds.specs.Hosts.{Live, Host, Waiting, Numbers, next_number, endpoint, with_call, logged, is_known}
+use Rattle.host_rounds.specs.Hosts.{changed, is_listening, is_full, lowest_free, first_entry, opened_in}
 
 -- ----- frames
--- What comes in a frame: a packet that breaks a rule of reading, whose number stands here, or a segment with its four-tuple as this host sees it.
+-- What comes in a frame: a packet that breaks a rule of reading, whose number stands here, or a segment with its
+-- four-tuple as this host sees it.
 pub data Packet : Type 0 where
   Damaged : (rule : ℕ) → Packet
   Segment : FourTuple → Seg → Packet
@@ -45,7 +47,8 @@ is_open_phase _ = false
 
 -- A segment for the fast path: ACK is set and none of SYN, FIN, RST and URG, and the connection is open.
 abbrev pub is_fast : Endpoint → Seg → Bool
-is_fast e seg = not (is_syn seg || is_fin seg || is_rst seg || has seg.head.flags urg) && is_ack seg && is_open_phase (phase e)
+is_fast e seg =
+    not (is_syn seg || is_fin seg || is_rst seg || has seg.head.flags urg) && is_ack seg && is_open_phase (phase e)
 
 -- In serial order the fast path of core 0 takes what is for it, and the slow path all else.
 abbrev pub rx_caller : Endpoint → Seg → Caller
@@ -67,14 +70,16 @@ abbrev pub answer_in : Reply → Option Head
 answer_in (replies.Sent seg) = Some seg.head
 answer_in _ = None
 
--- The answer to a segment that opens nothing, at a port where a listener is, or none is: there it is that of CLOSED (section 3.10.7.1).
+-- The answer to a segment that opens nothing, at a port where a listener is, or none is: there it is that of CLOSED
+-- (section 3.10.7.1).
 abbrev pub stray_answer : (listening : Bool) → Seg → Option Head
 stray_answer true seg = answer_in (listener_reply seg)
 stray_answer false seg = answer_in (stray_reply seg)
 
 -- A SYN for a listener is dropped where as many flows wait as it takes, and then where no slot is free.
 -- Else it opens a flow in the lowest free slot, by the slow path; `number` is its first number.
-abbrev pub opened_by_syn : (full : Bool) → (free : Option ℕ) → (number tick : ℕ) → Host → FrameId → FourTuple → Seg → Host
+abbrev pub opened_by_syn : (full : Bool) → (free : Option ℕ) → (number tick : ℕ)
+    → Host → FrameId → FourTuple → Seg → Host
 opened_by_syn true free number t host frame tuple seg = logged host t (events.Dropped frame true)
 opened_by_syn false None number t host frame tuple seg = logged host t (events.Dropped frame false)
 opened_by_syn false (Some slot) number t host frame tuple seg =
@@ -90,7 +95,8 @@ met_no_flow false listening number t host frame tuple seg =
 abbrev pub arrived : (known : Bool) → (Live → Live) → (number tick : ℕ) → Host → FrameId → FourTuple → Seg → Host
 arrived true take_in number t host frame tuple seg = changed host tuple take_in
 arrived false take_in number t host frame tuple seg =
-    met_no_flow (is_listening host tuple.lport && opens seg) (is_listening host tuple.lport) number t host frame tuple seg
+    let listening : Bool = is_listening host tuple.lport in
+    met_no_flow (listening && opens seg) listening number t host frame tuple seg
 
 -- How a flow takes a segment: by which caller.
 abbrev pub Taking : Type 0
@@ -101,7 +107,7 @@ delivered_packet take_in numbers t host frame (Damaged rule) = logged host t (ev
 delivered_packet take_in numbers t host frame (Segment tuple seg) =
     arrived (is_known host tuple) (take_in t frame seg) (next_number numbers host tuple) t host frame tuple seg
 
--- A packet that breaks a rule of reading is a line of the log. A segment is taken by the flow that the index has under its four-tuple, also where that was closed in this tick,
--- and else meets a listener, or none.
+-- A packet that breaks a rule of reading is a line of the log. A segment is taken by the flow that the index has under
+-- its four-tuple, also where that was closed in this tick, and else meets a listener, or none.
 abbrev pub delivered : Taking → Numbers → (tick : ℕ) → Host → Arrival → Host
 delivered take_in numbers t host x = delivered_packet take_in numbers t host x.frame x.packet

@@ -7,8 +7,9 @@ use Rattle.tas_model.specs.OneStream.{OneStream, IsPrefixOf}
 use Rattle.host_rounds.specs.Logs.{Flow}
 use Rattle.host_rounds.specs.Hosts.{Live}
 
--- The flow has a history of RFC 9293's endpoint. Whatever one stream its peer sends, what was read is a prefix of it; and each segment that acknowledges something acknowledges
--- the next place that is expected: all bytes that stand in order, and no other.
+-- The flow has a history of RFC 9293's endpoint. Whatever one stream its peer sends, what was read is a prefix of it;
+-- and each segment that acknowledges something acknowledges the next place that is expected: all bytes that stand in
+-- order, and no other.
 pub record IsSound (f : Flow) : Type 0 where
   pub legal : Legal f.params f.entries
   pub reads : (stream : List ℕ) → OneStream f.params stream f.entries → IsPrefixOf (bytes_read f.entries) stream

@@ -1,5 +1,6 @@
 -- A host in the middle of a run, and how one call, one line of the log or one opening changes it.
-use Rattle.std.specs.Prelude.{ℕ, zero, suc, ◌+◌, ◌==◌, ◌&&◌, ◌||◌, not, Bool, true, false, List, [], ◌∷◌, ◌++◌, length, count_by, nat_lt, Option, Some, None}
+use Rattle.std.specs.Prelude.{ℕ, zero, suc, ◌+◌, ◌==◌, ◌&&◌, ◌||◌, not, Bool, true, false, List, [], ◌∷◌, ◌++◌, length}
+use Rattle.std.specs.Prelude.{count_by, nat_lt, Option, Some, None}
 use Rattle.std.specs.List.{list_any}
 use Rattle.tas_model.specs.declared.entry.HostParams.{HostParams}
 use Rattle.tas_model.specs.declared.entry.FourTuple.{FourTuple}
@@ -16,7 +17,8 @@ use Rattle.host_rounds.specs.Logs.{Flow, HostRun}
 use Rattle.host_rounds.specs.Lists.{change_first, change_at}
 
 -- ----- a host
--- Who has the socket of a flow: nobody yet, where a SYN opened it and no application accepted it; an application, by its number; or nobody any more.
+-- Who has the socket of a flow: nobody yet, where a SYN opened it and no application accepted it; an application, by
+-- its number; or nobody any more.
 pub data Holder : Type 0 where
   Waiting : Holder
   Application : (app : ℕ) → Holder
@@ -117,7 +119,8 @@ is_in_slot slot l = not l.filed && l.flow.id.slot == slot
 -- the lowest free slot from `slot` on, of so many
 abbrev pub free_from : (most slot : ℕ) → List Live → Option ℕ
 free_from zero slot flows = None
-free_from (suc most) slot flows = elim (list_any (is_in_slot slot) flows) [ true ↦ free_from most (slot + 1) flows | false ↦ Some slot ]
+free_from (suc most) slot flows =
+    elim (list_any (is_in_slot slot) flows) [ true ↦ free_from most (slot + 1) flows | false ↦ Some slot ]
 
 -- the lowest free slot of the host
 abbrev pub lowest_free : Host → Option ℕ
@@ -132,7 +135,8 @@ next_generation slot flows = 1 + count_by (λ (l : Live). l.flow.id.slot == slot
 abbrev pub opened_as : FourTuple → List Live → ℕ
 opened_as tuple flows = count_by (λ (l : Live). same_tuple tuple l.flow.tuple) flows
 
--- The first numbers of a host's flows: that of a flow of which k of its four-tuple were opened before, and n of the host.
+-- The first numbers of a host's flows: that of a flow of which k of its four-tuple were opened before, and n of the
+-- host.
 abbrev pub Numbers : Type 0
 Numbers = FourTuple → (k n : ℕ) → ℕ
 

@@ -10,4 +10,7 @@ pub mod SerialOrder
 pub mod Places
 pub mod Openings
 pub mod Passing
+pub mod Standing
 pub mod Histories
+pub mod EveryTick
+pub mod WorkedTicks

@@ -1,14 +1,15 @@
 -- What an application may do to its host, step by step.
-use Rattle.std.specs.Prelude.{◌≡◌, ℕ, ◌==◌, not, Bool, true, false, List, [], ◌∷◌, ◌++◌, filter, slice_get, Option, Some, None, IsSome, IfSome, ⊤}
+use Rattle.std.specs.Prelude.{◌≡◌, ℕ, false, List, [], ◌∷◌, slice_get, Some, IsSome, IfSome, ⊤}
 use Rattle.tas_model.specs.declared.entry.FourTuple.{FourTuple}
 use Rattle.tas_model.specs.declared.entry.Caller.{Caller}
-use Rattle.tas_model.specs.declared.entry.Caller.TheVariants.{Slow, Core, App}
+use Rattle.tas_model.specs.declared.entry.Caller.TheVariants.{Slow, App}
 use Rattle.tas_model.specs.declared.entry.Call.{Call}
 use Rattle.tas_model.specs.declared.entry.Call.TheVariants as calls
 use Rattle.tas_model.specs.LegalHistory.{Offers, shown, step}
 use Rattle.host_rounds.specs.declared.log.LogEvent.{LogEvent}
 use Rattle.host_rounds.specs.declared.log.LogEvent.TheVariants as events
-use Rattle.host_rounds.specs.Hosts.{Live, Host, Holder, Application, Listener, Numbers, next_number, endpoint, with_call, logged, at_flow, is_known, lowest_free, first_entry, opened_in}
+use Rattle.host_rounds.specs.Hosts.{Live, Host, Holder, Application, Listener, Numbers, next_number, endpoint}
+use Rattle.host_rounds.specs.Hosts.{with_call, logged, at_flow, is_known, lowest_free, first_entry, opened_in}
 use Rattle.host_rounds.specs.Lists.{Each}
 use Rattle.host_rounds.specs.Histories.{HasHistory}
 use Rattle.host_rounds.specs.Scripts.{Scripts, Site}
@@ -24,13 +25,15 @@ pub data Move : Type 0 where
 abbrev pub moved : Numbers → (tick : ℕ) → Host → Move → Host
 moved numbers t host (Calls n by call offer) = at_flow n (λ (l : Live). with_call l by t call offer) host
 moved numbers t host (Opens slot tuple app) =
-    opened_in host slot tuple (Application app) (first_entry (App app) t (calls.Connect (record { 0 = next_number numbers host tuple })))
+    let number : ℕ = next_number numbers host tuple in
+    opened_in host slot tuple (Application app) (first_entry (App app) t (calls.Connect (record { 0 = number })))
 moved numbers t host (Notes event) = logged host t event
 moved numbers t host (Holds n holder) = at_flow n (λ (l : Live). record l { holder = holder }) host
 moved numbers t host (Listens listeners) = record host { listeners = listeners }
 
 -- ----- which moves there are
--- the calls of an application on a flow that stands; a flow of an application that is killed is aborted by the slow path
+-- the calls of an application on a flow that stands; a flow of an application that is killed is aborted by the slow
+-- path
 abbrev pub IsAppCall : Caller → Call → Type 0
 IsAppCall (App k) calls.Accept = ⊤
 IsAppCall (App k) calls.Ready = ⊤
@@ -70,4 +73,5 @@ AreMoves numbers t before (m ∷ ms) after = MayMove before m × AreMoves number
 -- Whatever these scripts ask is a row of such moves.
 abbrev pub AreByMoves : {S A : Type 0} → Scripts S A → Type 0
 AreByMoves {S} {A} scripts =
-    (t : ℕ) (site : Site S) (a : A) → Each HasHistory site.host.flows → (moves : List Move) × AreMoves scripts.numbers t site.host moves (scripts.asked t site a).host
+    (t : ℕ) (site : Site S) (a : A) → Each HasHistory site.host.flows
+    → (moves : List Move) × AreMoves scripts.numbers t site.host moves (scripts.asked t site a).host

@@ -9,7 +9,8 @@ use Rattle.tas_model.specs.declared.entry.Call.TheVariants as calls
 use Rattle.host_rounds.specs.Logs.{Flow}
 use Rattle.host_rounds.specs.Hosts.{Numbers, same_tuple}
 
--- What a flow got when it was opened: its slot with a generation, its four-tuple, its parameters, and the first sequence number that its first entry shows.
+-- What a flow got when it was opened: its slot with a generation, its four-tuple, its parameters, and the first
+-- sequence number that its first entry shows.
 pub record Opening : Type 0 where
   pub id : FlowId
   pub tuple : FourTuple
@@ -32,12 +33,17 @@ abbrev pub openings_of : List Flow → List Opening
 openings_of [] = []
 openings_of (f ∷ fs) = opening_of f ∷ openings_of fs
 
--- The opening is right after those before it: with the host's parameters, in one of its slots, as that slot's next generation, and with the first number that these numbers give.
+-- how many of these are of this four-tuple
+abbrev pub openings_as : FourTuple → List Opening → ℕ
+openings_as tuple os = count_by (λ (o : Opening). same_tuple tuple o.tuple) os
+
+-- The opening is right after those before it: with the host's parameters, in one of its slots, as that slot's next
+-- generation, and with the first number that these numbers give.
 pub record IsOpened (numbers : Numbers) (host : HostParams) (before : List Opening) (o : Opening) : Type 0 where
   pub params : o.params ≡ host
   pub slot : o.id.slot < host.slots
   pub generation : o.id.generation ≡ 1 + count_by (λ (earlier : Opening). earlier.id.slot == o.id.slot) before
-  pub number : o.number ≡ Some (numbers o.tuple (count_by (λ (earlier : Opening). same_tuple o.tuple earlier.tuple) before) (length before))
+  pub number : o.number ≡ Some (numbers o.tuple (openings_as o.tuple before) (length before))
 
 -- Each of these openings is right after those of `before` and those that stand in front of it.
 abbrev pub AreOpened : Numbers → HostParams → (before openings : List Opening) → Type 0

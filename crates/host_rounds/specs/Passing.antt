@@ -21,7 +21,8 @@ ticks_in (x ∷ xs) = one_if (is_tick x.call) + ticks_in xs
 abbrev pub ticks_of : Live → ℕ
 ticks_of l = ticks_in l.flow.entries
 
--- A flow before a tick and after it: it has one Tick more, which is wanting only where the flow was closed in the tick; and a flow that was closed before has none.
+-- A flow before a tick and after it: it has one Tick more, which is wanting only where the flow was closed in the tick;
+-- and a flow that was closed before has none.
 pub record IsTimed (before after : Live) : Type 0 where
   pub one : is_over after ≡ false → ticks_of after ≡ ticks_of before + 1
   pub most : ticks_of after ≤ ticks_of before + 1

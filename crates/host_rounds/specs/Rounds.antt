@@ -1,4 +1,5 @@
--- Which ticks of a host are right: all that is due is done once, each agent's actions in its own order, and what different agents do in any order between them.
+-- Which ticks of a host are right: all that is due is done once, each agent's actions in its own order, and what
+-- different agents do in any order between them.
 use Rattle.std.specs.Prelude.{◌≡◌, ℕ, ◌+◌, ◌==◌, Bool, false, List, [], ◌∷◌, ◌++◌, map, filter, fold, None, ⊤}
 use Rattle.tas_model.specs.declared.entry.FrameId.{FrameId}
 use Rattle.tas_model.specs.declared.entry.Caller.{Caller}
@@ -11,14 +12,16 @@ use Rattle.host_rounds.specs.Deliveries.{Arrival, same_frame, received, delivere
 use Rattle.host_rounds.specs.Scripts.{Site, Scripts}
 
 -- ----- actions
--- What is done in a tick: the timer of a flow, a frame that comes, one thing that an application asks, and a segment that a flow sends. A flow is named by its opening number.
+-- What is done in a tick: the timer of a flow, a frame that comes, one thing that an application asks, and a segment
+-- that a flow sends. A flow is named by its opening number.
 pub data Action (A : Type 0) : Type 0 where
   Timer : (flow : ℕ) → Action A
   Frame : Arrival → Action A
   Ask : A → Action A
   Emission : (flow : ℕ) → Action A
 
--- An action and the worker that does it. What an application asks is entered in its own name, whichever worker serves it.
+-- An action and the worker that does it. What an application asks is entered in its own name, whichever worker serves
+-- it.
 pub record Deed (A : Type 0) : Type 0 where
   pub by : Caller
   pub action : Action A
@@ -26,7 +29,8 @@ pub record Deed (A : Type 0) : Type 0 where
 abbrev pub on_host : {S : Type 0} → (Host → Host) → Site S → Site S
 on_host f site = record site { host = f site.host }
 
--- What an action leaves. One that has nothing to do when its turn comes leaves all as it is: the timer of a flow that was closed before in the tick, say.
+-- What an action leaves. One that has nothing to do when its turn comes leaves all as it is: the timer of a flow that
+-- was closed before in the tick, say.
 abbrev pub done_by : {S A : Type 0} → Scripts S A → (tick : ℕ) → Site S → Caller → Action A → Site S
 done_by scripts t site by (Timer n) = on_host (at_flow n (timed by t)) site
 done_by scripts t site by (Frame x) = on_host (λ (host : Host). delivered (received by) scripts.numbers t host x) site
@@ -77,11 +81,13 @@ IsWorker (App k) = ⊥
 abbrev pub IsQuiet : Live → Type 0
 IsQuiet l = going (endpoint l) ≡ None
 
--- One tick. Closed flows are given up first. Then there is an order of deeds in which each agent does what is due of it, in its own order and once, with emissions anywhere between;
--- each deed finds what the deeds before it left. After the tick nothing may go.
+-- One tick. Closed flows are given up first. Then there is an order of deeds in which each agent does what is due of
+-- it, in its own order and once, with emissions anywhere between; each deed finds what the deeds before it left. After
+-- the tick nothing may go.
 pub record Round {S A : Type 0} (scripts : Scripts S A) (t : ℕ) (due : Due A) (before after : Site S) : Type 0 where
   pub order : List (Deed A)
-  pub due_each : (a : Agent) → filter (is_by scripts a) (actions_of order) ≡ filter (is_by scripts a) (due_actions before.host.flows due)
+  pub due_each : (a : Agent)
+      → filter (is_by scripts a) (actions_of order) ≡ filter (is_by scripts a) (due_actions before.host.flows due)
   pub workers : Each (λ (deed : Deed A). IsWorker deed.by) order
   pub made : fold (does scripts t) (on_host all_swept before) order ≡ after
   pub quiet : Each IsQuiet after.host.flows
@@ -89,4 +95,5 @@ pub record Round {S A : Type 0} (scripts : Scripts S A) (t : ℕ) (due : Due A) 
 -- The ticks from t on, where all that is due is known before.
 abbrev pub Rounds : {S A : Type 0} → Scripts S A → (t : ℕ) → List (Due A) → (before after : Site S) → Type 0
 Rounds scripts t [] before after = before ≡ after
-Rounds {S} scripts t (due ∷ dues) before after = (next : Site S) × Round scripts t due before next × Rounds scripts (t + 1) dues next after
+Rounds {S} scripts t (due ∷ dues) before after =
+    (next : Site S) × Round scripts t due before next × Rounds scripts (t + 1) dues next after

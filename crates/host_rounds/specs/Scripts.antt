@@ -11,4 +11,5 @@ pub record Site (S : Type 0) : Type 0 where
 pub record Scripts (S A : Type 0) : Type 0 where
   pub numbers : Numbers  -- the first numbers of the host's flows
   pub agent : A → ℕ  -- who asks this
-  pub asked : (tick : ℕ) → Site S → A → Site S  -- what is left when it was asked; a thing that is not wanted when its turn comes leaves all as it is
+  -- what is left when it was asked; a thing that is not wanted when its turn comes leaves all as it is
+  pub asked : (tick : ℕ) → Site S → A → Site S

@@ -1,5 +1,6 @@
 -- What the host does by itself in a tick: closed flows are given up, time passes, and what may go is sent.
-use Rattle.std.specs.Prelude.{ℕ, zero, suc, ◌+◌, ◌%◌, ◌==◌, ◌&&◌, ◌||◌, not, Bool, true, false, [], length, map, nat_lt, Option, Some, None, if◌then◌else◌}
+use Rattle.std.specs.Prelude.{ℕ, zero, suc, ◌+◌, ◌%◌, ◌==◌, ◌&&◌, ◌||◌, not, Bool, true, false, [], length, map, nat_lt}
+use Rattle.std.specs.Prelude.{Option, Some, None, if◌then◌else◌}
 use Rattle.tas_model.specs.declared.entry.Caller.{Caller}
 use Rattle.tas_model.specs.declared.entry.Caller.TheVariants.{Core}
 use Rattle.tas_model.specs.declared.entry.Call.TheVariants as calls
@@ -47,8 +48,10 @@ emits by t l = emits_where (going (endpoint l)) by t l
 -- all that may go, sent by core 0, in at most so many segments
 abbrev pub quieted_within : (most : ℕ) → (tick : ℕ) → Live → Live
 quieted_within zero t l = l
-quieted_within (suc most) t l = elim (going (endpoint l)) [ None ↦ l | Some g ↦ quieted_within most t (with_call l (Core 0) t calls.Emit []) ]
+quieted_within (suc most) t l =
+    elim (going (endpoint l)) [ None ↦ l | Some g ↦ quieted_within most t (with_call l (Core 0) t calls.Emit []) ]
 
--- All that may go. A segment takes a byte of the stream at least, but for the SYN, one probe and the FIN, so that so many are enough.
+-- All that may go. A segment takes a byte of the stream at least, but for the SYN, one probe and the FIN, so that so
+-- many are enough.
 abbrev pub quieted : (tick : ℕ) → Live → Live
 quieted t l = quieted_within (length (endpoint l).tx.out + 4) t l

@@ -1,7 +1,10 @@
-//! One host in a run: how its ticks go under any scripts of its applications, which orders of a tick are right, and the laws of these.
+//! One host in a run: how its ticks go under any scripts of its applications, which orders of a tick are right, and the
+//! laws of these.
 #![tactic(auto)]
 
-
+mod laws;
 mod log;
+mod worked;
 
 pub use log::{LogEvent, LogLine};
+pub use worked::worked_ticks;

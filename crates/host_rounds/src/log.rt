@@ -21,21 +21,24 @@ pub enum LogEvent {
         app: u32,
         port: u16,
     },
-    /// A connect to this address and port was refused: for want of a port where `no_port` is true, and else for want of a slot.
+    /// A connect to this address and port was refused: for want of a port where `no_port` is true, and else for want of
+    /// a slot.
     ConnectRefused {
         app: u32,
         raddr: u32,
         rport: u16,
         no_port: bool,
     },
-    /// A segment came that is of no flow. `tuple` is its four-tuple as this host sees it, and `answer` is the reset that it got (RFC 9293, section 3.10.7.1).
+    /// A segment came that is of no flow. `tuple` is its four-tuple as this host sees it, and `answer` is the reset
+    /// that it got (RFC 9293, section 3.10.7.1).
     Stray {
         frame: FrameId,
         tuple: FourTuple,
         seg: Seg,
         answer: Option<Head>,
     },
-    /// A SYN came for a listener, and was dropped: for a full backlog where `backlog` is true, and else for want of a slot.
+    /// A SYN came for a listener, and was dropped: for a full backlog where `backlog` is true, and else for want of a
+    /// slot.
     Dropped {
         frame: FrameId,
         backlog: bool,

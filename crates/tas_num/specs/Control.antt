@@ -1,4 +1,5 @@
--- The control of the rate (RFC 5681, sections 3.1 and 3.2): what one interval's counters do to cwnd and ssthresh. All numbers are bytes, but for the counts `fast` and `timeouts`.
+-- The control of the rate (RFC 5681, sections 3.1 and 3.2): what one interval's counters do to cwnd and ssthresh. All
+-- numbers are bytes, but for the counts `fast` and `timeouts`.
 use Rattle.std.specs.Prelude.{ℕ, ◌+◌, ◌*◌, ◌/◌, nat_lt, min, max, if◌then◌else◌}
 
 -- half of what is in flight, but two segments at least
@@ -12,7 +13,8 @@ ssthresh_after fast timeouts flight mss ssthresh =
     else if nat_lt 0 fast then min 65535 (halved flight mss)
     else ssthresh
 
--- one segment after a timeout, the threshold after a fast retransmission; else slow start below the threshold, and congestion avoidance from it on
+-- one segment after a timeout, the threshold after a fast retransmission; else slow start below the threshold, and
+-- congestion avoidance from it on
 abbrev pub cwnd_after : (acked fast timeouts flight mss cwnd ssthresh : ℕ) → ℕ
 cwnd_after acked fast timeouts flight mss cwnd ssthresh =
     min 65535 (

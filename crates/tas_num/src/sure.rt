@@ -1,6 +1,6 @@
-ghost use Rattle.std.specs.Prelude.{◌≡◌, ℕ, ◌≤◌, Option, Some, List, [], length, drop, take, min, true, IfOk, Ok, vec_len};
-ghost use Rattle.std.specs.Io.{ReadsAtMost};
-ghost use Rattle.std.specs.Io.KnownBytes.{ReadConsumes};
+ghost use Rattle.std.specs.Prelude.{◌≡◌, ◌≢◌, ◌<◌, ◌≤◌, Some, length, min, IfOk, Ok, vec_len};
+ghost use Rattle.std.specs.Io.{ReadsAtMost, WritesAtMost};
+ghost use Rattle.std.specs.Io.KnownBytes.{ReadConsumes, WriteAppends};
 
 use crate::memory::copy_front;
 use crate::outside::{IoFault, Sink, Source};
@@ -33,9 +33,7 @@ impl Source for SureSource {
     ghost use Rattle.std.specs.Prelude.{Some};
     ghost use Rattle.tas_num.specs.Memory.{surely_left};
 
-    ghost left = { λ s. Some (surely_left s) };
-
-    ghost faults = { λ _. 0 };
+    ghost state = { λ s. record { left = Some (surely_left s); faults = 0 } };
 
     fn read(&mut self, buf: &mut [u8]) -> Result<usize, IoFault>
         ensures bound { ReadsAtMost result buf.new }
@@ -80,13 +78,16 @@ impl Sink for SureSink {
     ghost use Rattle.std.specs.Prelude.{Some, true};
     ghost use Rattle.tas_num.specs.Memory.{surely_held};
 
-    ghost held = { λ s. Some (surely_held s) };
+    ghost state = { λ s. record { held = Some (surely_held s); faults = 0; grows = true } };
 
-    ghost faults = { λ _. 0 };
-
-    ghost grows = { λ _. true };
-
-    fn write(&mut self, bytes: &[u8]) -> Result<usize, IoFault> {
+    fn write(&mut self, bytes: &[u8]) -> Result<usize, IoFault>
+        ensures bound { WritesAtMost result bytes.now }
+        ensures some { IfOk result (λ n. 0 < length bytes.now → 0 < n) }
+        ensures bytes { WriteAppends (Some (surely_held self.old)) (Some (surely_held self.new)) result bytes.now }
+        // All of them, or none for want of memory.
+        ensures count { IfOk result (λ n. n ≡ length bytes.now) }
+        ensures no_failure { result ≢ Err IoFault.Failed }
+    {
         match self.bytes.extend_from_slice(bytes) {
             Ok(()) => Ok(bytes.len()),
             Err(_) => Err(IoFault::OutOfMemory),

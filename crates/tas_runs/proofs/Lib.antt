@@ -1,2 +1,14 @@
+pub mod ByMoves
+pub mod Followed
+pub mod AllAsked
+pub mod SerialRun
+pub mod AllBatches
+pub mod OneRun
+pub mod Runs
+pub mod CaptureBatches
+pub mod Counts
+pub mod AllShown
+pub mod Texts
+pub mod Pushes
 pub mod WorkedReplays
 pub mod WorkedRecords

@@ -41,6 +41,11 @@ closed_cut c = elim c.current [ [] ↦ c.done | x ∷ xs ↦ c.done ++ c.current
 unfoldable pub batches_of : List Item → List (List Item)
 batches_of items = closed_cut (fold cut_at (record { done = []; current = [] }) items)
 
+-- all records of the batches, one batch after the other
+abbrev pub flat : List (List Item) → List Item
+flat [] = []
+flat (batch ∷ batches) = batch ++ flat batches
+
 -- ----- what a batch is
 -- no two of these are segments of one flow, nor is one of them of a flow of `earlier`
 abbrev pub NoneClash : (earlier items : List Item) → Type 0

@@ -10,7 +10,7 @@ use Rattle.tas_model.specs.declared.entry.Call.TheVariants as calls
 use Rattle.tas_model.specs.Segments.{is_fin, is_syn, is_rst, is_ack, one_if}
 use Rattle.host_rounds.specs.declared.log.LogEvent.TheVariants as events
 use Rattle.host_rounds.specs.Lists.{change_at}
-use Rattle.host_rounds.specs.Hosts.{Live, Host, Holder, Application, GivenUp, Numbers, next_number, endpoint, is_over, is_opening, is_running, is_held, with_call, logged, is_known, is_indexed_as, at_flow, lowest_free, first_entry, opened_in}
+use Rattle.host_rounds.specs.Hosts.{Live, Host, Application, GivenUp, Numbers, next_number, endpoint, is_over, is_opening, is_running, is_held, with_call, logged, is_known, is_indexed_as, at_flow, lowest_free, first_entry, opened_in}
 use Rattle.host_rounds.specs.Deliveries.{Arrival}
 use Rattle.host_rounds.specs.Deliveries.{Damaged as damaged, Segment as segment}
 use Rattle.host_rounds.specs.Scripts.{Scripts, Site}
@@ -188,13 +188,13 @@ capture_scripts items =
 abbrev pub record_frame : (number : ℕ) → FrameId
 record_frame n = record { host = 2 ^ 32 - 1; flow = 2 ^ 32 - 1; number = n; copy = 0 }
 
+abbrev pub arrival_by : (number : ℕ) → Content → Option Arrival
+arrival_by n (Damaged rule) = Some (record { frame = record_frame n; packet = damaged rule })
+arrival_by n (Remote tuple seg) = Some (record { frame = record_frame n; packet = segment tuple seg })
+arrival_by n (Local tuple seg) = None
+
 abbrev pub arrival_of : Item → Option Arrival
-arrival_of x =
-    elim x.content [
-      | Damaged rule ↦ Some (record { frame = record_frame x.number; packet = damaged rule })
-      | Remote tuple seg ↦ Some (record { frame = record_frame x.number; packet = segment tuple seg })
-      | Local tuple seg ↦ None
-    ]
+arrival_of x = arrival_by x.number x.content
 
 -- The frames among these records: what the host sent itself does not come to it.
 abbrev pub arrivals_in : List Item → List Arrival

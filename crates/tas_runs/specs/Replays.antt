@@ -44,7 +44,7 @@ replay_log local records items host =
 abbrev pub IsReplayOf : (local records : ℕ) → List Item → RunLog → Type 0
 IsReplayOf local records items log =
     (last : Site (List Shown)) × Rounds (capture_scripts items) 0 (map due_in (batches_of items)) (at_start local) last
-        × (log ≡ replay_log local records items last.host)
+    × (log ≡ replay_log local records items last.host)
 
 abbrev pub IsReplayFound : (local : ℕ) → (loose : Bool) → Result Capture Fault → RunLog → Type 0
 IsReplayFound local loose (Err fault) log = ⊥

@@ -1,23 +1,33 @@
-use Rattle.std.proofs.Common.{◌≡◌, ◌-◌, length, take, drop, rules, subst}
+use Rattle.std.proofs.Common.{ℕ, List, take, rules, subst}
 use Rattle.std.specs.Io.KnownBytes.{Appends}
-use Rattle.tas_num.proofs.Writing.{appends_more, appends_front, whole, within}
+use Rattle.tas_num.proofs.Writing.{appends_more, stopped, whole, within}
 use Rattle.tas_num.proofs.outside.write_all.Goals as goal
 
-pub returns-in_err-written-clause-err : goal.returns-in_err-written-clause-err
-returns-in_err-written-clause-err g c =
-    let kept = c.in_err-written.ensures.bytes in
-    search (rules, appends_front (g.K.Sink.held c.args.sink.now) (g.K.Sink.held c.loop-written.sink) (g.K.Sink.held c.write.new.self) c.args.bytes.now c.loop-written.written c.loop-written.invariant.bytes kept)
+pub returns-in_err-written : goal.returns-in_err-written
+returns-in_err-written g c =
+    let so_far = c.loop-written.invariant in
+    let fault = c.in_err-written.ensures in
+    let before = g.K.Sink.state c.args.sink.now in
+    let now = g.K.Sink.state c.loop-written.sink in
+    let after = g.K.Sink.state c.write.new.self in
+    let k = c.loop-written.written in
+    let why = c.in_err-written.field-0.0 in
+    let bytes = c.args.bytes.now in
+    search (rules, stopped before now after bytes k why so_far.bytes so_far.counts so_far.same fault.bytes fault.counts)
 
 pub loop-written-preserved : goal.loop-written-preserved
 loop-written-preserved g c =
+    let bytes : List ℕ = c.args.bytes.now in
+    let k = c.loop-written.written in
     let n = c.in_ok-written.field-0 in
-    let rest = drop c.loop-written.written c.args.bytes.now in
-    let all : take (length c.args.bytes.now - c.loop-written.written) rest ≡ rest = whole c.loop-written.written c.args.bytes.now in
-    let bytes = c.in_ok-written.ensures.bytes in
-    let bound = c.in_ok-written.ensures.bound in
+    let now = g.K.Sink.state c.loop-written.sink in
+    let after = g.K.Sink.state c.write.new.self in
+    let so_far = c.loop-written.invariant in
+    let done = c.in_ok-written.ensures in
+    let piece = subst (λ (xs : List ℕ). Appends now.held after.held (take n xs)) (whole k bytes) done.bytes in
     record {
-      bytes = appends_more _ _ _ c.args.bytes.now c.loop-written.written n c.loop-written.invariant.bytes (subst (λ (xs : _). Appends (g.K.Sink.held c.loop-written.sink) (g.K.Sink.held c.write.new.self) (take n xs)) all bytes);
-      within = within c.loop-written.written n c.args.bytes.now c.loop-written.invariant.within bound;
-      later = search rules;
+      bytes = appends_more _ _ _ bytes k n so_far.bytes piece;
+      within = within k n bytes so_far.within done.bound;
+      counts = search rules;
       same = search rules;
     }
