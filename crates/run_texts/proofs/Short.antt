@@ -1,5 +1,6 @@
 -- Each segment that a history sends has room in a packet.
-use Rattle.std.proofs.Common.{◌≡◌, ℕ, ◌-◌, List, [], ◌∷◌, length, take, drop, Option, Some, None, ◌≤◌, arith, length-take}
+use Rattle.std.proofs.Common.{◌≡◌, ℕ, ◌-◌, List, [], ◌∷◌, length, take, drop, Option, Some, None, ◌≤◌, arith}
+use Rattle.std.proofs.Common.{length-take}
 use Rattle.tas_model.specs.declared.entry.Reason.{Reason}
 use Rattle.tas_model.specs.declared.entry.Seg.{Seg}
 use Rattle.tas_model.specs.declared.entry.Entry.{Entry}
@@ -22,7 +23,8 @@ taken_short : (p : List ℕ) (at n : ℕ) → n ≤ 65491 → length (take n (dr
 taken_short p at n h = omega (arith, length-take n (drop at p), h)
 
 -- once the connection runs, a segment has at most 8,960 bytes
-paced_in : (reason : Option Reason) (peer : Option ℕ) (una : ℕ) (r : Rate) → column_by reason peer una ≡ Running → IsPaced peer r → r.mss ≤ 8960
+paced_in : (reason : Option Reason) (peer : Option ℕ) (una : ℕ) (r : Rate) → column_by reason peer una ≡ Running
+    → IsPaced peer r → r.mss ≤ 8960
 paced_in (Some why) peer una r is p = absurd (cc (is))
 paced_in None None una r is p = absurd (cc (is))
 paced_in None (Some first) una r is p = p.mss.1
@@ -44,17 +46,21 @@ each_short = record {
 }
 
 -- Each segment that a legal history sent has room in a packet.
-pub sent_is_short : (params : HostParams) (h : List Entry) → InRange params → Legal params h → AreAllShort (sent h)
-sent_is_short params h fits legal =
+pub of_sent : (params : HostParams) (h : List Entry) → InRange params → Legal params h → AreAllShort (sent h)
+of_sent params h fits legal =
     all_as IsShort AreAllShort tt (λ seg segs short rest. (short, rest)) (sent h)
-    (sent_shows _ each_short (λ e seg. IsShort seg) params fits (λ b e seg v right. right v) (λ es x before may seg short. short) h legal)
+    (sent_shows _ each_short (λ e seg. IsShort seg) params fits (λ b e seg v right. right v)
+    (λ es x before may seg short. short) h legal)
 
 -- So has each that a host's flows sent, where these have legal histories of parameters in their ranges.
-pub flows_are_short : (flows : List Flow) → Each (λ (f : Flow). InRange f.params × Legal f.params f.entries) flows → AreFlowsShort flows
-flows_are_short [] sound = tt
-flows_are_short (f ∷ fs) sound = (sent_is_short f.params f.entries sound.0.0 sound.0.1, flows_are_short fs sound.1)
+pub of_flows : (flows : List Flow) → Each (λ (f : Flow). InRange f.params × Legal f.params f.entries) flows
+    → AreFlowsShort flows
+of_flows [] sound = tt
+of_flows (f ∷ fs) sound = (of_sent f.params f.entries sound.0.0 sound.0.1, of_flows fs sound.1)
 
 -- And each that all hosts' flows sent.
-pub hosts_are_short : (hosts : List HostRun) → Each (λ (h : HostRun). Each (λ (f : Flow). InRange f.params × Legal f.params f.entries) h.flows) hosts → AreShort hosts
-hosts_are_short [] sound = tt
-hosts_are_short (h ∷ hs) sound = (flows_are_short h.flows sound.0, hosts_are_short hs sound.1)
+pub of_hosts : (hosts : List HostRun)
+    → Each (λ (h : HostRun). Each (λ (f : Flow). InRange f.params × Legal f.params f.entries) h.flows) hosts
+    → AreShort hosts
+of_hosts [] sound = tt
+of_hosts (h ∷ hs) sound = (of_flows h.flows sound.0, of_hosts hs sound.1)

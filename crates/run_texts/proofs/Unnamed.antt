@@ -15,4 +15,5 @@ tick_unnamed t (h ∷ hs) = ap (λ l. flows_at t h.flows ++ strays_at t h.log ++
 pub ticks_unnamed : (count t : ℕ) (hosts : List HostRun) → ticks_from count t (unnamed hosts) ≡ ticks_from count t hosts
 ticks_unnamed zero t hosts = refl
 ticks_unnamed (suc count) t hosts =
-    ap (λ l. l ++ ticks_from count (t + 1) (unnamed hosts)) (tick_unnamed t hosts) ∙ ap (λ l. hosts_at t hosts ++ l) (ticks_unnamed count (t + 1) hosts)
+    ap (λ l. l ++ ticks_from count (t + 1) (unnamed hosts)) (tick_unnamed t hosts)
+    ∙ ap (λ l. hosts_at t hosts ++ l) (ticks_unnamed count (t + 1) hosts)

@@ -1,5 +1,6 @@
 -- The frames that hosts sent, and their records in a capture.
-use Rattle.std.specs.Prelude.{◌≡◌, ℕ, ◌==◌, ◌≤◌, nat_le, nat_lt, List, [], ◌∷◌, ◌++◌, length, map, filter, flat_map, option_to_list, Option, ⊤, if◌then◌else◌}
+use Rattle.std.specs.Prelude.{◌≡◌, ℕ, ◌==◌, ◌≤◌, nat_le, nat_lt, List, [], ◌∷◌, ◌++◌, length, map, filter, flat_map}
+use Rattle.std.specs.Prelude.{option_to_list, Option, ⊤, if◌then◌else◌}
 use Rattle.tas_num.specs.Captures.{record_bytes}
 use Rattle.segment_fields.specs.Canon.{canon}
 use Rattle.tas_model.specs.declared.entry.FourTuple.{FourTuple}
@@ -28,9 +29,14 @@ pub record Sent : Type 0 where
 abbrev pub seen_frame : Frame → Sent
 seen_frame f = record { tick = f.tick; tuple = f.tuple; seg = seen_seg f.seg }
 
+-- frames were put behind others
+abbrev pub Adds : (before after : List Frame) → List Sent → Type 0
+Adds before after more = map seen_frame after ≡ map seen_frame before ++ more
+
 -- The record of a segment. One is left out that has more bytes than a packet has room for.
 abbrev pub segment_record : (tick : ℕ) → FourTuple → Seg → List ℕ
-segment_record t tuple seg = if nat_le (length seg.bytes) 65491 then record_bytes t (canon (sent_fields tuple seg)) else []
+segment_record t tuple seg = if nat_le (length seg.bytes) 65491 then record_bytes t (canon (sent_fields tuple seg))
+    else []
 
 abbrev pub sent_record : Sent → List ℕ
 sent_record s = segment_record s.tick s.tuple s.seg
@@ -104,4 +110,5 @@ Rises low (s ∷ ss) = (low ≤ s.tick) × Rises s.tick ss
 -- the frames by their ticks, those of one tick in the order that they had
 pub record IsInOrder (all : List Sent) (frames : List Frame) : Type 0 where
   pub rises : Rises 0 (map seen_frame frames)
-  pub same : (t : ℕ) → filter (λ (s : Sent). s.tick == t) (map seen_frame frames) ≡ filter (λ (s : Sent). s.tick == t) all
+  pub same : (t : ℕ) → filter (λ (s : Sent). s.tick == t) (map seen_frame frames)
+      ≡ filter (λ (s : Sent). s.tick == t) all

@@ -1,9 +1,10 @@
 ghost use Rattle.std.specs.Prelude.{◌≡◌, ℕ, ◌++◌, ◌∷◌, [], List, map, codes, decimal};
-ghost use Rattle.tas_runs.specs.Report.{line, hex, data_text, seg_text, call_text, reply_text, entry_text, update_text, frame_text};
+ghost use Rattle.tas_runs.specs.Report.{line, hex, data_text, seg_text, call_text, reply_text, entry_text, update_text};
+ghost use Rattle.tas_runs.specs.Report.{frame_text};
 ghost use Rattle.tas_model.specs.declared.entry.Call.TheVariants as calls;
 ghost use Rattle.tas_model.specs.declared.entry.Reply.TheVariants as replies;
 ghost use Rattle.flow_state.specs.Views.{seen_seg, seen_call, seen_reply, seen_entry};
-ghost use Rattle.run_texts.specs.Writes.{Stand, Writes};
+ghost use Rattle.run_texts.specs.Writes.{Writes};
 
 use crate::frame_ids::write_frame_id;
 use crate::line_texts::{ClosedText, ConnectText, IssText, RecvText, SendText};
@@ -20,7 +21,8 @@ pub fn write_entry<K: Sink>(
     names: &[&[u8]],
     entry: &EntryView<'_>,
 ) -> Result<(), IoFault>
-    ensures { Writes (record { held = K.held sink.old; faults = K.faults sink.old; grows = K.grows sink.old; waiting = writer.old }) result (record { held = K.held sink.new; faults = K.faults sink.new; grows = K.grows sink.new; waiting = writer.new }) (entry_text (map (λ n. n.now) names.now) (seen_entry entry.now)) }
+    ensures { Writes (K.state sink.old) writer.old result (K.state sink.new) writer.new
+        (entry_text (map (λ n. n.now) names.now) (seen_entry entry.now)) }
 {
     let start = EntryStart {
         tick: entry.tick,
@@ -41,7 +43,8 @@ fn write_call<K: Sink>(
     names: &[&[u8]],
     call: &CallView<'_>,
 ) -> Result<(), IoFault>
-    ensures { Writes (record { held = K.held sink.old; faults = K.faults sink.old; grows = K.grows sink.old; waiting = writer.old }) result (record { held = K.held sink.new; faults = K.faults sink.new; grows = K.grows sink.new; waiting = writer.new }) (call_text (map (λ n. n.now) names.now) (seen_call call.now)) }
+    ensures { Writes (K.state sink.old) writer.old result (K.state sink.new) writer.new
+        (call_text (map (λ n. n.now) names.now) (seen_call call.now)) }
 {
     match call {
         CallView::Connect { iss } => writer.put_text(sink, &ConnectText(iss.0)),
@@ -71,7 +74,8 @@ fn write_passive<K: Sink>(
     iss: Seq,
     seg: &SegView<'_>,
 ) -> Result<(), IoFault>
-    ensures { Writes (record { held = K.held sink.old; faults = K.faults sink.old; grows = K.grows sink.old; waiting = writer.old }) result (record { held = K.held sink.new; faults = K.faults sink.new; grows = K.grows sink.new; waiting = writer.new }) (call_text (map (λ n. n.now) names.now) (calls.Passive frame iss (seen_seg seg.now))) }
+    ensures { Writes (K.state sink.old) writer.old result (K.state sink.new) writer.new
+        (call_text (map (λ n. n.now) names.now) (calls.Passive frame iss (seen_seg seg.now))) }
 {
     writer.put(sink, b"passive ")?;
     write_frame_id(writer, sink, names, frame)?;
@@ -87,7 +91,8 @@ fn write_rx<K: Sink>(
     frame: FrameId,
     seg: &SegView<'_>,
 ) -> Result<(), IoFault>
-    ensures { Writes (record { held = K.held sink.old; faults = K.faults sink.old; grows = K.grows sink.old; waiting = writer.old }) result (record { held = K.held sink.new; faults = K.faults sink.new; grows = K.grows sink.new; waiting = writer.new }) (call_text (map (λ n. n.now) names.now) (calls.Rx frame (seen_seg seg.now))) }
+    ensures { Writes (K.state sink.old) writer.old result (K.state sink.new) writer.new
+        (call_text (map (λ n. n.now) names.now) (calls.Rx frame (seen_seg seg.now))) }
 {
     writer.put(sink, b"rx ")?;
     write_frame_id(writer, sink, names, frame)?;
@@ -101,7 +106,8 @@ fn write_reply<K: Sink>(
     sink: &mut K,
     reply: &ReplyView<'_>,
 ) -> Result<(), IoFault>
-    ensures { Writes (record { held = K.held sink.old; faults = K.faults sink.old; grows = K.grows sink.old; waiting = writer.old }) result (record { held = K.held sink.new; faults = K.faults sink.new; grows = K.grows sink.new; waiting = writer.new }) (reply_text (seen_reply reply.now)) }
+    ensures { Writes (K.state sink.old) writer.old result (K.state sink.new) writer.new
+        (reply_text (seen_reply reply.now)) }
 {
     match reply {
         ReplyView::Ok => writer.put(sink, b"ok"),
@@ -131,7 +137,8 @@ fn write_reply<K: Sink>(
 
 /// Writes the bytes that a Send took.
 fn write_took<K: Sink>(writer: &mut Writer, sink: &mut K, bytes: &[u8]) -> Result<(), IoFault>
-    ensures { Writes (record { held = K.held sink.old; faults = K.faults sink.old; grows = K.grows sink.old; waiting = writer.old }) result (record { held = K.held sink.new; faults = K.faults sink.new; grows = K.grows sink.new; waiting = writer.new }) (reply_text (replies.Took bytes.now)) }
+    ensures { Writes (K.state sink.old) writer.old result (K.state sink.new) writer.new
+        (reply_text (replies.Took bytes.now)) }
 {
     writer.put(sink, b"took ")?;
     write_hex(writer, sink, bytes)
@@ -144,7 +151,8 @@ fn write_got<K: Sink>(
     bytes: &[u8],
     update: Option<Head>,
 ) -> Result<(), IoFault>
-    ensures { Writes (record { held = K.held sink.old; faults = K.faults sink.old; grows = K.grows sink.old; waiting = writer.old }) result (record { held = K.held sink.new; faults = K.faults sink.new; grows = K.grows sink.new; waiting = writer.new }) (reply_text (replies.Got bytes.now update)) }
+    ensures { Writes (K.state sink.old) writer.old result (K.state sink.new) writer.new
+        (reply_text (replies.Got bytes.now update)) }
 {
     writer.put(sink, b"got ")?;
     write_hex(writer, sink, bytes)?;
@@ -153,7 +161,7 @@ fn write_got<K: Sink>(
 
 /// Writes a segment.
 fn write_seg<K: Sink>(writer: &mut Writer, sink: &mut K, seg: &SegView<'_>) -> Result<(), IoFault>
-    ensures { Writes (record { held = K.held sink.old; faults = K.faults sink.old; grows = K.grows sink.old; waiting = writer.old }) result (record { held = K.held sink.new; faults = K.faults sink.new; grows = K.grows sink.new; waiting = writer.new }) (seg_text (seen_seg seg.now)) }
+    ensures { Writes (K.state sink.old) writer.old result (K.state sink.new) writer.new (seg_text (seen_seg seg.now)) }
 {
     write_segment(writer, sink, seg.head, seg.bytes)
 }
@@ -165,7 +173,8 @@ pub fn write_segment<K: Sink>(
     head: Head,
     bytes: &[u8],
 ) -> Result<(), IoFault>
-    ensures { Writes (record { held = K.held sink.old; faults = K.faults sink.old; grows = K.grows sink.old; waiting = writer.old }) result (record { held = K.held sink.new; faults = K.faults sink.new; grows = K.grows sink.new; waiting = writer.new }) (seg_text (record { head = head; bytes = bytes.now })) }
+    ensures { Writes (K.state sink.old) writer.old result (K.state sink.new) writer.new
+        (seg_text (record { head = head; bytes = bytes.now })) }
 {
     writer.put_text(sink, &HeadText(head))?;
     write_data(writer, sink, bytes)
@@ -173,7 +182,7 @@ pub fn write_segment<K: Sink>(
 
 /// Writes the payload of a segment, where it has one.
 fn write_data<K: Sink>(writer: &mut Writer, sink: &mut K, bytes: &[u8]) -> Result<(), IoFault>
-    ensures { Writes (record { held = K.held sink.old; faults = K.faults sink.old; grows = K.grows sink.old; waiting = writer.old }) result (record { held = K.held sink.new; faults = K.faults sink.new; grows = K.grows sink.new; waiting = writer.new }) (data_text bytes.now) }
+    ensures { Writes (K.state sink.old) writer.old result (K.state sink.new) writer.new (data_text bytes.now) }
 {
     if bytes.is_empty() {
         return Ok(());
@@ -184,7 +193,7 @@ fn write_data<K: Sink>(writer: &mut Writer, sink: &mut K, bytes: &[u8]) -> Resul
 
 /// Writes bytes, or `-` for none.
 fn write_hex<K: Sink>(writer: &mut Writer, sink: &mut K, bytes: &[u8]) -> Result<(), IoFault>
-    ensures { Writes (record { held = K.held sink.old; faults = K.faults sink.old; grows = K.grows sink.old; waiting = writer.old }) result (record { held = K.held sink.new; faults = K.faults sink.new; grows = K.grows sink.new; waiting = writer.new }) (hex bytes.now) }
+    ensures { Writes (K.state sink.old) writer.old result (K.state sink.new) writer.new (hex bytes.now) }
 {
     if bytes.is_empty() {
         writer.put(sink, b"-")

@@ -1,11 +1,13 @@
-ghost use Rattle.std.specs.Prelude.{◌≡◌, ℕ, ◌+◌, ◌*◌, ◌^◌, ◌<◌, ◌≤◌, ◌++◌, ◌∷◌, [], List, length, map, take, flat_map, codes, decimal};
+ghost use Rattle.std.specs.Prelude.{◌≡◌, ℕ, ◌+◌, ◌*◌, ◌^◌, ◌<◌, ◌≤◌, ◌++◌, ◌∷◌, [], List, length, map, take, flat_map};
+ghost use Rattle.std.specs.Prelude.{codes, decimal};
 ghost use Rattle.tas_model.specs.Endpoint.{Endpoint, phase as phase_of};
 ghost use Rattle.tas_model.specs.LegalHistory.{replay};
 ghost use Rattle.tas_model.specs.Outputs.{given_bytes, bytes_read};
 ghost use Rattle.tas_runs.specs.Logs.{Flow};
-ghost use Rattle.tas_runs.specs.Report.{line, hex, hex_bytes, read_text, state_text, tuple_text, entries_text, flow_lines};
+ghost use Rattle.tas_runs.specs.Report.{line, hex, hex_bytes, read_text, state_text, tuple_text, entries_text};
+ghost use Rattle.tas_runs.specs.Report.{flow_lines};
 ghost use Rattle.flow_state.specs.Views.{seen_entry, seen_reply};
-ghost use Rattle.run_texts.specs.Writes.{Stand, Writes};
+ghost use Rattle.run_texts.specs.Writes.{Writes};
 
 use crate::entries::write_entry;
 use crate::line_texts::{ClosedLine, FlowLine, ReadText, StateLine};
@@ -14,7 +16,8 @@ use crate::writer::Writer;
 use flow_state::{FlowRecord, ReplyView};
 use tas_num::{IoFault, Sink};
 
-/// Writes the lines of a flow: its ends, its entries, its state and the bytes that were read. `number` is its opening number, from 0 on.
+/// Writes the lines of a flow: its ends, its entries, its state and the bytes that were read. `number` is its opening
+/// number, from 0 on.
 pub fn write_flow<K: Sink>(
     writer: &mut Writer,
     sink: &mut K,
@@ -22,7 +25,14 @@ pub fn write_flow<K: Sink>(
     number: u64,
     flow: &FlowRecord,
 ) -> Result<(), IoFault>
-    ensures { Writes (record { held = K.held sink.old; faults = K.faults sink.old; grows = K.grows sink.old; waiting = writer.old }) result (record { held = K.held sink.new; faults = K.faults sink.new; grows = K.grows sink.new; waiting = writer.new }) (flow_lines (map (λ n. n.now) names.now) number (record { id = flow.now.id; tuple = flow.now.tuple; params = flow.now.params; entries = flow.now.entries })) }
+    ensures { Writes (K.state sink.old) writer.old result (K.state sink.new) writer.new
+        (flow_lines (map (λ n. n.now) names.now) number
+        (record {
+          id = flow.now.id;
+          tuple = flow.now.tuple;
+          params = flow.now.params;
+          entries = flow.now.entries;
+        })) }
 {
     write_ends(writer, sink, number, flow)?;
     write_entries(writer, sink, names, flow)?;
@@ -37,7 +47,9 @@ fn write_ends<K: Sink>(
     number: u64,
     flow: &FlowRecord,
 ) -> Result<(), IoFault>
-    ensures { Writes (record { held = K.held sink.old; faults = K.faults sink.old; grows = K.grows sink.old; waiting = writer.old }) result (record { held = K.held sink.new; faults = K.faults sink.new; grows = K.grows sink.new; waiting = writer.new }) (line (codes "flow " ++ decimal number ++ codes " slot " ++ decimal flow.now.id.slot ++ codes "." ++ decimal flow.now.id.generation ++ codes " " ++ tuple_text flow.now.tuple)) }
+    ensures { Writes (K.state sink.old) writer.old result (K.state sink.new) writer.new
+        (line (codes "flow " ++ decimal number ++ codes " slot " ++ decimal flow.now.id.slot ++ codes "."
+        ++ decimal flow.now.id.generation ++ codes " " ++ tuple_text flow.now.tuple)) }
 {
     let id = flow.id();
     writer.put_text(
@@ -56,7 +68,8 @@ fn write_entries<K: Sink>(
     names: &[&[u8]],
     flow: &FlowRecord,
 ) -> Result<(), IoFault>
-    ensures { Writes (record { held = K.held sink.old; faults = K.faults sink.old; grows = K.grows sink.old; waiting = writer.old }) result (record { held = K.held sink.new; faults = K.faults sink.new; grows = K.grows sink.new; waiting = writer.new }) (entries_text (map (λ n. n.now) names.now) flow.now.entries) }
+    ensures { Writes (K.state sink.old) writer.old result (K.state sink.new) writer.new
+        (entries_text (map (λ n. n.now) names.now) flow.now.entries) }
 {
     for i in 0..flow.entries() {
         write_entry(writer, sink, names, &flow.entry(i))?;
@@ -66,7 +79,8 @@ fn write_entries<K: Sink>(
 
 /// Writes the state that the entries lead to, and after CLOSED the reason.
 fn write_state<K: Sink>(writer: &mut Writer, sink: &mut K, flow: &FlowRecord) -> Result<(), IoFault>
-    ensures { Writes (record { held = K.held sink.old; faults = K.faults sink.old; grows = K.grows sink.old; waiting = writer.old }) result (record { held = K.held sink.new; faults = K.faults sink.new; grows = K.grows sink.new; waiting = writer.new }) (line (codes "state " ++ state_text (replay flow.now.params flow.now.entries))) }
+    ensures { Writes (K.state sink.old) writer.old result (K.state sink.new) writer.new
+        (line (codes "state " ++ state_text (replay flow.now.params flow.now.entries))) }
 {
     let parts = flow.parts();
     let phase = parts.phase;
@@ -78,7 +92,8 @@ fn write_state<K: Sink>(writer: &mut Writer, sink: &mut K, flow: &FlowRecord) ->
 
 /// Writes how many bytes were read, and which.
 fn write_read<K: Sink>(writer: &mut Writer, sink: &mut K, flow: &FlowRecord) -> Result<(), IoFault>
-    ensures { Writes (record { held = K.held sink.old; faults = K.faults sink.old; grows = K.grows sink.old; waiting = writer.old }) result (record { held = K.held sink.new; faults = K.faults sink.new; grows = K.grows sink.new; waiting = writer.new }) (line (read_text (bytes_read flow.now.entries))) }
+    ensures { Writes (K.state sink.old) writer.old result (K.state sink.new) writer.new
+        (line (read_text (bytes_read flow.now.entries))) }
 {
     write_counted(writer, sink, flow, count_read(flow))
 }
@@ -91,7 +106,8 @@ fn write_counted<K: Sink>(
     count: u128,
 ) -> Result<(), IoFault>
     requires { count ≡ length (bytes_read flow.now.entries) }
-    ensures { Writes (record { held = K.held sink.old; faults = K.faults sink.old; grows = K.grows sink.old; waiting = writer.old }) result (record { held = K.held sink.new; faults = K.faults sink.new; grows = K.grows sink.new; waiting = writer.new }) (line (codes "read " ++ decimal count ++ codes " " ++ hex (bytes_read flow.now.entries))) }
+    ensures { Writes (K.state sink.old) writer.old result (K.state sink.new) writer.new
+        (line (codes "read " ++ decimal count ++ codes " " ++ hex (bytes_read flow.now.entries))) }
 {
     writer.put_text(sink, &ReadText(count))?;
     write_bytes_read(writer, sink, flow, count)?;
@@ -106,7 +122,8 @@ fn write_bytes_read<K: Sink>(
     count: u128,
 ) -> Result<(), IoFault>
     requires { count ≡ length (bytes_read flow.now.entries) }
-    ensures { Writes (record { held = K.held sink.old; faults = K.faults sink.old; grows = K.grows sink.old; waiting = writer.old }) result (record { held = K.held sink.new; faults = K.faults sink.new; grows = K.grows sink.new; waiting = writer.new }) (hex (bytes_read flow.now.entries)) }
+    ensures { Writes (K.state sink.old) writer.old result (K.state sink.new) writer.new
+        (hex (bytes_read flow.now.entries)) }
 {
     if count == 0 {
         writer.put(sink, b"-")
@@ -128,7 +145,8 @@ fn write_digits_read<K: Sink>(
     sink: &mut K,
     flow: &FlowRecord,
 ) -> Result<(), IoFault>
-    ensures { Writes (record { held = K.held sink.old; faults = K.faults sink.old; grows = K.grows sink.old; waiting = writer.old }) result (record { held = K.held sink.new; faults = K.faults sink.new; grows = K.grows sink.new; waiting = writer.new }) (hex_bytes (bytes_read flow.now.entries)) }
+    ensures { Writes (K.state sink.old) writer.old result (K.state sink.new) writer.new
+        (hex_bytes (bytes_read flow.now.entries)) }
 {
     for i in 0..flow.entries() {
         writer.put_hex(sink, given(flow.entry(i).reply))?;

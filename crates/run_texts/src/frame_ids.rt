@@ -1,6 +1,6 @@
 ghost use Rattle.std.specs.Prelude.{◌≡◌, ℕ, List, map};
 ghost use Rattle.tas_runs.specs.Report.{name_at, frame_text};
-ghost use Rattle.run_texts.specs.Writes.{Stand, Writes};
+ghost use Rattle.run_texts.specs.Writes.{Writes};
 
 use crate::texts::{PlaceText, RecordText};
 use crate::writer::Writer;
@@ -14,7 +14,8 @@ pub fn write_frame_id<K: Sink>(
     names: &[&[u8]],
     frame: FrameId,
 ) -> Result<(), IoFault>
-    ensures { Writes (record { held = K.held sink.old; faults = K.faults sink.old; grows = K.grows sink.old; waiting = writer.old }) result (record { held = K.held sink.new; faults = K.faults sink.new; grows = K.grows sink.new; waiting = writer.new }) (frame_text (map (λ n. n.now) names.now) frame) }
+    ensures { Writes (K.state sink.old) writer.old result (K.state sink.new) writer.new
+        (frame_text (map (λ n. n.now) names.now) frame) }
 {
     if frame.host == CAPTURE {
         return writer.put_text(sink, &RecordText(frame.number));

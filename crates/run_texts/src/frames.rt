@@ -1,12 +1,15 @@
-ghost use Rattle.std.specs.Prelude.{◌≡◌, ℕ, ◌≤◌, ◌++◌, ◌∷◌, [], List, length, map, flat_map, option_to_list, IfOk, OnOk};
+ghost use Rattle.std.specs.Prelude.{◌≡◌, ℕ, ◌≤◌, ◌++◌, ◌∷◌, [], List, length, map, flat_map, option_to_list, IfOk};
+ghost use Rattle.std.specs.Prelude.{OnOk};
 ghost use Rattle.tas_num.specs.Captures.{file_header, record_head, record_bytes};
 ghost use Rattle.tas_runs.specs.SentFrames.{ticks_from};
 ghost use Rattle.tas_runs.specs.Logs.{HostRun};
 ghost use Rattle.tas_model.specs.Segments.{bare as bare_of};
 ghost use Rattle.tas_model.specs.Outputs.{segments_in};
 ghost use Rattle.flow_state.specs.Views.{seen_seg, seen_reply, seen_entry};
-ghost use Rattle.run_texts.specs.Frames.{frame_before, seen_frame, segments_of, frames_in, entry_frames, flow_frames, answer_frames, host_frames, all_frames, history_of, seen_host, AreShort, IsInOrder};
-ghost use Rattle.run_texts.specs.Writes.{Stand, Writes};
+ghost use Rattle.run_texts.specs.Frames.{frame_before, Adds, seen_frame, segments_of, frames_in, entry_frames};
+ghost use Rattle.run_texts.specs.Frames.{flow_frames, answer_frames, host_frames, all_frames, history_of, seen_host, AreShort};
+ghost use Rattle.run_texts.specs.Frames.{IsInOrder};
+ghost use Rattle.run_texts.specs.Writes.{Writes};
 
 use crate::writer::Writer;
 use flow_state::{EntryView, FlowRecord, ReplyView, SegView};
@@ -38,7 +41,7 @@ pub struct HostFrames<'a> {
 
 /// Writes the header of a capture.
 pub fn write_capture_header<K: Sink>(writer: &mut Writer, sink: &mut K) -> Result<(), IoFault>
-    ensures { Writes (record { held = K.held sink.old; faults = K.faults sink.old; grows = K.grows sink.old; waiting = writer.old }) result (record { held = K.held sink.new; faults = K.faults sink.new; grows = K.grows sink.new; waiting = writer.new }) file_header }
+    ensures { Writes (K.state sink.old) writer.old result (K.state sink.new) writer.new file_header }
 {
     let mut header = [0; 24];
     write_header(&mut header);
@@ -64,7 +67,8 @@ impl<'a> Model for SentFrames<'a> {
 }
 
 impl<'a> SentFrames<'a> {
-    /// What the hosts sent: tick by tick and host by host, of each host the frames of the flows in their order, then the answers to segments of no flow. The error is want of memory.
+    /// What the hosts sent: tick by tick and host by host, of each host the frames of the flows in their order, then
+    /// the answers to segments of no flow. The error is want of memory.
     pub fn of_hosts(alloc: Global, hosts: &[HostFrames<'a>]) -> Result<SentFrames<'a>, AllocError>
         ensures { IfOk result (λ frames. IsInOrder (all_frames (map seen_host hosts.now)) frames) }
     {
@@ -82,9 +86,12 @@ pub fn write_frames<K: Sink>(
     ticks: u32,
     sent: &mut SentFrames<'_>,
 ) -> Result<(), IoFault>
-    ensures exact { (hosts : List HostRun) → IsInOrder (all_frames hosts) sent.old → AreShort hosts → Writes (record { held = K.held sink.old; faults = K.faults sink.old; grows = K.grows sink.old; waiting = writer.old }) result (record { held = K.held sink.new; faults = K.faults sink.new; grows = K.grows sink.new; waiting = writer.new }) (ticks_from ticks 0 hosts) }
+    ensures exact { (hosts : List HostRun) → IsInOrder (all_frames hosts) sent.old → AreShort hosts
+        → Writes (K.state sink.old) writer.old result (K.state sink.new) writer.new
+        (ticks_from ticks 0 hosts) }
     // Whatever was sent, only records of frames are written.
-    ensures records { Writes (record { held = K.held sink.old; faults = K.faults sink.old; grows = K.grows sink.old; waiting = writer.old }) result (record { held = K.held sink.new; faults = K.faults sink.new; grows = K.grows sink.new; waiting = writer.new }) (flat_map (frame_before ticks) sent.old) }
+    ensures records { Writes (K.state sink.old) writer.old result (K.state sink.new) writer.new
+        (flat_map (frame_before ticks) sent.old) }
 {
     write_records(writer, sink, &mut sent.packet, ticks, &sent.frames)
 }
@@ -101,7 +108,7 @@ fn sent_frames<'a>(alloc: Global, hosts: &[HostFrames<'a>]) -> Result<Vec<Frame<
 
 /// Adds the segments that the hosts sent.
 fn add_hosts<'a>(frames: &mut Vec<Frame<'a>>, hosts: &[HostFrames<'a>]) -> Result<(), AllocError>
-    ensures { OnOk result (map seen_frame frames.new.items ≡ map seen_frame frames.old.items ++ all_frames (map seen_host hosts.now)) }
+    ensures { OnOk result (Adds frames.old.items frames.new.items (all_frames (map seen_host hosts.now))) }
 {
     for host in hosts {
         add_host(frames, host)?;
@@ -111,7 +118,7 @@ fn add_hosts<'a>(frames: &mut Vec<Frame<'a>>, hosts: &[HostFrames<'a>]) -> Resul
 
 /// Adds the segments that a host sent.
 fn add_host<'a>(frames: &mut Vec<Frame<'a>>, host: &HostFrames<'a>) -> Result<(), AllocError>
-    ensures { OnOk result (map seen_frame frames.new.items ≡ map seen_frame frames.old.items ++ host_frames (seen_host host.now)) }
+    ensures { OnOk result (Adds frames.old.items frames.new.items (host_frames (seen_host host.now))) }
 {
     add_flows(frames, host.flows)?;
     add_answers(frames, host.log)
@@ -119,7 +126,7 @@ fn add_host<'a>(frames: &mut Vec<Frame<'a>>, host: &HostFrames<'a>) -> Result<()
 
 /// Adds the segments that the flows sent.
 fn add_flows<'a>(frames: &mut Vec<Frame<'a>>, flows: &'a [FlowRecord]) -> Result<(), AllocError>
-    ensures { OnOk result (map seen_frame frames.new.items ≡ map seen_frame frames.old.items ++ flat_map flow_frames (map history_of flows.now)) }
+    ensures { OnOk result (Adds frames.old.items frames.new.items (flat_map flow_frames (map history_of flows.now))) }
 {
     for flow in flows {
         add_flow(frames, flow)?;
@@ -129,7 +136,7 @@ fn add_flows<'a>(frames: &mut Vec<Frame<'a>>, flows: &'a [FlowRecord]) -> Result
 
 /// Adds the segments that a flow sent.
 fn add_flow<'a>(frames: &mut Vec<Frame<'a>>, flow: &'a FlowRecord) -> Result<(), AllocError>
-    ensures { OnOk result (map seen_frame frames.new.items ≡ map seen_frame frames.old.items ++ flow_frames (history_of flow.now)) }
+    ensures { OnOk result (Adds frames.old.items frames.new.items (flow_frames (history_of flow.now))) }
 {
     for i in 0..flow.entries() {
         add_entry(frames, flow.tuple(), flow.entry(i))?;
@@ -143,14 +150,14 @@ fn add_entry<'a>(
     tuple: FourTuple,
     entry: EntryView<'a>,
 ) -> Result<(), AllocError>
-    ensures { OnOk result (map seen_frame frames.new.items ≡ map seen_frame frames.old.items ++ entry_frames tuple (seen_entry entry.entry)) }
+    ensures { OnOk result (Adds frames.old.items frames.new.items (entry_frames tuple (seen_entry entry.entry))) }
 {
     add_segment(frames, entry.tick, tuple, segment_in(entry.reply))
 }
 
 /// Adds the answers that segments of no flow got.
 fn add_answers<'a>(frames: &mut Vec<Frame<'a>>, log: &'a [LogLine]) -> Result<(), AllocError>
-    ensures { OnOk result (map seen_frame frames.new.items ≡ map seen_frame frames.old.items ++ flat_map answer_frames log.now) }
+    ensures { OnOk result (Adds frames.old.items frames.new.items (flat_map answer_frames log.now)) }
 {
     for entry in log {
         add_answer(frames, entry)?;
@@ -160,7 +167,7 @@ fn add_answers<'a>(frames: &mut Vec<Frame<'a>>, log: &'a [LogLine]) -> Result<()
 
 /// Adds the answer that a segment of no flow got, where the line is of one.
 fn add_answer<'a>(frames: &mut Vec<Frame<'a>>, entry: &LogLine) -> Result<(), AllocError>
-    ensures { OnOk result (map seen_frame frames.new.items ≡ map seen_frame frames.old.items ++ answer_frames entry.now) }
+    ensures { OnOk result (Adds frames.old.items frames.new.items (answer_frames entry.now)) }
 {
     match &entry.event {
         LogEvent::Stray { tuple, answer, .. } => add_segment(
@@ -180,7 +187,7 @@ fn add_segment<'a>(
     tuple: FourTuple,
     seg: Option<SegView<'a>>,
 ) -> Result<(), AllocError>
-    ensures { OnOk result (map seen_frame frames.new.items ≡ map seen_frame frames.old.items ++ frames_in tick tuple (segments_of seg.entry)) }
+    ensures { OnOk result (Adds frames.old.items frames.new.items (frames_in tick tuple (segments_of seg.entry))) }
 {
     match seg {
         Some(seg) => match frames.push(Frame { tick, tuple, seg }) {
@@ -231,7 +238,8 @@ fn write_records<K: Sink>(
     frames: &[Frame<'_>],
 ) -> Result<(), IoFault>
     requires { length packet.old ≡ 65535 }
-    ensures { Writes (record { held = K.held sink.old; faults = K.faults sink.old; grows = K.grows sink.old; waiting = writer.old }) result (record { held = K.held sink.new; faults = K.faults sink.new; grows = K.grows sink.new; waiting = writer.new }) (flat_map (frame_before ticks) frames.now) }
+    ensures { Writes (K.state sink.old) writer.old result (K.state sink.new) writer.new
+        (flat_map (frame_before ticks) frames.now) }
 {
     for frame in frames {
         write_record(writer, sink, packet, ticks, frame)?;
@@ -248,7 +256,7 @@ fn write_record<K: Sink>(
     frame: &Frame<'_>,
 ) -> Result<(), IoFault>
     requires { length packet.old ≡ 65535 }
-    ensures { Writes (record { held = K.held sink.old; faults = K.faults sink.old; grows = K.grows sink.old; waiting = writer.old }) result (record { held = K.held sink.new; faults = K.faults sink.new; grows = K.grows sink.new; waiting = writer.new }) (frame_before ticks frame.now) }
+    ensures { Writes (K.state sink.old) writer.old result (K.state sink.new) writer.new (frame_before ticks frame.now) }
 {
     let seg = Segment {
         src: frame.tuple.laddr,
@@ -279,7 +287,7 @@ fn write_packet<K: Sink>(
     packet: &[u8],
 ) -> Result<(), IoFault>
     requires { length packet.now ≤ 65535 }
-    ensures { Writes (record { held = K.held sink.old; faults = K.faults sink.old; grows = K.grows sink.old; waiting = writer.old }) result (record { held = K.held sink.new; faults = K.faults sink.new; grows = K.grows sink.new; waiting = writer.new }) (record_bytes tick packet.now) }
+    ensures { Writes (K.state sink.old) writer.old result (K.state sink.new) writer.new (record_bytes tick packet.now) }
 {
     write_head(writer, sink, tick, packet.len() as u32)?;
     writer.put(sink, packet)
@@ -292,7 +300,7 @@ fn write_head<K: Sink>(
     tick: u32,
     len: u32,
 ) -> Result<(), IoFault>
-    ensures { Writes (record { held = K.held sink.old; faults = K.faults sink.old; grows = K.grows sink.old; waiting = writer.old }) result (record { held = K.held sink.new; faults = K.faults sink.new; grows = K.grows sink.new; waiting = writer.new }) (record_head tick len) }
+    ensures { Writes (K.state sink.old) writer.old result (K.state sink.new) writer.new (record_head tick len) }
 {
     let mut head = [0; 16];
     write_record_head(tick, len, &mut head);

@@ -7,7 +7,8 @@ use std::simd::prelude::*;
 /// The digits of the numbers below 16.
 const GLYPHS: [u8; 16] = *b"0123456789abcdef";
 
-/// Writes the digits of bytes: two of lower case a byte, the higher one first. Most of a report is such digits, so vectors make those of sixteen bytes at a time.
+/// Writes the digits of bytes: two of lower case a byte, the higher one first. Most of a report is such digits, so
+/// vectors make those of sixteen bytes at a time.
 pub(crate) fn write_digits(bytes: &[u8], digits: &mut [u8])
     requires { length digits.old ≡ 2 * length bytes.now }
     ensures { digits.new ≡ hex_bytes bytes.now }

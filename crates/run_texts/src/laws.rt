@@ -8,10 +8,14 @@ ghost use Rattle.tas_runs.specs.Logs.{Flow, HostRun};
 ghost use Rattle.tas_runs.specs.Rounds.{Each};
 ghost use Rattle.run_texts.specs.Frames.{AreAllShort, AreFlowsShort, AreShort};
 
-/// Each segment that a legal history sent has room in a packet, and so has each that flows and hosts of legal histories sent.
-#[tactic(auto, using(crate::proofs::Short::sent_is_short, crate::proofs::Short::flows_are_short, crate::proofs::Short::hosts_are_short))]
+/// Each segment that a legal history sent has room in a packet, and so has each that flows and hosts of legal histories
+/// sent.
+#[tactic(auto, using(crate::proofs::Short::of_sent, crate::proofs::Short::of_flows, crate::proofs::Short::of_hosts))]
 pub fn segments_have_room()
     ensures history { (params : HostParams) (h : List Entry) → InRange params → Legal params h → AreAllShort (sent h) }
-    ensures flows { (flows : List Flow) → Each (λ (f : Flow). InRange f.params × Legal f.params f.entries) flows → AreFlowsShort flows }
-    ensures hosts { (hosts : List HostRun) → Each (λ (h : HostRun). Each (λ (f : Flow). InRange f.params × Legal f.params f.entries) h.flows) hosts → AreShort hosts }
+    ensures flows { (flows : List Flow) → Each (λ (f : Flow). InRange f.params × Legal f.params f.entries) flows
+        → AreFlowsShort flows }
+    ensures hosts { (hosts : List HostRun)
+        → Each (λ (h : HostRun). Each (λ (f : Flow). InRange f.params × Legal f.params f.entries) h.flows) hosts
+        → AreShort hosts }
 {}

@@ -104,7 +104,8 @@ impl Text for FlowLine {
     ghost use Rattle.std.specs.Prelude.{◌++◌, codes, decimal};
     ghost use Rattle.tas_runs.specs.Report.{line, tuple_text};
 
-    ghost text = { λ t. line (codes "flow " ++ decimal t.name.number ++ codes " slot " ++ decimal t.name.id.slot ++ codes "." ++ decimal t.name.id.generation ++ codes " " ++ tuple_text t.tuple) };
+    ghost text = { λ t. line (codes "flow " ++ decimal t.name.number ++ codes " slot " ++ decimal t.name.id.slot
+        ++ codes "." ++ decimal t.name.id.generation ++ codes " " ++ tuple_text t.tuple) };
 
     ghost most = { 153 };
 
@@ -205,7 +206,8 @@ pub struct ListenText {
 impl Text for ListenText {
     ghost use Rattle.std.specs.Prelude.{◌++◌, codes, decimal, if◌then◌else◌};
 
-    ghost text = { λ t. codes "p" ++ decimal t.app ++ codes " listen " ++ decimal t.port ++ codes " = " ++ (if t.ok then codes "ok" else codes "portinuse") };
+    ghost text = { λ t. codes "p" ++ decimal t.app ++ codes " listen " ++ decimal t.port ++ codes " = "
+        ++ (if t.ok then codes "ok" else codes "portinuse") };
 
     ghost most = { 36 };
 
@@ -262,7 +264,8 @@ impl Text for RefusedConnect {
     ghost use Rattle.std.specs.Prelude.{◌++◌, codes, decimal, if◌then◌else◌};
     ghost use Rattle.tas_runs.specs.Report.{port_text};
 
-    ghost text = { λ t. codes "p" ++ decimal t.app ++ codes " connect " ++ port_text t.remote.addr t.remote.port ++ codes " = " ++ (if t.no_port then codes "noport" else codes "noflowslot") };
+    ghost text = { λ t. codes "p" ++ decimal t.app ++ codes " connect " ++ port_text t.remote.addr t.remote.port
+        ++ codes " = " ++ (if t.no_port then codes "noport" else codes "noflowslot") };
 
     ghost most = { 82 };
 
@@ -328,7 +331,8 @@ impl Text for CountsLine {
     ghost use Rattle.std.specs.Prelude.{◌++◌, codes, decimal};
     ghost use Rattle.tas_runs.specs.Report.{line};
 
-    ghost text = { λ t. line (codes "records " ++ decimal t.0.records ++ codes " frames " ++ decimal t.0.frames ++ codes " passed " ++ decimal t.0.passed ++ codes " refused " ++ decimal t.0.refused) };
+    ghost text = { λ t. line (codes "records " ++ decimal t.0.records ++ codes " frames " ++ decimal t.0.frames
+        ++ codes " passed " ++ decimal t.0.passed ++ codes " refused " ++ decimal t.0.refused) };
 
     ghost most = { 114 };
 

@@ -1,7 +1,7 @@
 ghost use Rattle.std.specs.Prelude.{◌≡◌, ℕ, ◌++◌, ◌∷◌, [], List, map, flat_map, codes, decimal, if◌then◌else◌};
 ghost use Rattle.tas_runs.specs.declared.log.LogEvent.TheVariants as events;
 ghost use Rattle.tas_runs.specs.Report.{line, event_text, log_text, frame_text, seg_text, answer_text};
-ghost use Rattle.run_texts.specs.Writes.{Stand, Writes};
+ghost use Rattle.run_texts.specs.Writes.{Writes};
 
 use crate::entries::write_segment;
 use crate::frame_ids::write_frame_id;
@@ -19,7 +19,8 @@ pub fn write_log<K: Sink>(
     names: &[&[u8]],
     log: &[LogLine],
 ) -> Result<(), IoFault>
-    ensures { Writes (record { held = K.held sink.old; faults = K.faults sink.old; grows = K.grows sink.old; waiting = writer.old }) result (record { held = K.held sink.new; faults = K.faults sink.new; grows = K.grows sink.new; waiting = writer.new }) (log_text (map (λ n. n.now) names.now) log.now) }
+    ensures { Writes (K.state sink.old) writer.old result (K.state sink.new) writer.new
+        (log_text (map (λ n. n.now) names.now) log.now) }
 {
     for entry in log {
         write_line(writer, sink, names, entry)?;
@@ -34,7 +35,8 @@ fn write_line<K: Sink>(
     names: &[&[u8]],
     entry: &LogLine,
 ) -> Result<(), IoFault>
-    ensures { Writes (record { held = K.held sink.old; faults = K.faults sink.old; grows = K.grows sink.old; waiting = writer.old }) result (record { held = K.held sink.new; faults = K.faults sink.new; grows = K.grows sink.new; waiting = writer.new }) (line (decimal entry.now.tick ++ codes " " ++ event_text (map (λ n. n.now) names.now) entry.now.event)) }
+    ensures { Writes (K.state sink.old) writer.old result (K.state sink.new) writer.new
+        (line (decimal entry.now.tick ++ codes " " ++ event_text (map (λ n. n.now) names.now) entry.now.event)) }
 {
     writer.put_text(sink, &TickText(entry.tick))?;
     write_event(writer, sink, names, &entry.event)?;
@@ -48,7 +50,8 @@ fn write_event<K: Sink>(
     names: &[&[u8]],
     event: &LogEvent,
 ) -> Result<(), IoFault>
-    ensures { Writes (record { held = K.held sink.old; faults = K.faults sink.old; grows = K.grows sink.old; waiting = writer.old }) result (record { held = K.held sink.new; faults = K.faults sink.new; grows = K.grows sink.new; waiting = writer.new }) (event_text (map (λ n. n.now) names.now) event.now) }
+    ensures { Writes (K.state sink.old) writer.old result (K.state sink.new) writer.new
+        (event_text (map (λ n. n.now) names.now) event.now) }
 {
     match event {
         LogEvent::Listen { app, port, ok } => write_listen(writer, sink, *app, *port, *ok),
@@ -80,7 +83,8 @@ fn write_listen<K: Sink>(
     port: u16,
     ok: bool,
 ) -> Result<(), IoFault>
-    ensures { Writes (record { held = K.held sink.old; faults = K.faults sink.old; grows = K.grows sink.old; waiting = writer.old }) result (record { held = K.held sink.new; faults = K.faults sink.new; grows = K.grows sink.new; waiting = writer.new }) (event_text [] (events.Listen app port ok)) }
+    ensures { Writes (K.state sink.old) writer.old result (K.state sink.new) writer.new
+        (event_text [] (events.Listen app port ok)) }
 {
     writer.put_text(sink, &ListenText { app, port, ok })
 }
@@ -92,7 +96,8 @@ fn write_accept<K: Sink>(
     app: u32,
     port: u16,
 ) -> Result<(), IoFault>
-    ensures { Writes (record { held = K.held sink.old; faults = K.faults sink.old; grows = K.grows sink.old; waiting = writer.old }) result (record { held = K.held sink.new; faults = K.faults sink.new; grows = K.grows sink.new; waiting = writer.new }) (event_text [] (events.AcceptNotYet app port)) }
+    ensures { Writes (K.state sink.old) writer.old result (K.state sink.new) writer.new
+        (event_text [] (events.AcceptNotYet app port)) }
 {
     writer.put_text(sink, &AcceptText { app, port })
 }
@@ -106,7 +111,8 @@ fn write_connect<K: Sink>(
     rport: u16,
     no_port: bool,
 ) -> Result<(), IoFault>
-    ensures { Writes (record { held = K.held sink.old; faults = K.faults sink.old; grows = K.grows sink.old; waiting = writer.old }) result (record { held = K.held sink.new; faults = K.faults sink.new; grows = K.grows sink.new; waiting = writer.new }) (event_text [] (events.ConnectRefused app raddr rport no_port)) }
+    ensures { Writes (K.state sink.old) writer.old result (K.state sink.new) writer.new
+        (event_text [] (events.ConnectRefused app raddr rport no_port)) }
 {
     let remote = PortText {
         addr: raddr,
@@ -131,7 +137,9 @@ fn write_stray<K: Sink>(
     seg: &Seg,
     answer: Option<Head>,
 ) -> Result<(), IoFault>
-    ensures { Writes (record { held = K.held sink.old; faults = K.faults sink.old; grows = K.grows sink.old; waiting = writer.old }) result (record { held = K.held sink.new; faults = K.faults sink.new; grows = K.grows sink.new; waiting = writer.new }) (codes "stray " ++ frame_text (map (λ n. n.now) names.now) frame ++ codes " " ++ seg_text seg.now ++ codes " = " ++ answer_text answer) }
+    ensures { Writes (K.state sink.old) writer.old result (K.state sink.new) writer.new
+        (codes "stray " ++ frame_text (map (λ n. n.now) names.now) frame ++ codes " " ++ seg_text seg.now ++ codes " = "
+        ++ answer_text answer) }
 {
     writer.put(sink, b"stray ")?;
     write_frame_id(writer, sink, names, frame)?;
@@ -143,7 +151,7 @@ fn write_stray<K: Sink>(
 
 /// Writes a segment.
 fn write_seg<K: Sink>(writer: &mut Writer, sink: &mut K, seg: &Seg) -> Result<(), IoFault>
-    ensures { Writes (record { held = K.held sink.old; faults = K.faults sink.old; grows = K.grows sink.old; waiting = writer.old }) result (record { held = K.held sink.new; faults = K.faults sink.new; grows = K.grows sink.new; waiting = writer.new }) (seg_text seg.now) }
+    ensures { Writes (K.state sink.old) writer.old result (K.state sink.new) writer.new (seg_text seg.now) }
 {
     write_segment(writer, sink, seg.head, seg.bytes.as_slice())
 }
@@ -156,7 +164,8 @@ fn write_dropped<K: Sink>(
     frame: FrameId,
     backlog: bool,
 ) -> Result<(), IoFault>
-    ensures { Writes (record { held = K.held sink.old; faults = K.faults sink.old; grows = K.grows sink.old; waiting = writer.old }) result (record { held = K.held sink.new; faults = K.faults sink.new; grows = K.grows sink.new; waiting = writer.new }) (event_text (map (λ n. n.now) names.now) (events.Dropped frame backlog)) }
+    ensures { Writes (K.state sink.old) writer.old result (K.state sink.new) writer.new
+        (event_text (map (λ n. n.now) names.now) (events.Dropped frame backlog)) }
 {
     writer.put(sink, b"dropped ")?;
     write_frame_id(writer, sink, names, frame)?;
@@ -182,7 +191,8 @@ fn write_refused<K: Sink>(
     frame: FrameId,
     number: u8,
 ) -> Result<(), IoFault>
-    ensures { Writes (record { held = K.held sink.old; faults = K.faults sink.old; grows = K.grows sink.old; waiting = writer.old }) result (record { held = K.held sink.new; faults = K.faults sink.new; grows = K.grows sink.new; waiting = writer.new }) (event_text (map (λ n. n.now) names.now) (events.Refused frame number)) }
+    ensures { Writes (K.state sink.old) writer.old result (K.state sink.new) writer.new
+        (event_text (map (λ n. n.now) names.now) (events.Refused frame number)) }
 {
     writer.put(sink, b"refused ")?;
     write_frame_id(writer, sink, names, frame)?;

@@ -3,7 +3,8 @@ ghost use Rattle.std.specs.Prelude.{◌≡◌, ℕ, ◌+◌, ◌≤◌, ◌++◌
 use crate::buffer::Buffer;
 use itoa::Integer;
 
-/// A short text, as `Display` shows one. It is put together right where bytes wait, so that it takes no memory and cannot fail.
+/// A short text, as `Display` shows one. It is put together right where bytes wait, so that it takes no memory and
+/// cannot fail.
 pub trait Text {
     /// Its bytes.
     ghost text: { Self → List ℕ };

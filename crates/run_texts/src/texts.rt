@@ -311,7 +311,8 @@ impl Text for EntryStart {
     ghost use Rattle.std.specs.Prelude.{◌++◌, codes, decimal};
     ghost use Rattle.tas_runs.specs.Report.{caller_text};
 
-    ghost text = { λ t. decimal t.tick ++ codes " " ++ caller_text t.caller ++ codes "." ++ decimal t.number ++ codes " " };
+    ghost text = { λ t. decimal t.tick ++ codes " " ++ caller_text t.caller ++ codes "." ++ decimal t.number
+        ++ codes " " };
 
     ghost most = { 44 };
 
@@ -395,7 +396,8 @@ pub struct FlowName {
 impl Text for FlowName {
     ghost use Rattle.std.specs.Prelude.{◌++◌, codes, decimal};
 
-    ghost text = { λ t. codes "flow " ++ decimal t.number ++ codes " slot " ++ decimal t.id.slot ++ codes "." ++ decimal t.id.generation };
+    ghost text = { λ t. codes "flow " ++ decimal t.number ++ codes " slot " ++ decimal t.id.slot ++ codes "."
+        ++ decimal t.id.generation };
 
     ghost most = { 52 };
 

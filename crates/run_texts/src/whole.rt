@@ -1,12 +1,13 @@
 ghost use Rattle.std.specs.Prelude.{◌≡◌, ℕ, ◌++◌, ◌∷◌, [], List, map, codes, decimal, if◌then◌else◌};
 ghost use Rattle.tas_runs.specs.Report.{line, addr_text};
-ghost use Rattle.run_texts.specs.Writes.{Stand, Writes};
+ghost use Rattle.run_texts.specs.Writes.{Writes};
 
 use crate::line_texts::{CountsLine, EndLine, HostEnd};
 use crate::writer::Writer;
 use tas_num::{IoFault, Sink};
 
-/// What became of the records of a capture: how many there were, and how many of them were frames, were passed over, and were refused.
+/// What became of the records of a capture: how many there were, and how many of them were frames, were passed over,
+/// and were refused.
 #[derive(Clone, Copy, PartialEq, Eq, Debug)]
 pub struct Counts {
     pub records: u64,
@@ -17,7 +18,8 @@ pub struct Counts {
 
 /// Writes the first line of a report: whether it is of a replay or of a run of scripts.
 pub fn write_title<K: Sink>(writer: &mut Writer, sink: &mut K, replay: bool) -> Result<(), IoFault>
-    ensures { Writes (record { held = K.held sink.old; faults = K.faults sink.old; grows = K.grows sink.old; waiting = writer.old }) result (record { held = K.held sink.new; faults = K.faults sink.new; grows = K.grows sink.new; waiting = writer.new }) (line (codes "tas " ++ (if replay then codes "replay" else codes "run"))) }
+    ensures { Writes (K.state sink.old) writer.old result (K.state sink.new) writer.new
+        (line (codes "tas " ++ (if replay then codes "replay" else codes "run"))) }
 {
     if replay {
         writer.put(sink, b"tas replay\n")
@@ -33,7 +35,8 @@ pub fn write_host<K: Sink>(
     name: &[u8],
     addr: u32,
 ) -> Result<(), IoFault>
-    ensures { Writes (record { held = K.held sink.old; faults = K.faults sink.old; grows = K.grows sink.old; waiting = writer.old }) result (record { held = K.held sink.new; faults = K.faults sink.new; grows = K.grows sink.new; waiting = writer.new }) (line (codes "host " ++ name.now ++ codes " " ++ addr_text addr)) }
+    ensures { Writes (K.state sink.old) writer.old result (K.state sink.new) writer.new
+        (line (codes "host " ++ name.now ++ codes " " ++ addr_text addr)) }
 {
     writer.put(sink, b"host ")?;
     writer.put(sink, name)?;
@@ -46,14 +49,17 @@ pub fn write_counts<K: Sink>(
     sink: &mut K,
     counts: Counts,
 ) -> Result<(), IoFault>
-    ensures { Writes (record { held = K.held sink.old; faults = K.faults sink.old; grows = K.grows sink.old; waiting = writer.old }) result (record { held = K.held sink.new; faults = K.faults sink.new; grows = K.grows sink.new; waiting = writer.new }) (line (codes "records " ++ decimal counts.records ++ codes " frames " ++ decimal counts.frames ++ codes " passed " ++ decimal counts.passed ++ codes " refused " ++ decimal counts.refused)) }
+    ensures { Writes (K.state sink.old) writer.old result (K.state sink.new) writer.new
+        (line (codes "records " ++ decimal counts.records ++ codes " frames " ++ decimal counts.frames
+        ++ codes " passed " ++ decimal counts.passed ++ codes " refused " ++ decimal counts.refused)) }
 {
     writer.put_text(sink, &CountsLine(counts))
 }
 
 /// Writes the last line of a report: how many ticks there were.
 pub fn write_end<K: Sink>(writer: &mut Writer, sink: &mut K, ticks: u32) -> Result<(), IoFault>
-    ensures { Writes (record { held = K.held sink.old; faults = K.faults sink.old; grows = K.grows sink.old; waiting = writer.old }) result (record { held = K.held sink.new; faults = K.faults sink.new; grows = K.grows sink.new; waiting = writer.new }) (line (codes "end " ++ decimal ticks ++ codes " ticks")) }
+    ensures { Writes (K.state sink.old) writer.old result (K.state sink.new) writer.new
+        (line (codes "end " ++ decimal ticks ++ codes " ticks")) }
 {
     writer.put_text(sink, &EndLine(ticks))
 }

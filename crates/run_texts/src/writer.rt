@@ -1,6 +1,6 @@
 ghost use Rattle.std.specs.Prelude.{◌≡◌, ℕ, ◌+◌, ◌*◌, ◌<◌, ◌≤◌, ◌++◌, [], List, length, IfOk, OnOk, IfSome};
 ghost use Rattle.tas_runs.specs.Report.{hex_bytes};
-ghost use Rattle.run_texts.specs.Writes.{Stand, Writes};
+ghost use Rattle.run_texts.specs.Writes.{Writes};
 
 use crate::buffer::Buffer;
 use crate::text::Text;
@@ -37,7 +37,7 @@ impl Writer {
 
     /// Writes all that waits. After Ok nothing waits.
     pub fn finish<K: Sink>(&mut self, sink: &mut K) -> Result<(), IoFault>
-        ensures writes { Writes (record { held = K.held sink.old; faults = K.faults sink.old; grows = K.grows sink.old; waiting = self.old }) result (record { held = K.held sink.new; faults = K.faults sink.new; grows = K.grows sink.new; waiting = self.new }) [] }
+        ensures writes { Writes (K.state sink.old) self.old result (K.state sink.new) self.new [] }
         ensures empty { OnOk result (self.new ≡ []) }
     {
         flush(sink, &mut self.waiting)
@@ -46,14 +46,14 @@ impl Writer {
     /// Writes these bytes behind all that waits.
     #[inline(always)]
     pub fn put<K: Sink>(&mut self, sink: &mut K, bytes: &[u8]) -> Result<(), IoFault>
-        ensures { Writes (record { held = K.held sink.old; faults = K.faults sink.old; grows = K.grows sink.old; waiting = self.old }) result (record { held = K.held sink.new; faults = K.faults sink.new; grows = K.grows sink.new; waiting = self.new }) bytes.now }
+        ensures { Writes (K.state sink.old) self.old result (K.state sink.new) self.new bytes.now }
     {
         push(sink, &mut self.waiting, bytes)
     }
 
     /// Writes the digits of bytes: two of lower case a byte, the higher one first.
     pub fn put_hex<K: Sink>(&mut self, sink: &mut K, bytes: &[u8]) -> Result<(), IoFault>
-        ensures { Writes (record { held = K.held sink.old; faults = K.faults sink.old; grows = K.grows sink.old; waiting = self.old }) result (record { held = K.held sink.new; faults = K.faults sink.new; grows = K.grows sink.new; waiting = self.new }) (hex_bytes bytes.now) }
+        ensures { Writes (K.state sink.old) self.old result (K.state sink.new) self.new (hex_bytes bytes.now) }
     {
         push_hex(sink, &mut self.waiting, bytes)
     }
@@ -61,7 +61,7 @@ impl Writer {
     /// Writes a text.
     pub fn put_text<K: Sink, T: Text>(&mut self, sink: &mut K, text: &T) -> Result<(), IoFault>
         requires { T.most ≤ 256 }
-        ensures { Writes (record { held = K.held sink.old; faults = K.faults sink.old; grows = K.grows sink.old; waiting = self.old }) result (record { held = K.held sink.new; faults = K.faults sink.new; grows = K.grows sink.new; waiting = self.new }) (T.text text.now) }
+        ensures { Writes (K.state sink.old) self.old result (K.state sink.new) self.new (T.text text.now) }
     {
         push_text(sink, &mut self.waiting, text)
     }
@@ -69,7 +69,7 @@ impl Writer {
 
 /// Writes all that waits. After Ok nothing waits.
 fn flush<K: Sink>(sink: &mut K, waiting: &mut Buffer) -> Result<(), IoFault>
-    ensures writes { Writes (record { held = K.held sink.old; faults = K.faults sink.old; grows = K.grows sink.old; waiting = waiting.old }) result (record { held = K.held sink.new; faults = K.faults sink.new; grows = K.grows sink.new; waiting = waiting.new }) [] }
+    ensures writes { Writes (K.state sink.old) waiting.old result (K.state sink.new) waiting.new [] }
     ensures empty { OnOk result (waiting.new ≡ []) }
 {
     write_all(sink, waiting.as_slice())?;
@@ -80,7 +80,7 @@ fn flush<K: Sink>(sink: &mut K, waiting: &mut Buffer) -> Result<(), IoFault>
 /// Writes all that waits where there is no room for so many bytes more.
 fn make_room<K: Sink>(sink: &mut K, waiting: &mut Buffer, count: usize) -> Result<(), IoFault>
     requires { count ≤ 4096 }
-    ensures writes { Writes (record { held = K.held sink.old; faults = K.faults sink.old; grows = K.grows sink.old; waiting = waiting.old }) result (record { held = K.held sink.new; faults = K.faults sink.new; grows = K.grows sink.new; waiting = waiting.new }) [] }
+    ensures writes { Writes (K.state sink.old) waiting.old result (K.state sink.new) waiting.new [] }
     ensures room { OnOk result (length waiting.new + count ≤ 4096) }
 {
     if count > waiting.free() {
@@ -93,7 +93,7 @@ fn make_room<K: Sink>(sink: &mut K, waiting: &mut Buffer, count: usize) -> Resul
 /// Writes a text behind all that waits.
 fn push_text<K: Sink, T: Text>(sink: &mut K, waiting: &mut Buffer, text: &T) -> Result<(), IoFault>
     requires { T.most ≤ 256 }
-    ensures { Writes (record { held = K.held sink.old; faults = K.faults sink.old; grows = K.grows sink.old; waiting = waiting.old }) result (record { held = K.held sink.new; faults = K.faults sink.new; grows = K.grows sink.new; waiting = waiting.new }) (T.text text.now) }
+    ensures { Writes (K.state sink.old) waiting.old result (K.state sink.new) waiting.new (T.text text.now) }
 {
     make_room(sink, waiting, TEXT)?;
     text.add_to(waiting);
@@ -103,7 +103,7 @@ fn push_text<K: Sink, T: Text>(sink: &mut K, waiting: &mut Buffer, text: &T) -> 
 /// Writes bytes behind all that waits. Mostly there is room for all of them.
 #[inline(always)]
 fn push<K: Sink>(sink: &mut K, waiting: &mut Buffer, bytes: &[u8]) -> Result<(), IoFault>
-    ensures { Writes (record { held = K.held sink.old; faults = K.faults sink.old; grows = K.grows sink.old; waiting = waiting.old }) result (record { held = K.held sink.new; faults = K.faults sink.new; grows = K.grows sink.new; waiting = waiting.new }) bytes.now }
+    ensures { Writes (K.state sink.old) waiting.old result (K.state sink.new) waiting.new bytes.now }
 {
     if bytes.len() <= waiting.free() {
         waiting.push(bytes);
@@ -114,7 +114,7 @@ fn push<K: Sink>(sink: &mut K, waiting: &mut Buffer, bytes: &[u8]) -> Result<(),
 
 /// Writes bytes behind all that waits, as much at a time as there is room for.
 fn push_pieces<K: Sink>(sink: &mut K, waiting: &mut Buffer, bytes: &[u8]) -> Result<(), IoFault>
-    ensures { Writes (record { held = K.held sink.old; faults = K.faults sink.old; grows = K.grows sink.old; waiting = waiting.old }) result (record { held = K.held sink.new; faults = K.faults sink.new; grows = K.grows sink.new; waiting = waiting.new }) bytes.now }
+    ensures { Writes (K.state sink.old) waiting.old result (K.state sink.new) waiting.new bytes.now }
 {
     let mut done = 0;
     while done < bytes.len() {
@@ -128,7 +128,7 @@ fn push_pieces<K: Sink>(sink: &mut K, waiting: &mut Buffer, bytes: &[u8]) -> Res
 
 /// Writes the digits of bytes behind all that waits, as many at a time as there is room for.
 fn push_hex<K: Sink>(sink: &mut K, waiting: &mut Buffer, bytes: &[u8]) -> Result<(), IoFault>
-    ensures { Writes (record { held = K.held sink.old; faults = K.faults sink.old; grows = K.grows sink.old; waiting = waiting.old }) result (record { held = K.held sink.new; faults = K.faults sink.new; grows = K.grows sink.new; waiting = waiting.new }) (hex_bytes bytes.now) }
+    ensures { Writes (K.state sink.old) waiting.old result (K.state sink.new) waiting.new (hex_bytes bytes.now) }
 {
     let mut done = 0;
     while done < bytes.len() {

@@ -1,7 +1,10 @@
 -- From what the parts of the program found to what the program promises.
-use Rattle.std.proofs.Common.{◌≡◌, ◌⊎◌, inl, inr, ℕ, ◌<◌, List, length, true, Option, Some, None, Result, Ok, Err, IfOk, OnOk, OnErr, IfSome, subst, refl, sym, ap, ◌∙◌, arith}
-use Rattle.std.proofs.lemmas.Bool.{true≢false}
-use Rattle.std.specs.Io.KnownBytes.{Appends, Keeps}
+use Rattle.std.proofs.Common.{◌≡◌, ◌⊎◌, inl, inr, ℕ, ◌<◌, ◌≤◌, List, [], length, Bool, IsTrue, not, true, false, Option}
+use Rattle.std.proofs.Common.{Some, None, Result, Ok, Err, IfOk, IfErr, OnOk, OnErr, IfSome, subst, refl, sym, ap, ◌∙◌}
+use Rattle.std.proofs.Common.{arith}
+use Rattle.std.proofs.lemmas.Bool.{true≢false, false≢true}
+use Rattle.std.proofs.KnownBytes.{Keeps-refl}
+use Rattle.std.specs.Io.KnownBytes.{Keeps, IsAtEnd}
 use Rattle.std.specs.Net.Addr.{ipv4_bits}
 use Rattle.tas_num.specs.Captures.{Capture, Fault, capture_of}
 use Rattle.tas_runs.specs.Logs.{RunLog}
@@ -9,15 +12,19 @@ use Rattle.tas_runs.specs.Replays.{Replay}
 use Rattle.tas_runs.specs.SerialOrder.{serial_replay}
 use Rattle.tas_runs.proofs.SerialRounds.{serial_is_replay}
 use Rattle.tas_runs.proofs.Runs.{replays_sound}
-use Rattle.tas_round.specs.Fronts.{AppendsFront}
+use Rattle.tas_num.specs.Streams.{SourceState, SinkState, Wrote}
+use Rattle.tas_num.specs.declared.outside.IoFault.{IoFault}
+use Rattle.tas_num.specs.declared.outside.IoFault.TheVariants.{Failed, OutOfMemory}
 use Rattle.tas_main.specs.declared.stop.Stop.{Stop}
 use Rattle.tas_main.specs.declared.stop.Stop.TheVariants.{Words, Input, Read, Write, Memory, TooLong, NotBuilt}
 use Rattle.tas_main.specs.Words.{Request, IsReplay, IsForm, is_built, form_of}
-use Rattle.tas_main.specs.Stops.{Given, Cause, IsNoCapture, status_of}
-use Rattle.tas_main.specs.Outputs.{IsRun, IsWhole, output}
+use Rattle.tas_main.specs.Stops.{Given, Cause, IsNoCapture, Unreplayed, Unwritten, SinkCalm, ReadsAll, ReadBefore}
+use Rattle.tas_main.specs.Stops.{writes_nothing, status_of}
+use Rattle.tas_main.specs.Outputs.{IsRun, IsWhole, WritesAll, WritesFront, output}
 
 -- a fact of all that was read is one of the input, where that is told
-pub of_input : (input : Option (List ℕ)) (b : List ℕ) (P : List ℕ → Type 0) → IfSome input (λ bytes. b ≡ bytes) → P b → IfSome input P
+pub of_input : (input : Option (List ℕ)) (b : List ℕ) (P : List ℕ → Type 0) → IfSome input (λ bytes. b ≡ bytes) → P b
+    → IfSome input P
 of_input None b P same fact = tt
 of_input (Some bytes) b P same fact = subst P same fact
 
@@ -33,23 +40,65 @@ told input b P e fact = subst (λ (i : Option (List ℕ)). IfSome i P) e fact
 of_ok : (r : Result RunLog Fault) (P : RunLog → Type 0) (log : RunLog) → r ≡ Ok log → IfOk r P → P log
 of_ok r P log e fact = subst (λ (x : Result RunLog Fault). IfOk x P) e fact
 
-pub is_run : (words : List (List ℕ)) (b : List ℕ) (r : Request) (log : RunLog) → IsReplay words r → serial_replay (ipv4_bits r.local) b r.loose ≡ Ok log → IsRun words b r log
+pub is_run : (words : List (List ℕ)) (b : List ℕ) (r : Request) (log : RunLog) → IsReplay words r
+    → serial_replay (ipv4_bits r.local) b r.loose ≡ Ok log → IsRun words b r log
 is_run words b r log asked serial =
-    let run : Replay (ipv4_bits r.local) b r.loose log = of_ok (serial_replay (ipv4_bits r.local) b r.loose) (λ (l : RunLog). Replay (ipv4_bits r.local) b r.loose l) log serial (serial_is_replay (ipv4_bits r.local) b r.loose) in
+    let run : Replay (ipv4_bits r.local) b r.loose log = of_ok (serial_replay (ipv4_bits r.local) b r.loose)
+    (λ (l : RunLog). Replay (ipv4_bits r.local) b r.loose l) log serial
+    (serial_is_replay (ipv4_bits r.local) b r.loose) in
     record { asked = asked; serial = serial; run = run; sound = replays_sound (ipv4_bits r.local) b r.loose log run }
 
-pub writes_all : (words : List (List ℕ)) (input : Option (List ℕ)) (b : List ℕ) (r : Request) (log : RunLog) (old new : Option (List ℕ)) → IfSome input (λ bytes. b ≡ bytes) → IsReplay words r
-    → serial_replay (ipv4_bits r.local) b r.loose ≡ Ok log → Appends old new (output r log) → IfSome input (λ bytes. (r : Request) × (log : RunLog) × IsRun words bytes r log × Appends old new (output r log))
-writes_all words input b r log old new same asked serial grown =
-    of_input input b (λ (bytes : List ℕ). (r : Request) × (log : RunLog) × IsRun words bytes r log × Appends old new (output r log)) same (r, log, is_run words b r log asked serial, grown)
+pub writes_all : (g : Given) (b : List ℕ) (r : Request) (log : RunLog) → IfSome g.source.left (λ bytes. b ≡ bytes)
+    → IsReplay g.words r → serial_replay (ipv4_bits r.local) b r.loose ≡ Ok log
+    → Wrote g.sink (Ok tt) g.written (output r log) [] → WritesAll g
+writes_all g b r log same asked serial wrote =
+    of_input g.source.left b
+    (λ (bytes : List ℕ). (r : Request) × (log : RunLog) × IsRun g.words bytes r log
+    × Wrote g.sink (Ok tt) g.written (output r log) [])
+    same (r, log, is_run g.words b r log asked serial, wrote)
 
-pub writes_front : (words : List (List ℕ)) (input : Option (List ℕ)) (b : List ℕ) (r : Request) (log : RunLog) (old new : Option (List ℕ)) → IfSome input (λ bytes. b ≡ bytes) → IsReplay words r
-    → serial_replay (ipv4_bits r.local) b r.loose ≡ Ok log → AppendsFront old new (output r log) → IfSome input (λ bytes. Keeps old new ⊎ ((r : Request) × (log : RunLog) × IsRun words bytes r log × AppendsFront old new (output r log)))
-writes_front words input b r log old new same asked serial grown =
-    of_input input b (λ (bytes : List ℕ). Keeps old new ⊎ ((r : Request) × (log : RunLog) × IsRun words bytes r log × AppendsFront old new (output r log))) same (inr (r, log, is_run words b r log asked serial, grown))
+-- what a fault left of the text
+abbrev Front : Given → List ℕ → Type 0
+Front g b =
+    (g.written ≡ g.sink)
+    ⊎ ((r : Request) × (log : RunLog) × (fault : IoFault) × IsRun g.words b r log
+    × Wrote g.sink (Err fault) g.written (output r log) [])
 
-pub writes_none : (words : List (List ℕ)) (input : Option (List ℕ)) (old new : Option (List ℕ)) → Keeps old new → IfSome input (λ bytes. Keeps old new ⊎ ((r : Request) × (log : RunLog) × IsRun words bytes r log × AppendsFront old new (output r log)))
-writes_none words input old new kept = of_any input (λ (bytes : List ℕ). Keeps old new ⊎ ((r : Request) × (log : RunLog) × IsRun words bytes r log × AppendsFront old new (output r log))) (λ b. inl kept)
+pub writes_front : (g : Given) (b : List ℕ) (r : Request) (log : RunLog) (stop : Stop)
+    → IfSome g.source.left (λ bytes. b ≡ bytes) → IsReplay g.words r
+    → serial_replay (ipv4_bits r.local) b r.loose ≡ Ok log → Unwritten g.sink g.written (output r log) stop
+    → WritesFront g
+writes_front g b r log stop same asked serial why = of_input g.source.left b (Front g) same (front stop why)
+  where
+    front : (stop : Stop) → Unwritten g.sink g.written (output r log) stop → Front g b
+    front Write wrote = inr (r, log, Failed, is_run g.words b r log asked serial, wrote)
+    front Memory (inl e) = inl e
+    front Memory (inr wrote) = inr (r, log, OutOfMemory, is_run g.words b r log asked serial, wrote)
+    front Words why = absurd why
+    front (Input number) why = absurd why
+    front Read why = absurd why
+    front TooLong why = absurd why
+    front NotBuilt why = absurd why
+
+pub writes_none : (g : Given) → g.written ≡ g.sink → WritesFront g
+writes_none g kept = of_any g.source.left (Front g) (λ b. inl kept)
+
+-- ----- a text that was not written whole
+pub unwritten_kept : (a b : SinkState) (text : List ℕ) (stop : Stop) → Unwritten a b text stop
+    → writes_nothing a.grows stop ≡ true → Keeps a.held b.held
+unwritten_kept a b text Write why e = absurd (true≢false (sym e))
+unwritten_kept a b text Memory (inl same) e = subst (λ (s : SinkState). Keeps a.held s.held) (sym same)
+    (Keeps-refl a.held)
+unwritten_kept a b text Memory (inr wrote) e = absurd (grown a.grows (wrote.memory refl) e)
+  where
+    grown : (grows : Bool) → IsTrue grows → not grows ≡ true → ⊥
+    grown true h e = true≢false (sym e)
+    grown false h e = false≢true h
+unwritten_kept a b text Words why e = absurd why
+unwritten_kept a b text (Input number) why e = absurd why
+unwritten_kept a b text Read why e = absurd why
+unwritten_kept a b text TooLong why e = absurd why
+unwritten_kept a b text NotBuilt why e = absurd why
 
 -- ----- the status
 pub never_zero : (stop : Stop) (P : Type 0) → status_of stop ≡ 0 → P
@@ -73,12 +122,14 @@ asked_built words r asked = ap is_built asked.form
 
 pub whole_ends_well : (g : Given) (stop : Stop) → Cause g stop → IsWhole g → (status_of stop ≡ 0) ⊎ (status_of stop ≡ 6)
 whole_ends_well g Words cause w = absurd (cause (asked_form g.words w.request w.asked))
-whole_ends_well g (Input number) cause w = absurd (no_fault w.input number w.found w.reads (told g.input w.input (λ (b : List ℕ). IsNoCapture b number) w.told cause))
+whole_ends_well g (Input number) cause w = absurd
+    (no_fault w.input number w.found w.reads
+    (told g.source.left w.input (λ (b : List ℕ). IsNoCapture b number) w.told cause))
 whole_ends_well g Read cause w = absurd (w.read cause)
 whole_ends_well g Write cause w = absurd (w.written cause)
 whole_ends_well g Memory cause w = inr refl
 whole_ends_well g TooLong cause w =
-    let long = told g.input w.input (λ (b : List ℕ). 67108864 < length b) w.told cause in
+    let long = told g.source.left w.input (λ (b : List ℕ). 67108864 < length b) w.told cause in
     absurd (omega (arith, long, w.short))
 whole_ends_well g NotBuilt cause w = absurd (true≢false (sym (asked_built g.words w.request w.asked) ∙ cause.1))
 
@@ -87,10 +138,65 @@ pub on_ok : {P Q : Type 0} (r : Result (Unit {0}) Stop) → OnOk r P → (P → 
 on_ok (Ok u) h f = f h
 on_ok (Err stop) h f = tt
 
-pub on_err : {P Q : Type 0} (r : Result (Unit {0}) Stop) → OnErr r P → (P → Q) → OnErr r Q
+pub on_err : {P : Stop → Type 0} {Q : Type 0} (r : Result (Unit {0}) Stop) → IfErr r P → ((stop : Stop) → P stop → Q)
+    → OnErr r Q
 on_err (Ok u) h f = tt
-on_err (Err stop) h f = f h
+on_err (Err stop) h f = f stop h
+
+pub if_err : {P Q : Stop → Type 0} (r : Result (Unit {0}) Stop) → IfErr r P → ((stop : Stop) → P stop → Q stop)
+    → IfErr r Q
+if_err (Ok u) h f = tt
+if_err (Err stop) h f = f stop h
+
+pub at_err : (P : Stop → Type 0) (r : Result (Unit {0}) Stop) (stop : Stop) → r ≡ Err stop → P stop → IfErr r P
+at_err P r stop e h = subst (λ (x : Result (Unit {0}) Stop). IfErr x P) (sym e) h
+
+pub after_ok : {P : Type 0} (r : Result (Unit {0}) Stop) → P → OnOk r P
+after_ok (Ok u) h = h
+after_ok (Err stop) h = tt
 
 pub whichever : {P : Type 0} (r : Result (Unit {0}) Stop) → P → OnErr r P
 whichever (Ok u) h = tt
 whichever (Err stop) h = h
+
+pub kept_same : (a : SinkState) (r : Result (Unit {0}) Stop)
+    → IfErr r (λ stop. writes_nothing a.grows stop ≡ true → Keeps a.held a.held)
+kept_same a (Ok u) = tt
+kept_same a (Err stop) = λ e. Keeps-refl a.held
+
+-- ----- what was read
+pub reads_all : (before after : SourceState) (b : List ℕ) → IfSome before.left (λ bytes. b ≡ bytes)
+    → length b ≤ 67108864 → IsAtEnd after.left → ReadsAll 67108864 before after
+reads_all before after b same short end =
+    record { fits = of_input before.left b (λ (bytes : List ℕ). length bytes ≤ 67108864) same short; end = end }
+
+pub unreplayed_why : (g : Given) (b : List ℕ) (stop : Stop) → IfSome g.source.left (λ bytes. b ≡ bytes)
+    → Unreplayed b stop → Cause g stop
+unreplayed_why g b (Input number) same why =
+    of_input g.source.left b (λ (bytes : List ℕ). IsNoCapture bytes number) same why
+unreplayed_why g b Memory same why = tt
+unreplayed_why g b Words same why = absurd why
+unreplayed_why g b Read same why = absurd why
+unreplayed_why g b Write same why = absurd why
+unreplayed_why g b TooLong same why = absurd why
+unreplayed_why g b NotBuilt same why = absurd why
+
+pub unreplayed_read : (before after : SourceState) (b : List ℕ) (stop : Stop) → ReadsAll 67108864 before after
+    → Unreplayed b stop → ReadBefore before after stop
+unreplayed_read before after b (Input number) all why = all
+unreplayed_read before after b Memory all why = tt
+unreplayed_read before after b Words all why = absurd why
+unreplayed_read before after b Read all why = absurd why
+unreplayed_read before after b Write all why = absurd why
+unreplayed_read before after b TooLong all why = absurd why
+unreplayed_read before after b NotBuilt all why = absurd why
+
+pub unwritten_read : (before after : SourceState) (a b : SinkState) (text : List ℕ) (stop : Stop)
+    → ReadsAll 67108864 before after → Unwritten a b text stop → ReadBefore before after stop
+unwritten_read before after a b text Write all why = all
+unwritten_read before after a b text Memory all why = tt
+unwritten_read before after a b text Words all why = absurd why
+unwritten_read before after a b text (Input number) all why = absurd why
+unwritten_read before after a b text Read all why = absurd why
+unwritten_read before after a b text TooLong all why = absurd why
+unwritten_read before after a b text NotBuilt all why = absurd why

@@ -1,6 +1,7 @@
 -- What the code's words, options and requests are.
 use Rattle.std.specs.Prelude.{option_map}
-use Rattle.tas_main.specs.Words.{Options, Progress, Refused, Reads, WantsCores, WantsAddress, Form, Unknown, Scenario, Replay, Request}
+use Rattle.tas_main.specs.Words.{Options, Progress, Refused, Reads, WantsCores, WantsAddress, Form, Unknown, Scenario}
+use Rattle.tas_main.specs.Words.{Replay, Request}
 use Rattle.tas_main.specs.declared.words.Options as code_options
 use Rattle.tas_main.specs.declared.words.Progress as code_progress
 use Rattle.tas_main.specs.declared.words.Progress.TheVariants as progress
@@ -9,7 +10,14 @@ use Rattle.tas_main.specs.declared.words.Form.TheVariants as form
 use Rattle.tas_main.specs.declared.words.Request as code_request
 
 abbrev pub options_in : code_options.Options → Options
-options_in o = record { serial = o.serial; cores = o.cores; pcap = o.pcap; loose = o.loose; local = option_map (λ text. text.now) o.local }
+options_in o = record {
+  serial = o.serial;
+  cores = o.cores;
+  pcap = o.pcap;
+  loose = o.loose;
+  local = option_map
+      (λ text. text.now) o.local;
+}
 
 abbrev pub progress_in : code_progress.Progress → Progress
 progress_in progress.Refused = Refused

@@ -1,8 +1,12 @@
--- Why a run of the program stops before all was written.
-use Rattle.std.specs.Prelude.{◌≡◌, ℕ, ◌<◌, List, length, Option, Err, IfSome, Bool, true, false, not, ⊤}
+-- Why a run of the program stops before all was written, and what became of its streams.
+use Rattle.std.specs.Prelude.{◌≡◌, ◌⊎◌, ℕ, ◌+◌, ◌<◌, ◌≤◌, List, [], length, Option, Err, IfSome, Bool, true, false, not}
+use Rattle.std.specs.Prelude.{⊤}
+use Rattle.std.specs.Io.KnownBytes.{Consumes, IsAtEnd}
 use Rattle.tas_num.specs.Causes.{Rose}
 use Rattle.tas_num.specs.Captures.{Fault, capture_of, record_of}
-use Rattle.tas_main.specs.Words.{form_of, IsForm, is_built}
+use Rattle.tas_num.specs.Streams.{SourceState, SinkState, Wrote}
+use Rattle.tas_num.specs.declared.outside.IoFault.TheVariants.{Failed, OutOfMemory}
+use Rattle.tas_main.specs.Words.{form_of, IsForm, is_built, IsAsked}
 use Rattle.tas_main.specs.declared.stop.Stop.{Stop}
 use Rattle.tas_main.specs.declared.stop.Stop.TheVariants.{Words, Input, Read, Write, Memory, TooLong, NotBuilt}
 
@@ -20,22 +24,24 @@ status_of NotBuilt = 8
 abbrev pub most_bytes : ℕ
 most_bytes = 67108864
 
--- What a call was given, and what became of the counts of faults.
+-- What a call was given, and what became of its source and its sink.
 pub record Given : Type 0 where
   pub words : List (List ℕ)
-  pub input : Option (List ℕ)  -- all that the source had left, where it tells
-  pub unread : ℕ × ℕ  -- the source's count of faults before and after
-  pub unwritten : ℕ × ℕ  -- the sink's
+  pub source : SourceState  -- before the call
+  pub read : SourceState  -- after it
+  pub sink : SinkState
+  pub written : SinkState
 
-abbrev pub given : (words : List (List ℕ)) → (input : Option (List ℕ)) → (unread_before unread_after unwritten_before unwritten_after : ℕ) → Given
-given words input unread_before unread_after unwritten_before unwritten_after =
-    record { words = words; input = input; unread = (unread_before, unread_after); unwritten = (unwritten_before, unwritten_after) }
+abbrev pub given : (words : List (List ℕ)) → (source read : SourceState) → (sink written : SinkState) → Given
+given words source read sink written =
+    record { words = words; source = source; read = read; sink = sink; written = written }
 
 -- the bytes are no capture, and this record is at fault, or the file header where it is 0
 abbrev pub IsNoCapture : List ℕ → (number : ℕ) → Type 0
 IsNoCapture b number = (fault : Fault) × (capture_of b ≡ Err fault) × (record_of fault ≡ number)
 
--- why the words are not those of a replay on one thread: they are of no form of the program, or of one that is not built
+-- why the words are not those of a replay on one thread: they are of no form of the program, or of one that is not
+-- built
 abbrev pub Unasked : (words : List (List ℕ)) → Stop → Type 0
 Unasked words Words = ¬ IsForm (form_of words)
 Unasked words NotBuilt = IsForm (form_of words) × (is_built (form_of words) ≡ false)
@@ -44,25 +50,73 @@ Unasked words _ = ⊥
 -- why it stops so
 abbrev pub Cause : Given → Stop → Type 0
 Cause g Words = Unasked g.words Words
-Cause g (Input number) = IfSome g.input (λ b. IsNoCapture b number)
-Cause g Read = Rose g.unread.0 g.unread.1
-Cause g Write = Rose g.unwritten.0 g.unwritten.1
+Cause g (Input number) = IfSome g.source.left (λ b. IsNoCapture b number)
+Cause g Read = Rose g.source.faults g.read.faults
+Cause g Write = Rose g.sink.faults g.written.faults
 Cause g Memory = ⊤
-Cause g TooLong = IfSome g.input (λ b. most_bytes < length b)
+Cause g TooLong = IfSome g.source.left (λ b. most_bytes < length b)
 Cause g NotBuilt = Unasked g.words NotBuilt
 
+-- ----- the order
+-- the words are looked at first: any other stop is one of words that are a replay's
+abbrev pub WordsFirst : (words : List (List ℕ)) → Stop → Type 0
+WordsFirst words Words = ⊤
+WordsFirst words NotBuilt = ⊤
+WordsFirst words _ = IsAsked words
+
+-- where they are not, the source is not touched
+abbrev pub Untouched : (before after : SourceState) → Stop → Type 0
+Untouched before after Words = after ≡ before
+Untouched before after NotBuilt = after ≡ before
+Untouched before after _ = ⊤
+
+-- ----- how much is read
+-- The input has no more than so many bytes, and none of them is left.
+pub record ReadsAll (limit : ℕ) (before after : SourceState) : Type 0 where
+  pub fits : IfSome before.left (λ b. length b ≤ limit)
+  pub end : IsAtEnd after.left
+
+-- exactly one byte more than the limit was taken
+abbrev pub ReadsPast : (limit : ℕ) → (before after : SourceState) → Type 0
+ReadsPast limit before after = (taken : List ℕ) × (length taken ≡ limit + 1) × Consumes before.left after.left taken
+
+-- what was read before it stopped so
+abbrev pub ReadBefore : (before after : SourceState) → Stop → Type 0
+ReadBefore before after (Input number) = ReadsAll most_bytes before after
+ReadBefore before after Write = ReadsAll most_bytes before after
+ReadBefore before after TooLong = ReadsPast most_bytes before after
+ReadBefore before after _ = ⊤
+
+-- why not all of the input was read, of which there may be so much
+abbrev pub Unread : (before after : SourceState) → (limit : ℕ) → Stop → Type 0
+Unread before after limit Read = Rose before.faults after.faults
+Unread before after limit Memory = ⊤
+Unread before after limit TooLong = IfSome before.left (λ b. limit < length b)
+Unread before after limit _ = ⊥
+
+-- ----- faults
+-- no stop but that of the source tells of a fault of the source
+abbrev pub SourceCalm : (before after : SourceState) → Stop → Type 0
+SourceCalm before after Read = ⊤
+SourceCalm before after _ = after.faults ≡ before.faults
+
+-- and none but that of the sink of one of the sink
+abbrev pub SinkCalm : (before after : SinkState) → Stop → Type 0
+SinkCalm before after Write = ⊤
+SinkCalm before after _ = after.faults ≡ before.faults
+
+-- ----- what is written
 -- where it stops so, nothing was written to a sink of which this says whether it grows
 abbrev pub writes_nothing : (grows : Bool) → Stop → Bool
 writes_nothing grows Write = false
 writes_nothing grows Memory = not grows
 writes_nothing grows _ = true
 
--- why not all of the input was read, of which there may be so much
-abbrev pub Unread : Option (List ℕ) → (limit : ℕ) → (before after : ℕ) → Stop → Type 0
-Unread input limit before after Read = Rose before after
-Unread input limit before after Memory = ⊤
-Unread input limit before after TooLong = IfSome input (λ b. limit < length b)
-Unread input limit before after _ = ⊥
+-- and it is as it was, but where the writing stopped
+abbrev pub Unwrites : (before after : SinkState) → Stop → Type 0
+Unwrites before after Write = ⊤
+Unwrites before after Memory = ⊤
+Unwrites before after _ = after ≡ before
 
 -- why a capture was not replayed
 abbrev pub Unreplayed : List ℕ → Stop → Type 0
@@ -70,8 +124,8 @@ Unreplayed b (Input number) = IsNoCapture b number
 Unreplayed b Memory = ⊤
 Unreplayed b _ = ⊥
 
--- why not all was written
-abbrev pub Unwritten : (before after : ℕ) → Stop → Type 0
-Unwritten before after Write = Rose before after
-Unwritten before after Memory = ⊤
-Unwritten before after _ = ⊥
+-- why not all of a text was written: the write failed; or there was no memory, before the first write or in it
+abbrev pub Unwritten : (before after : SinkState) → (text : List ℕ) → Stop → Type 0
+Unwritten before after text Write = Wrote before (Err Failed) after text []
+Unwritten before after text Memory = (after ≡ before) ⊎ Wrote before (Err OutOfMemory) after text []
+Unwritten before after text _ = ⊥

@@ -1,5 +1,7 @@
--- The words of the command line, after the program's name: a command, the number of `bulk`, and then options in any order, each at most once.
-use Rattle.std.specs.Prelude.{◌≡◌, ℕ, zero, suc, ◌&&◌, not, Bool, true, false, List, [], ◌∷◌, codes, decimal, drop, take, length, fold, is_some, Option, Some, None, if◌then◌else◌, bytes_eq, ⊤}
+-- The words of the command line, after the program's name: a command, the number of `bulk`, and then options in any
+-- order, each at most once.
+use Rattle.std.specs.Prelude.{◌≡◌, ℕ, zero, suc, ◌&&◌, not, Bool, true, false, List, [], ◌∷◌, codes, decimal, drop}
+use Rattle.std.specs.Prelude.{take, length, fold, is_some, Option, Some, None, if◌then◌else◌, bytes_eq, ⊤}
 use Rattle.std.specs.Net.Grammar.{IsIpv4Text}
 use Rattle.std.specs.declared.net.ipv4_addr.Ipv4Addr.{Ipv4Addr}
 
@@ -143,3 +145,7 @@ pub record IsReplay (words : List (List ℕ)) (r : Request) : Type 0 where
   pub text : List ℕ
   pub form : form_of words ≡ Replay text None r.pcap r.loose
   pub address : IsIpv4Text text r.local
+
+-- The words are a replay's on one thread.
+abbrev pub IsAsked : (words : List (List ℕ)) → Type 0
+IsAsked words = (r : Request) × IsReplay words r

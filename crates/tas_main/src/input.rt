@@ -1,6 +1,7 @@
-ghost use Rattle.std.specs.Prelude.{◌≡◌, ℕ, ◌+◌, ◌<◌, ◌≤◌, ◌^◌, ◌++◌, length, Ok, Err, IfOk, IfErr, IfSome, OnOk, OnErr};
-ghost use Rattle.tas_num.specs.Causes.{Rose};
-ghost use Rattle.tas_main.specs.Stops.{Unread};
+ghost use Rattle.std.specs.Prelude.{◌≡◌, ◌≤◌, ◌++◌, length, IfOk, IfErr, IfSome, OnOk, Err};
+ghost use Rattle.std.specs.Io.KnownBytes.{IsAtEnd};
+ghost use Rattle.tas_main.specs.Stops.{ReadsPast, SourceCalm, Unread};
+ghost use Rattle.tas_main.specs.declared.stop.Stop.{Stop};
 
 use crate::stop::Stop;
 use std::alloc::{AllocError, Global};
@@ -11,10 +12,14 @@ pub const PIECE: usize = 4096;
 
 /// All that the source has left, at most `limit` bytes. Reading stops one byte past the limit.
 pub fn read_all<S: Source>(alloc: Global, limit: u32, source: &mut S) -> Result<Vec<u8>, Stop>
-    ensures all { IfOk result (λ v. IfSome (S.left source.old) (λ bytes. v.items ≡ bytes)) }
+    ensures all { IfOk result (λ v. IfSome (S.state source.old).left (λ bytes. v.items ≡ bytes)) }
     ensures short { IfOk result (λ v. length v.items ≤ limit) }
-    ensures cause { IfErr result (Unread (S.left source.old) limit (S.faults source.old) (S.faults source.new)) }
-    ensures later { S.faults source.old ≤ S.faults source.new }
+    ensures end { OnOk result (IsAtEnd (S.state source.new).left) }
+    ensures cause { IfErr result (Unread (S.state source.old) (S.state source.new) limit) }
+    ensures past { result ≡ Err Stop.TooLong → ReadsPast limit (S.state source.old) (S.state source.new) }
+    // A fault of the source is never told as another stop.
+    ensures calm { OnOk result ((S.state source.new).faults ≡ (S.state source.old).faults) }
+    ensures failed { IfErr result (SourceCalm (S.state source.old) (S.state source.new)) }
 {
     let limit = limit as usize;
     let mut all = Vec::new(alloc);

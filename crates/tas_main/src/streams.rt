@@ -1,55 +1,49 @@
 ghost use Rattle.std.specs.Prelude.{◌≡◌, ◌≤◌};
-ghost use Rattle.tas_num.specs.Causes.{one_more};
+ghost use Rattle.tas_num.specs.Causes.{Rose};
 ghost use Rattle.tas_num.specs.declared.outside.IoFault.{IoFault};
 
 use std::io::{Read, Stderr, Stdin, Stdout, Write};
 use tas_num::{IoFault, Sink, Source};
 
-/// Standard input. It tells no content.
+/// A stream that is read, as standard input. It tells no content.
 #[derive(Drop)]
-pub struct StdinSource {
-    stream: Stdin,
+pub struct StreamSource<R> {
+    stream: R,
     faults: u64,
 }
 
-/// Standard output. It tells no content, and does not grow.
+/// Standard input.
+pub type StdinSource = StreamSource<Stdin>;
+
+/// A stream that is written, as standard output and standard error. It tells no content, and does not grow.
 #[derive(Drop)]
-pub struct StdoutSink {
-    stream: Stdout,
+pub struct StreamSink<W> {
+    stream: W,
     faults: u64,
 }
 
-/// Standard error. It tells no content, and does not grow.
-#[derive(Drop)]
-pub struct StderrSink {
-    stream: Stderr,
-    faults: u64,
-}
+/// Standard output.
+pub type StdoutSink = StreamSink<Stdout>;
 
-impl StdinSource {
-    pub fn new(stream: Stdin) -> StdinSource {
-        StdinSource { stream, faults: 0 }
+/// Standard error.
+pub type StderrSink = StreamSink<Stderr>;
+
+impl<R: Read> StreamSource<R> {
+    pub fn new(stream: R) -> StreamSource<R> {
+        StreamSource { stream, faults: 0 }
     }
 }
 
-impl StdoutSink {
-    pub fn new(stream: Stdout) -> StdoutSink {
-        StdoutSink { stream, faults: 0 }
+impl<W: Write> StreamSink<W> {
+    pub fn new(stream: W) -> StreamSink<W> {
+        StreamSink { stream, faults: 0 }
     }
 }
 
-impl StderrSink {
-    pub fn new(stream: Stderr) -> StderrSink {
-        StderrSink { stream, faults: 0 }
-    }
-}
-
-impl Source for StdinSource {
+impl<R: Read> Source for StreamSource<R> {
     ghost use Rattle.std.specs.Prelude.{None};
 
-    ghost left = { λ _. None };
-
-    ghost faults = { λ s. s.faults };
+    ghost state = { λ s. record { left = None; faults = s.faults } };
 
     fn read(&mut self, buf: &mut [u8]) -> Result<usize, IoFault> {
         match self.stream.read(buf) {
@@ -59,31 +53,10 @@ impl Source for StdinSource {
     }
 }
 
-impl Sink for StdoutSink {
+impl<W: Write> Sink for StreamSink<W> {
     ghost use Rattle.std.specs.Prelude.{None, false};
 
-    ghost held = { λ _. None };
-
-    ghost faults = { λ s. s.faults };
-
-    ghost grows = { λ _. false };
-
-    fn write(&mut self, bytes: &[u8]) -> Result<usize, IoFault> {
-        match self.stream.write(bytes) {
-            Ok(count) if count > 0 || bytes.is_empty() => Ok(count),
-            _ => Err(failed(&mut self.faults)),
-        }
-    }
-}
-
-impl Sink for StderrSink {
-    ghost use Rattle.std.specs.Prelude.{None, false};
-
-    ghost held = { λ _. None };
-
-    ghost faults = { λ s. s.faults };
-
-    ghost grows = { λ _. false };
+    ghost state = { λ s. record { held = None; faults = s.faults; grows = false } };
 
     fn write(&mut self, bytes: &[u8]) -> Result<usize, IoFault> {
         match self.stream.write(bytes) {
@@ -95,7 +68,7 @@ impl Sink for StderrSink {
 
 /// Counts a fault.
 fn failed(faults: &mut u64) -> IoFault
-    ensures count { faults.new ≡ one_more faults.old }
+    ensures rose { Rose faults.old faults.new }
     ensures later { faults.old ≤ faults.new }
     ensures failed { result ≡ IoFault.Failed }
 {

@@ -1,20 +1,22 @@
-ghost use Rattle.std.specs.Prelude.{◌++◌, codes, decimal};
-ghost use Rattle.tas_main.specs.Telling.{fault_line, numbered, stream, IsTold, Puts};
+ghost use Rattle.std.specs.Prelude.{◌++◌, [], codes};
+ghost use Rattle.tas_num.specs.Streams.{Wrote};
+ghost use Rattle.tas_main.specs.Telling.{fault_line, numbered, IsTold};
 
 use crate::stop::Stop;
 use itoa::Buffer;
 use tas_num::{IoFault, Sink, write_all};
 
-/// Tells of a stop by its fault line. Where that can't be written, the status alone tells. It takes no memory but what the sink takes.
+/// Tells of a stop by its fault line. Where that can't be written, the status alone tells. It takes no memory but what
+/// the sink takes.
 pub fn tell<F: Sink>(faults: &mut F, stop: Stop)
-    ensures { IsTold stop (stream (F.held faults.old) (F.faults faults.old) (F.grows faults.old)) (stream (F.held faults.new) (F.faults faults.new) (F.grows faults.new)) }
+    ensures { IsTold stop (F.state faults.old) (F.state faults.new) }
 {
     let _ = put_line(faults, stop);
 }
 
 /// Writes the fault line of a stop.
 fn put_line<F: Sink>(faults: &mut F, stop: Stop) -> Result<(), IoFault>
-    ensures { Puts (stream (F.held faults.old) (F.faults faults.old) (F.grows faults.old)) result (stream (F.held faults.new) (F.faults faults.new) (F.grows faults.new)) (fault_line stop) }
+    ensures { Wrote (F.state faults.old) result (F.state faults.new) (fault_line stop) [] }
 {
     match stop {
         Stop::Words => put(faults, "tas: words\n"),
@@ -29,7 +31,8 @@ fn put_line<F: Sink>(faults: &mut F, stop: Stop) -> Result<(), IoFault>
 
 /// Writes the fault line of an input with this record at fault.
 fn put_numbered<F: Sink>(faults: &mut F, number: u32) -> Result<(), IoFault>
-    ensures { Puts (stream (F.held faults.old) (F.faults faults.old) (F.grows faults.old)) result (stream (F.held faults.new) (F.faults faults.new) (F.grows faults.new)) (codes "tas: input record " ++ numbered number) }
+    ensures { Wrote (F.state faults.old) result (F.state faults.new)
+        (codes "tas: input record " ++ numbered number) [] }
 {
     put(faults, "tas: input record ")?;
     put_end(faults, number)
@@ -37,7 +40,7 @@ fn put_numbered<F: Sink>(faults: &mut F, number: u32) -> Result<(), IoFault>
 
 /// Writes a number and the end of the line.
 fn put_end<F: Sink>(faults: &mut F, number: u32) -> Result<(), IoFault>
-    ensures { Puts (stream (F.held faults.old) (F.faults faults.old) (F.grows faults.old)) result (stream (F.held faults.new) (F.faults faults.new) (F.grows faults.new)) (numbered number) }
+    ensures { Wrote (F.state faults.old) result (F.state faults.new) (numbered number) [] }
 {
     let mut digits = Buffer::new();
     put(faults, digits.format(number))?;
@@ -46,7 +49,7 @@ fn put_end<F: Sink>(faults: &mut F, number: u32) -> Result<(), IoFault>
 
 /// Writes a text.
 fn put<F: Sink>(faults: &mut F, text: &str) -> Result<(), IoFault>
-    ensures { Puts (stream (F.held faults.old) (F.faults faults.old) (F.grows faults.old)) result (stream (F.held faults.new) (F.faults faults.new) (F.grows faults.new)) text.now }
+    ensures { Wrote (F.state faults.old) result (F.state faults.new) text.now [] }
 {
     write_all(faults, text.as_bytes())
 }

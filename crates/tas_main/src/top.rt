@@ -1,13 +1,16 @@
-ghost use Rattle.std.specs.Prelude.{◌≡◌, ◌⊎◌, ℕ, ◌≤◌, length, map, string_bytes, true, false, Ok, IfOk, IfErr, OnOk, OnErr};
-ghost use Rattle.std.specs.Io.KnownBytes.{Appends, Keeps};
+ghost use Rattle.std.specs.Prelude.{◌≡◌, ◌⊎◌, ◌≤◌, [], length, map, string_bytes, true, false, Ok, IfOk, IfErr, OnOk};
+ghost use Rattle.std.specs.Prelude.{OnErr};
+ghost use Rattle.std.specs.Io.KnownBytes.{Keeps};
 ghost use Rattle.std.specs.Net.Addr.{ipv4_bits};
+ghost use Rattle.tas_num.specs.Streams.{Wrote};
 ghost use Rattle.tas_runs.specs.SerialOrder.{serial_replay};
 ghost use Rattle.tas_round.specs.Runs.{log_in};
-ghost use Rattle.tas_round.specs.Fronts.{AppendsFront};
-ghost use Rattle.tas_main.specs.Stops.{given, Cause, status_of, writes_nothing, Unreplayed, Unwritten};
-ghost use Rattle.tas_main.specs.Telling.{stream, IsTold};
+ghost use Rattle.tas_main.specs.Stops.{given, Cause, status_of, writes_nothing, Unreplayed, Unwritten, Unwrites};
+ghost use Rattle.tas_main.specs.Stops.{WordsFirst, Untouched, ReadsAll, ReadsPast, ReadBefore, SourceCalm, SinkCalm};
+ghost use Rattle.tas_main.specs.Telling.{IsTold};
 ghost use Rattle.tas_main.specs.Outputs.{output, WritesAll, WritesFront, IsWhole};
 ghost use Rattle.tas_main.specs.Requests.{request_in};
+ghost use Rattle.tas_main.specs.Words.{IsAsked};
 ghost use Rattle.tas_main.specs.declared.stop.Stop.{Stop};
 
 use crate::input::read_all;
@@ -18,38 +21,61 @@ use std::alloc::Global;
 use std::sync::Wait;
 use std::thread::Threads;
 use tas_num::{Gate, IoFault, Sink, Source};
-use tas_round::{Mode, ReplayFault, RunLog, replay, write_capture, write_report};
+use tas_round::{ReplayFault, RunLog, replay_serially, write_capture, write_report};
 
 /// The most bytes that a capture may have.
 const MOST: u32 = 67_108_864;
 
-/// Runs what the words ask for, and answers the status that the program ends with. The output goes to `sink`. Where the status is not 0, a fault line goes to
-/// `faults`; if that fails, the status stays.
+/// Runs what the words ask for, and answers the status that the program ends with. The output goes to `sink`. Where the
+/// status is not 0, a fault line goes to `faults`; if that fails, the status stays. What one thread does waits for
+/// nobody: no run has workers yet, so that `rt` and the gate have no use here.
 pub fn tas<R: Threads + Wait + Sync, S: Source, K: Sink, F: Sink, G: Gate>(
-    rt: &R,
+    _rt: &R,
     alloc: Global,
     words: &[String],
     source: &mut S,
     sink: &mut K,
     faults: &mut F,
-    gate: &G,
+    _gate: &G,
 ) -> u8
     // At status 0 the sink grew by exactly the text of the run that was asked for.
-    ensures headline { result ≡ 0 → WritesAll (given (map string_bytes words.now) (S.left source.old) (S.faults source.old) (S.faults source.new) (K.faults sink.old) (K.faults sink.new)) (K.held sink.old) (K.held sink.new) }
+    ensures headline { result ≡ 0
+        → WritesAll (given (map string_bytes words.now) (S.state source.old) (S.state source.new)
+        (K.state sink.old) (K.state sink.new)) }
     // Every other status has its cause, and the fault line tells of it.
-    ensures cause { (result ≡ 0) ⊎ ((stop : Stop) × (result ≡ status_of stop) × Cause (given (map string_bytes words.now) (S.left source.old) (S.faults source.old) (S.faults source.new) (K.faults sink.old) (K.faults sink.new)) stop × IsTold stop (stream (F.held faults.old) (F.faults faults.old) (F.grows faults.old)) (stream (F.held faults.new) (F.faults faults.new) (F.grows faults.new))) }
+    ensures cause { (result ≡ 0) ⊎ ((stop : Stop) × (result ≡ status_of stop)
+        × Cause (given (map string_bytes words.now) (S.state source.old) (S.state source.new)
+        (K.state sink.old) (K.state sink.new)) stop
+        × IsTold stop (F.state faults.old) (F.state faults.new)) }
     // At status 0 nothing is told.
-    ensures silent { result ≡ 0 → Keeps (F.held faults.old) (F.held faults.new) }
-    // At 5 and 6 by a front of it.
-    ensures front { (result ≡ 5) ⊎ (result ≡ 6) → WritesFront (given (map string_bytes words.now) (S.left source.old) (S.faults source.old) (S.faults source.new) (K.faults sink.old) (K.faults sink.new)) (K.held sink.old) (K.held sink.new) }
+    ensures silent { result ≡ 0 → F.state faults.new ≡ F.state faults.old }
+    // The words are looked at first: every status but 2 and 8 is one of a replay's words, and at those nothing is read.
+    ensures order { (result ≡ 2) ⊎ ((result ≡ 8) ⊎ IsAsked (map string_bytes words.now)) }
+    ensures unread { (result ≡ 2) ⊎ (result ≡ 8) → S.state source.new ≡ S.state source.old }
+    // Then all of the input is read, which is within its length at 0, 3 and 5; at 7 one byte past that was taken.
+    ensures read { (result ≡ 0) ⊎ ((result ≡ 3) ⊎ (result ≡ 5))
+        → ReadsAll 67108864 (S.state source.old) (S.state source.new) }
+    ensures past { result ≡ 7 → ReadsPast 67108864 (S.state source.old) (S.state source.new) }
+    // A fault of a stream is told as its own status.
+    ensures reading { (result ≡ 4) ⊎ ((S.state source.new).faults ≡ (S.state source.old).faults) }
+    ensures writing { (result ≡ 5) ⊎ ((K.state sink.new).faults ≡ (K.state sink.old).faults) }
+    // At 5 and 6 the sink grew by a front of the text.
+    ensures front { (result ≡ 5) ⊎ (result ≡ 6)
+        → WritesFront (given (map string_bytes words.now) (S.state source.old) (S.state source.new)
+        (K.state sink.old) (K.state sink.new)) }
     // At 6 it did not grow either, unless it is one that takes memory to grow.
-    ensures memory { result ≡ 6 → K.grows sink.old ≡ false → Keeps (K.held sink.old) (K.held sink.new) }
-    // At every other status it did not grow.
-    ensures nothing { (result ≡ 2) ⊎ ((result ≡ 3) ⊎ ((result ≡ 4) ⊎ ((result ≡ 7) ⊎ (result ≡ 8)))) → Keeps (K.held sink.old) (K.held sink.new) }
-    // Words of a replay on one thread and a capture within its length give status 0, or want of memory, where no stream fails.
-    ensures complete { IsWhole (given (map string_bytes words.now) (S.left source.old) (S.faults source.old) (S.faults source.new) (K.faults sink.old) (K.faults sink.new)) → (result ≡ 0) ⊎ (result ≡ 6) }
+    ensures memory { result ≡ 6 → (K.state sink.old).grows ≡ false
+        → Keeps (K.state sink.old).held (K.state sink.new).held }
+    // At every other status it is as it was.
+    ensures nothing { (result ≡ 2) ⊎ ((result ≡ 3) ⊎ ((result ≡ 4) ⊎ ((result ≡ 7) ⊎ (result ≡ 8))))
+        → K.state sink.new ≡ K.state sink.old }
+    // Words of a replay on one thread and a capture within its length give status 0, or want of memory, where no stream
+    // fails.
+    ensures complete { IsWhole (given (map string_bytes words.now) (S.state source.old) (S.state source.new)
+        (K.state sink.old) (K.state sink.new))
+        → (result ≡ 0) ⊎ (result ≡ 6) }
 {
-    match serve(rt, alloc, words, source, sink, gate) {
+    match serve(alloc, words, source, sink) {
         Ok(()) => 0,
         Err(stop) => {
             tell(faults, stop);
@@ -59,46 +85,46 @@ pub fn tas<R: Threads + Wait + Sync, S: Source, K: Sink, F: Sink, G: Gate>(
 }
 
 /// Replays the capture that the source has, and writes what was asked for.
-fn serve<R: Threads + Wait + Sync, S: Source, K: Sink, G: Gate>(
-    rt: &R,
+fn serve<S: Source, K: Sink>(
     alloc: Global,
     words: &[String],
     source: &mut S,
     sink: &mut K,
-    gate: &G,
 ) -> Result<(), Stop>
-    ensures done { OnOk result (WritesAll (given (map string_bytes words.now) (S.left source.old) (S.faults source.old) (S.faults source.new) (K.faults sink.old) (K.faults sink.new)) (K.held sink.old) (K.held sink.new)) }
-    ensures cause { IfErr result (Cause (given (map string_bytes words.now) (S.left source.old) (S.faults source.old) (S.faults source.new) (K.faults sink.old) (K.faults sink.new))) }
-    ensures front { OnErr result (WritesFront (given (map string_bytes words.now) (S.left source.old) (S.faults source.old) (S.faults source.new) (K.faults sink.old) (K.faults sink.new)) (K.held sink.old) (K.held sink.new)) }
-    ensures kept { IfErr result (λ stop. writes_nothing (K.grows sink.old) stop ≡ true → Keeps (K.held sink.old) (K.held sink.new)) }
+    ensures done { OnOk result (WritesAll (given (map string_bytes words.now) (S.state source.old) (S.state source.new)
+        (K.state sink.old) (K.state sink.new))) }
+    ensures cause { IfErr result (Cause (given (map string_bytes words.now) (S.state source.old) (S.state source.new)
+        (K.state sink.old) (K.state sink.new))) }
+    ensures front { OnErr result
+        (WritesFront (given (map string_bytes words.now) (S.state source.old) (S.state source.new)
+        (K.state sink.old) (K.state sink.new))) }
+    ensures kept { IfErr result (λ stop. writes_nothing (K.state sink.old).grows stop ≡ true
+        → Keeps (K.state sink.old).held (K.state sink.new).held) }
+    ensures nothing { IfErr result (Unwrites (K.state sink.old) (K.state sink.new)) }
+    ensures first { IfErr result (WordsFirst (map string_bytes words.now)) }
+    ensures asked { OnOk result (IsAsked (map string_bytes words.now)) }
+    ensures untouched { IfErr result (Untouched (S.state source.old) (S.state source.new)) }
+    ensures read { OnOk result (ReadsAll 67108864 (S.state source.old) (S.state source.new)) }
+    ensures before { IfErr result (ReadBefore (S.state source.old) (S.state source.new)) }
+    ensures reads_calmly { OnOk result ((S.state source.new).faults ≡ (S.state source.old).faults) }
+    ensures source_calm { IfErr result (SourceCalm (S.state source.old) (S.state source.new)) }
+    ensures writes_calmly { OnOk result ((K.state sink.new).faults ≡ (K.state sink.old).faults) }
+    ensures sink_calm { IfErr result (SinkCalm (K.state sink.old) (K.state sink.new)) }
 {
     let asked = read_words(words)?;
     let bytes = read_all(alloc, MOST, source)?;
-    let log = replay_of(rt, alloc, &asked, &bytes, gate)?;
+    let log = replay_of(alloc, &asked, &bytes)?;
     write_log(alloc, &asked, &log, sink)
 }
 
 /// The run that the words ask for, of the capture that these bytes are.
-fn replay_of<R: Threads + Wait + Sync, G: Gate>(
-    rt: &R,
-    alloc: Global,
-    asked: &Request,
-    bytes: &[u8],
-    gate: &G,
-) -> Result<RunLog, Stop>
+fn replay_of(alloc: Global, asked: &Request, bytes: &[u8]) -> Result<RunLog, Stop>
     requires { length bytes.now ≤ 67108864 }
-    ensures ok { IfOk result (λ log. serial_replay (ipv4_bits asked.now.local) bytes.now asked.now.loose ≡ Ok (log_in log)) }
+    ensures ok { IfOk result (λ log.
+        serial_replay (ipv4_bits asked.now.local) bytes.now asked.now.loose ≡ Ok (log_in log)) }
     ensures refused { IfErr result (Unreplayed bytes.now) }
 {
-    match replay(
-        rt,
-        alloc,
-        asked.local.to_bits(),
-        bytes,
-        asked.loose,
-        Mode::Serial,
-        gate,
-    ) {
+    match replay_serially(alloc, asked.local.to_bits(), bytes, asked.loose) {
         Ok(log) => Ok(log),
         Err(ReplayFault::OutOfMemory) => Err(Stop::Memory),
         Err(ReplayFault::Pcap(fault)) => Err(Stop::Input {
@@ -114,10 +140,10 @@ fn write_log<K: Sink>(
     log: &RunLog,
     sink: &mut K,
 ) -> Result<(), Stop>
-    ensures ok { OnOk result (Appends (K.held sink.old) (K.held sink.new) (output (request_in asked.now) (log_in log.now))) }
-    ensures err { OnErr result (AppendsFront (K.held sink.old) (K.held sink.new) (output (request_in asked.now) (log_in log.now))) }
-    ensures cause { IfErr result (Unwritten (K.faults sink.old) (K.faults sink.new)) }
-    ensures kept { IfErr result (λ stop. writes_nothing (K.grows sink.old) stop ≡ true → Keeps (K.held sink.old) (K.held sink.new)) }
+    ensures ok { OnOk result
+        (Wrote (K.state sink.old) (Ok tt) (K.state sink.new) (output (request_in asked.now) (log_in log.now)) []) }
+    ensures err { IfErr result
+        (Unwritten (K.state sink.old) (K.state sink.new) (output (request_in asked.now) (log_in log.now))) }
 {
     let written = if asked.pcap {
         write_capture(alloc, log, sink)

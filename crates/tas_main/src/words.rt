@@ -1,4 +1,5 @@
-ghost use Rattle.std.specs.Prelude.{◌≡◌, ℕ, ◌≤◌, ◌<◌, ◌^◌, List, map, decimal, string_bytes, fold, option_map, bytes_eq, nat_le, ◌&&◌, IfOk, IfErr, IfSome, IfNone};
+ghost use Rattle.std.specs.Prelude.{◌≡◌, ℕ, ◌≤◌, ◌<◌, ◌^◌, List, map, decimal, string_bytes, fold, option_map};
+ghost use Rattle.std.specs.Prelude.{bytes_eq, nat_le, ◌&&◌, IfOk, IfErr, IfSome, IfNone};
 ghost use Rattle.std.specs.Net.Grammar.{IsIpv4Text};
 ghost use Rattle.tas_main.specs.Words as forms;
 ghost use Rattle.tas_main.specs.Requests.{request_in, progress_in, options_in, form_in};
@@ -65,8 +66,10 @@ pub enum Progress<'a> {
     WantsAddress(Options<'a>),
 }
 
-/// What the words ask for: `replay`, and then `--local ADDRESS` or `--local=ADDRESS`, and `--pcap` and `--loose-sums` where they are wanted, in any order and each at
-/// most once. The error is `Words` where they are of no form of the program, and `NotBuilt` where they are of another one: of a scenario, or of a replay on cores.
+/// What the words ask for: `replay`, and then `--local ADDRESS` or `--local=ADDRESS`, and `--pcap` and `--loose-sums`
+/// where they are wanted, in any order and each at
+/// most once. The error is `Words` where they are of no form of the program, and `NotBuilt` where they are of another
+/// one: of a scenario, or of a replay on cores.
 pub fn read_words(words: &[String]) -> Result<Request, Stop>
     ensures ok { IfOk result (λ r. forms.IsReplay (map string_bytes words.now) (request_in r)) }
     ensures err { IfErr result (Unasked (map string_bytes words.now)) }
@@ -251,7 +254,8 @@ impl<'a> Options<'a> {
 
     /// The options with a word that bears its value: the number of `--cores=`, or the address of `--local=`.
     fn with_value(self, number: Option<&'a str>, text: Option<&'a str>) -> Progress<'a>
-        ensures { progress_in result ≡ forms.with_value (options_in self.entry) (option_map (λ n. n.now) number.entry) (option_map (λ t. t.now) text.entry) }
+        ensures { progress_in result ≡ forms.with_value (options_in self.entry) (option_map (λ n. n.now) number.entry)
+            (option_map (λ t. t.now) text.entry) }
     {
         match (number, text) {
             (Some(number), _) => self.with_cores(number),

@@ -1,4 +1,3 @@
 pub mod Lending
 pub mod Flowing
-pub mod Whole
 pub mod Playing

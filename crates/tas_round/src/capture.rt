@@ -1,14 +1,12 @@
 ghost use Rattle.std.specs.Prelude.{◌≡◌, ℕ, ◌≤◌, ◌++◌, ◌∷◌, [], List, map, false, Err, OnOk, OnErr, IfOk};
-ghost use Rattle.std.specs.Io.KnownBytes.{Appends, Keeps};
-ghost use Rattle.tas_num.specs.Causes.{Rose};
 ghost use Rattle.tas_num.specs.Captures.{file_header};
 ghost use Rattle.tas_runs.specs.Rounds.{Each};
 ghost use Rattle.tas_runs.specs.SentFrames.{capture, ticks_from};
 ghost use Rattle.run_texts.specs.Frames.{seen_host};
-ghost use Rattle.run_texts.specs.Writes.{Stand, Writes};
+ghost use Rattle.run_texts.specs.Writes.{Writes};
 ghost use Rattle.local_host.specs.Live.{IsLegal};
 ghost use Rattle.tas_round.specs.Runs.{host_in, log_in, unnamed_in, AreLegal, AreSentBy};
-ghost use Rattle.tas_round.specs.Fronts.{AppendsFront};
+ghost use Rattle.tas_round.specs.Written.{WroteText};
 
 use crate::run::{HostRun, HostRuns, RunLog};
 use run_texts::{
@@ -17,14 +15,9 @@ use run_texts::{
 use std::alloc::{AllocError, Global};
 use tas_num::{IoFault, Sink};
 
-/// Writes the frames that a run sent, as a capture with a record for each. After a fault a front of it may have been written; all memory is taken before the first write.
+/// Writes the frames that a run sent, as a capture with a record for each. All memory is taken before the first write.
 pub fn write_capture<K: Sink>(alloc: Global, log: &RunLog, sink: &mut K) -> Result<(), IoFault>
-    ensures ok { OnOk result (Appends (K.held sink.old) (K.held sink.new) (capture (log_in log.now))) }
-    ensures err { OnErr result (AppendsFront (K.held sink.old) (K.held sink.new) (capture (log_in log.now))) }
-    ensures failed { result ≡ Err IoFault.Failed → Rose (K.faults sink.old) (K.faults sink.new) }
-    // Want of memory comes before the first write, unless the sink grows.
-    ensures memory { result ≡ Err IoFault.OutOfMemory → K.grows sink.old ≡ false → Keeps (K.held sink.old) (K.held sink.new) }
-    ensures later { K.faults sink.old ≤ K.faults sink.new }
+    ensures { WroteText (K.state sink.old) result (K.state sink.new) (capture (log_in log.now)) }
 {
     let Ok(mut sent) = sent_by(alloc, &log.hosts) else {
         return Err(IoFault::OutOfMemory);
@@ -53,7 +46,8 @@ fn put_whole<K: Sink>(
     sent: &mut SentFrames<'_>,
 ) -> Result<(), IoFault>
     requires { AreSentBy log.now.hosts sent.old }
-    ensures writes { Writes (record { held = K.held sink.old; faults = K.faults sink.old; grows = K.grows sink.old; waiting = writer.old }) result (record { held = K.held sink.new; faults = K.faults sink.new; grows = K.grows sink.new; waiting = writer.new }) (capture (log_in log.now)) }
+    ensures writes { Writes (K.state sink.old) writer.old result (K.state sink.new) writer.new
+        (capture (log_in log.now)) }
     ensures empty { OnOk result (writer.new ≡ []) }
 {
     put_capture(writer, sink, log, sent)?;
@@ -69,7 +63,7 @@ fn put_capture<K: Sink>(
     sent: &mut SentFrames<'_>,
 ) -> Result<(), IoFault>
     requires { AreSentBy log.now.hosts sent.old }
-    ensures { Writes (record { held = K.held sink.old; faults = K.faults sink.old; grows = K.grows sink.old; waiting = writer.old }) result (record { held = K.held sink.new; faults = K.faults sink.new; grows = K.grows sink.new; waiting = writer.new }) (capture (log_in log.now)) }
+    ensures { Writes (K.state sink.old) writer.old result (K.state sink.new) writer.new (capture (log_in log.now)) }
 {
     write_capture_header(writer, sink)?;
     put_frames(writer, sink, log.ticks, &log.hosts, sent)
@@ -84,7 +78,8 @@ fn put_frames<K: Sink>(
     sent: &mut SentFrames<'_>,
 ) -> Result<(), IoFault>
     requires { AreSentBy hosts.now sent.old }
-    ensures { Writes (record { held = K.held sink.old; faults = K.faults sink.old; grows = K.grows sink.old; waiting = writer.old }) result (record { held = K.held sink.new; faults = K.faults sink.new; grows = K.grows sink.new; waiting = writer.new }) (ticks_from ticks 0 (map host_in hosts.now)) }
+    ensures { Writes (K.state sink.old) writer.old result (K.state sink.new) writer.new
+        (ticks_from ticks 0 (map host_in hosts.now)) }
 {
     let _hosts = hosts.len();
     write_frames(writer, sink, ticks, sent)

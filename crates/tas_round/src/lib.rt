@@ -7,6 +7,6 @@ mod report;
 mod run;
 
 pub use capture::write_capture;
-pub use replaying::{Mode, ReplayFault, replay};
+pub use replaying::{Mode, ReplayFault, replay, replay_serially};
 pub use report::write_report;
 pub use run::{FlowList, HostRun, HostRuns, RunLog};

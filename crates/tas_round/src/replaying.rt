@@ -54,7 +54,8 @@ pub struct Ending {
     pub ticks: u32,
 }
 
-/// Replays a capture on the host with the address `local`, tick by tick. With `loose` no checksum of a frame is looked at. `OutOfMemory` is want of memory; `Pcap` says why the bytes are no capture.
+/// Replays a capture on the host with the address `local`, tick by tick. With `loose` no checksum of a frame is looked
+/// at. `OutOfMemory` is want of memory; `Pcap` says why the bytes are no capture.
 pub fn replay<R: Threads + Wait + Sync, G: Gate>(
     _rt: &R,
     alloc: Global,
@@ -69,7 +70,23 @@ pub fn replay<R: Threads + Wait + Sync, G: Gate>(
     // Whatever the mode, it is a run of the capture.
     ensures run { IfOk result (λ log. Replay local capture.now loose (log_in log)) }
     // On one thread it is the one in serial order.
-    ensures serial { mode ≡ Mode.Serial → IfOk result (λ log. serial_replay local capture.now loose ≡ Ok (log_in log)) }
+    ensures serial { mode ≡ Mode.Serial
+        → IfOk result (λ log. serial_replay local capture.now loose ≡ Ok (log_in log)) }
+    ensures refused { IfErr result (Refuses capture.now) }
+{
+    replay_serially(alloc, local, capture, loose)
+}
+
+/// The same on one thread: it waits for nobody, and so always returns.
+pub fn replay_serially(
+    alloc: Global,
+    local: u32,
+    capture: &[u8],
+    loose: bool,
+) -> Result<RunLog, ReplayFault>
+    requires small { length capture.now ≤ 67108864 }
+    ensures run { IfOk result (λ log. Replay local capture.now loose (log_in log)) }
+    ensures serial { IfOk result (λ log. serial_replay local capture.now loose ≡ Ok (log_in log)) }
     ensures refused { IfErr result (Refuses capture.now) }
 {
     let found = match find_items(alloc, capture, local, loose) {
@@ -113,8 +130,10 @@ fn play_batch(
     numbers: &FirstNumbers,
 ) -> Result<usize, AllocError>
     requires { 0 < length rest.now }
-    ensures batch { IfOk result (λ n. batches_of (map item_in rest.now) ≡ take n (map item_in rest.now) ∷ batches_of (drop n (map item_in rest.now))) }
-    ensures played { (items : List model.Item) → AreNumbersOf items numbers.now → IfOk result (λ n. host.new ≡ serial_tick items tick host.old (map item_in (take n rest.now))) }
+    ensures batch { IfOk result (λ n. batches_of (map item_in rest.now) ≡ take n (map item_in rest.now)
+        ∷ batches_of (drop n (map item_in rest.now))) }
+    ensures played { (items : List model.Item) → AreNumbersOf items numbers.now
+        → IfOk result (λ n. host.new ≡ serial_tick items tick host.old (map item_in (take n rest.now))) }
     ensures some { IfOk result (λ n. 0 < n) }
     ensures inside { IfOk result (λ n. n ≤ length rest.now) }
 {
@@ -126,7 +145,8 @@ fn play_batch(
 /// The log of a replay with this ending. The error is want of memory.
 fn log_of(alloc: Global, found: &Found<'_>, ending: Ending) -> Result<RunLog, AllocError>
     requires few { length found.now.items.items ≤ found.now.records }
-    ensures { (local : ℕ) → Ended local (map item_in found.now.items.items) ending → IfOk result (λ log. log_in log ≡ serial_log local found.now.records (map item_in found.now.items.items)) }
+    ensures { (local : ℕ) → Ended local (map item_in found.now.items.items) ending
+        → IfOk result (λ log. log_in log ≡ serial_log local found.now.records (map item_in found.now.items.items)) }
 {
     let counts = found.counts();
     let host = host_run(alloc, ending.host)?;

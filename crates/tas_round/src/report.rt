@@ -1,11 +1,11 @@
-ghost use Rattle.std.specs.Prelude.{◌≡◌, ℕ, ◌≤◌, ◌++◌, ◌∷◌, [], List, map, length, codes, false, Err, OnOk, OnErr, IfOk, if◌then◌else◌};
-ghost use Rattle.std.specs.Io.KnownBytes.{Appends, Keeps};
-ghost use Rattle.tas_num.specs.Causes.{Rose};
-ghost use Rattle.tas_runs.specs.Report.{report, line, names_of, host_text, hosts_text, log_text, flows_text, flow_lines, counts_text, addr_text};
+ghost use Rattle.std.specs.Prelude.{◌≡◌, ℕ, ◌≤◌, ◌++◌, ◌∷◌, [], List, map, length, codes, false, Err, OnOk, OnErr};
+ghost use Rattle.std.specs.Prelude.{IfOk, if◌then◌else◌};
+ghost use Rattle.tas_runs.specs.Report.{report, line, names_of, host_text, hosts_text, log_text, flows_text};
+ghost use Rattle.tas_runs.specs.Report.{flow_lines, counts_text, addr_text};
 ghost use Rattle.run_texts.specs.Frames.{history_of};
-ghost use Rattle.run_texts.specs.Writes.{Stand, Writes};
+ghost use Rattle.run_texts.specs.Writes.{Writes};
 ghost use Rattle.tas_round.specs.Runs.{host_in, log_in};
-ghost use Rattle.tas_round.specs.Fronts.{AppendsFront};
+ghost use Rattle.tas_round.specs.Written.{WroteText};
 
 use crate::run::{FlowList, HostRun, HostRuns, RunLog};
 use flow_state::FlowRecord;
@@ -15,14 +15,10 @@ use run_texts::{
 use std::alloc::{AllocError, Global};
 use tas_num::{IoFault, Sink};
 
-/// Writes the report of a run. After a fault a front of it may have been written; all memory is taken before the first write.
+/// Writes the report of a run. All memory is taken before the first
+/// write.
 pub fn write_report<K: Sink>(alloc: Global, log: &RunLog, sink: &mut K) -> Result<(), IoFault>
-    ensures ok { OnOk result (Appends (K.held sink.old) (K.held sink.new) (report (log_in log.now))) }
-    ensures err { OnErr result (AppendsFront (K.held sink.old) (K.held sink.new) (report (log_in log.now))) }
-    ensures failed { result ≡ Err IoFault.Failed → Rose (K.faults sink.old) (K.faults sink.new) }
-    // Want of memory comes before the first write, unless the sink grows.
-    ensures memory { result ≡ Err IoFault.OutOfMemory → K.grows sink.old ≡ false → Keeps (K.held sink.old) (K.held sink.new) }
-    ensures later { K.faults sink.old ≤ K.faults sink.new }
+    ensures { WroteText (K.state sink.old) result (K.state sink.new) (report (log_in log.now)) }
 {
     let Ok(names) = lent_names(alloc, &log.hosts) else {
         return Err(IoFault::OutOfMemory);
@@ -62,7 +58,8 @@ fn put_whole<K: Sink>(
     log: &RunLog,
 ) -> Result<(), IoFault>
     requires { map (λ n. n.now) names.now ≡ names_of (map host_in log.now.hosts) }
-    ensures writes { Writes (record { held = K.held sink.old; faults = K.faults sink.old; grows = K.grows sink.old; waiting = writer.old }) result (record { held = K.held sink.new; faults = K.faults sink.new; grows = K.grows sink.new; waiting = writer.new }) (report (log_in log.now)) }
+    ensures writes { Writes (K.state sink.old) writer.old result (K.state sink.new) writer.new
+        (report (log_in log.now)) }
     ensures empty { OnOk result (writer.new ≡ []) }
 {
     put_report(writer, sink, names, log)?;
@@ -78,7 +75,7 @@ fn put_report<K: Sink>(
     log: &RunLog,
 ) -> Result<(), IoFault>
     requires { map (λ n. n.now) names.now ≡ names_of (map host_in log.now.hosts) }
-    ensures { Writes (record { held = K.held sink.old; faults = K.faults sink.old; grows = K.grows sink.old; waiting = writer.old }) result (record { held = K.held sink.new; faults = K.faults sink.new; grows = K.grows sink.new; waiting = writer.new }) (report (log_in log.now)) }
+    ensures { Writes (K.state sink.old) writer.old result (K.state sink.new) writer.new (report (log_in log.now)) }
 {
     write_title(writer, sink, log.replay)?;
     put_hosts(writer, sink, names, &log.hosts)?;
@@ -94,7 +91,8 @@ fn put_hosts<K: Sink>(
     hosts: &HostRuns,
 ) -> Result<(), IoFault>
     requires { map (λ n. n.now) names.now ≡ names_of (map host_in hosts.now) }
-    ensures { Writes (record { held = K.held sink.old; faults = K.faults sink.old; grows = K.grows sink.old; waiting = writer.old }) result (record { held = K.held sink.new; faults = K.faults sink.new; grows = K.grows sink.new; waiting = writer.new }) (hosts_text (names_of (map host_in hosts.now)) (map host_in hosts.now)) }
+    ensures { Writes (K.state sink.old) writer.old result (K.state sink.new) writer.new
+        (hosts_text (names_of (map host_in hosts.now)) (map host_in hosts.now)) }
 {
     for i in 0..hosts.len() {
         put_host(writer, sink, names, hosts.item(i))?;
@@ -109,7 +107,8 @@ fn put_host<K: Sink>(
     names: &[&[u8]],
     host: &HostRun,
 ) -> Result<(), IoFault>
-    ensures { Writes (record { held = K.held sink.old; faults = K.faults sink.old; grows = K.grows sink.old; waiting = writer.old }) result (record { held = K.held sink.new; faults = K.faults sink.new; grows = K.grows sink.new; waiting = writer.new }) (host_text (map (λ n. n.now) names.now) (host_in host.now)) }
+    ensures { Writes (K.state sink.old) writer.old result (K.state sink.new) writer.new
+        (host_text (map (λ n. n.now) names.now) (host_in host.now)) }
 {
     put_name(writer, sink, host)?;
     put_log(writer, sink, names, host)?;
@@ -118,7 +117,8 @@ fn put_host<K: Sink>(
 
 /// Writes the name and the address of a host.
 fn put_name<K: Sink>(writer: &mut Writer, sink: &mut K, host: &HostRun) -> Result<(), IoFault>
-    ensures { Writes (record { held = K.held sink.old; faults = K.faults sink.old; grows = K.grows sink.old; waiting = writer.old }) result (record { held = K.held sink.new; faults = K.faults sink.new; grows = K.grows sink.new; waiting = writer.new }) (line (codes "host " ++ host.now.name ++ codes " " ++ addr_text host.now.addr)) }
+    ensures { Writes (K.state sink.old) writer.old result (K.state sink.new) writer.new
+        (line (codes "host " ++ host.now.name ++ codes " " ++ addr_text host.now.addr)) }
 {
     write_host(writer, sink, host.name.as_slice(), host.addr)
 }
@@ -130,7 +130,8 @@ fn put_log<K: Sink>(
     names: &[&[u8]],
     host: &HostRun,
 ) -> Result<(), IoFault>
-    ensures { Writes (record { held = K.held sink.old; faults = K.faults sink.old; grows = K.grows sink.old; waiting = writer.old }) result (record { held = K.held sink.new; faults = K.faults sink.new; grows = K.grows sink.new; waiting = writer.new }) (log_text (map (λ n. n.now) names.now) host.now.log) }
+    ensures { Writes (K.state sink.old) writer.old result (K.state sink.new) writer.new
+        (log_text (map (λ n. n.now) names.now) host.now.log) }
 {
     write_log(writer, sink, names, host.log.lines())
 }
@@ -142,7 +143,8 @@ fn put_flows<K: Sink>(
     names: &[&[u8]],
     flows: &FlowList,
 ) -> Result<(), IoFault>
-    ensures { Writes (record { held = K.held sink.old; faults = K.faults sink.old; grows = K.grows sink.old; waiting = writer.old }) result (record { held = K.held sink.new; faults = K.faults sink.new; grows = K.grows sink.new; waiting = writer.new }) (flows_text (map (λ n. n.now) names.now) 0 (map history_of flows.now)) }
+    ensures { Writes (K.state sink.old) writer.old result (K.state sink.new) writer.new
+        (flows_text (map (λ n. n.now) names.now) 0 (map history_of flows.now)) }
 {
     for i in 0..flows.len() {
         put_flow(writer, sink, names, i, flows.item(i))?;
@@ -158,14 +160,16 @@ fn put_flow<K: Sink>(
     i: usize,
     flow: &FlowRecord,
 ) -> Result<(), IoFault>
-    ensures { Writes (record { held = K.held sink.old; faults = K.faults sink.old; grows = K.grows sink.old; waiting = writer.old }) result (record { held = K.held sink.new; faults = K.faults sink.new; grows = K.grows sink.new; waiting = writer.new }) (flow_lines (map (λ n. n.now) names.now) i (history_of flow.now)) }
+    ensures { Writes (K.state sink.old) writer.old result (K.state sink.new) writer.new
+        (flow_lines (map (λ n. n.now) names.now) i (history_of flow.now)) }
 {
     write_flow(writer, sink, names, i as u64, flow)
 }
 
 /// Writes the counts of the capture, where the run replays one.
 fn put_counts<K: Sink>(writer: &mut Writer, sink: &mut K, log: &RunLog) -> Result<(), IoFault>
-    ensures { Writes (record { held = K.held sink.old; faults = K.faults sink.old; grows = K.grows sink.old; waiting = writer.old }) result (record { held = K.held sink.new; faults = K.faults sink.new; grows = K.grows sink.new; waiting = writer.new }) (if log.now.replay then counts_text (log_in log.now) else []) }
+    ensures { Writes (K.state sink.old) writer.old result (K.state sink.new) writer.new
+        (if log.now.replay then counts_text (log_in log.now) else []) }
 {
     if !log.replay {
         return Ok(());

@@ -1,4 +1,5 @@
-//! Worked replays: captures of each byte order and link, cut ones, and what becomes of records that are no good segment.
+//! Worked replays: captures of each byte order and link, cut ones, and what becomes of records that are no good
+//! segment.
 
 use crate::rows::Row;
 use crate::tests::FIRST_REPORT;

@@ -3,7 +3,8 @@
 use crate::tests::{FIRST_CAPTURE, run};
 use std::test::*;
 
-/// The frames that the first capture's host sends: its SYN in answer to the first record, at second 0, and the acknowledgement of the bytes at second 2.
+/// The frames that the first capture's host sends: its SYN in answer to the first record, at second 0, and the
+/// acknowledgement of the bytes at second 2.
 const FIRST_FRAMES: &str = "\
 d4c3b2a1020004000000000000000000ffff000065000000\
 00000000000000002c0000002c0000004500002c00004000400626ca0a0000020a00000100509c4000000000000000656012ffffe71e0000020405b4\

@@ -11,5 +11,11 @@ returns c =
     let params = c.args.flow.now.params in
     let rx = (replay params h).rx in
     let within = (valid_replay params h c.parts.ensures.ranges c.parts.ensures.legal).rx.read in
-    let place : c.base.result ≡ rx.read = c.base.ensures.base ∙ ap (λ p. p.rx.base) c.parts.ensures.parts ∙ c.parts.ensures.stands.rx.base in
-    omega (arith, place, ap length (read_is_of_got params h c.parts.ensures.ranges c.parts.ensures.legal), length-take-le rx.read rx.got within)
+    let place : c.base.result ≡ rx.read = c.base.ensures.base ∙ ap (λ p. p.rx.base) c.parts.ensures.parts
+    ∙ c.parts.ensures.stands.rx.base in
+    omega (
+      arith,
+      place,
+      ap length (read_is_of_got params h c.parts.ensures.ranges c.parts.ensures.legal),
+      length-take-le rx.read rx.got within,
+    )

@@ -15,7 +15,9 @@ pub returns-in_err-write_bytes_read : goal.returns-in_err-write_bytes_read
 returns-in_err-write_bytes_read g c =
     let failed : IsErr c.from_residual-in_err-write_bytes_read.result = search rules in
     let same : c.from_residual-in_err-write_bytes_read.result ≡ c.write_bytes_read.result = search rules in
-    stopped_at _ _ _ _ _ (10 ∷ []) failed same (wrote_then _ _ _ _ _ _ c.in_ok-put_text.ensures c.write_bytes_read.ensures)
+    stopped_at _ _ _ _ _ (10 ∷ []) failed same
+    (wrote_then _ _ _ _ _ _ c.in_ok-put_text.ensures c.write_bytes_read.ensures)
 
 pub returns : goal.returns
-returns g c = wrote_then _ _ _ _ _ _ (wrote_then _ _ _ _ _ _ c.in_ok-put_text.ensures c.in_ok-write_bytes_read.ensures) (search rules)
+returns g c = wrote_then _ _ _ _ _ _ (wrote_then _ _ _ _ _ _ c.in_ok-put_text.ensures c.in_ok-write_bytes_read.ensures)
+    (search rules)

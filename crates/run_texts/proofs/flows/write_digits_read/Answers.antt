@@ -16,13 +16,17 @@ read_in x = given_bytes x.reply
 pub returns-in_err-put_hex : goal.returns-in_err-put_hex
 returns-in_err-put_hex g c =
     let h = wrote_as _ _ _ _ (digits (seen_entry c.entry.result)) (ap hex_bytes c.given.ensures) c.put_hex.ensures in
-    stopped_among digits c.args.flow.now.entries c.loop-i.i (seen_entry c.entry.result) _ _ _ _ _ _ (digits_are read_in c.args.flow.now.entries) c.entry.ensures (search rules) (search rules) c.loop-i.invariant h
+    stopped_among digits c.args.flow.now.entries c.loop-i.i (seen_entry c.entry.result) _ _ _ _ _ _
+    (digits_are read_in c.args.flow.now.entries) c.entry.ensures (search rules) (search rules) c.loop-i.invariant h
 
 pub loop-i-preserved : goal.loop-i-preserved
 loop-i-preserved g c =
-    let h = wrote_as _ _ _ _ (digits (seen_entry c.entry.result)) (ap hex_bytes c.given.ensures) c.in_ok-put_hex.ensures in
-    wrote_more digits c.args.flow.now.entries c.loop-i.i (seen_entry c.entry.result) _ _ _ _ c.entry.ensures c.loop-i.invariant h
+    let h = wrote_as _ _ _ _ (digits (seen_entry c.entry.result))
+    (ap hex_bytes c.given.ensures) c.in_ok-put_hex.ensures in
+    wrote_more digits c.args.flow.now.entries c.loop-i.i (seen_entry c.entry.result) _ _ _ _ c.entry.ensures
+    c.loop-i.invariant h
 
 pub returns : goal.returns
 returns g c =
-    wrote_whole digits c.args.flow.now.entries c.loop-i.i _ _ _ _ (digits_are read_in c.args.flow.now.entries) (search rules) c.loop-i.invariant
+    wrote_whole digits c.args.flow.now.entries c.loop-i.i _ _ _ _ (digits_are read_in c.args.flow.now.entries)
+    (search rules) c.loop-i.invariant

@@ -9,22 +9,30 @@ pub returns-in_err-write_ends : goal.returns-in_err-write_ends
 returns-in_err-write_ends g c =
     let failed : IsErr c.from_residual.result = search rules in
     let same : c.from_residual.result ≡ c.write_ends.result = search rules in
-    let part0 = stopped_at _ _ _ _ _ (entries_text (map (λ n. n.now) c.args.names.now) c.args.flow.now.entries) failed same c.write_ends.ensures in
-    let part1 = stopped _ _ _ _ (line (codes "state " ++ state_text (replay c.args.flow.now.params c.args.flow.now.entries))) failed part0 in
+    let part0 = stopped_at _ _ _ _ _ (entries_text (map (λ n. n.now) c.args.names.now) c.args.flow.now.entries) failed
+    same c.write_ends.ensures in
+    let part1 = stopped _ _ _ _
+    (line (codes "state " ++ state_text (replay c.args.flow.now.params c.args.flow.now.entries))) failed part0 in
     stopped _ _ _ _ (line (read_text (bytes_read c.args.flow.now.entries))) failed part1
 
 pub returns-in_err-write_entries : goal.returns-in_err-write_entries
 returns-in_err-write_entries g c =
     let failed : IsErr c.from_residual-in_err-write_entries.result = search rules in
     let same : c.from_residual-in_err-write_entries.result ≡ c.write_entries.result = search rules in
-    let part0 = stopped_at _ _ _ _ _ (line (codes "state " ++ state_text (replay c.args.flow.now.params c.args.flow.now.entries))) failed same (wrote_then _ _ _ _ _ _ c.in_ok-write_ends.ensures c.write_entries.ensures) in
+    let part0 = stopped_at _ _ _ _ _
+    (line (codes "state " ++ state_text (replay c.args.flow.now.params c.args.flow.now.entries))) failed same
+    (wrote_then _ _ _ _ _ _ c.in_ok-write_ends.ensures c.write_entries.ensures) in
     stopped _ _ _ _ (line (read_text (bytes_read c.args.flow.now.entries))) failed part0
 
 pub returns-in_err-write_state : goal.returns-in_err-write_state
 returns-in_err-write_state g c =
     let failed : IsErr c.from_residual-in_err-write_state.result = search rules in
     let same : c.from_residual-in_err-write_state.result ≡ c.write_state.result = search rules in
-    stopped_at _ _ _ _ _ (line (read_text (bytes_read c.args.flow.now.entries))) failed same (wrote_then _ _ _ _ _ _ (wrote_then _ _ _ _ _ _ c.in_ok-write_ends.ensures c.in_ok-write_entries.ensures) c.write_state.ensures)
+    stopped_at _ _ _ _ _ (line (read_text (bytes_read c.args.flow.now.entries))) failed same
+    (wrote_then _ _ _ _ _ _ (wrote_then _ _ _ _ _ _ c.in_ok-write_ends.ensures c.in_ok-write_entries.ensures)
+    c.write_state.ensures)
 
 pub returns : goal.returns
-returns g c = wrote_then _ _ _ _ _ _ (wrote_then _ _ _ _ _ _ (wrote_then _ _ _ _ _ _ c.in_ok-write_ends.ensures c.in_ok-write_entries.ensures) c.in_ok-write_state.ensures) (search rules)
+returns g c = wrote_then _ _ _ _ _ _
+    (wrote_then _ _ _ _ _ _ (wrote_then _ _ _ _ _ _ c.in_ok-write_ends.ensures c.in_ok-write_entries.ensures)
+    c.in_ok-write_state.ensures) (search rules)

@@ -8,10 +8,14 @@ pub returns-in_err-put : goal.returns-in_err-put
 returns-in_err-put g c =
     let names : List (List ℕ) = map (λ n. n.now) c.args.names.now in
     let f = c.args.frame in
-    wrote_as _ _ _ _ _ (host_frame names f (search rules)) (stopped_at _ _ _ _ (name_at names f.host) (place_text f) (search rules) (search rules) (wrote_as _ _ _ _ _ c.name.ensures c.put.ensures))
+    wrote_as _ _ _ _ _ (host_frame names f (search rules))
+    (stopped_at _ _ _ _ (name_at names f.host) (place_text f) (search rules) (search rules)
+    (wrote_as _ _ _ _ _ c.name.ensures c.put.ensures))
 
 pub returns : goal.returns
 returns g c =
     let names : List (List ℕ) = map (λ n. n.now) c.args.names.now in
     let f = c.args.frame in
-    wrote_as _ _ _ _ _ (host_frame names f (search rules)) (wrote_then _ _ _ _ (name_at names f.host) (place_text f) (wrote_as _ _ _ _ _ c.name.ensures c.in_ok-put.ensures) c.put_text-2.ensures)
+    wrote_as _ _ _ _ _ (host_frame names f (search rules))
+    (wrote_then _ _ _ _ (name_at names f.host) (place_text f)
+    (wrote_as _ _ _ _ _ c.name.ensures c.in_ok-put.ensures) c.put_text-2.ensures)

@@ -5,4 +5,5 @@ use Rattle.run_texts.proofs.frames.add_flows.Goals as goal
 
 pub returns : goal.returns
 returns c =
-    frames_whole history_of flow_frames c.args.flows.now c.loop-flow.flow-index (map seen_frame c.args.frames.now.items) _ (search rules) c.loop-flow.invariant
+    frames_whole history_of flow_frames c.args.flows.now c.loop-flow.flow-index (map seen_frame c.args.frames.now.items)
+    _ (search rules) c.loop-flow.invariant

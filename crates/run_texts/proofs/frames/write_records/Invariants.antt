@@ -5,6 +5,7 @@ use Rattle.run_texts.proofs.frames.write_records.Given as goal
 
 abbrev pub invariant-loop-frame : goal.invariant-loop-frame
 invariant-loop-frame g l = record {
-  writes : Writes (record { held = g.K.Sink.held l.fn.sink; faults = g.K.Sink.faults l.fn.sink; grows = g.K.Sink.grows l.fn.sink; waiting = l.fn.writer }) (Ok tt) (record { held = g.K.Sink.held l.sink; faults = g.K.Sink.faults l.sink; grows = g.K.Sink.grows l.sink; waiting = l.writer }) (flat_map (frame_before l.ticks) (take l.frame-index l.frames));
+  writes : Writes (g.K.Sink.state l.fn.sink) l.fn.writer (Ok tt) (g.K.Sink.state l.sink) l.writer
+      (flat_map (frame_before l.ticks) (take l.frame-index l.frames));
   room : length l.packet ≡ 65535;
 }

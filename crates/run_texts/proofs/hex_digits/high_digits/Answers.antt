@@ -8,7 +8,9 @@ high_halves : (v : List ℕ) → length v ≡ 16 → zip2 (λ a b. a / 2 ^ b) v 
 high_halves v long = zip2_splat (λ a b. a / 2 ^ b) v 16 4 long
 
 pub swizzle : goal.swizzle
-swizzle c = (half_looked_up (λ b. b / 16) c.args.bytes _ c.fits-bytes (λ b h. omega arith) (high_halves c.args.bytes c.fits-bytes.0)).0
+swizzle c = (half_looked_up (λ b. b / 16) c.args.bytes _ c.fits-bytes (λ b h. omega arith)
+    (high_halves c.args.bytes c.fits-bytes.0)).0
 
 pub returns : goal.returns
-returns c = (half_looked_up (λ b. b / 16) c.args.bytes _ c.fits-bytes (λ b h. omega arith) (high_halves c.args.bytes c.fits-bytes.0)).1
+returns c = (half_looked_up (λ b. b / 16) c.args.bytes _ c.fits-bytes (λ b h. omega arith)
+    (high_halves c.args.bytes c.fits-bytes.0)).1

@@ -9,7 +9,9 @@ low_halves : (v : List ℕ) → length v ≡ 16 → zip2 bit_and v (replicate 16
 low_halves v long = zip2_splat bit_and v 16 15 long ∙ (λ i. map (λ b. and_mask b 4 i) v)
 
 pub swizzle : goal.swizzle
-swizzle c = (half_looked_up (λ b. b % 16) c.args.bytes _ c.fits-bytes (λ b h. omega arith) (low_halves c.args.bytes c.fits-bytes.0)).0
+swizzle c = (half_looked_up (λ b. b % 16) c.args.bytes _ c.fits-bytes (λ b h. omega arith)
+    (low_halves c.args.bytes c.fits-bytes.0)).0
 
 pub returns : goal.returns
-returns c = (half_looked_up (λ b. b % 16) c.args.bytes _ c.fits-bytes (λ b h. omega arith) (low_halves c.args.bytes c.fits-bytes.0)).1
+returns c = (half_looked_up (λ b. b % 16) c.args.bytes _ c.fits-bytes (λ b h. omega arith)
+    (low_halves c.args.bytes c.fits-bytes.0)).1

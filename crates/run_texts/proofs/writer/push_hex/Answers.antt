@@ -11,7 +11,10 @@ loop-done-preserved g c =
     let front : List ℕ = hex_bytes (take from bytes) in
     let piece : List ℕ = hex_bytes (take (to - from) (drop from bytes)) in
     record {
-      writes = wrote_as _ _ _ (front ++ piece) (hex_bytes (take to bytes)) (hex_more bytes from to (search rules)) (put_behind _ _ front piece c.push_digits.new.self c.push_digits.ensures (wrote_both _ _ _ _ front [] front (append-nil front) c.loop-done.invariant.writes c.in_ok-make_room.ensures.writes));
+      writes = wrote_as _ _ _ (front ++ piece) (hex_bytes (take to bytes)) (hex_more bytes from to (search rules))
+          (put_behind _ _ front piece c.push_digits.new.self c.push_digits.ensures
+          (wrote_both _ _ _ _ front [] front (append-nil front) c.loop-done.invariant.writes
+          c.in_ok-make_room.ensures.writes));
       within = search rules;
     }
 
@@ -20,4 +23,5 @@ returns-in_err-make_room g c =
     let bytes : List ℕ = c.args.bytes.now in
     let from : ℕ = c.loop-done.done in
     let front : List ℕ = hex_bytes (take from bytes) in
-    stopped_in _ _ _ front (hex_bytes (drop from bytes)) _ (hex_rest bytes from) (search rules) (wrote_both _ _ _ _ front [] front (append-nil front) c.loop-done.invariant.writes (search rules))
+    stopped_in _ _ _ front (hex_bytes (drop from bytes)) _ (hex_rest bytes from) (search rules)
+    (wrote_both _ _ _ _ front [] front (append-nil front) c.loop-done.invariant.writes (search rules))

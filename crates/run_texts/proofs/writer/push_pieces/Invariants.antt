@@ -4,7 +4,8 @@ use Rattle.run_texts.proofs.writer.push_pieces.Given as goal
 
 abbrev pub invariant-loop-done : goal.invariant-loop-done
 invariant-loop-done g l = record {
-  writes : Writes (record { held = g.K.Sink.held l.fn.sink; faults = g.K.Sink.faults l.fn.sink; grows = g.K.Sink.grows l.fn.sink; waiting = l.fn.waiting }) (Ok tt) (record { held = g.K.Sink.held l.sink; faults = g.K.Sink.faults l.sink; grows = g.K.Sink.grows l.sink; waiting = l.waiting }) (take l.done l.bytes);
+  writes : Writes (g.K.Sink.state l.fn.sink) l.fn.waiting (Ok tt) (g.K.Sink.state l.sink) l.waiting
+      (take l.done l.bytes);
   within : l.done ≤ length l.bytes;
 }
 

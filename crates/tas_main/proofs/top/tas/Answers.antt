@@ -4,4 +4,5 @@ use Rattle.tas_main.proofs.top.tas.Goals as goal
 
 pub returns-in-Err-clause-complete : goal.returns-in-Err-clause-complete
 returns-in-Err-clause-complete g c w =
-    subst (λ (n : ℕ). (n ≡ 0) ⊎ (n ≡ 6)) (sym c.status.ensures) (whole_ends_well _ c.in-Err.stop c.in-Err.ensures.cause w)
+    subst (λ (n : ℕ). (n ≡ 0) ⊎ (n ≡ 6)) (sym c.status.ensures)
+    (whole_ends_well _ c.in-Err.stop c.in-Err.ensures.cause w)

@@ -10,7 +10,8 @@ returns-then-passes c =
 pub returns-else-passes : goal.returns-else-passes
 returns-else-passes c =
     let few : c.args.most < 2 ^ 32 = search rules in
-    passes_not c.args.most c.in-Ok.number c.args.text.now c.parse.result few c.parse.ensures.value.0 c.in-Ok.is (sym c.passes.ensures ∙ c.if-passes.false)
+    passes_not c.args.most c.in-Ok.number c.args.text.now c.parse.result few c.parse.ensures.value.0 c.in-Ok.is
+    (sym c.passes.ensures ∙ c.if-passes.false)
 
 pub returns-in_default : goal.returns-in_default
 returns-in_default c =

@@ -5,4 +5,5 @@ use Rattle.tas_main.proofs.words.options_of.Given as goal
 
 abbrev pub invariant-loop-word : goal.invariant-loop-word
 invariant-loop-word l =
-    fold forms.after_word (progress_in l.progress) (map string_bytes (drop l.word-index l.fn.words)) ≡ forms.options_of (map string_bytes l.fn.words)
+    fold forms.after_word (progress_in l.progress) (map string_bytes (drop l.word-index l.fn.words))
+    ≡ forms.options_of (map string_bytes l.fn.words)

@@ -9,7 +9,8 @@ unfolding capture
 returns-in_err-write_capture_header g c =
     let failed : IsErr c.from_residual.result = search rules in
     let same : c.from_residual.result ≡ c.write_capture_header.result = search rules in
-    stopped_at _ _ _ _ _ (ticks_from c.args.log.now.ticks 0 (map host_in c.args.log.now.hosts)) failed same c.write_capture_header.ensures
+    stopped_at _ _ _ _ _ (ticks_from c.args.log.now.ticks 0 (map host_in c.args.log.now.hosts)) failed same
+    c.write_capture_header.ensures
 
 pub returns : goal.returns
 unfolding capture

@@ -7,7 +7,8 @@ use Rattle.tas_round.proofs.replaying.run_batches.Given as goal
 
 abbrev pub invariant-loop-at : goal.invariant-loop-at
 invariant-loop-at l = record {
-  played : serial_ticks (map item_in l.items) l.tick l.host (batches_of (map item_in (drop l.at l.items))) ≡ serial_ticks (map item_in l.items) 0 (at_start l.local) (batches_of (map item_in l.items));
+  played : serial_ticks (map item_in l.items) l.tick l.host (batches_of (map item_in (drop l.at l.items)))
+      ≡ serial_ticks (map item_in l.items) 0 (at_start l.local) (batches_of (map item_in l.items));
   ticks : l.tick + length (batches_of (map item_in (drop l.at l.items))) ≡ length (batches_of (map item_in l.items));
   inside : l.at ≤ length l.items;
   few : l.tick ≤ l.at;

@@ -9,17 +9,24 @@ use Rattle.tas_round.proofs.report.put_flows.Goals as goal
 pub returns-in_err-put_flow : goal.returns-in_err-put_flow
 returns-in_err-put_flow g c =
     let flows = map history_of c.args.flows.now in
-    let here : slice_get flows c.loop-i.i ≡ Some (history_of c.item.result.now) = slice_get-map history_of c.args.flows.now c.loop-i.i ∙ ap (option_map history_of) c.item.ensures in
-    stopped_flow (map (λ n. n.now) c.args.names.now) flows c.loop-i.i (history_of c.item.result.now) _ _ _ _ _ here (search rules) (search rules) c.loop-i.invariant c.put_flow.ensures
+    let here : slice_get flows c.loop-i.i
+    ≡ Some (history_of c.item.result.now) = slice_get-map history_of c.args.flows.now c.loop-i.i
+    ∙ ap (option_map history_of) c.item.ensures in
+    stopped_flow (map (λ n. n.now) c.args.names.now) flows c.loop-i.i (history_of c.item.result.now) _ _ _ _ _ here
+    (search rules) (search rules) c.loop-i.invariant c.put_flow.ensures
 
 pub loop-i-preserved : goal.loop-i-preserved
 loop-i-preserved g c =
     let flows = map history_of c.args.flows.now in
-    let here : slice_get flows c.loop-i.i ≡ Some (history_of c.item.result.now) = slice_get-map history_of c.args.flows.now c.loop-i.i ∙ ap (option_map history_of) c.item.ensures in
-    wrote_flow (map (λ n. n.now) c.args.names.now) flows c.loop-i.i (history_of c.item.result.now) _ _ _ _ here c.loop-i.invariant c.in_ok-put_flow.ensures
+    let here : slice_get flows c.loop-i.i
+    ≡ Some (history_of c.item.result.now) = slice_get-map history_of c.args.flows.now c.loop-i.i
+    ∙ ap (option_map history_of) c.item.ensures in
+    wrote_flow (map (λ n. n.now) c.args.names.now) flows c.loop-i.i (history_of c.item.result.now) _ _ _ _ here
+    c.loop-i.invariant c.in_ok-put_flow.ensures
 
 pub returns : goal.returns
 returns g c =
     let flows = map history_of c.args.flows.now in
-    let all : length flows ≤ c.loop-i.i = omega (arith, c.loop-i-test.false, c.len-i-end.ensures, length-map c.args.flows.now history_of) in
+    let all : length flows ≤ c.loop-i.i = omega
+    (arith, c.loop-i-test.false, c.len-i-end.ensures, length-map c.args.flows.now history_of) in
     wrote_flows (map (λ n. n.now) c.args.names.now) flows c.loop-i.i _ _ _ all c.loop-i.invariant

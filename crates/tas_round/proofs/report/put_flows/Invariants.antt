@@ -5,4 +5,5 @@ use Rattle.run_texts.specs.Writes.{Writes}
 use Rattle.tas_round.proofs.report.put_flows.Given as goal
 
 abbrev pub invariant-loop-i : goal.invariant-loop-i
-invariant-loop-i g l = Writes (record { held = g.K.Sink.held l.fn.sink; faults = g.K.Sink.faults l.fn.sink; grows = g.K.Sink.grows l.fn.sink; waiting = l.fn.writer }) (Ok tt) (record { held = g.K.Sink.held l.sink; faults = g.K.Sink.faults l.sink; grows = g.K.Sink.grows l.sink; waiting = l.writer }) (flows_text (map (λ n. n.now) l.names) 0 (take l.i (map history_of l.flows)))
+invariant-loop-i g l = Writes (g.K.Sink.state l.fn.sink) l.fn.writer (Ok tt) (g.K.Sink.state l.sink) l.writer
+    (flows_text (map (λ n. n.now) l.names) 0 (take l.i (map history_of l.flows)))

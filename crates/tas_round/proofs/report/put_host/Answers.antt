@@ -17,7 +17,9 @@ returns-in_err-put_log g c =
     let names = map (λ n. n.now) c.args.names.now in
     let failed : IsErr c.from_residual-in_err-put_log.result = search rules in
     let same : c.from_residual-in_err-put_log.result ≡ c.put_log.result = search rules in
-    stopped_at _ _ _ _ _ (flows_text names 0 (map history_of c.args.host.now.flows)) failed same (wrote_then _ _ _ _ _ _ c.in_ok-put_name.ensures c.put_log.ensures)
+    stopped_at _ _ _ _ _ (flows_text names 0 (map history_of c.args.host.now.flows)) failed same
+    (wrote_then _ _ _ _ _ _ c.in_ok-put_name.ensures c.put_log.ensures)
 
 pub returns : goal.returns
-returns g c = wrote_then _ _ _ _ _ _ (wrote_then _ _ _ _ _ _ c.in_ok-put_name.ensures c.in_ok-put_log.ensures) c.put_flows.ensures
+returns g c = wrote_then _ _ _ _ _ _ (wrote_then _ _ _ _ _ _ c.in_ok-put_name.ensures c.in_ok-put_log.ensures)
+    c.put_flows.ensures

@@ -20,7 +20,8 @@ returns-in_err-put_hosts g c =
     let log = log_in c.args.log.now in
     let failed : IsErr c.from_residual-in_err-put_hosts.result = search rules in
     let same : c.from_residual-in_err-put_hosts.result ≡ c.put_hosts.result = search rules in
-    let part0 = stopped_at _ _ _ _ _ (if log.replay then counts_text log else []) failed same (wrote_then _ _ _ _ _ _ c.in_ok-write_title.ensures c.put_hosts.ensures) in
+    let part0 = stopped_at _ _ _ _ _ (if log.replay then counts_text log else []) failed same
+    (wrote_then _ _ _ _ _ _ c.in_ok-write_title.ensures c.put_hosts.ensures) in
     stopped _ _ _ _ (line (codes "end " ++ decimal log.ticks ++ codes " ticks")) failed part0
 
 pub returns-in_err-put_counts : goal.returns-in_err-put_counts
@@ -29,8 +30,12 @@ returns-in_err-put_counts g c =
     let log = log_in c.args.log.now in
     let failed : IsErr c.from_residual-in_err-put_counts.result = search rules in
     let same : c.from_residual-in_err-put_counts.result ≡ c.put_counts.result = search rules in
-    stopped_at _ _ _ _ _ (line (codes "end " ++ decimal log.ticks ++ codes " ticks")) failed same (wrote_then _ _ _ _ _ _ (wrote_then _ _ _ _ _ _ c.in_ok-write_title.ensures c.in_ok-put_hosts.ensures) c.put_counts.ensures)
+    stopped_at _ _ _ _ _ (line (codes "end " ++ decimal log.ticks ++ codes " ticks")) failed same
+    (wrote_then _ _ _ _ _ _ (wrote_then _ _ _ _ _ _ c.in_ok-write_title.ensures c.in_ok-put_hosts.ensures)
+    c.put_counts.ensures)
 
 pub returns : goal.returns
 unfolding report
-returns g c = wrote_then _ _ _ _ _ _ (wrote_then _ _ _ _ _ _ (wrote_then _ _ _ _ _ _ c.in_ok-write_title.ensures c.in_ok-put_hosts.ensures) c.in_ok-put_counts.ensures) c.write_end.ensures
+returns g c = wrote_then _ _ _ _ _ _
+    (wrote_then _ _ _ _ _ _ (wrote_then _ _ _ _ _ _ c.in_ok-write_title.ensures c.in_ok-put_hosts.ensures)
+    c.in_ok-put_counts.ensures) c.write_end.ensures

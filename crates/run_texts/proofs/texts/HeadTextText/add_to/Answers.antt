@@ -6,6 +6,9 @@ use Rattle.run_texts.proofs.texts.HeadTextText.add_to.Goals as goal
 pub returns-clause-text : goal.returns-clause-text
 returns-clause-text c =
     let h = c.args.self.now.0 in
-    eight_behind c.args.waiting.now c.add_to.new.waiting c.add.new.waiting c.add_number.new.waiting c.add-2.new.waiting c.add_number-2.new.waiting c.add-3.new.waiting c.add_number-3.new.waiting c.add_to-2.new.waiting
-    (flags_text h.flags) (codes " seq ") (decimal h.seq.0) (codes " ack ") (decimal h.ack.0) (codes " win ") (decimal h.window) (mss_text h.mss)
-    c.add_to.ensures.text c.add.ensures.text c.add_number.ensures.text c.add-2.ensures.text c.add_number-2.ensures.text c.add-3.ensures.text c.add_number-3.ensures.text c.add_to-2.ensures.text
+    eight_behind c.args.waiting.now c.add_to.new.waiting c.add.new.waiting c.add_number.new.waiting c.add-2.new.waiting
+    c.add_number-2.new.waiting c.add-3.new.waiting c.add_number-3.new.waiting c.add_to-2.new.waiting
+    (flags_text h.flags) (codes " seq ") (decimal h.seq.0) (codes " ack ") (decimal h.ack.0) (codes " win ")
+    (decimal h.window) (mss_text h.mss)
+    c.add_to.ensures.text c.add.ensures.text c.add_number.ensures.text c.add-2.ensures.text c.add_number-2.ensures.text
+    c.add-3.ensures.text c.add_number-3.ensures.text c.add_to-2.ensures.text

@@ -1,0 +1,32 @@
+use Rattle.std.proofs.Common.{rules, ◌≡◌, Ok, sym, ap, ◌∙◌, map}
+use Rattle.tas_runs.specs.Logs.{RunLog}
+use Rattle.tas_runs.specs.Replays.{Replay}
+use Rattle.tas_runs.specs.SerialOrder.{serial_log, serial_replay}
+use Rattle.tas_runs.proofs.SerialRounds.{serial_is_replay}
+use Rattle.capture_items.specs.Items.{item_in}
+use Rattle.capture_items.proofs.Replays.{found_is_replayed}
+use Rattle.tas_round.specs.Runs.{log_in, Ended}
+use Rattle.tas_round.proofs.Playing.{ok_gives}
+use Rattle.tas_round.proofs.replaying.replay_serially.Goals as goal
+use Rattle.tas_round.proofs.replaying.replay_serially.Goals.{After-drop-found-2}
+
+serial : (c : After-drop-found-2)
+    → serial_replay c.args.local c.args.capture.now c.args.loose ≡ Ok (log_in c.in_ok-log.log)
+serial c =
+    let found = c.in-Ok.found in
+    let items = map item_in found.items.items in
+    let ended : Ended c.args.local items c.in_ok-ending.ending = search rules in
+    let same : log_in c.in_ok-log.log ≡ serial_log c.args.local found.records items =
+    c.in_ok-log.ensures c.args.local ended in
+    found_is_replayed c.args.capture.now c.args.local c.args.loose found c.in-Ok.ensures.found
+    ∙ ap (λ (log : RunLog). Ok log) (sym same)
+
+pub returns-clause-serial : goal.returns-clause-serial
+returns-clause-serial c = serial c
+
+pub returns-clause-run : goal.returns-clause-run
+returns-clause-run c =
+    let run = serial_replay c.args.local c.args.capture.now c.args.loose in
+    let is_run = Replay c.args.local c.args.capture.now c.args.loose in
+    let right = serial_is_replay c.args.local c.args.capture.now c.args.loose in
+    ok_gives run is_run (log_in c.in_ok-log.log) (serial c) right
