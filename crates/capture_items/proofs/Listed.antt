@@ -12,24 +12,24 @@ use Rattle.std.proofs.lemmas.List.{map_more}
 use Rattle.tas_num.specs.declared.seq.Seq.{Seq}
 use Rattle.tas_model.specs.declared.entry.FourTuple.{FourTuple}
 use Rattle.tas_runs.specs.Records.{Item}
-use Rattle.tas_runs.specs.Batches.{same_tuple}
+use Rattle.host_rounds.specs.Hosts.{same_tuple}
 use Rattle.tas_runs.specs.FirstNumbers.{with_new, local_syn, local_numbers, first_number}
-use Rattle.capture_items.specs.Numbers.{equal_tuple, same_turn, same_known, number_at, AreNumbersOf, count_in, AreOf}
+use Rattle.capture_items.specs.Numbers.{equal_tuple, same_turn, same_known, number_at, number_or, kept_numbers, AreNumbersOf, count_in, AreOf}
 use Rattle.capture_items.specs.declared.numbers.Turn.{Turn}
 use Rattle.capture_items.specs.declared.numbers.Known.{Known}
 use Rattle.capture_items.specs.declared.numbers.Numbering.{Numbering}
 
 -- ----- a number is found
-abbrev pub number_or : ℕ → Option ℕ → ℕ
-number_or n (Some seq) = seq
-number_or n None = 64000 * n % 2 ^ 32
+pub number_found : (kept : List (Turn × Seq)) (tuple : FourTuple) (k n : ℕ) (o : Option Seq)
+    → lookup (same_turn (record { tuple = tuple; place = k })) kept ≡ o
+    → number_or n (option_map (λ (s : Seq). s.0) o) ≡ kept_numbers kept tuple k n
+number_found kept tuple k n o found = ap (λ (p : Option Seq). number_or n (option_map (λ (s : Seq). s.0) p)) (sym found)
 
-pub number_kept : (items : List Item) (kept : List (Turn × Seq)) (tuple : FourTuple) (k n : ℕ) (o : Option Seq) → AreNumbersOf items kept
-    → lookup (same_turn (record { tuple = tuple; place = k })) kept ≡ o → number_or n (option_map (λ (s : Seq). s.0) o) ≡ first_number items tuple k n
+-- the numbers that are kept of the items are theirs
+pub numbers_are : (items : List Item) (kept : List (Turn × Seq)) (tuple : FourTuple) (k n : ℕ) → AreNumbersOf items kept
+    → kept_numbers kept tuple k n ≡ first_number items tuple k n
 unfolding first_number
-number_kept items kept tuple k n o are found =
-    let kept_so : option_map (λ (s : Seq). s.0) o ≡ slice_get (local_numbers items tuple) k = ap (λ (p : Option Seq). option_map (λ (s : Seq). s.0) p) (sym found) ∙ are tuple k in
-    ap (number_or n) kept_so
+numbers_are items kept tuple k n are = ap (number_or n) (are tuple k)
 
 -- ----- four-tuples
 -- those of one flow are the same

@@ -3,8 +3,10 @@ use Rattle.std.proofs.Common.{◌≡◌, ℕ, ◌+◌, Bool, List, ◌∷◌, ma
 use Rattle.tas_num.specs.Captures.{Fault, capture_of}
 use Rattle.tas_runs.specs.Records.{Item, items_of}
 use Rattle.tas_runs.specs.Batches.{batches_of}
-use Rattle.tas_runs.specs.Hosts.{Host}
-use Rattle.tas_runs.specs.SerialOrder.{serial_replay, serial_log, serial_log_found, serial_tick, serial_ticks}
+use Rattle.tas_runs.specs.LocalScript.{Shown, capture_scripts, due_in}
+use Rattle.tas_runs.specs.SerialOrder.{serial_replay, serial_log, serial_log_found}
+use Rattle.host_rounds.specs.Scripts.{Site}
+use Rattle.host_rounds.specs.SerialOrder.{serial_tick, serial_ticks}
 use Rattle.capture_items.specs.Items.{item_in}
 use Rattle.capture_items.specs.Found.{IsFound}
 use Rattle.capture_items.specs.declared.found.Found.{Found}
@@ -22,7 +24,10 @@ unfolding serial_replay
 fault_is_replayed bytes local loose fault refused = ap (serial_log_found local loose) refused
 
 -- the ticks of the first batch and of the others
-pub ticks_next : (items xs : List Item) (n t : ℕ) (host : Host) → batches_of xs ≡ take n xs ∷ batches_of (drop n xs)
-    → serial_ticks items t host (batches_of xs) ≡ serial_ticks items (t + 1) (serial_tick items t host (take n xs)) (batches_of (drop n xs))
+pub ticks_next : (items xs : List Item) (n t : ℕ) (site : Site (List Shown)) → batches_of xs ≡ take n xs ∷ batches_of (drop n xs)
+    → serial_ticks (capture_scripts items) t site (map due_in (batches_of xs))
+      ≡ serial_ticks (capture_scripts items) (t + 1) (serial_tick (capture_scripts items) t site (due_in (take n xs)))
+          (map due_in (batches_of (drop n xs)))
 unfolding serial_ticks
-ticks_next items xs n t host first = ap (λ (batches : List (List Item)). serial_ticks items t host batches) first
+ticks_next items xs n t site first =
+    ap (λ (batches : List (List Item)). serial_ticks (capture_scripts items) t site (map due_in batches)) first

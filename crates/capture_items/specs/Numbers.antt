@@ -1,5 +1,5 @@
 -- The first numbers of a capture's flows, as they are kept.
-use Rattle.std.specs.Prelude.{◌≡◌, ℕ, ◌==◌, ◌&&◌, Bool, List, length, Option, Some, None, if◌then◌else◌}
+use Rattle.std.specs.Prelude.{◌≡◌, ℕ, ◌*◌, ◌%◌, ◌^◌, ◌==◌, ◌&&◌, Bool, List, length, Option, Some, None, if◌then◌else◌}
 use Rattle.std.specs.List.{slice_get, list_any}
 use Rattle.std.specs.HashMap.{get}
 use Rattle.std.specs.HashSet.{contains}
@@ -8,7 +8,7 @@ use Rattle.std.specs.Option.{option_map, unwrap_or}
 use Rattle.tas_num.specs.declared.seq.Seq.{Seq}
 use Rattle.tas_model.specs.declared.entry.FourTuple.{FourTuple}
 use Rattle.tas_runs.specs.Records.{Item}
-use Rattle.tas_runs.specs.Batches.{same_tuple}
+use Rattle.host_rounds.specs.Hosts.{Numbers, same_tuple}
 use Rattle.tas_runs.specs.FirstNumbers.{local_numbers}
 use Rattle.capture_items.specs.declared.numbers.Turn.{Turn}
 use Rattle.capture_items.specs.declared.numbers.Known.{Known}
@@ -32,6 +32,15 @@ number_at kept tuple place = option_map (λ (s : Seq). s.0) (lookup (same_turn (
 -- What is kept are the numbers of the local SYN segments among the items: a four-tuple's different numbers, each at its place.
 abbrev pub AreNumbersOf : List Item → List (Turn × Seq) → Type 0
 AreNumbersOf items kept = (tuple : FourTuple) (place : ℕ) → number_at kept tuple place ≡ slice_get (local_numbers items tuple) place
+
+-- the number that is kept, or else that of the n-th flow of the host
+abbrev pub number_or : (n : ℕ) → Option ℕ → ℕ
+number_or n (Some seq) = seq
+number_or n None = 64000 * n % 2 ^ 32
+
+-- the first numbers that these give
+abbrev pub kept_numbers : List (Turn × Seq) → Numbers
+kept_numbers kept tuple k n = number_or n (number_at kept tuple k)
 
 -- ----- while the items are gone through
 -- the number of a segment for one four-tuple, where it has a four-tuple and a number

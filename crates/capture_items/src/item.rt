@@ -2,7 +2,8 @@ ghost use Rattle.std.specs.Prelude.{◌≡◌, ◌≤◌, Some, None, IfSome, If
 ghost use Rattle.segment_fields.specs.Refusals.{number_of};
 ghost use Rattle.pcap_frames.specs.Views.{form_in, record_in};
 ghost use Rattle.tas_runs.specs.Records.{is_other_traffic, due_content, content_of_packet, item_of, is_damaged};
-ghost use Rattle.tas_runs.specs.Batches.{tuple_of, is_of, same_tuple};
+ghost use Rattle.tas_runs.specs.Batches.{tuple_of, is_of};
+ghost use Rattle.host_rounds.specs.Hosts.{same_tuple};
 ghost use Rattle.capture_items.specs.Items.{content_in, item_in, sends, receives};
 
 use pcap_frames::{CaptureHeader, RecordView, packet};
@@ -58,7 +59,7 @@ impl Item<'_> {
 }
 
 /// Whether two four-tuples are of one flow.
-fn is_same_tuple(a: &FourTuple, b: &FourTuple) -> bool
+pub fn is_same_tuple(a: &FourTuple, b: &FourTuple) -> bool
     ensures { result ≡ same_tuple a.now b.now }
 {
     a.laddr == b.laddr && a.lport == b.lport && a.raddr == b.raddr && a.rport == b.rport

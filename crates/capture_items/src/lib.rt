@@ -11,7 +11,7 @@ mod numbers;
 pub use batch::next_batch;
 pub use counts::{Counts, refused_among};
 pub use found::{Found, InputFault, find_items};
-pub use item::{Content, Item, read_item};
+pub use item::{Content, Item, is_same_tuple, read_item};
 pub use laws::{no_items_have_no_batch, what_is_found_is_replayed};
 pub use numbers::FirstNumbers;
 

@@ -2,9 +2,9 @@ ghost use Rattle.std.specs.Prelude.{◌≡◌, ℕ, ◌+◌, ◌<◌, ◌^◌, L
 ghost use Rattle.tas_runs.specs.Records as model;
 ghost use Rattle.tas_runs.specs.FirstNumbers.{first_number, with_new, local_syn};
 ghost use Rattle.capture_items.specs.Items.{item_in, content_in};
-ghost use Rattle.capture_items.specs.Numbers.{AreNumbersOf, AreOf, count_in, number_for};
+ghost use Rattle.capture_items.specs.Numbers.{AreNumbersOf, AreOf, count_in, number_for, kept_numbers};
 ghost use Rattle.tas_model.specs.declared.entry.FourTuple.{FourTuple};
-ghost use Rattle.tas_runs.specs.Batches.{same_tuple};
+ghost use Rattle.host_rounds.specs.Hosts.{same_tuple};
 
 use crate::item::{Content, Item};
 use std::alloc::{AllocError, Global};
@@ -108,9 +108,9 @@ impl FirstNumbers {
     }
 
     /// The first number of a flow of this four-tuple, where `k` flows of the four-tuple were opened before it, and `n` flows of the host.
-    #[tactic(auto, unfolding(tas_runs::specs::FirstNumbers::first_number))]
     pub fn number(&self, tuple: FourTuple, k: usize, n: u32) -> Seq
-        ensures { (items : List model.Item) → AreNumbersOf items self.now → result.0 ≡ first_number items tuple k n }
+        ensures kept { result.0 ≡ kept_numbers self.now tuple k n }
+        ensures items { (items : List model.Item) → AreNumbersOf items self.now → result.0 ≡ first_number items tuple k n }
     {
         match self.numbers.get(&Turn { tuple, place: k }) {
             Some(number) => *number,

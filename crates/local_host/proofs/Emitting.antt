@@ -3,10 +3,10 @@ use Rattle.std.proofs.Common.{◌≡◌, ℕ, ◌<◌, true, false, [], Option, 
 use Rattle.tas_model.specs.declared.entry.Caller.TheVariants.{Core}
 use Rattle.tas_model.specs.declared.entry.Call.TheVariants as calls
 use Rattle.tas_model.specs.NextSegment.{Going, going}
-use Rattle.tas_runs.specs.Hosts.{Live, endpoint, with_call}
-use Rattle.tas_runs.specs.Upkeep.{quieted}
+use Rattle.host_rounds.specs.Hosts.{Live, endpoint, with_call}
+use Rattle.host_rounds.specs.Upkeep.{quieted}
 use Rattle.tas_model.specs.LegalHistory.{Legal}
-use Rattle.tas_runs.proofs.Quiet.{quieted_next, quieted_done, sent_falls}
+use Rattle.host_rounds.proofs.Quiet.{quieted_next, quieted_done, sent_falls}
 use Rattle.fast_tx.specs.Going.{next_out_of, left_in}
 
 pub some_out : (g : Option Going) → is_some (next_out_of g) ≡ is_some g

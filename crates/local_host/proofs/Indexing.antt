@@ -1,5 +1,5 @@
 -- The index stays right while flows change, and when one is opened.
-use Rattle.std.proofs.Common.{◌≡◌, ℕ, zero, suc, ◌+◌, ◌<◌, ◌++◌, ◌&&◌, ◌||◌, ◌⊎◌, inl, inr, Bool, true, false, cond, List, [], ◌∷◌, length, get_or, map, position, Option, Some, None, if◌then◌else◌, refl, sym, ap, subst, ◌∙◌, true≢false, arith, length-append}
+use Rattle.std.proofs.Common.{◌≡◌, ℕ, zero, suc, ◌+◌, ◌<◌, ◌++◌, ◌&&◌, ◌||◌, ◌⊎◌, inl, inr, Bool, true, false, cond, List, [], ◌∷◌, length, get_or, map, fold, position, Option, Some, None, if◌then◌else◌, refl, sym, ap, subst, ◌∙◌, true≢false, arith, length-append}
 use Rattle.std.proofs.lemmas.List.{length-map}
 use Rattle.std.specs.List.{list_any}
 use Rattle.std.proofs.lemmas.List.Sums.{sum_by-cons, sum_by_push}
@@ -11,17 +11,17 @@ use Rattle.tas_model.specs.declared.entry.Caller.TheVariants.{Slow, Core}
 use Rattle.tas_model.specs.declared.entry.Call.TheVariants as calls
 use Rattle.tas_model.specs.NextSegment.{Going, going}
 use Rattle.tas_model.proofs.Tests.{on_cond}
-use Rattle.tas_runs.specs.Batches.{same_tuple}
 use Rattle.tas_runs.specs.Records.{Content, Remote, Local, is_remote}
-use Rattle.tas_runs.specs.Hosts.{Live, endpoint, is_over, with_call, is_indexed_as, opened_as, change_at}
-use Rattle.tas_runs.specs.Upkeep.{swept, timed, timed_unless, quieted, quieted_within}
-use Rattle.tas_runs.specs.Deliveries.{received_serially}
-use Rattle.tas_runs.specs.LocalScript.{Stage, Beginning, Accepting, Sending, Shutting, Aborting, Receiving, Leaving, at_stage, asked_where, is_wanted, given_up, sees, resets_here}
+use Rattle.host_rounds.specs.Lists.{change_at}
+use Rattle.host_rounds.specs.Hosts.{Live, endpoint, is_over, is_held, with_call, is_indexed_as, opened_as, same_tuple}
+use Rattle.host_rounds.specs.Upkeep.{swept, controlled_where, timed, timed_unless, quieted, quieted_within}
+use Rattle.host_rounds.specs.Deliveries.{received_serially}
+use Rattle.tas_runs.specs.LocalScript.{Stage, Beginning, Accepting, Sending, Shutting, Aborting, Receiving, Leaving, Shown, at_stage, asked_where, is_wanted, given_up, resets_here}
 use Rattle.capture_items.specs.Numbers.{equal_tuple}
 use Rattle.capture_items.proofs.Listed.{tuple_exact, tuple_itself, tuple_apart, same_equal}
 use Rattle.local_host.specs.declared.flows.Openings.{Openings}
 use Rattle.local_host.specs.Index.{indexed_at, latest_of, count_of, IsIndex}
-use Rattle.local_host.specs.Live.{asked_all}
+use Rattle.local_host.specs.Script.{Served, staged, later_stages, asked_all, asked_live}
 use Rattle.local_host.proofs.Hosting.{unknown}
 
 -- ----- changes that index nothing
@@ -68,9 +68,13 @@ was_indexed t l m s h =
 pub swept_keeps : Keeps swept
 swept_keeps = record { same = λ l. on_cond (Same l) (is_over l) _ l (λ t. record { tuple = refl; id = refl; index = λ h. absurd (true≢false (sym h)) }) (λ f. itself l) }
 
+controlled_same : (b : Bool) (t : ℕ) (l : Live) → Same l (controlled_where b Slow t (with_call l Slow t calls.Tick []))
+controlled_same true t l = record { tuple = refl; id = refl; index = λ h. h }
+controlled_same false t l = record { tuple = refl; id = refl; index = λ h. h }
+
 timed_same : (b : Bool) (t : ℕ) (l : Live) → Same l (timed_unless b Slow t l)
 timed_same true t l = itself l
-timed_same false t l = record { tuple = refl; id = refl; index = λ h. h }
+timed_same false t l = controlled_same _ t l
 
 pub timed_keeps : (t : ℕ) → Keeps (timed Slow t)
 timed_keeps t = record { same = λ l. timed_same (is_over l) t l }
@@ -88,32 +92,59 @@ quieted_keeps t = record { same = λ l. quieted_same (length (endpoint l).tx.out
 pub received_keeps : (t : ℕ) (frame : FrameId) (seg : Seg) → Keeps (received_serially t frame seg)
 received_keeps t frame seg = record { same = λ l. record { tuple = refl; id = refl; index = λ h. h } }
 
-pub sees_keeps : (seg : Seg) → Keeps (sees seg)
-sees_keeps seg = record { same = λ l. record { tuple = refl; id = refl; index = λ h. h } }
+-- ----- the script
+-- the flow keeps all that its host knows it by
+pub record Kept (l m : Live) : Type 0 where
+  pub tuple : m.flow.tuple ≡ l.flow.tuple
+  pub id : m.flow.id ≡ l.flow.id
+  pub indexed : m.indexed ≡ l.indexed
+  pub filed : m.filed ≡ l.filed
 
-asked_same : (stage : Stage) (t : ℕ) (wanted : Bool) (l : Live) → Same l (asked_where wanted stage t l)
-asked_same stage t false l = itself l
-asked_same Beginning t true l = itself l
-asked_same Accepting t true l = record { tuple = refl; id = refl; index = λ h. h }
-asked_same Sending t true l = record { tuple = refl; id = refl; index = λ h. h }
-asked_same Shutting t true l = record { tuple = refl; id = refl; index = λ h. h }
-asked_same Aborting t true l = record { tuple = refl; id = refl; index = λ h. h }
-asked_same Receiving t true l = record { tuple = refl; id = refl; index = λ h. h }
-asked_same Leaving t true l = itself l
+asked_kept : (stage : Stage) (t : ℕ) (wanted : Bool) (s : Shown) (l : Live) → Kept l (asked_where wanted stage t s l)
+asked_kept stage t false s l = record { tuple = refl; id = refl; indexed = refl; filed = refl }
+asked_kept Beginning t true s l = record { tuple = refl; id = refl; indexed = refl; filed = refl }
+asked_kept Accepting t true s l = record { tuple = refl; id = refl; indexed = refl; filed = refl }
+asked_kept Sending t true s l = record { tuple = refl; id = refl; indexed = refl; filed = refl }
+asked_kept Shutting t true s l = record { tuple = refl; id = refl; indexed = refl; filed = refl }
+asked_kept Aborting t true s l = record { tuple = refl; id = refl; indexed = refl; filed = refl }
+asked_kept Receiving t true s l = record { tuple = refl; id = refl; indexed = refl; filed = refl }
+asked_kept Leaving t true s l = record { tuple = refl; id = refl; indexed = refl; filed = refl }
 
-given_up_same : (l : Live) → Same l (given_up l)
-given_up_same l = on_cond (Same l) (is_over l) _ l (λ t. record { tuple = refl; id = refl; index = λ h. h }) (λ f. itself l)
+given_up_kept : (l : Live) → Kept l (given_up l)
+given_up_kept l =
+    on_cond (Kept l) (is_over l && is_held l) _ l
+    (λ t. record { tuple = refl; id = refl; indexed = refl; filed = refl })
+    (λ f. record { tuple = refl; id = refl; indexed = refl; filed = refl })
 
-pub asked_keeps : (t : ℕ) (content : Content) → Keeps (asked_all t content)
-asked_keeps t content = record { same = λ l. all l } where
-  all : (l : Live) → Same l (asked_all t content l)
-  all l =
-      let a : Live = at_stage Accepting t content l in
-      let b : Live = at_stage Sending t content a in
-      let c : Live = at_stage Shutting t content b in
-      let d : Live = at_stage Aborting t content c in
-      let e : Live = at_stage Receiving t content d in
-      after l e (given_up e) (after l d e (after l c d (after l b c (after l a b (asked_same Accepting t (is_wanted Accepting content l) l) (asked_same Sending t (is_wanted Sending content a) a)) (asked_same Shutting t (is_wanted Shutting content b) b)) (asked_same Aborting t (is_wanted Aborting content c) c)) (asked_same Receiving t (is_wanted Receiving content d) d)) (given_up_same e)
+pub stage_kept : (stage : Stage) (t : ℕ) (content : Content) (s : Shown) (l : Live) → Kept l (at_stage stage t content s l)
+stage_kept Beginning t content s l = asked_kept Beginning t (is_wanted Beginning content s l) s l
+stage_kept Accepting t content s l = asked_kept Accepting t (is_wanted Accepting content s l) s l
+stage_kept Sending t content s l = asked_kept Sending t (is_wanted Sending content s l) s l
+stage_kept Shutting t content s l = asked_kept Shutting t (is_wanted Shutting content s l) s l
+stage_kept Aborting t content s l = asked_kept Aborting t (is_wanted Aborting content s l) s l
+stage_kept Receiving t content s l = asked_kept Receiving t (is_wanted Receiving content s l) s l
+stage_kept Leaving t content s l = given_up_kept l
+
+pub stages_kept : (stages : List Stage) (t : ℕ) (content : Content) (p : Served) → Kept p.live (fold (staged t content) p stages).live
+stages_kept [] t content p = record { tuple = refl; id = refl; indexed = refl; filed = refl }
+stages_kept (stage ∷ stages) t content p =
+    let now : Kept p.live (at_stage stage t content p.shown p.live) = stage_kept stage t content p.shown p.live in
+    let rest = stages_kept stages t content (staged t content p stage) in
+    record {
+      tuple = rest.tuple ∙ now.tuple;
+      id = rest.id ∙ now.id;
+      indexed = rest.indexed ∙ now.indexed;
+      filed = rest.filed ∙ now.filed;
+    }
+
+pub all_kept : (t : ℕ) (content : Content) (p : Served) → Kept p.live (asked_all t content p).live
+unfolding asked_all
+all_kept t content p = stages_kept later_stages t content p
+
+pub asked_keeps : (t : ℕ) (content : Content) (s : Shown) → Keeps (asked_live t content s)
+asked_keeps t content s = record { same = λ l. same_of l (all_kept t content (record { live = l; shown = s })) } where
+  same_of : (l : Live) → Kept l (asked_live t content s l) → Same l (asked_live t content s l)
+  same_of l kept = record { tuple = kept.tuple; id = kept.id; index = λ h. sym kept.indexed ∙ h }
 
 -- ----- lists of flows
 at_map : (t : FourTuple) (f : Live → Live) → Keeps f → (ls : List Live) (k : ℕ) → indexed_at t (map f ls) k ≡ true → indexed_at t ls k ≡ true

@@ -1,10 +1,13 @@
 pub mod Taken
 pub mod Growth
-pub mod Ended
-pub mod Sent
+pub mod Asking
 pub mod Emitting
 pub mod Places
 pub mod Hosting
 pub mod Indexing
 pub mod Standing
 pub mod Records
+pub mod Staging
+pub mod Serving
+pub mod Recording
+pub mod Timing

@@ -1,13 +1,18 @@
 -- A flow at its place among the flows, and the slots that they stand in.
-use Rattle.std.proofs.Common.{◌≡◌, ℕ, zero, suc, ◌+◌, ◌-◌, ◌<◌, ◌≤◌, ◌||◌, take, Bool, true, false, List, [], ◌∷◌, length, set, get_or, position, Some, None, Result, Ok, Err, OnOk, refl, sym, ap, subst, ◌∙◌, arith}
+use Rattle.std.proofs.Common.{◌≡◌, ℕ, zero, suc, ◌+◌, ◌-◌, ◌<◌, ◌≤◌, ◌||◌, take, Bool, true, false, List, [], ◌∷◌, length, set, get_or, slice_get, position, Some, None, Result, Ok, Err, OnOk, refl, sym, ap, subst, ◌∙◌, arith}
 use Rattle.std.specs.List.{list_any}
 use Rattle.std.proofs.lemmas.List.Quantifiers.{position-Some}
-use Rattle.tas_runs.specs.Hosts.{Live, change_first, change_at, free_from, is_in_slot}
-use Rattle.tas_runs.proofs.Loops.{changed_at}
+use Rattle.host_rounds.specs.Lists.{change_first, change_at}
+use Rattle.host_rounds.specs.Hosts.{Live, free_from, is_in_slot}
+use Rattle.host_rounds.proofs.Loops.{changed_at}
 
 pub ok_by : {T E : Type 0} {P Q : Type 0} (r : Result T E) → (P → Q) → OnOk r P → OnOk r Q
 ok_by (Ok x) f p = f p
 ok_by (Err e) f p = tt
+
+pub ok_both : {T E : Type 0} {P Q R : Type 0} (r : Result T E) → (P → Q → R) → OnOk r P → OnOk r Q → OnOk r R
+ok_both (Ok x) f p q = f p q
+ok_both (Err e) f p q = tt
 
 -- a write of what the element there becomes
 pub set_change : {X : Type 0} (f : X → X) (xs : List X) (i : ℕ) (d : X) → i < length xs → set xs i (f (get_or xs i d)) ≡ change_at i f xs
@@ -27,6 +32,14 @@ found_change test f [] i found = absurd (cc (found))
 found_change test f (x ∷ xs) i found =
     let at = position-Some test (x ∷ xs) i x found in
     (at.0, sym (set_change f (x ∷ xs) i x at.0) ∙ sym (changed_at test f (x ∷ xs) i x at.0 at.1 at.2))
+
+-- what was read at a place stands there
+pub read_is : {X : Type 0} (inside xs : List X) (i : ℕ) (was x : X) → inside ≡ xs → was ≡ get_or inside i was → slice_get xs i ≡ Some x → was ≡ x
+read_is {X} inside xs i was x same read here = read ∙ (ap (λ (zs : List X). get_or zs i was) same ∙ there xs i here) where
+  there : (zs : List X) (k : ℕ) → slice_get zs k ≡ Some x → get_or zs k was ≡ x
+  there [] k h = absurd (cc (h))
+  there (z ∷ zs) zero h = cc (h)
+  there (z ∷ zs) (suc k) h = there zs k h
 
 -- ----- slots
 past_taken : (most slot : ℕ) (flows : List Live) → list_any (is_in_slot slot) flows ≡ true → free_from (suc most) slot flows ≡ free_from most (slot + 1) flows

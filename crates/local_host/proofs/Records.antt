@@ -2,9 +2,9 @@
 use Rattle.std.proofs.Common.{◌≡◌, ◌++◌, List, [], ◌∷◌, map, refl, ap, ◌∙◌}
 use Rattle.std.proofs.lemmas.List.{map-append}
 use Rattle.flow_state.specs.Flow as records
-use Rattle.tas_runs.specs.Logs.{Flow}
-use Rattle.tas_runs.specs.Hosts.{Live, flows_of}
-use Rattle.tas_runs.specs.Rounds.{Each}
+use Rattle.host_rounds.specs.Logs.{Flow}
+use Rattle.host_rounds.specs.Hosts.{Live, flows_of}
+use Rattle.host_rounds.specs.Lists.{Each}
 use Rattle.local_host.specs.Live.{flow_in}
 
 flows_push : (ls : List Live) (l : Live) → flows_of ls ++ l.flow ∷ [] ≡ flows_of (ls ++ l ∷ [])

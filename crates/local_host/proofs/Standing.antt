@@ -15,19 +15,19 @@ use Rattle.tas_model.specs.Endpoint.{Endpoint, is_closed}
 use Rattle.tas_model.specs.ApplicationCalls.{column_by}
 use Rattle.tas_model.specs.NextSegment.{Going, going, going_in}
 use Rattle.tas_model.proofs.Tests.{on_cond}
-use Rattle.tas_runs.specs.Batches.{same_tuple}
 use Rattle.tas_runs.specs.Records.{Content}
-use Rattle.tas_runs.specs.Hosts.{Live, endpoint, is_over, with_call, is_indexed_as, is_in_slot, opened_as, change_at}
-use Rattle.tas_runs.specs.Upkeep.{swept, timed, timed_unless, quieted, quieted_within}
-use Rattle.tas_runs.specs.Deliveries.{received_serially}
-use Rattle.tas_runs.specs.LocalScript.{Stage, Beginning, Accepting, Sending, Shutting, Aborting, Receiving, Leaving, at_stage, asked_where, is_wanted, given_up, sees}
+use Rattle.host_rounds.specs.Lists.{change_at}
+use Rattle.host_rounds.specs.Hosts.{Live, endpoint, is_over, is_held, with_call, is_indexed_as, is_in_slot, opened_as, same_tuple}
+use Rattle.host_rounds.specs.Upkeep.{swept, controlled_where, timed, timed_unless, quieted, quieted_within}
+use Rattle.host_rounds.specs.Deliveries.{received_serially}
+use Rattle.tas_runs.specs.LocalScript.{Shown}
 use Rattle.capture_items.specs.Numbers.{equal_tuple}
 use Rattle.local_host.specs.declared.flows.Openings.{Openings}
 use Rattle.local_host.specs.Index.{passes_at, is_standing, with_first, standing_places, IsAtRest, AreAtRest, number_of, flows_in, IsKnown}
-use Rattle.local_host.specs.Live.{asked_all}
+use Rattle.local_host.specs.Script.{asked_live}
 use Rattle.local_host.proofs.Emitting.{all_is_sent}
 use Rattle.local_host.proofs.Places.{ok_by, wrote_change}
-use Rattle.local_host.proofs.Indexing.{length_change, Keeps, swept_keeps, map_index, change_index, pushed_index}
+use Rattle.local_host.proofs.Indexing.{length_change, all_kept, Keeps, swept_keeps, map_index, change_index, pushed_index}
 
 -- ----- what a flow at rest stays
 abbrev pub Rests : (Live → Live) → Type 0
@@ -58,9 +58,13 @@ quieted_rests t l filed rest = all_is_sent t l (closed_sends_nothing (endpoint l
 abbrev pub Stays : (Live → Live) → Type 0
 Stays f = (l : Live) → (f l).filed ≡ l.filed
 
+controlled_filed : (t : ℕ) (l : Live) (b : Bool) → (controlled_where b Slow t (with_call l Slow t calls.Tick [])).filed ≡ l.filed
+controlled_filed t l true = refl
+controlled_filed t l false = refl
+
 timed_filed : (t : ℕ) (l : Live) (b : Bool) → (timed_unless b Slow t l).filed ≡ l.filed
 timed_filed t l true = refl
-timed_filed t l false = refl
+timed_filed t l false = controlled_filed t l _
 
 pub timed_stays : (t : ℕ) → Stays (timed Slow t)
 timed_stays t l = timed_filed t l (is_over l)
@@ -81,33 +85,8 @@ quieted_stays t l = quieted_filed (length (endpoint l).tx.out + 4) t l
 pub received_stays : (t : ℕ) (frame : FrameId) (seg : Seg) → Stays (received_serially t frame seg)
 received_stays t frame seg l = refl
 
-pub sees_stays : (seg : Seg) → Stays (sees seg)
-sees_stays seg l = refl
-
-asked_filed : (stage : Stage) (t : ℕ) (wanted : Bool) (l : Live) → (asked_where wanted stage t l).filed ≡ l.filed
-asked_filed stage t false l = refl
-asked_filed Beginning t true l = refl
-asked_filed Accepting t true l = refl
-asked_filed Sending t true l = refl
-asked_filed Shutting t true l = refl
-asked_filed Aborting t true l = refl
-asked_filed Receiving t true l = refl
-asked_filed Leaving t true l = refl
-
-given_up_filed : (l : Live) → (given_up l).filed ≡ l.filed
-given_up_filed l = on_cond (λ (m : Live). m.filed ≡ l.filed) (is_over l) _ l (λ t. refl) (λ f. refl)
-
-pub asked_stays : (t : ℕ) (content : Content) → Stays (asked_all t content)
-asked_stays t content l =
-    let a : Live = at_stage Accepting t content l in
-    let b : Live = at_stage Sending t content a in
-    let c : Live = at_stage Shutting t content b in
-    let d : Live = at_stage Aborting t content c in
-    let e : Live = at_stage Receiving t content d in
-    given_up_filed e
-    ∙ (asked_filed Receiving t (is_wanted Receiving content d) d
-    ∙ (asked_filed Aborting t (is_wanted Aborting content c) c
-    ∙ (asked_filed Shutting t (is_wanted Shutting content b) b ∙ (asked_filed Sending t (is_wanted Sending content a) a ∙ asked_filed Accepting t (is_wanted Accepting content l) l))))
+pub asked_stays : (t : ℕ) (content : Content) (s : Shown) → Stays (asked_live t content s)
+asked_stays t content s l = (all_kept t content (record { live = l; shown = s })).filed
 
 -- ----- all filed flows are at rest
 pub rest_map : (f : Live → Live) → Rests f → Stays f → (ls : List Live) → AreAtRest ls → AreAtRest (map f ls)
@@ -212,7 +191,7 @@ filter_next test (p ∷ ps) = by_test (test (suc p)) refl (filter_next test ps) 
   by_test false is rest = rw (is) rest
 
 swept_filed : (l : Live) → l.filed ≡ true → (swept l).filed ≡ true
-swept_filed l filed = on_cond (λ (m : Live). m.filed ≡ true) (is_over l) _ l (λ over. ap (λ (b : Bool). b || not l.held) filed) (λ runs. filed)
+swept_filed l filed = on_cond (λ (m : Live). m.filed ≡ true) (is_over l) _ l (λ over. ap (λ (b : Bool). b || not (is_held l)) filed) (λ runs. filed)
 
 pub places_swept : (ls : List Live) → filter (passes_at is_standing (map swept ls)) (standing_places ls) ≡ standing_places (map swept ls)
 places_swept [] = refl
@@ -425,3 +404,7 @@ pub done_by_change : {T E : Type 0} (r s : Result T E) (f : Live → Live) (i : 
     → OnOk s (after ≡ change_at i f seen)
 done_by_change {T} {E} (Ok x) s f i {ls} {seen} was made after same stands read by is kept = ok_by s (λ left. left ∙ wrote_change f ls seen i was made same (passes_below is_standing seen i stands) read by) kept
 done_by_change {T} {E} (Err e) s f i {ls} {seen} was made after same stands read by is kept = subst (λ (t : Result T E). OnOk t (after ≡ change_at i f seen)) (sym is) tt
+
+-- the same answer
+pub ok_as : {T E : Type 0} (P : Type 0) (r s : Result T E) → s ≡ r → OnOk r P → OnOk s P
+ok_as {T} {E} P r s is kept = subst (λ (q : Result T E). OnOk q P) (sym is) kept

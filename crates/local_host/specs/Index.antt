@@ -2,7 +2,7 @@
 use Rattle.std.specs.Prelude.{◌≡◌, ℕ, nat_eq, zero, suc, ◌<◌, ◌==◌, Bool, true, false, not, List, [], ◌∷◌, length, map, count_by, Option, Some, None, ⊤}
 use Rattle.std.specs.HashMap.{get}
 use Rattle.tas_model.specs.declared.entry.FourTuple.{FourTuple}
-use Rattle.tas_runs.specs.Hosts.{Live, is_indexed_as, is_over, opened_as}
+use Rattle.host_rounds.specs.Hosts.{Live, is_indexed_as, is_over, opened_as}
 use Rattle.capture_items.specs.Numbers.{equal_tuple}
 use Rattle.local_host.specs.declared.flows.Openings.{Openings}
 use Rattle.local_host.specs.declared.flows.Table.{Table}

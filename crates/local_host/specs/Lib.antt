@@ -1,3 +1,5 @@
 pub mod Live
 pub mod Inside
 pub mod Index
+pub mod Script
+pub mod Arriving

@@ -1,23 +1,29 @@
 -- How the host's parts of a flow are seen as one flow of a run.
-use Rattle.std.specs.Prelude.{◌≡◌, ℕ, ◌<◌, Bool, true, false, List, [], ◌∷◌, ⊤}
+use Rattle.std.specs.Prelude.{◌≡◌, ℕ, ◌<◌, Bool, true, false, List, [], ◌∷◌, Option, Some, None}
 use Rattle.tas_model.specs.declared.entry.Caller.{Caller}
+use Rattle.tas_model.specs.declared.entry.Caller.TheVariants.{App}
 use Rattle.tas_model.specs.declared.entry.Call.{Call}
 use Rattle.tas_model.specs.declared.entry.Call.TheVariants as calls
-use Rattle.tas_model.specs.LegalHistory.{Legal, replay, extended_by}
-use Rattle.tas_model.specs.Valid.{InRange}
-use Rattle.flow_state.specs.declared.call.Answer.{Answer}
-use Rattle.flow_state.specs.declared.call.Answer.TheVariants as answers
-use Rattle.flow_state.specs.Flow as records
 use Rattle.tas_model.specs.declared.entry.FlowId.{FlowId}
 use Rattle.tas_model.specs.declared.entry.FourTuple.{FourTuple}
 use Rattle.tas_model.specs.declared.entry.HostParams.{HostParams}
 use Rattle.tas_model.specs.declared.entry.Entry.{Entry}
-use Rattle.tas_runs.specs.Logs.{Flow}
-use Rattle.tas_runs.specs.Hosts.{Live, endpoint}
-use Rattle.tas_runs.specs.Upkeep.{quieted}
-use Rattle.tas_runs.specs.Records.{Content}
-use Rattle.tas_runs.specs.LocalScript.{Accepting, Sending, Shutting, Aborting, Receiving, Leaving, at_stage}
+use Rattle.tas_model.specs.LegalHistory.{Legal, replay, extended_by}
+use Rattle.tas_model.specs.Valid.{InRange}
 use Rattle.fast_tx.specs.Going.{left_in}
+use Rattle.flow_state.specs.declared.call.CallIn.{CallIn}
+use Rattle.flow_state.specs.declared.call.CallIn.TheVariants as ins
+use Rattle.flow_state.specs.App.{IsAppCall}
+use Rattle.flow_state.specs.declared.call.Answer.{Answer}
+use Rattle.flow_state.specs.declared.call.Answer.TheVariants as answers
+use Rattle.flow_state.specs.Calls.{call_of}
+use Rattle.flow_state.specs.Flow as records
+use Rattle.host_rounds.specs.Logs.{Flow}
+use Rattle.host_rounds.specs.Hosts.{Live, Host, Holder, Waiting, Application, GivenUp, endpoint, with_call, logged, first_entry, opened_in}
+use Rattle.host_rounds.specs.declared.log.LogEvent.TheVariants as events
+use Rattle.host_rounds.specs.Upkeep.{quieted}
+use Rattle.local_host.specs.declared.live.Holder as code
+use Rattle.local_host.specs.declared.live.Holder.TheVariants as holders
 
 -- what a run leaves of the flow that is recorded
 abbrev pub flow_in : records.Flow → Flow
@@ -27,37 +33,34 @@ flow_in r = record { id = r.id; tuple = r.tuple; params = r.params; entries = r.
 abbrev pub IsLegal : records.Flow → Type 0
 IsLegal r = InRange r.params × Legal r.params r.entries
 
--- the bytes that its Sends took
-abbrev pub out_in : records.Flow → List ℕ
-out_in r = (replay r.params r.entries).tx.out
-
 -- the flow with one entry more
 abbrev pub called : Flow → Caller → (tick : ℕ) → Call → (offer : List ℕ) → Flow
 called f caller tick call offer = record f { entries = extended_by f.params f.entries caller tick call offer }
 
--- any call but Send
-abbrev pub IsPlain : Call → Type 0
-IsPlain (calls.Send offered) = ⊥
-IsPlain _ = ⊤
-
--- any call but those that end the own stream
-abbrev pub EndsNothing : Call → Type 0
-EndsNothing calls.Shut = ⊥
-EndsNothing calls.Close = ⊥
-EndsNothing _ = ⊤
-
--- the own stream was ended
-abbrev pub is_ended : records.Flow → Bool
-is_ended r = (replay r.params r.entries).tx.shut
+-- the bytes that its Sends took
+abbrev pub out_in : records.Flow → List ℕ
+out_in r = (replay r.params r.entries).tx.out
 
 -- how many bytes a Send with this answer took
 abbrev pub took : Answer → ℕ
 took (answers.Took len) = len
 took _ = 0
 
-abbrev pub says_ok : Answer → Bool
-says_ok answers.Ok = true
-says_ok _ = false
+-- who has the socket
+abbrev pub holder_in : code.Holder → Holder
+holder_in holders.Waiting = Waiting
+holder_in (holders.Application app) = Application app
+holder_in holders.GivenUp = GivenUp
+
+-- the application makes the call
+abbrev pub asked_by : (app tick : ℕ) → CallIn → Live → Live
+asked_by app t call l = with_call l (App app) t (call_of call) []
+
+-- the calls of an application but Accept and Send: each of them is a step in any phase
+abbrev pub IsLaterCall : CallIn → Type 0
+IsLaterCall ins.Accept = ⊥
+IsLaterCall (ins.Send bytes) = ⊥
+IsLaterCall call = IsAppCall call
 
 -- ----- emission
 -- What the flow has to send once this segment went leads to the same end, and is less.
@@ -66,12 +69,17 @@ pub record IsNext (tick : ℕ) (before after : Live) : Type 0 where
   pub less : left_in (endpoint after) < left_in (endpoint before)
 
 -- ----- a flow that has just been opened
-abbrev pub opened_live : FlowId → FourTuple → HostParams → (held : Bool) → Entry → Live
-opened_live id tuple params held x =
-    record { flow = record { id = id; tuple = tuple; params = params; entries = x ∷ [] }; indexed = true; held = held; filed = false; seen = []; fin_seen = false }
+abbrev pub opened_live : FlowId → FourTuple → HostParams → Holder → Entry → Live
+opened_live id tuple params holder x =
+    record {
+      flow = record { id = id; tuple = tuple; params = params; entries = x ∷ [] };
+      indexed = true;
+      holder = holder;
+      filed = false;
+    }
 
--- ----- the local application
--- all that it does for a segment of the flow, in the order of the stages
-abbrev pub asked_all : (tick : ℕ) → Content → Live → Live
-asked_all t content l =
-    at_stage Leaving t content (at_stage Receiving t content (at_stage Aborting t content (at_stage Shutting t content (at_stage Sending t content (at_stage Accepting t content l)))))
+-- a connect of this application
+abbrev pub connected_by : (app : ℕ) → (free : Option ℕ) → (number tick : ℕ) → Host → FourTuple → Host
+connected_by app None number t host tuple = logged host t (events.ConnectRefused app tuple.raddr tuple.rport false)
+connected_by app (Some slot) number t host tuple =
+    opened_in host slot tuple (Application app) (first_entry (App app) t (calls.Connect (record { 0 = number })))

@@ -3,18 +3,19 @@ ghost use Rattle.std.specs.List.{list_any, filter};
 ghost use Rattle.std.specs.HashMap.{get};
 ghost use Rattle.capture_items.specs.Numbers.{equal_tuple};
 ghost use Rattle.tas_model.specs.declared.entry.Caller.TheVariants.{Slow};
-ghost use Rattle.tas_model.specs.Valid.{InRange};
 ghost use Rattle.flow_state.specs.Calls.{seg_of};
+ghost use Rattle.host_rounds.specs.Lists.{Each, change_at};
+ghost use Rattle.host_rounds.specs.Hosts.{Live, is_indexed_as, is_in_slot, free_from, next_generation, opened_as, flows_of};
+ghost use Rattle.host_rounds.specs.Upkeep.{swept, timed, quieted};
+ghost use Rattle.host_rounds.specs.Deliveries.{received_serially};
 ghost use Rattle.tas_runs.specs.Records.{Content, is_remote};
-ghost use Rattle.tas_runs.specs.Hosts.{Live, is_indexed_as, is_in_slot, change_at, free_from, next_generation, opened_as, flows_of};
+ghost use Rattle.tas_runs.specs.LocalScript.{resets_here};
 ghost use Rattle.local_host.specs.Index.{IsSound, AreAtRest, is_standing, standing_places, passes_at, number_of};
-ghost use Rattle.tas_runs.specs.Rounds.{Each};
-ghost use Rattle.tas_runs.specs.Upkeep.{swept, timed, quieted};
-ghost use Rattle.tas_runs.specs.Deliveries.{received_serially};
-ghost use Rattle.tas_runs.specs.LocalScript.{sees, resets_here};
-ghost use Rattle.local_host.specs.Live.{asked_all, flow_in, IsLegal};
+ghost use Rattle.local_host.specs.Script.{asked_all, asked_live};
+ghost use Rattle.local_host.specs.Live.{flow_in, IsLegal};
 
 use crate::live::LiveFlow;
+use crate::script::Shown;
 use flow_state::FlowRecord;
 use segment_fields::Segment;
 use std::alloc::{AllocError, Global};
@@ -50,7 +51,7 @@ pub struct Flows {
 
 impl Model for Flows {
     ghost use Rattle.std.specs.Prelude.{List};
-    ghost use Rattle.tas_runs.specs.Hosts.{Live};
+    ghost use Rattle.host_rounds.specs.Hosts.{Live};
 
     ghost Value = { List Live };
 
@@ -81,6 +82,14 @@ impl Flows {
         ensures { result ≡ length self.now }
     {
         self.table.flows.len()
+    }
+
+    /// The flow at place `i`.
+    pub fn get(&self, i: usize) -> &LiveFlow
+        requires { i < length self.now }
+        ensures { slice_get self.now i ≡ Some result.now }
+    {
+        &self.table.flows[i]
     }
 
     /// The records of all flows, in the order of their opening. The error is want of memory.
@@ -188,28 +197,21 @@ impl Flows {
         self.table.settle(done)
     }
 
-    /// A local segment of the flow at place `i` shows bytes of its stream. The error is want of memory.
-    pub fn see(&mut self, i: usize, seg: &Segment<'_>) -> Result<(), AllocError>
-        requires { passes_at is_standing self.old i ≡ true }
-        ensures { OnOk result (self.new ≡ change_at i (sees (seg_of seg.now)) self.old) }
-    {
-        let done = self.table.flows[i].see(seg);
-        self.table.settle(done)
-    }
-
-    /// The calls that the application makes for a segment of the flow at place `i`. The error is want of memory.
+    /// What a capture's script does for a segment of the flow at place `i`. The error is want of memory.
     pub fn serve(
         &mut self,
         i: usize,
+        shown: &mut Shown,
         tick: u32,
         remote: bool,
         resets: bool,
     ) -> Result<(), AllocError>
         requires place { passes_at is_standing self.old i ≡ true }
         requires apart { remote ≡ true → resets ≡ false }
-        ensures { (content : Content) → is_remote content ≡ remote → resets_here content ≡ resets → OnOk result (self.new ≡ change_at i (asked_all tick content) self.old) }
+        ensures flows { (content : Content) → is_remote content ≡ remote → resets_here content ≡ resets → OnOk result (self.new ≡ change_at i (asked_live tick content shown.old) self.old) }
+        ensures shown { (content : Content) (l : Live) → is_remote content ≡ remote → resets_here content ≡ resets → slice_get self.old i ≡ Some l → OnOk result (shown.new ≡ (asked_all tick content (record { live = l; shown = shown.old })).shown) }
     {
-        let done = self.table.flows[i].serve(tick, remote, resets);
+        let done = shown.serve(&mut self.table.flows[i], tick, remote, resets);
         self.table.settle(done)
     }
 }

@@ -1,34 +1,34 @@
-ghost use Rattle.std.specs.Prelude.{true, false, ◌≡◌, Some, None, position, slice_get, ◌++◌, ◌∷◌, [], ◌<◌, ◌^◌, length, ◌&&◌, not, map, OnOk, List, IfOk};
+ghost use Rattle.std.specs.Prelude.{true, false, ◌≡◌, None, position, slice_get, ◌++◌, ◌∷◌, [], ◌<◌, ◌^◌, length, ◌&&◌, not, map, OnOk, IfOk, IfSome, Some};
 ghost use Rattle.tas_model.specs.Valid.{InRange};
-ghost use Rattle.tas_model.specs.declared.entry.Caller.TheVariants.{Slow};
+ghost use Rattle.tas_model.specs.declared.entry.Caller.TheVariants.{App};
 ghost use Rattle.flow_state.specs.Calls.{seg_of};
-ghost use Rattle.tas_runs.specs.declared.log.LogEvent.TheVariants as events;
-ghost use Rattle.tas_runs.specs.Records as model;
-ghost use Rattle.tas_runs.specs.Records.{is_remote};
-ghost use Rattle.tas_runs.specs.Hosts.{Host, is_indexed_as, logged, changed, is_known, lowest_free, next_generation, flows_of};
-ghost use Rattle.tas_runs.specs.Rounds.{Each};
-ghost use Rattle.tas_runs.specs.Upkeep.{quieted};
-ghost use Rattle.tas_runs.specs.Deliveries.{next_first_number, record_frame, received_serially, stray_answer, met_listener, opened_by_syn as model_opened_by_syn, opens as model_opens, arrived, delivered_by};
-ghost use Rattle.tas_runs.specs.LocalScript.{began, connected_where, opened_by_connect, connects as model_connects, sees, resets_here};
-ghost use Rattle.tas_runs.specs.Replays.{at_start};
-ghost use Rattle.tas_runs.specs.SerialOrder.{slow_phase, frame_phase, script_phase, emit_phase, served, serial_tick};
-ghost use Rattle.capture_items.specs.Items.{item_in, content_in};
-ghost use Rattle.capture_items.specs.Numbers.{AreNumbersOf};
-ghost use Rattle.local_host.specs.Live.{asked_all, flow_in, IsLegal};
+ghost use Rattle.host_rounds.specs.declared.log.LogEvent.TheVariants as events;
+ghost use Rattle.host_rounds.specs.Lists.{Each};
+ghost use Rattle.host_rounds.specs.Hosts.{Host, Live, is_indexed_as, logged, is_known, is_listening, at_flow, lowest_free, next_generation, next_number, opened_in, flows_of};
+ghost use Rattle.host_rounds.specs.Deliveries.{received_serially, stray_answer, met_no_flow, opened_by_syn as model_opened_by_syn, opens as model_opens, arrived, delivered};
+ghost use Rattle.host_rounds.specs.SerialOrder.{slow_phase, emit_phase};
+ghost use Rattle.tas_runs.specs.Records.{Content, is_remote};
+ghost use Rattle.tas_runs.specs.LocalScript.{resets_here};
+ghost use Rattle.local_host.specs.Arriving.{arrival_in};
+ghost use Rattle.local_host.specs.Index.{is_standing, passes_at};
+ghost use Rattle.local_host.specs.Script.{asked_all, asked_live};
+ghost use Rattle.local_host.specs.Live.{flow_in, IsLegal, connected_by};
 
+use crate::arrival::{Arrival, Packet};
 use crate::flows::Flows;
 use crate::live::LiveFlow;
-use capture_items::{Content, FirstNumbers, Item};
+use crate::numbers::NumberSource;
+use crate::script::Shown;
 use flow_state::FlowRecord;
 use segment_fields::Segment;
 use slow_handshake::stray;
 use std::alloc::{AllocError, Global};
 use std::marker::Model;
 use tas_core::{HostLog, LogEvent, LogLine};
-use tas_model::{Bytes, CAPTURE, FlowId, FourTuple, FrameId, Head, HostParams, NO_FLOW, Seg};
+use tas_model::{Bytes, FlowId, FourTuple, FrameId, Head, HostParams, Seg};
 use tas_num::Seq;
 
-/// The one host of a replay, seen as that host in the middle of a run.
+/// A host on which every port listens, seen as that host in the middle of a run. Its ticks go in serial order.
 #[derive(Drop)]
 pub struct LocalHost {
     alloc: Global,
@@ -38,14 +38,15 @@ pub struct LocalHost {
 }
 
 impl Model for LocalHost {
+    ghost use Rattle.std.specs.Prelude.{◌≡◌, true, []};
     ghost use Rattle.tas_model.specs.Valid.{InRange};
-    ghost use Rattle.tas_runs.specs.Hosts.{Host};
+    ghost use Rattle.host_rounds.specs.Hosts.{Host};
 
     ghost Value = { Host };
 
-    ghost view = { λ h. record { params = h.params; log = h.log; flows = h.flows } };
+    ghost view = { λ h. record { params = h.params; listeners = []; log = h.log; flows = h.flows } };
 
-    ghost invariant = { λ h. InRange h.params };
+    ghost invariant = { λ h. InRange h.params × (h.params.fixed ≡ true) };
 }
 
 /// What a host leaves when its run is over.
@@ -58,10 +59,11 @@ pub struct HostEnd {
 }
 
 impl LocalHost {
-    /// A host of these parameters, without flows and with an empty log. It takes no memory.
+    /// A host of these parameters, without flows and with an empty log, on which every port listens. It takes no memory.
     pub fn new(alloc: Global, params: HostParams) -> LocalHost
         requires ranges { InRange params }
-        ensures { result ≡ record { params = params; log = []; flows = [] } }
+        requires listening { params.fixed ≡ true }
+        ensures { result ≡ record { params = params; listeners = []; log = []; flows = [] } }
     {
         LocalHost {
             alloc,
@@ -71,30 +73,34 @@ impl LocalHost {
         }
     }
 
-    /// The host of a replay at its start, with this address. It takes no memory.
-    pub fn at_start(alloc: Global, local: u32) -> LocalHost
-        ensures { result ≡ at_start local }
-    {
-        LocalHost::new(
-            alloc,
-            HostParams {
-                addr: local,
-                iss: 0,
-                ring: 65535,
-                mss: 1460,
-                rto: 100,
-                slots: 1024,
-                backlog: 16,
-                fixed: true,
-            },
-        )
-    }
-
     /// Its parameters.
     pub fn params(&self) -> &HostParams
         ensures { result.now ≡ self.now.params }
     {
         &self.params
+    }
+
+    /// How many flows it opened.
+    pub fn flow_count(&self) -> usize
+        ensures { result ≡ length self.now.flows }
+    {
+        self.flows.len()
+    }
+
+    /// The place of the flow that the index has under this four-tuple.
+    pub fn find(&self, tuple: &FourTuple) -> Option<usize>
+        ensures place { result ≡ position (is_indexed_as tuple.now) self.now.flows }
+        ensures standing { IfSome result (λ i. passes_at is_standing self.now.flows i ≡ true) }
+    {
+        self.flows.find(tuple)
+    }
+
+    /// The flow at place `i`.
+    pub fn flow(&self, i: usize) -> &LiveFlow
+        requires { i < length self.now.flows }
+        ensures { slice_get self.now.flows i ≡ Some result.now }
+    {
+        self.flows.get(i)
     }
 
     /// What it leaves after its last tick. The error is want of memory.
@@ -138,7 +144,7 @@ impl LocalHost {
         self.log_event(tick, LogEvent::Refused { frame, number })
     }
 
-    /// A segment came that is of no flow, and opens none: its answer is a reset where it has ACK and no RST. The error is want of memory.
+    /// A segment came that is of no flow, at a port that listens, and opens none: its answer is a reset where it has ACK and no RST. The error is want of memory.
     fn note_stray(
         &mut self,
         tick: u32,
@@ -146,7 +152,7 @@ impl LocalHost {
         tuple: FourTuple,
         seg: &Segment<'_>,
     ) -> Result<(), AllocError>
-        ensures { OnOk result (self.new ≡ logged self.old tick (events.Stray frame tuple (seg_of seg.now) (stray_answer (seg_of seg.now)))) }
+        ensures { OnOk result (self.new ≡ logged self.old tick (events.Stray frame tuple (seg_of seg.now) (stray_answer true (seg_of seg.now)))) }
     {
         let answer = stray(seg, true);
         let seg = owned(self.alloc, seg)?;
@@ -176,24 +182,24 @@ impl LocalHost {
     }
 
     /// The first number of the next flow of this four-tuple.
-    fn next_number(&self, tuple: FourTuple, numbers: &FirstNumbers) -> Seq
+    fn next_number<N: NumberSource>(&self, tuple: FourTuple, numbers: &N) -> Seq
         requires few { length self.now.flows < 2 ^ 32 }
-        ensures { (items : List model.Item) → AreNumbersOf items numbers.now → result.0 ≡ next_first_number items self.now tuple }
+        ensures { result.0 ≡ next_number (N.numbers numbers.now) self.now tuple }
     {
-        numbers.number(tuple, self.flows.opened_as(&tuple), self.flows.len() as u32)
+        numbers.first_number(tuple, self.flows.opened_as(&tuple), self.flows.len() as u32)
     }
 
     /// A SYN opens a flow in the lowest free slot, and is dropped where none is free. The error is want of memory.
-    fn open_by_syn(
+    fn open_by_syn<N: NumberSource>(
         &mut self,
         tick: u32,
         frame: FrameId,
         tuple: FourTuple,
         seg: &Segment<'_>,
-        numbers: &FirstNumbers,
+        numbers: &N,
     ) -> Result<(), AllocError>
         requires fresh { position (is_indexed_as tuple) self.old.flows ≡ None }
-        ensures { (items : List model.Item) → AreNumbersOf items numbers.now → OnOk result (self.new ≡ model_opened_by_syn (lowest_free self.old) items tick self.old frame tuple (seg_of seg.now)) }
+        ensures { OnOk result (self.new ≡ model_opened_by_syn false (lowest_free self.old) (next_number (N.numbers numbers.now) self.old tuple) tick self.old frame tuple (seg_of seg.now)) }
     {
         let free = self.flows.lowest_free(self.alloc, self.params.slots)?;
         match free {
@@ -222,22 +228,23 @@ impl LocalHost {
         }
     }
 
-    /// The application's connect opens a flow in the lowest free slot, and is refused where none is free. The error is want of memory.
-    fn connect(
+    /// An application's connect opens a flow in the lowest free slot, and is refused where none is free. The error is want of memory.
+    pub fn connect<N: NumberSource>(
         &mut self,
         tick: u32,
+        app: u32,
         tuple: FourTuple,
-        numbers: &FirstNumbers,
+        numbers: &N,
     ) -> Result<(), AllocError>
         requires fresh { position (is_indexed_as tuple) self.old.flows ≡ None }
-        ensures { (items : List model.Item) → AreNumbersOf items numbers.now → OnOk result (self.new ≡ opened_by_connect (lowest_free self.old) items tick self.old tuple) }
+        ensures { OnOk result (self.new ≡ connected_by app (lowest_free self.old) (next_number (N.numbers numbers.now) self.old tuple) tick self.old tuple) }
     {
         let free = self.flows.lowest_free(self.alloc, self.params.slots)?;
         match free {
             None => self.log_event(
                 tick,
                 LogEvent::ConnectRefused {
-                    app: 0,
+                    app,
                     raddr: tuple.raddr,
                     rport: tuple.rport,
                     no_port: false,
@@ -246,24 +253,27 @@ impl LocalHost {
             Some(slot) => {
                 let id = self.next_id(slot)?;
                 let iss = self.next_number(tuple, numbers);
-                let flow = LiveFlow::connected(self.alloc, id, tuple, &self.params, iss, tick)?;
+                let flow =
+                    LiveFlow::connected(self.alloc, id, tuple, &self.params, iss, app, tick)?;
                 self.flows.push(tuple, flow)
             }
         }
     }
 
-    /// A segment comes that is of no flow. The error is want of memory.
-    fn meet_listener(
+    /// A segment comes that is of no flow, at a port that listens. The error is want of memory.
+    fn meet_no_flow<N: NumberSource>(
         &mut self,
         tick: u32,
         frame: FrameId,
         tuple: FourTuple,
         seg: &Segment<'_>,
-        numbers: &FirstNumbers,
+        numbers: &N,
     ) -> Result<(), AllocError>
         requires fresh { position (is_indexed_as tuple) self.old.flows ≡ None }
-        ensures { (items : List model.Item) → AreNumbersOf items numbers.now → OnOk result (self.new ≡ met_listener (model_opens (seg_of seg.now)) items tick self.old frame tuple (seg_of seg.now)) }
+        ensures { OnOk result (self.new ≡ met_no_flow (is_listening self.old tuple.lport && model_opens (seg_of seg.now)) (is_listening self.old tuple.lport) (next_number (N.numbers numbers.now) self.old tuple) tick self.old frame tuple (seg_of seg.now)) }
     {
+        // Every port listens.
+        let _params = &self.params;
         if opens(seg) {
             self.open_by_syn(tick, frame, tuple, seg, numbers)
         } else {
@@ -272,170 +282,54 @@ impl LocalHost {
     }
 
     /// A segment comes to the host. The error is want of memory.
-    fn receive(
+    fn receive<N: NumberSource>(
         &mut self,
         tick: u32,
         frame: FrameId,
         tuple: FourTuple,
         seg: &Segment<'_>,
-        numbers: &FirstNumbers,
+        numbers: &N,
     ) -> Result<(), AllocError>
-        ensures { (items : List model.Item) → AreNumbersOf items numbers.now → OnOk result (self.new ≡ arrived (is_known self.old tuple) (received_serially tick frame (seg_of seg.now)) items tick self.old frame tuple (seg_of seg.now)) }
+        ensures { OnOk result (self.new ≡ arrived (is_known self.old tuple) (received_serially tick frame (seg_of seg.now)) (next_number (N.numbers numbers.now) self.old tuple) tick self.old frame tuple (seg_of seg.now)) }
     {
         match self.flows.find(&tuple) {
             Some(i) => self.flows.receive(i, tick, frame, seg),
-            None => self.meet_listener(tick, frame, tuple, seg, numbers),
+            None => self.meet_no_flow(tick, frame, tuple, seg, numbers),
         }
     }
 
-    /// The frame of a record comes to the host, where it is one. The error is want of memory.
-    pub fn deliver(
+    /// A frame comes to the host. The error is want of memory.
+    pub fn deliver<N: NumberSource>(
         &mut self,
         tick: u32,
-        item: &Item<'_>,
-        numbers: &FirstNumbers,
+        arrival: &Arrival<'_>,
+        numbers: &N,
     ) -> Result<(), AllocError>
-        ensures { (items : List model.Item) → AreNumbersOf items numbers.now → OnOk result (self.new ≡ delivered_by received_serially items tick self.old (item_in item.now)) }
+        ensures { OnOk result (self.new ≡ delivered received_serially (N.numbers numbers.now) tick self.old (arrival_in arrival.now)) }
     {
-        let frame = frame_of(item.number);
-        match item.content {
-            Content::Damaged(rule) => self.refuse(tick, frame, rule.number()),
-            Content::Remote(tuple, seg) => self.receive(tick, frame, tuple, &seg, numbers),
-            Content::Local(..) => Ok(()),
-        }
-    }
-
-    /// The application connects where no flow is and the segment is a SYN of its own, and what a local segment shows is seen. The error is want of memory.
-    fn begin(
-        &mut self,
-        tick: u32,
-        tuple: FourTuple,
-        seg: &Segment<'_>,
-        numbers: &FirstNumbers,
-    ) -> Result<(), AllocError>
-        ensures { (items : List model.Item) → AreNumbersOf items numbers.now → OnOk result (self.new ≡ began items tick self.old tuple (seg_of seg.now)) }
-    {
-        self.connect_where(tick, tuple, seg, numbers)?;
-        self.see(&tuple, seg)
-    }
-
-    fn connect_where(
-        &mut self,
-        tick: u32,
-        tuple: FourTuple,
-        seg: &Segment<'_>,
-        numbers: &FirstNumbers,
-    ) -> Result<(), AllocError>
-        ensures { (items : List model.Item) → AreNumbersOf items numbers.now → OnOk result (self.new ≡ connected_where (model_connects (seg_of seg.now) && not (is_known self.old tuple)) items tick self.old tuple) }
-    {
-        if !connects(seg) {
-            return Ok(());
-        }
-        match self.flows.find(&tuple) {
-            Some(_) => Ok(()),
-            None => self.connect(tick, tuple, numbers),
-        }
-    }
-
-    fn see(&mut self, tuple: &FourTuple, seg: &Segment<'_>) -> Result<(), AllocError>
-        ensures { OnOk result (self.new ≡ changed self.old tuple.now (sees (seg_of seg.now))) }
-    {
-        match self.flows.find(tuple) {
-            Some(i) => self.flows.see(i, seg),
-            None => Ok(()),
-        }
-    }
-
-    /// The application's calls for a segment of this four-tuple, where a flow has it. The error is want of memory.
-    fn ask(
-        &mut self,
-        tick: u32,
-        tuple: &FourTuple,
-        remote: bool,
-        resets: bool,
-    ) -> Result<(), AllocError>
-        requires apart { remote ≡ true → resets ≡ false }
-        ensures { (content : model.Content) → is_remote content ≡ remote → resets_here content ≡ resets → OnOk result (self.new ≡ changed self.old tuple.now (asked_all tick content)) }
-    {
-        match self.flows.find(tuple) {
-            Some(i) => self.flows.serve(i, tick, remote, resets),
-            None => Ok(()),
-        }
-    }
-
-    /// What the application does for a record. The error is want of memory.
-    pub fn serve(
-        &mut self,
-        tick: u32,
-        item: &Item<'_>,
-        numbers: &FirstNumbers,
-    ) -> Result<(), AllocError>
-        ensures { (items : List model.Item) → AreNumbersOf items numbers.now → OnOk result (self.new ≡ served items tick self.old (item_in item.now)) }
-    {
-        match item.content {
-            Content::Damaged(_) => Ok(()),
-            Content::Remote(tuple, _) => self.ask(tick, &tuple, true, false),
-            Content::Local(tuple, seg) => {
-                self.begin(tick, tuple, &seg, numbers)?;
-                self.ask(tick, &tuple, false, seg.flags.is_rst())
+        match arrival.packet {
+            Packet::Damaged(rule) => self.refuse(tick, arrival.frame, rule),
+            Packet::Segment(tuple, seg) => {
+                self.receive(tick, arrival.frame, tuple, &seg, numbers)
             }
         }
     }
 
-    /// One tick, in serial order: the slow path, the frames of the batch, the application, and what may go. The error is want of memory.
-    #[tactic(auto, unfolding(tas_runs::specs::SerialOrder::serial_tick))]
-    pub fn play(
+    /// What a capture's script does for a segment of the flow at place `i`: `remote` says that the segment is a remote one, `resets` that it is a local one with RST. The error is want of memory.
+    pub fn serve(
         &mut self,
+        i: usize,
+        shown: &mut Shown,
         tick: u32,
-        batch: &[Item<'_>],
-        numbers: &FirstNumbers,
+        remote: bool,
+        resets: bool,
     ) -> Result<(), AllocError>
-        ensures { (items : List model.Item) → AreNumbersOf items numbers.now → OnOk result (self.new ≡ serial_tick items tick self.old (map item_in batch.now)) }
+        requires place { passes_at is_standing self.old.flows i ≡ true }
+        requires apart { remote ≡ true → resets ≡ false }
+        ensures host { (content : Content) → is_remote content ≡ remote → resets_here content ≡ resets → OnOk result (self.new ≡ at_flow i (asked_live tick content shown.old) self.old) }
+        ensures shown { (content : Content) (l : Live) → is_remote content ≡ remote → resets_here content ≡ resets → slice_get self.old.flows i ≡ Some l → OnOk result (shown.new ≡ (asked_all tick content (record { live = l; shown = shown.old })).shown) }
     {
-        self.pass_time(tick)?;
-        self.deliver_all(tick, batch, numbers)?;
-        self.serve_all(tick, batch, numbers)?;
-        self.send_all(tick)
-    }
-
-    fn deliver_all(
-        &mut self,
-        tick: u32,
-        batch: &[Item<'_>],
-        numbers: &FirstNumbers,
-    ) -> Result<(), AllocError>
-        ensures { (items : List model.Item) → AreNumbersOf items numbers.now → OnOk result (self.new ≡ frame_phase items tick self.old (map item_in batch.now)) }
-    {
-        for item in batch {
-            self.deliver(tick, item, numbers)?;
-        }
-        Ok(())
-    }
-
-    fn serve_all(
-        &mut self,
-        tick: u32,
-        batch: &[Item<'_>],
-        numbers: &FirstNumbers,
-    ) -> Result<(), AllocError>
-        ensures { (items : List model.Item) → AreNumbersOf items numbers.now → OnOk result (self.new ≡ script_phase items tick self.old (map item_in batch.now)) }
-    {
-        for item in batch {
-            self.serve(tick, item, numbers)?;
-        }
-        Ok(())
-    }
-}
-
-/// The frame that a record of the capture is.
-fn frame_of(number: u32) -> FrameId
-    ensures { result ≡ record_frame number }
-{
-    FrameId {
-        host: CAPTURE,
-        flow: NO_FLOW,
-        number: u64::from(number),
-        copy: 0,
+        self.flows.serve(i, shown, tick, remote, resets)
     }
 }
 
@@ -444,13 +338,6 @@ fn opens(seg: &Segment<'_>) -> bool
     ensures { result ≡ model_opens (seg_of seg.now) }
 {
     seg.flags.is_syn() && !seg.flags.is_rst() && !seg.flags.is_ack()
-}
-
-/// Whether the segment is what an application's connect sends.
-fn connects(seg: &Segment<'_>) -> bool
-    ensures { result ≡ model_connects (seg_of seg.now) }
-{
-    seg.flags.is_syn() && !seg.flags.is_ack()
 }
 
 /// The segment with a payload of its own. The error is want of memory.

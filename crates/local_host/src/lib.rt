@@ -1,11 +1,20 @@
-//! The one host that a replay of a capture plays: its flows, their timers, the frames that come to them, and the calls of the local application.
+//! The host of a run, tick by tick in serial order: its flows, their timers and the frames that come to them; and above it the calls that a replay's application makes.
 #![tactic(auto)]
 
+mod arrival;
 mod calls;
 mod flows;
 mod host;
 mod live;
+mod numbers;
 mod pending;
 mod reading;
+mod replay;
+mod script;
 
+pub use arrival::{Arrival, Packet};
 pub use host::{HostEnd, LocalHost};
+pub use live::{Holder, LiveFlow};
+pub use numbers::NumberSource;
+pub use replay::LocalReplay;
+pub use script::Shown;

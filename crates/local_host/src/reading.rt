@@ -4,14 +4,13 @@ ghost use Rattle.tas_model.specs.Endpoint.{is_closed as model_closed};
 ghost use Rattle.tas_model.specs.ApplicationCalls.{column};
 ghost use Rattle.tas_model.specs.LegalHistory.{Legal, replay};
 ghost use Rattle.tas_model.specs.NextSegment.{going};
-ghost use Rattle.tas_model.specs.Valid.{InRange};
 ghost use Rattle.fast_rx.specs.Exceptions.{exception};
 ghost use Rattle.fast_tx.specs.Piece.{next_piece};
 ghost use Rattle.flow_state.specs.Calls.{seg_of, is_running, is_closed_phase};
 ghost use Rattle.flow_state.specs.App.{column_of};
 ghost use Rattle.flow_state.specs.declared.stage.Stage.TheVariants as stages;
-ghost use Rattle.tas_runs.specs.Deliveries.{is_open_phase, is_fast as model_fast};
-ghost use Rattle.local_host.specs.Live.{out_in};
+ghost use Rattle.host_rounds.specs.Deliveries.{is_open_phase, is_fast as model_fast};
+ghost use Rattle.host_rounds.specs.Upkeep.{is_control_tick as model_control_tick};
 
 use fast_tx::next_out;
 use flow_state::{FlowRecord, Stage};
@@ -58,7 +57,7 @@ fn is_open(phase: Phase) -> bool
 
 /// How many bytes its Sends took.
 pub fn sent_count(flow: &FlowRecord) -> u128
-    ensures count { result ≡ length (out_in flow.now) }
+    ensures count { result ≡ length (replay flow.now.params flow.now.entries).tx.out }
     ensures near { result < 2 ^ 127 }
 {
     flow.parts().tx.end()
@@ -81,13 +80,18 @@ pub fn raised(near: u128, word: u32) -> u128
     low + behind % 0x1_0000_0000
 }
 
+/// Whether rates are controlled in this tick: in each tenth one, but for a replay's flows.
+pub fn is_control_tick(fixed: bool, tick: u32) -> bool
+    ensures { result ≡ model_control_tick fixed tick }
+{
+    !fixed && tick > 0 && tick % 10 == 0
+}
+
 /// Whether a segment may go.
 pub fn may_send(flow: &FlowRecord) -> bool
-    requires ranges { InRange flow.now.params }
     ensures going { result ≡ is_some (going (replay flow.now.params flow.now.entries)) }
     ensures piece { result ≡ true → IsSome (next_piece flow.now.parts) }
     ensures legal { Legal flow.now.params flow.now.entries }
 {
-    let _entries = flow.entries();
     next_out(flow.parts()).is_some()
 }

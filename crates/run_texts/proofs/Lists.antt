@@ -7,7 +7,7 @@ use Rattle.std.proofs.lemmas.Option.{slice_get_within, get_or_from_slice_get}
 use Rattle.std.proofs.lemmas.List.Concat.{flat_map-append}
 use Rattle.tas_num.specs.declared.outside.IoFault.{IoFault}
 use Rattle.tas_model.specs.declared.entry.Entry.{Entry}
-use Rattle.tas_runs.specs.declared.log.LogLine.{LogLine}
+use Rattle.host_rounds.specs.declared.log.LogLine.{LogLine}
 use Rattle.tas_runs.specs.Report.{hex_bytes, entry_text, entries_text, line, event_text, log_text}
 use Rattle.tas_num.specs.Streams.{SinkState}
 use Rattle.run_texts.specs.Writes.{Writes}

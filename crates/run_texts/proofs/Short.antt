@@ -12,8 +12,8 @@ use Rattle.tas_model.specs.LegalHistory.{Legal}
 use Rattle.tas_model.specs.Outputs.{sent}
 use Rattle.tas_model.specs.Valid.{Valid, InRange, IsPaced}
 use Rattle.tas_model.proofs.EachSegment.{Shows, all_as, sent_shows}
-use Rattle.tas_runs.specs.Logs.{Flow, HostRun}
-use Rattle.tas_runs.specs.Rounds.{Each}
+use Rattle.host_rounds.specs.Logs.{Flow, HostRun}
+use Rattle.host_rounds.specs.Lists.{Each}
 use Rattle.run_texts.specs.Frames.{AreAllShort, AreFlowsShort, AreShort}
 
 abbrev IsShort : Seg → Type 0

@@ -13,10 +13,10 @@ use Rattle.tas_model.specs.declared.entry.Seg.{Seg}
 use Rattle.tas_model.specs.declared.entry.Entry.{Entry}
 use Rattle.tas_model.specs.Segments.{bare}
 use Rattle.tas_model.specs.Outputs.{segments_in, sent}
-use Rattle.tas_runs.specs.declared.log.LogLine.{LogLine}
-use Rattle.tas_runs.specs.declared.log.LogEvent.{LogEvent}
-use Rattle.tas_runs.specs.declared.log.LogEvent.TheVariants as events
-use Rattle.tas_runs.specs.Logs.{Flow, HostRun}
+use Rattle.host_rounds.specs.declared.log.LogLine.{LogLine}
+use Rattle.host_rounds.specs.declared.log.LogEvent.{LogEvent}
+use Rattle.host_rounds.specs.declared.log.LogEvent.TheVariants as events
+use Rattle.host_rounds.specs.Logs.{Flow, HostRun}
 use Rattle.tas_runs.specs.SentFrames.{sent_fields, segments_bytes, sent_at, flows_at, answer_in, answer_of, answer_on}
 use Rattle.tas_runs.specs.SentFrames.{strays_at, hosts_at, ticks_from}
 use Rattle.run_texts.specs.declared.frames.Frame.{Frame}

@@ -1,6 +1,6 @@
 -- What hosts send is not told by their names and addresses.
 use Rattle.std.proofs.Common.{◌≡◌, ℕ, zero, suc, ◌+◌, List, [], ◌∷◌, ◌++◌, map, refl, ap, ◌∙◌}
-use Rattle.tas_runs.specs.Logs.{HostRun}
+use Rattle.host_rounds.specs.Logs.{HostRun}
 use Rattle.tas_runs.specs.SentFrames.{flows_at, strays_at, hosts_at, ticks_from}
 use Rattle.run_texts.specs.Frames.{host_of}
 

@@ -11,10 +11,10 @@ use Rattle.tas_model.specs.Outputs.{segments_in, sent}
 use Rattle.flow_state.specs.declared.view.SegView.{SegView}
 use Rattle.flow_state.specs.Flow as states
 use Rattle.flow_state.specs.Views.{seen_seg}
-use Rattle.tas_runs.specs.declared.log.LogLine.{LogLine}
-use Rattle.tas_runs.specs.declared.log.LogEvent.{LogEvent}
-use Rattle.tas_runs.specs.declared.log.LogEvent.TheVariants as events
-use Rattle.tas_runs.specs.Logs.{Flow, HostRun}
+use Rattle.host_rounds.specs.declared.log.LogLine.{LogLine}
+use Rattle.host_rounds.specs.declared.log.LogEvent.{LogEvent}
+use Rattle.host_rounds.specs.declared.log.LogEvent.TheVariants as events
+use Rattle.host_rounds.specs.Logs.{Flow, HostRun}
 use Rattle.tas_runs.specs.SentFrames.{sent_fields}
 use Rattle.run_texts.specs.declared.frames.Frame.{Frame}
 use Rattle.run_texts.specs.declared.frames.HostFrames.{HostFrames}

@@ -2,7 +2,7 @@ ghost use Rattle.std.specs.Prelude.{◌≡◌, ℕ, ◌≤◌, ◌++◌, ◌∷�
 ghost use Rattle.std.specs.Prelude.{OnOk};
 ghost use Rattle.tas_num.specs.Captures.{file_header, record_head, record_bytes};
 ghost use Rattle.tas_runs.specs.SentFrames.{ticks_from};
-ghost use Rattle.tas_runs.specs.Logs.{HostRun};
+ghost use Rattle.host_rounds.specs.Logs.{HostRun};
 ghost use Rattle.tas_model.specs.Segments.{bare as bare_of};
 ghost use Rattle.tas_model.specs.Outputs.{segments_in};
 ghost use Rattle.flow_state.specs.Views.{seen_seg, seen_reply, seen_entry, seen_stretch};
@@ -17,7 +17,7 @@ use std::alloc::{AllocError, Global};
 use std::marker::Model;
 use tas_model::{FourTuple, Head};
 use tas_num::{IoFault, Sink};
-use tas_runs::{LogEvent, LogLine};
+use host_rounds::{LogEvent, LogLine};
 
 /// How many bytes of payload a packet has room for: 65,535 less its headers with an MSS option.
 const MOST_PAYLOAD: usize = 65491;

@@ -4,8 +4,8 @@ ghost use Rattle.tas_model.specs.declared.entry.HostParams.{HostParams};
 ghost use Rattle.tas_model.specs.LegalHistory.{Legal};
 ghost use Rattle.tas_model.specs.Outputs.{sent};
 ghost use Rattle.tas_model.specs.Valid.{InRange};
-ghost use Rattle.tas_runs.specs.Logs.{Flow, HostRun};
-ghost use Rattle.tas_runs.specs.Rounds.{Each};
+ghost use Rattle.host_rounds.specs.Logs.{Flow, HostRun};
+ghost use Rattle.host_rounds.specs.Lists.{Each};
 ghost use Rattle.run_texts.specs.Frames.{AreAllShort, AreFlowsShort, AreShort};
 
 /// Each segment that a legal history sent has room in a packet, and so has each that flows and hosts of legal histories

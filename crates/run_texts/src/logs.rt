@@ -1,5 +1,5 @@
 ghost use Rattle.std.specs.Prelude.{◌≡◌, ℕ, ◌++◌, ◌∷◌, [], List, map, flat_map, codes, decimal, if◌then◌else◌};
-ghost use Rattle.tas_runs.specs.declared.log.LogEvent.TheVariants as events;
+ghost use Rattle.host_rounds.specs.declared.log.LogEvent.TheVariants as events;
 ghost use Rattle.tas_runs.specs.Report.{line, event_text, log_text, frame_text, seg_text, answer_text};
 ghost use Rattle.run_texts.specs.Writes.{Writes};
 
@@ -10,7 +10,7 @@ use crate::texts::{AnswerText, PortText};
 use crate::writer::Writer;
 use tas_model::{FrameId, Head, Seg};
 use tas_num::{IoFault, Sink};
-use tas_runs::{LogEvent, LogLine};
+use host_rounds::{LogEvent, LogLine};
 
 /// Writes the lines of a host's log.
 pub fn write_log<K: Sink>(

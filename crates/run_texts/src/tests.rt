@@ -7,7 +7,7 @@ use tas_model::{
     Bytes, CAPTURE, Caller, FlowId, FourTuple, FrameId, Head, HostParams, NO_FLOW, Seg,
 };
 use tas_num::{Seq, SureSink};
-use tas_runs::{LogEvent, LogLine};
+use host_rounds::{LogEvent, LogLine};
 
 const PARAMS: HostParams = HostParams {
     addr: 167772162,

@@ -6,4 +6,4 @@ mod log;
 mod tests;
 
 pub use log::HostLog;
-pub use tas_runs::{LogEvent, LogLine};
+pub use host_rounds::{LogEvent, LogLine};

@@ -2,7 +2,7 @@ ghost use Rattle.std.specs.Prelude.{◌≡◌, ◌<◌, ◌++◌, ◌∷◌, [],
 
 use std::alloc::{AllocError, Global};
 use std::marker::Model;
-use tas_runs::LogLine;
+use host_rounds::LogLine;
 
 /// The log of a host, seen as the list of its lines in the order in which they came.
 #[derive(Drop)]
@@ -12,7 +12,7 @@ pub struct HostLog {
 
 impl Model for HostLog {
     ghost use Rattle.std.specs.Prelude.{List};
-    ghost use Rattle.tas_runs.specs.declared.log.LogLine.{LogLine};
+    ghost use Rattle.host_rounds.specs.declared.log.LogLine.{LogLine};
 
     ghost Value = { List LogLine };
 

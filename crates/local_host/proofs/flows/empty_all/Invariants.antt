@@ -1,4 +1,4 @@
-use Rattle.tas_runs.specs.Upkeep.{quieted}
+use Rattle.host_rounds.specs.Upkeep.{quieted}
 use Rattle.local_host.proofs.Standing.{Leads}
 use Rattle.local_host.proofs.flows.empty_all.Given as goal
 

@@ -1,6 +1,6 @@
 use Rattle.std.proofs.Common.{◌≡◌, ◌-◌, ℕ, ◌<◌, List, get_or, false}
 use Rattle.std.specs.List.{list_any}
-use Rattle.tas_runs.specs.Hosts.{Live, is_in_slot, free_from}
+use Rattle.host_rounds.specs.Hosts.{Live, is_in_slot, free_from}
 use Rattle.local_host.proofs.flows.first_free.Given as goal
 
 abbrev pub invariant-loop-slot : goal.invariant-loop-slot

@@ -1,5 +1,5 @@
 use Rattle.std.proofs.Common.{◌<◌, ◌≤◌, ◌||◌, Bool, false, get_or, length, rules, ap, sym, ◌∙◌}
-use Rattle.tas_runs.specs.Hosts.{is_in_slot}
+use Rattle.host_rounds.specs.Hosts.{is_in_slot}
 use Rattle.local_host.proofs.Standing.{or_none, passes_get, passes_past}
 use Rattle.local_host.proofs.flows.mark_at.Goals as goal
 

@@ -1,4 +1,4 @@
-use Rattle.tas_runs.specs.Upkeep.{swept}
+use Rattle.host_rounds.specs.Upkeep.{swept}
 use Rattle.local_host.proofs.Standing.{Leads}
 use Rattle.local_host.proofs.flows.sweep_all.Given as goal
 

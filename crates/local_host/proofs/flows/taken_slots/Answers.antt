@@ -1,7 +1,7 @@
 use Rattle.std.proofs.Common.{◌≡◌, ◌<◌, ◌||◌, ◌++◌, ◌∙◌, Bool, List, ℕ, false, get_or, take, drop, length, ap, sym, rules, arith}
 use Rattle.std.specs.List.{list_any}
 use Rattle.std.proofs.lemmas.List.{take_all}
-use Rattle.tas_runs.specs.Hosts.{is_in_slot}
+use Rattle.host_rounds.specs.Hosts.{is_in_slot}
 use Rattle.local_host.specs.Index.{passes_at}
 use Rattle.local_host.proofs.Places.{any_more}
 use Rattle.local_host.proofs.Standing.{any_standing, filed_in_no_slot, written_whole}

@@ -1,6 +1,6 @@
 use Rattle.std.proofs.Common.{◌≡◌, ℕ, ◌<◌, false, get_or, take, length}
 use Rattle.std.specs.List.{list_any}
-use Rattle.tas_runs.specs.Hosts.{is_in_slot}
+use Rattle.host_rounds.specs.Hosts.{is_in_slot}
 use Rattle.local_host.specs.Index.{passes_at}
 use Rattle.local_host.proofs.flows.taken_slots.Given as goal
 

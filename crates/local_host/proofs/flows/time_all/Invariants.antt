@@ -1,5 +1,5 @@
 use Rattle.tas_model.specs.declared.entry.Caller.TheVariants.{Slow}
-use Rattle.tas_runs.specs.Upkeep.{timed}
+use Rattle.host_rounds.specs.Upkeep.{timed}
 use Rattle.local_host.proofs.Standing.{Leads}
 use Rattle.local_host.proofs.flows.time_all.Given as goal
 

@@ -1,6 +1,6 @@
 use Rattle.std.proofs.Common.{◌≡◌, ℕ, ◌+◌, ◌≤◌, map, take, length, Some, None, List, sym, ◌∙◌, subst, if◌then◌else◌}
 use Rattle.tas_model.specs.declared.entry.FourTuple.{FourTuple}
-use Rattle.tas_runs.specs.Batches.{same_tuple}
+use Rattle.host_rounds.specs.Hosts.{same_tuple}
 use Rattle.tas_runs.specs.FirstNumbers.{local_numbers, with_new}
 use Rattle.capture_items.specs.Items.{item_in}
 use Rattle.capture_items.specs.Numbers.{AreOf, number_for}

@@ -1,5 +1,5 @@
 use Rattle.std.proofs.Common.{sym, subst}
-use Rattle.tas_runs.specs.Rounds.{Each}
+use Rattle.host_rounds.specs.Lists.{Each}
 use Rattle.local_host.specs.Live.{IsLegal}
 use Rattle.local_host.proofs.Records.{record_push, each_push}
 use Rattle.local_host.proofs.flows.Flows.into_records.Goals as goal

@@ -1,6 +1,6 @@
 use Rattle.std.proofs.Common.{◌≡◌, map}
-use Rattle.tas_runs.specs.Hosts.{flows_of}
-use Rattle.tas_runs.specs.Rounds.{Each}
+use Rattle.host_rounds.specs.Hosts.{flows_of}
+use Rattle.host_rounds.specs.Lists.{Each}
 use Rattle.local_host.specs.Live.{flow_in, IsLegal}
 use Rattle.local_host.proofs.flows.Flows.into_records.Given as goal
 

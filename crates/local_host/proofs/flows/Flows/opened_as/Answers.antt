@@ -1,7 +1,7 @@
 use Rattle.std.proofs.Common.{◌≡◌, Some, None, sym, ap, ◌∙◌}
 use Rattle.std.specs.HashMap.{get}
 use Rattle.capture_items.specs.Numbers.{equal_tuple}
-use Rattle.tas_runs.specs.Hosts.{opened_as}
+use Rattle.host_rounds.specs.Hosts.{opened_as}
 use Rattle.local_host.specs.Index.{count_of}
 use Rattle.local_host.proofs.flows.Flows.opened_as.Goals as goal
 

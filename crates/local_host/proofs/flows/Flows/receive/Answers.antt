@@ -1,6 +1,6 @@
 use Rattle.std.proofs.Common.{arith}
 use Rattle.flow_state.specs.Calls.{seg_of}
-use Rattle.tas_runs.specs.Deliveries.{received_serially}
+use Rattle.host_rounds.specs.Deliveries.{received_serially}
 use Rattle.local_host.proofs.Indexing.{received_keeps}
 use Rattle.local_host.proofs.Standing.{received_stays, stands_below, sound_by_change, done_by_change}
 use Rattle.local_host.proofs.flows.Flows.receive.Goals as goal

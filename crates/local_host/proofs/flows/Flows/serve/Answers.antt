@@ -1,8 +1,10 @@
-use Rattle.std.proofs.Common.{arith}
+use Rattle.std.proofs.Common.{◌≡◌, ℕ, List, Some, get_or, slice_get, OnOk, sym, subst, ◌∙◌, arith}
+use Rattle.host_rounds.specs.Hosts.{Live}
 use Rattle.tas_runs.specs.Records.{Content}
-use Rattle.local_host.specs.Live.{asked_all}
+use Rattle.local_host.specs.Script.{asked_all, asked_live}
 use Rattle.local_host.proofs.Indexing.{asked_keeps, some_content, content_remote, content_resets}
-use Rattle.local_host.proofs.Standing.{asked_stays, stands_below, sound_by_change, done_by_change}
+use Rattle.local_host.proofs.Standing.{asked_stays, stands_below, sound_by_change, done_by_change, ok_as}
+use Rattle.local_host.proofs.Places.{ok_by, read_is}
 use Rattle.local_host.proofs.flows.Flows.serve.Goals as goal
 
 pub index_mut-requires : goal.index_mut-requires
@@ -11,9 +13,20 @@ index_mut-requires c = omega (arith, stands_below c.args.i c.self.view_is c.requ
 pub settle-requires : goal.settle-requires
 settle-requires c =
     let content : Content = some_content c.args.remote c.args.resets in
-    sound_by_change c.serve-done.result (asked_all c.args.tick content) c.args.i c.index_mut.result.now c.serve-done.new.self (asked_keeps c.args.tick content) (asked_stays c.args.tick content) c.self.invariant c.self.view_is c.requires.place c.index_mut.ensures.value
-    (c.serve-done.ensures content (content_remote c.args.remote c.args.resets) (content_resets c.args.remote c.args.resets c.requires.apart))
+    sound_by_change c.serve-done.result (asked_live c.args.tick content c.args.shown.now) c.args.i c.index_mut.result.now c.serve-done.new.flow
+    (asked_keeps c.args.tick content c.args.shown.now) (asked_stays c.args.tick content c.args.shown.now)
+    c.self.invariant c.self.view_is c.requires.place c.index_mut.ensures.value
+    (c.serve-done.ensures.flow content (content_remote c.args.remote c.args.resets) (content_resets c.args.remote c.args.resets c.requires.apart))
 
-pub returns : goal.returns
-returns c = λ content remote resets.
-    done_by_change c.serve-done.result c.settle.result (asked_all c.args.tick content) c.args.i c.index_mut.result.now c.serve-done.new.self c.settle.new.self.flows.items c.self.view_is c.requires.place c.index_mut.ensures.value (c.serve-done.ensures content remote resets) c.settle.ensures.same c.settle.ensures.flows
+pub returns-clause-flows : goal.returns-clause-flows
+returns-clause-flows c = λ content remote resets.
+    done_by_change c.serve-done.result c.settle.result (asked_live c.args.tick content c.args.shown.now) c.args.i
+    c.index_mut.result.now c.serve-done.new.flow c.settle.new.self.flows.items c.self.view_is c.requires.place c.index_mut.ensures.value
+    (c.serve-done.ensures.flow content remote resets) c.settle.ensures.same c.settle.ensures.flows
+
+pub returns-clause-shown : goal.returns-clause-shown
+returns-clause-shown c = λ content l remote resets here.
+    let was : c.index_mut.result.now ≡ l = read_is c.self.inside.table.flows.items c.args.self.now c.args.i c.index_mut.result.now l c.self.view_is c.index_mut.ensures.value here in
+    ok_as _ c.serve-done.result c.settle.result c.settle.ensures.same
+    (subst (λ (m : Live). OnOk c.serve-done.result (c.serve-done.new.self ≡ (asked_all c.args.tick content (record { live = m; shown = c.args.shown.now })).shown))
+    was (c.serve-done.ensures.shown content remote resets))

@@ -1,6 +1,6 @@
 use Rattle.std.proofs.Common.{List, ap, ◌∙◌}
 use Rattle.std.specs.List.{filter}
-use Rattle.tas_runs.specs.Hosts.{Live}
+use Rattle.host_rounds.specs.Hosts.{Live}
 use Rattle.local_host.specs.Index.{passes_at, is_standing}
 use Rattle.local_host.proofs.Standing.{known_swept}
 use Rattle.local_host.proofs.flows.Flows.sweep.Goals as goal

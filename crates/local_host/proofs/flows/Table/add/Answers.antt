@@ -1,7 +1,7 @@
 use Rattle.std.proofs.Common.{◌≡◌, ◌+◌, ◌==◌, ◌++◌, ◌∷◌, [], ℕ, List, length, cond, nat_eq, ap, rules, subst, sym, ◌∙◌}
 use Rattle.std.specs.HashMap.{get}
 use Rattle.tas_model.specs.declared.entry.FlowId.{FlowId}
-use Rattle.tas_runs.specs.Hosts.{Live}
+use Rattle.host_rounds.specs.Hosts.{Live}
 use Rattle.capture_items.specs.Numbers.{equal_tuple}
 use Rattle.local_host.specs.Index.{IsKnown, number_of}
 use Rattle.local_host.proofs.Standing.{known_push}

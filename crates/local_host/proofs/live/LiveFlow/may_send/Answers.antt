@@ -1,6 +1,6 @@
 use Rattle.std.proofs.Common.{◌≡◌, true, false, is_some, sym, subst, ◌∙◌}
 use Rattle.tas_model.specs.NextSegment.{going}
-use Rattle.tas_runs.specs.Hosts.{Live, endpoint}
+use Rattle.host_rounds.specs.Hosts.{Live, endpoint}
 use Rattle.tas_model.specs.LegalHistory.{Legal}
 use Rattle.local_host.proofs.Emitting.{all_is_sent, one_is_sent}
 use Rattle.local_host.proofs.live.LiveFlow.may_send.Goals as goal

@@ -1,6 +1,6 @@
 use Rattle.std.proofs.Common.{◌≡◌}
-use Rattle.tas_runs.specs.Hosts.{endpoint}
-use Rattle.tas_runs.specs.Upkeep.{quieted}
+use Rattle.host_rounds.specs.Hosts.{endpoint}
+use Rattle.host_rounds.specs.Upkeep.{quieted}
 use Rattle.fast_tx.specs.Going.{left_in}
 use Rattle.local_host.proofs.live.LiveFlow.send_all.Given as goal
 

@@ -1,0 +1,26 @@
+-- What the code's frames are in the model.
+use Rattle.std.specs.Prelude.{ℕ, Option, Some, None}
+use Rattle.flow_state.specs.Calls.{seg_of}
+use Rattle.host_rounds.specs.Hosts.{Host, Numbers}
+use Rattle.host_rounds.specs.Deliveries.{Packet, Damaged, Segment, Arrival, received_serially, delivered}
+use Rattle.tas_runs.specs.Records.{Item}
+use Rattle.tas_runs.specs.LocalScript.{arrival_of}
+use Rattle.local_host.specs.declared.arrival.Packet as code_packet
+use Rattle.local_host.specs.declared.arrival.Packet.TheVariants as packets
+use Rattle.local_host.specs.declared.arrival.Arrival as code
+
+abbrev pub packet_in : code_packet.Packet → Packet
+packet_in (packets.Damaged rule) = Damaged rule
+packet_in (packets.Segment tuple seg) = Segment tuple (seg_of seg)
+
+abbrev pub arrival_in : code.Arrival → Arrival
+arrival_in x = record { frame = x.frame; packet = packet_in x.packet }
+
+-- the frame comes, where there is one
+abbrev pub came_where : Numbers → (tick : ℕ) → Option Arrival → Host → Host
+came_where numbers t None host = host
+came_where numbers t (Some x) host = delivered received_serially numbers t host x
+
+-- what comes in a record of a capture
+abbrev pub came : Numbers → (tick : ℕ) → Item → Host → Host
+came numbers t x host = came_where numbers t (arrival_of x) host
