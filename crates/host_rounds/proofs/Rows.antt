@@ -44,4 +44,3 @@ joined numbers t a b c [] same row = subst (λ (h : Host). Row numbers t h c) (s
 joined numbers t a b c (m ∷ ms) are row =
     let rest : Row numbers t (moved numbers t a m) c = joined numbers t (moved numbers t a m) b c ms are.1 row in
     (m ∷ rest.0, (are.0, rest.1))
-

@@ -118,34 +118,34 @@ stray k tuple h answer = events.Stray (frame k) tuple (record { head = h; bytes 
 abbrev pub visited : Host
 visited =
     after 8 (with_slots 4 false) (
-      (
-        comes 1 (from_port 1000 80) (head 2 500 0) []
-        ∷ comes 2 (from_port 1001 80) (head 2 500 0) []
-        ∷ comes 3 (from_port 1002 81) (head 2 500 0) []
-        ∷ comes 4 (from_port 1003 81) (head 4 500 0) []
-        ∷ comes 5 (from_port 1004 80) (head 16 7 900) []
-        ∷ breaks 6 9
-        ∷ []
-      )
-      ∷ (comes 7 (from_port 1000 80) (head 16 501 101) [] ∷ [])
-      ∷ (comes 8 (from_port 1000 80) (head 24 501 101) (104 ∷ 105 ∷ []) ∷ [])
-      ∷ (comes 9 (from_port 1000 80) (head 17 503 101) [] ∷ comes 10 (from_port 1001 80) (head 2 500 0) [] ∷ [])
-      ∷ []
+    (
+    comes 1 (from_port 1000 80) (head 2 500 0) []
+    ∷ comes 2 (from_port 1001 80) (head 2 500 0) []
+    ∷ comes 3 (from_port 1002 81) (head 2 500 0) []
+    ∷ comes 4 (from_port 1003 81) (head 4 500 0) []
+    ∷ comes 5 (from_port 1004 80) (head 16 7 900) []
+    ∷ breaks 6 9
+    ∷ []
+    )
+    ∷ (comes 7 (from_port 1000 80) (head 16 501 101) [] ∷ [])
+    ∷ (comes 8 (from_port 1000 80) (head 24 501 101) (104 ∷ 105 ∷ []) ∷ [])
+    ∷ (comes 9 (from_port 1000 80) (head 17 503 101) [] ∷ comes 10 (from_port 1001 80) (head 2 500 0) [] ∷ [])
+    ∷ []
     )
 
 abbrev pub visited_marks : List (List Mark)
 visited_marks =
     (
-      mark Slow 0 8 APassive
-      ∷ mark (Core 0) 0 8 AnEmit
-      ∷ mark Slow 1 9 ATick
-      ∷ mark Slow 2 9 ARx
-      ∷ mark Slow 3 10 ATick
-      ∷ mark Slow 4 10 AControl
-      ∷ mark (Core 0) 1 10 ARx
-      ∷ mark Slow 5 11 ATick
-      ∷ mark Slow 6 11 ARx
-      ∷ []
+    mark Slow 0 8 APassive
+    ∷ mark (Core 0) 0 8 AnEmit
+    ∷ mark Slow 1 9 ATick
+    ∷ mark Slow 2 9 ARx
+    ∷ mark Slow 3 10 ATick
+    ∷ mark Slow 4 10 AControl
+    ∷ mark (Core 0) 1 10 ARx
+    ∷ mark Slow 5 11 ATick
+    ∷ mark Slow 6 11 ARx
+    ∷ []
     )
     ∷ []
 
@@ -165,26 +165,26 @@ visited_log =
 abbrev pub crowded : Host
 crowded =
     after 20 (with_slots 1 true) (
-      (comes 1 (from_port 1000 7000) (head 2 500 0) [] ∷ comes 2 (from_port 1001 7000) (head 2 500 0) [] ∷ [])
-      ∷ (
-        comes 3 (from_port 1000 7000) (head 4 501 0) []
-        ∷ comes 4 (from_port 1000 7000) (head 2 900 0) []
-        ∷ comes 5 (from_port 1001 7000) (head 2 500 0) []
-        ∷ []
-      )
-      ∷ (comes 6 (from_port 1000 7000) (head 2 900 0) [] ∷ [])
-      ∷ []
+    (comes 1 (from_port 1000 7000) (head 2 500 0) [] ∷ comes 2 (from_port 1001 7000) (head 2 500 0) [] ∷ [])
+    ∷ (
+    comes 3 (from_port 1000 7000) (head 4 501 0) []
+    ∷ comes 4 (from_port 1000 7000) (head 2 900 0) []
+    ∷ comes 5 (from_port 1001 7000) (head 2 500 0) []
+    ∷ []
+    )
+    ∷ (comes 6 (from_port 1000 7000) (head 2 900 0) [] ∷ [])
+    ∷ []
     )
 
 abbrev pub crowded_marks : List (List Mark)
 crowded_marks =
     (
-      mark Slow 0 20 APassive
-      ∷ mark (Core 0) 0 20 AnEmit
-      ∷ mark Slow 1 21 ATick
-      ∷ mark Slow 2 21 ARx
-      ∷ mark Slow 3 21 ARx
-      ∷ []
+    mark Slow 0 20 APassive
+    ∷ mark (Core 0) 0 20 AnEmit
+    ∷ mark Slow 1 21 ATick
+    ∷ mark Slow 2 21 ARx
+    ∷ mark Slow 3 21 ARx
+    ∷ []
     )
     ∷ (mark Slow 0 22 APassive ∷ mark (Core 0) 0 22 AnEmit ∷ [])
     ∷ []

@@ -11,13 +11,13 @@ ghost use Rattle.run_texts.specs.Writes.{Writes};
 
 use crate::writer::Writer;
 use flow_state::{EntryView, FlowRecord, ReplyView, SegView, StretchView};
+use host_rounds::{LogEvent, LogLine};
 use pcap_frames::{write_header, write_record_head};
 use segment_fields::{Flags, Segment, write};
 use std::alloc::{AllocError, Global};
 use std::marker::Model;
 use tas_model::{FourTuple, Head};
 use tas_num::{IoFault, Sink};
-use host_rounds::{LogEvent, LogLine};
 
 /// How many bytes of payload a packet has room for: 65,535 less its headers with an MSS option.
 const MOST_PAYLOAD: usize = 65491;

@@ -8,9 +8,9 @@ use crate::frame_ids::write_frame_id;
 use crate::line_texts::{AcceptText, ListenText, RefusedConnect, RuleText, TickText};
 use crate::texts::{AnswerText, PortText};
 use crate::writer::Writer;
+use host_rounds::{LogEvent, LogLine};
 use tas_model::{FrameId, Head, Seg};
 use tas_num::{IoFault, Sink};
-use host_rounds::{LogEvent, LogLine};
 
 /// Writes the lines of a host's log.
 pub fn write_log<K: Sink>(

@@ -1,5 +1,6 @@
 use super::*;
 use flow_state::{AppCalls, CallIn, FlowRecord};
+use host_rounds::{LogEvent, LogLine};
 use segment_fields::{Flags, Segment};
 use std::alloc::{AllocError, Global};
 use std::test::*;
@@ -7,7 +8,6 @@ use tas_model::{
     Bytes, CAPTURE, Caller, FlowId, FourTuple, FrameId, Head, HostParams, NO_FLOW, Seg,
 };
 use tas_num::{Seq, SureSink};
-use host_rounds::{LogEvent, LogLine};
 
 const PARAMS: HostParams = HostParams {
     addr: 167772162,

@@ -42,9 +42,9 @@ abbrev pub RunsFrom : Scenario → (most t : ℕ) → World → End → Type 0
 RunsFrom s zero t world end = end ≡ record { world = world; ticks = t; stalled = not (all_ended world) }
 RunsFrom s (suc most) t world end =
     (next : World)
-        × IsTick s t world next
-        × (is_at_rest s t next ≡ true → end ≡ record { world = next; ticks = t + 1; stalled = false })
-        × (is_at_rest s t next ≡ false → RunsFrom s most (t + 1) next end)
+    × IsTick s t world next
+    × (is_at_rest s t next ≡ true → end ≡ record { world = next; ticks = t + 1; stalled = false })
+    × (is_at_rest s t next ≡ false → RunsFrom s most (t + 1) next end)
 
 unfoldable pub serial_from : Scenario → (most t : ℕ) → World → End
 serial_from s zero t world = record { world = world; ticks = t; stalled = not (all_ended world) }

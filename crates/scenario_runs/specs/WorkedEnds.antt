@@ -14,11 +14,11 @@ unanswered =
       hosts = a_host (codes "a") 167772161 1000 16384 1460 3 1024 16 ∷ a_host (codes "b") 167772162 5000 16384 1460 3 1024 16 ∷ [];
       apps =
           an_app (codes "a") (codes "client") (
-            steps.Connect (codes "s") (codes "b") 80
-            ∷ steps.Send (codes "s") (codes "hello")
-            ∷ steps.Recv (codes "s") 5
-            ∷ steps.Close (codes "s")
-            ∷ []
+          steps.Connect (codes "s") (codes "b") 80
+          ∷ steps.Send (codes "s") (codes "hello")
+          ∷ steps.Recv (codes "s") 5
+          ∷ steps.Close (codes "s")
+          ∷ []
           )
           ∷
           [];
@@ -58,17 +58,17 @@ killed_late =
       hosts = a_host (codes "a") 167772161 1000 16384 1460 3 1024 16 ∷ a_host (codes "b") 167772162 5000 16384 1460 3 1024 16 ∷ [];
       apps =
           an_app (codes "b") (codes "server") (
-            steps.Listen (codes "lst") 80
-            ∷ steps.Accept (codes "s") (codes "lst")
-            ∷ steps.Recv (codes "s") 5
-            ∷ steps.Send (codes "s") (codes "world")
-            ∷ steps.Close (codes "s")
-            ∷ []
+          steps.Listen (codes "lst") 80
+          ∷ steps.Accept (codes "s") (codes "lst")
+          ∷ steps.Recv (codes "s") 5
+          ∷ steps.Send (codes "s") (codes "world")
+          ∷ steps.Close (codes "s")
+          ∷ []
           )
           ∷
           an_app (codes "a") (codes "client") (
-            steps.Connect (codes "s") (codes "b") 80
-            ∷ []
+          steps.Connect (codes "s") (codes "b") 80
+          ∷ []
           )
           ∷
           [];
@@ -152,20 +152,20 @@ killed_after =
       hosts = a_host (codes "a") 167772161 1000 16384 1460 3 1024 16 ∷ a_host (codes "b") 167772162 5000 16384 1460 3 1024 16 ∷ [];
       apps =
           an_app (codes "b") (codes "server") (
-            steps.Listen (codes "lst") 80
-            ∷ steps.Accept (codes "s") (codes "lst")
-            ∷ steps.Recv (codes "s") 5
-            ∷ steps.Send (codes "s") (codes "world")
-            ∷ steps.Close (codes "s")
-            ∷ []
+          steps.Listen (codes "lst") 80
+          ∷ steps.Accept (codes "s") (codes "lst")
+          ∷ steps.Recv (codes "s") 5
+          ∷ steps.Send (codes "s") (codes "world")
+          ∷ steps.Close (codes "s")
+          ∷ []
           )
           ∷
           an_app (codes "a") (codes "client") (
-            steps.Connect (codes "s") (codes "b") 80
-            ∷ steps.Send (codes "s") (codes "hello")
-            ∷ steps.Recv (codes "s") 5
-            ∷ steps.Close (codes "s")
-            ∷ []
+          steps.Connect (codes "s") (codes "b") 80
+          ∷ steps.Send (codes "s") (codes "hello")
+          ∷ steps.Recv (codes "s") 5
+          ∷ steps.Close (codes "s")
+          ∷ []
           )
           ∷
           [];
@@ -258,20 +258,20 @@ killed_early =
       hosts = a_host (codes "a") 167772161 1000 16384 1460 3 1024 16 ∷ a_host (codes "b") 167772162 5000 16384 1460 3 1024 16 ∷ [];
       apps =
           an_app (codes "b") (codes "server") (
-            steps.Listen (codes "lst") 80
-            ∷ steps.Accept (codes "s") (codes "lst")
-            ∷ steps.Recv (codes "s") 5
-            ∷ steps.Send (codes "s") (codes "world")
-            ∷ steps.Close (codes "s")
-            ∷ []
+          steps.Listen (codes "lst") 80
+          ∷ steps.Accept (codes "s") (codes "lst")
+          ∷ steps.Recv (codes "s") 5
+          ∷ steps.Send (codes "s") (codes "world")
+          ∷ steps.Close (codes "s")
+          ∷ []
           )
           ∷
           an_app (codes "a") (codes "client") (
-            steps.Connect (codes "s") (codes "b") 80
-            ∷ steps.Send (codes "s") (codes "hello")
-            ∷ steps.Recv (codes "s") 5
-            ∷ steps.Close (codes "s")
-            ∷ []
+          steps.Connect (codes "s") (codes "b") 80
+          ∷ steps.Send (codes "s") (codes "hello")
+          ∷ steps.Recv (codes "s") 5
+          ∷ steps.Close (codes "s")
+          ∷ []
           )
           ∷
           [];
@@ -325,12 +325,12 @@ one_slot =
       hosts = a_host (codes "a") 167772161 0 16384 1460 20 1 16 ∷ a_host (codes "b") 167772162 0 16384 1460 20 1024 16 ∷ [];
       apps =
           an_app (codes "a") (codes "x") (
-            steps.Connect (codes "s") (codes "b") 80
-            ∷ steps.Connect (codes "r") (codes "b") 80
-            ∷ steps.Close (codes "r")
-            ∷ steps.Close (codes "s")
-            ∷ steps.Connect (codes "q") (codes "b") 81
-            ∷ []
+          steps.Connect (codes "s") (codes "b") 80
+          ∷ steps.Connect (codes "r") (codes "b") 80
+          ∷ steps.Close (codes "r")
+          ∷ steps.Close (codes "s")
+          ∷ steps.Connect (codes "q") (codes "b") 81
+          ∷ []
           )
           ∷
           [];
@@ -380,27 +380,27 @@ slot_kept =
       hosts = a_host (codes "a") 167772161 1000 16384 1460 3 1 16 ∷ a_host (codes "b") 167772162 5000 16384 1460 3 1024 16 ∷ [];
       apps =
           an_app (codes "b") (codes "server") (
-            steps.Listen (codes "lst") 80
-            ∷ steps.Accept (codes "s") (codes "lst")
-            ∷ steps.Recv (codes "s") 5
-            ∷ steps.Send (codes "s") (codes "world")
-            ∷ steps.Close (codes "s")
-            ∷ []
+          steps.Listen (codes "lst") 80
+          ∷ steps.Accept (codes "s") (codes "lst")
+          ∷ steps.Recv (codes "s") 5
+          ∷ steps.Send (codes "s") (codes "world")
+          ∷ steps.Close (codes "s")
+          ∷ []
           )
           ∷
           an_app (codes "a") (codes "client") (
-            steps.Connect (codes "s") (codes "b") 80
-            ∷ steps.Send (codes "s") (codes "hello")
-            ∷ steps.Recv (codes "s") 5
-            ∷ steps.Close (codes "s")
-            ∷ []
+          steps.Connect (codes "s") (codes "b") 80
+          ∷ steps.Send (codes "s") (codes "hello")
+          ∷ steps.Recv (codes "s") 5
+          ∷ steps.Close (codes "s")
+          ∷ []
           )
           ∷
           an_app (codes "a") (codes "late") (
-            steps.Wait 8
-            ∷ steps.Connect (codes "s") (codes "b") 80
-            ∷ steps.Close (codes "s")
-            ∷ []
+          steps.Wait 8
+          ∷ steps.Connect (codes "s") (codes "b") 80
+          ∷ steps.Close (codes "s")
+          ∷ []
           )
           ∷
           [];
@@ -494,20 +494,20 @@ stalled =
       hosts = a_host (codes "a") 167772161 1000 16384 1460 3 1024 16 ∷ a_host (codes "b") 167772162 5000 16384 1460 3 1024 16 ∷ [];
       apps =
           an_app (codes "b") (codes "server") (
-            steps.Listen (codes "lst") 80
-            ∷ steps.Accept (codes "s") (codes "lst")
-            ∷ steps.Recv (codes "s") 5
-            ∷ steps.Send (codes "s") (codes "world")
-            ∷ steps.Close (codes "s")
-            ∷ []
+          steps.Listen (codes "lst") 80
+          ∷ steps.Accept (codes "s") (codes "lst")
+          ∷ steps.Recv (codes "s") 5
+          ∷ steps.Send (codes "s") (codes "world")
+          ∷ steps.Close (codes "s")
+          ∷ []
           )
           ∷
           an_app (codes "a") (codes "client") (
-            steps.Connect (codes "s") (codes "b") 80
-            ∷ steps.Send (codes "s") (codes "hello")
-            ∷ steps.Recv (codes "s") 5
-            ∷ steps.Close (codes "s")
-            ∷ []
+          steps.Connect (codes "s") (codes "b") 80
+          ∷ steps.Send (codes "s") (codes "hello")
+          ∷ steps.Recv (codes "s") 5
+          ∷ steps.Close (codes "s")
+          ∷ []
           )
           ∷
           [];
@@ -552,14 +552,14 @@ cut_short =
       hosts = a_host (codes "a") 167772161 0 16384 1460 20 1024 16 ∷ a_host (codes "b") 167772162 0 16384 1460 20 1024 16 ∷ [];
       apps =
           an_app (codes "b") (codes "x") (
-            steps.Listen (codes "l") 80
-            ∷ []
+          steps.Listen (codes "l") 80
+          ∷ []
           )
           ∷
           an_app (codes "a") (codes "y") (
-            steps.Wait 1
-            ∷ steps.Connect (codes "s") (codes "b") 80
-            ∷ []
+          steps.Wait 1
+          ∷ steps.Connect (codes "s") (codes "b") 80
+          ∷ []
           )
           ∷
           [];
@@ -598,14 +598,14 @@ open_flows =
       hosts = a_host (codes "a") 167772161 0 16384 1460 20 1024 16 ∷ a_host (codes "b") 167772162 0 16384 1460 20 1024 16 ∷ [];
       apps =
           an_app (codes "b") (codes "x") (
-            steps.Listen (codes "l") 80
-            ∷ []
+          steps.Listen (codes "l") 80
+          ∷ []
           )
           ∷
           an_app (codes "a") (codes "y") (
-            steps.Wait 1
-            ∷ steps.Connect (codes "s") (codes "b") 80
-            ∷ []
+          steps.Wait 1
+          ∷ steps.Connect (codes "s") (codes "b") 80
+          ∷ []
           )
           ∷
           [];
@@ -648,20 +648,20 @@ no_such_byte =
       hosts = a_host (codes "a") 167772161 1000 16384 1460 3 1024 16 ∷ a_host (codes "b") 167772162 5000 16384 1460 3 1024 16 ∷ [];
       apps =
           an_app (codes "b") (codes "server") (
-            steps.Listen (codes "lst") 80
-            ∷ steps.Accept (codes "s") (codes "lst")
-            ∷ steps.Recv (codes "s") 5
-            ∷ steps.Send (codes "s") (codes "world")
-            ∷ steps.Close (codes "s")
-            ∷ []
+          steps.Listen (codes "lst") 80
+          ∷ steps.Accept (codes "s") (codes "lst")
+          ∷ steps.Recv (codes "s") 5
+          ∷ steps.Send (codes "s") (codes "world")
+          ∷ steps.Close (codes "s")
+          ∷ []
           )
           ∷
           an_app (codes "a") (codes "client") (
-            steps.Connect (codes "s") (codes "b") 80
-            ∷ steps.Send (codes "s") (codes "hello")
-            ∷ steps.Recv (codes "s") 5
-            ∷ steps.Close (codes "s")
-            ∷ []
+          steps.Connect (codes "s") (codes "b") 80
+          ∷ steps.Send (codes "s") (codes "hello")
+          ∷ steps.Recv (codes "s") 5
+          ∷ steps.Close (codes "s")
+          ∷ []
           )
           ∷
           [];
@@ -754,14 +754,14 @@ all_steps =
       hosts = a_host (codes "a") 167772161 0 16384 1460 20 1024 16 ∷ a_host (codes "b") 167772162 0 16384 1460 20 1024 16 ∷ [];
       apps =
           an_app (codes "a") (codes "x") (
-            steps.Connect (codes "s") (codes "b") 80
-            ∷ steps.Send (codes "s") (codes "hi")
-            ∷ steps.Recv (codes "s") 1
-            ∷ steps.Shut (codes "s")
-            ∷ steps.Abort (codes "s")
-            ∷ steps.Send (codes "s") (codes "hi")
-            ∷ steps.Close (codes "s")
-            ∷ []
+          steps.Connect (codes "s") (codes "b") 80
+          ∷ steps.Send (codes "s") (codes "hi")
+          ∷ steps.Recv (codes "s") 1
+          ∷ steps.Shut (codes "s")
+          ∷ steps.Abort (codes "s")
+          ∷ steps.Send (codes "s") (codes "hi")
+          ∷ steps.Close (codes "s")
+          ∷ []
           )
           ∷
           [];
@@ -793,4 +793,3 @@ all_steps_report =
     ∷ codes "1 stray a:0.0 S seq 0 ack 0 win 16384 mss 1460 = AR seq 0 ack 1 win 0"
     ∷ codes "end 9 ticks"
     ∷ [])
-

@@ -14,18 +14,18 @@ own_host =
       hosts = a_host (codes "a") 167772161 0 16384 1460 20 1024 16 ∷ [];
       apps =
           an_app (codes "a") (codes "x") (
-            steps.Listen (codes "l") 80
-            ∷ steps.Accept (codes "s") (codes "l")
-            ∷ steps.Recv (codes "s") 2
-            ∷ steps.Close (codes "s")
-            ∷ []
+          steps.Listen (codes "l") 80
+          ∷ steps.Accept (codes "s") (codes "l")
+          ∷ steps.Recv (codes "s") 2
+          ∷ steps.Close (codes "s")
+          ∷ []
           )
           ∷
           an_app (codes "a") (codes "y") (
-            steps.Connect (codes "s") (codes "a") 80
-            ∷ steps.Send (codes "s") (codes "hi")
-            ∷ steps.Close (codes "s")
-            ∷ []
+          steps.Connect (codes "s") (codes "a") 80
+          ∷ steps.Send (codes "s") (codes "hi")
+          ∷ steps.Close (codes "s")
+          ∷ []
           )
           ∷
           [];
@@ -181,20 +181,20 @@ late_middle =
       hosts = a_host (codes "a") 167772161 1000 16384 64 20 1024 16 ∷ a_host (codes "b") 167772162 5000 16384 64 20 1024 16 ∷ [];
       apps =
           an_app (codes "b") (codes "server") (
-            steps.Listen (codes "lst") 80
-            ∷ steps.Accept (codes "s") (codes "lst")
-            ∷ steps.Recv (codes "s") 192
-            ∷ steps.Send (codes "s") (codes "world")
-            ∷ steps.Close (codes "s")
-            ∷ []
+          steps.Listen (codes "lst") 80
+          ∷ steps.Accept (codes "s") (codes "lst")
+          ∷ steps.Recv (codes "s") 192
+          ∷ steps.Send (codes "s") (codes "world")
+          ∷ steps.Close (codes "s")
+          ∷ []
           )
           ∷
           an_app (codes "a") (codes "client") (
-            steps.Connect (codes "s") (codes "b") 80
-            ∷ steps.Fill (codes "s") 192
-            ∷ steps.Recv (codes "s") 5
-            ∷ steps.Close (codes "s")
-            ∷ []
+          steps.Connect (codes "s") (codes "b") 80
+          ∷ steps.Fill (codes "s") 192
+          ∷ steps.Recv (codes "s") 5
+          ∷ steps.Close (codes "s")
+          ∷ []
           )
           ∷
           [];
@@ -390,20 +390,20 @@ two_holes =
       hosts = a_host (codes "a") 167772161 1000 16384 64 20 1024 16 ∷ a_host (codes "b") 167772162 5000 16384 64 20 1024 16 ∷ [];
       apps =
           an_app (codes "b") (codes "server") (
-            steps.Listen (codes "lst") 80
-            ∷ steps.Accept (codes "s") (codes "lst")
-            ∷ steps.Recv (codes "s") 256
-            ∷ steps.Send (codes "s") (codes "world")
-            ∷ steps.Close (codes "s")
-            ∷ []
+          steps.Listen (codes "lst") 80
+          ∷ steps.Accept (codes "s") (codes "lst")
+          ∷ steps.Recv (codes "s") 256
+          ∷ steps.Send (codes "s") (codes "world")
+          ∷ steps.Close (codes "s")
+          ∷ []
           )
           ∷
           an_app (codes "a") (codes "client") (
-            steps.Connect (codes "s") (codes "b") 80
-            ∷ steps.Fill (codes "s") 256
-            ∷ steps.Recv (codes "s") 5
-            ∷ steps.Close (codes "s")
-            ∷ []
+          steps.Connect (codes "s") (codes "b") 80
+          ∷ steps.Fill (codes "s") 256
+          ∷ steps.Recv (codes "s") 5
+          ∷ steps.Close (codes "s")
+          ∷ []
           )
           ∷
           [];
@@ -714,20 +714,20 @@ silent =
       hosts = a_host (codes "a") 167772161 1000 16384 1460 3 1024 16 ∷ a_host (codes "b") 167772162 5000 16384 1460 3 1024 16 ∷ [];
       apps =
           an_app (codes "b") (codes "server") (
-            steps.Listen (codes "lst") 80
-            ∷ steps.Accept (codes "s") (codes "lst")
-            ∷ steps.Recv (codes "s") 5
-            ∷ steps.Send (codes "s") (codes "world")
-            ∷ steps.Close (codes "s")
-            ∷ []
+          steps.Listen (codes "lst") 80
+          ∷ steps.Accept (codes "s") (codes "lst")
+          ∷ steps.Recv (codes "s") 5
+          ∷ steps.Send (codes "s") (codes "world")
+          ∷ steps.Close (codes "s")
+          ∷ []
           )
           ∷
           an_app (codes "a") (codes "client") (
-            steps.Connect (codes "s") (codes "b") 80
-            ∷ steps.Send (codes "s") (codes "hello")
-            ∷ steps.Recv (codes "s") 5
-            ∷ steps.Close (codes "s")
-            ∷ []
+          steps.Connect (codes "s") (codes "b") 80
+          ∷ steps.Send (codes "s") (codes "hello")
+          ∷ steps.Recv (codes "s") 5
+          ∷ steps.Close (codes "s")
+          ∷ []
           )
           ∷
           [];
@@ -940,28 +940,28 @@ one_waits =
       hosts = a_host (codes "a") 167772161 1000 16384 1460 3 1024 16 ∷ a_host (codes "b") 167772162 5000 16384 1460 3 1 16 ∷ [];
       apps =
           an_app (codes "b") (codes "server") (
-            steps.Listen (codes "lst") 80
-            ∷ steps.Accept (codes "s") (codes "lst")
-            ∷ steps.Recv (codes "s") 5
-            ∷ steps.Send (codes "s") (codes "world")
-            ∷ steps.Close (codes "s")
-            ∷ []
+          steps.Listen (codes "lst") 80
+          ∷ steps.Accept (codes "s") (codes "lst")
+          ∷ steps.Recv (codes "s") 5
+          ∷ steps.Send (codes "s") (codes "world")
+          ∷ steps.Close (codes "s")
+          ∷ []
           )
           ∷
           an_app (codes "a") (codes "client") (
-            steps.Connect (codes "s") (codes "b") 80
-            ∷ steps.Send (codes "s") (codes "hello")
-            ∷ steps.Recv (codes "s") 5
-            ∷ steps.Close (codes "s")
-            ∷ []
+          steps.Connect (codes "s") (codes "b") 80
+          ∷ steps.Send (codes "s") (codes "hello")
+          ∷ steps.Recv (codes "s") 5
+          ∷ steps.Close (codes "s")
+          ∷ []
           )
           ∷
           an_app (codes "a") (codes "second") (
-            steps.Connect (codes "s") (codes "b") 80
-            ∷ steps.Send (codes "s") (codes "hello")
-            ∷ steps.Recv (codes "s") 5
-            ∷ steps.Close (codes "s")
-            ∷ []
+          steps.Connect (codes "s") (codes "b") 80
+          ∷ steps.Send (codes "s") (codes "hello")
+          ∷ steps.Recv (codes "s") 5
+          ∷ steps.Close (codes "s")
+          ∷ []
           )
           ∷
           [];

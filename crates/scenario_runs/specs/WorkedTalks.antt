@@ -14,20 +14,20 @@ hello =
       hosts = a_host (codes "a") 167772161 1000 16384 1460 3 1024 16 ∷ a_host (codes "b") 167772162 5000 16384 1460 3 1024 16 ∷ [];
       apps =
           an_app (codes "b") (codes "server") (
-            steps.Listen (codes "lst") 80
-            ∷ steps.Accept (codes "s") (codes "lst")
-            ∷ steps.Recv (codes "s") 5
-            ∷ steps.Send (codes "s") (codes "world")
-            ∷ steps.Close (codes "s")
-            ∷ []
+          steps.Listen (codes "lst") 80
+          ∷ steps.Accept (codes "s") (codes "lst")
+          ∷ steps.Recv (codes "s") 5
+          ∷ steps.Send (codes "s") (codes "world")
+          ∷ steps.Close (codes "s")
+          ∷ []
           )
           ∷
           an_app (codes "a") (codes "client") (
-            steps.Connect (codes "s") (codes "b") 80
-            ∷ steps.Send (codes "s") (codes "hello")
-            ∷ steps.Recv (codes "s") 5
-            ∷ steps.Close (codes "s")
-            ∷ []
+          steps.Connect (codes "s") (codes "b") 80
+          ∷ steps.Send (codes "s") (codes "hello")
+          ∷ steps.Recv (codes "s") 5
+          ∷ steps.Close (codes "s")
+          ∷ []
           )
           ∷
           [];
@@ -120,20 +120,20 @@ lost =
       hosts = a_host (codes "a") 167772161 1000 16384 1460 3 1024 16 ∷ a_host (codes "b") 167772162 5000 16384 1460 3 1024 16 ∷ [];
       apps =
           an_app (codes "b") (codes "server") (
-            steps.Listen (codes "lst") 80
-            ∷ steps.Accept (codes "s") (codes "lst")
-            ∷ steps.Recv (codes "s") 5
-            ∷ steps.Send (codes "s") (codes "world")
-            ∷ steps.Close (codes "s")
-            ∷ []
+          steps.Listen (codes "lst") 80
+          ∷ steps.Accept (codes "s") (codes "lst")
+          ∷ steps.Recv (codes "s") 5
+          ∷ steps.Send (codes "s") (codes "world")
+          ∷ steps.Close (codes "s")
+          ∷ []
           )
           ∷
           an_app (codes "a") (codes "client") (
-            steps.Connect (codes "s") (codes "b") 80
-            ∷ steps.Send (codes "s") (codes "hello")
-            ∷ steps.Recv (codes "s") 5
-            ∷ steps.Close (codes "s")
-            ∷ []
+          steps.Connect (codes "s") (codes "b") 80
+          ∷ steps.Send (codes "s") (codes "hello")
+          ∷ steps.Recv (codes "s") 5
+          ∷ steps.Close (codes "s")
+          ∷ []
           )
           ∷
           [];
@@ -241,20 +241,20 @@ doubled =
       hosts = a_host (codes "a") 167772161 1000 16384 1460 3 1024 16 ∷ a_host (codes "b") 167772162 5000 16384 1460 3 1024 16 ∷ [];
       apps =
           an_app (codes "b") (codes "server") (
-            steps.Listen (codes "lst") 80
-            ∷ steps.Accept (codes "s") (codes "lst")
-            ∷ steps.Recv (codes "s") 5
-            ∷ steps.Send (codes "s") (codes "world")
-            ∷ steps.Close (codes "s")
-            ∷ []
+          steps.Listen (codes "lst") 80
+          ∷ steps.Accept (codes "s") (codes "lst")
+          ∷ steps.Recv (codes "s") 5
+          ∷ steps.Send (codes "s") (codes "world")
+          ∷ steps.Close (codes "s")
+          ∷ []
           )
           ∷
           an_app (codes "a") (codes "client") (
-            steps.Connect (codes "s") (codes "b") 80
-            ∷ steps.Send (codes "s") (codes "hello")
-            ∷ steps.Recv (codes "s") 5
-            ∷ steps.Close (codes "s")
-            ∷ []
+          steps.Connect (codes "s") (codes "b") 80
+          ∷ steps.Send (codes "s") (codes "hello")
+          ∷ steps.Recv (codes "s") 5
+          ∷ steps.Close (codes "s")
+          ∷ []
           )
           ∷
           [];
@@ -351,20 +351,20 @@ damaged =
       hosts = a_host (codes "a") 167772161 1000 16384 1460 3 1024 16 ∷ a_host (codes "b") 167772162 5000 16384 1460 3 1024 16 ∷ [];
       apps =
           an_app (codes "b") (codes "server") (
-            steps.Listen (codes "lst") 80
-            ∷ steps.Accept (codes "s") (codes "lst")
-            ∷ steps.Recv (codes "s") 5
-            ∷ steps.Send (codes "s") (codes "world")
-            ∷ steps.Close (codes "s")
-            ∷ []
+          steps.Listen (codes "lst") 80
+          ∷ steps.Accept (codes "s") (codes "lst")
+          ∷ steps.Recv (codes "s") 5
+          ∷ steps.Send (codes "s") (codes "world")
+          ∷ steps.Close (codes "s")
+          ∷ []
           )
           ∷
           an_app (codes "a") (codes "client") (
-            steps.Connect (codes "s") (codes "b") 80
-            ∷ steps.Send (codes "s") (codes "hello")
-            ∷ steps.Recv (codes "s") 5
-            ∷ steps.Close (codes "s")
-            ∷ []
+          steps.Connect (codes "s") (codes "b") 80
+          ∷ steps.Send (codes "s") (codes "hello")
+          ∷ steps.Recv (codes "s") 5
+          ∷ steps.Close (codes "s")
+          ∷ []
           )
           ∷
           [];
@@ -473,20 +473,20 @@ wrapped =
       hosts = a_host (codes "a") 167772161 4294967290 16384 1460 3 1024 16 ∷ a_host (codes "b") 167772162 5000 16384 1460 3 1024 16 ∷ [];
       apps =
           an_app (codes "b") (codes "server") (
-            steps.Listen (codes "lst") 80
-            ∷ steps.Accept (codes "s") (codes "lst")
-            ∷ steps.Recv (codes "s") 10
-            ∷ steps.Send (codes "s") (codes "world")
-            ∷ steps.Close (codes "s")
-            ∷ []
+          steps.Listen (codes "lst") 80
+          ∷ steps.Accept (codes "s") (codes "lst")
+          ∷ steps.Recv (codes "s") 10
+          ∷ steps.Send (codes "s") (codes "world")
+          ∷ steps.Close (codes "s")
+          ∷ []
           )
           ∷
           an_app (codes "a") (codes "client") (
-            steps.Connect (codes "s") (codes "b") 80
-            ∷ steps.Send (codes "s") (codes "helloworld")
-            ∷ steps.Recv (codes "s") 5
-            ∷ steps.Close (codes "s")
-            ∷ []
+          steps.Connect (codes "s") (codes "b") 80
+          ∷ steps.Send (codes "s") (codes "helloworld")
+          ∷ steps.Recv (codes "s") 5
+          ∷ steps.Close (codes "s")
+          ∷ []
           )
           ∷
           [];
@@ -579,11 +579,11 @@ nobody =
       hosts = a_host (codes "a") 167772161 1000 16384 1460 3 1024 16 ∷ a_host (codes "b") 167772162 5000 16384 1460 3 1024 16 ∷ [];
       apps =
           an_app (codes "a") (codes "client") (
-            steps.Connect (codes "s") (codes "b") 80
-            ∷ steps.Send (codes "s") (codes "hello")
-            ∷ steps.Recv (codes "s") 5
-            ∷ steps.Close (codes "s")
-            ∷ []
+          steps.Connect (codes "s") (codes "b") 80
+          ∷ steps.Send (codes "s") (codes "hello")
+          ∷ steps.Recv (codes "s") 5
+          ∷ steps.Close (codes "s")
+          ∷ []
           )
           ∷
           [];
@@ -635,4 +635,3 @@ lone_report =
     ∷ codes "host a 10.0.0.1"
     ∷ codes "end 1 ticks"
     ∷ [])
-

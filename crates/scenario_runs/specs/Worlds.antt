@@ -47,8 +47,8 @@ abbrev pub scripts_on : List KillLine → (host : List ℕ) → (number : ℕ) �
 scripts_on kills host n [] = []
 scripts_on kills host n (app ∷ apps) =
     (if bytes_eq app.host host
-      then (record { number = n; kill = kill_tick kills app; left = app.steps; done = 0; begun = false; names = [] }) ∷ []
-      else [])
+    then (record { number = n; kill = kill_tick kills app; left = app.steps; done = 0; begun = false; names = [] }) ∷ []
+    else [])
     ++ scripts_on kills host (n + 1) apps
 
 abbrev pub site_of : Scenario → HostLine → Site (List Script)
