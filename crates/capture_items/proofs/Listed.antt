@@ -1,5 +1,7 @@
 -- How the first numbers are kept.
-use Rattle.std.proofs.Common.{◌≡◌, ℕ, zero, suc, ◌+◌, ◌*◌, ◌%◌, ◌^◌, ◌==◌, ◌&&◌, ◌||◌, ◌≤◌, ◌<◌, not, Bool, true, false, cond, List, [], ◌∷◌, ◌++◌, length, map, take, get_or, fold, filter_map, Option, Some, None, if◌then◌else◌, refl, sym, ap, ◌∙◌, subst, true≢false, arith, length-append}
+use Rattle.std.proofs.Common.{◌≡◌, ℕ, zero, suc, ◌+◌, ◌*◌, ◌%◌, ◌^◌, ◌==◌, ◌&&◌, ◌||◌, ◌≤◌, ◌<◌, not, Bool, true, false}
+use Rattle.std.proofs.Common.{cond, List, [], ◌∷◌, ◌++◌, length, map, take, get_or, fold, filter_map, Option, Some}
+use Rattle.std.proofs.Common.{None, if◌then◌else◌, refl, sym, ap, ◌∙◌, subst, true≢false, arith, length-append}
 use Rattle.std.proofs.lemmas.Bool.Decides.{nat_tests}
 use Rattle.std.specs.List.{slice_get, list_any, cons_option}
 use Rattle.std.specs.Map.{lookup}
@@ -14,7 +16,8 @@ use Rattle.tas_model.specs.declared.entry.FourTuple.{FourTuple}
 use Rattle.tas_runs.specs.Records.{Item}
 use Rattle.host_rounds.specs.Hosts.{same_tuple}
 use Rattle.tas_runs.specs.FirstNumbers.{with_new, local_syn, local_numbers, first_number}
-use Rattle.capture_items.specs.Numbers.{equal_tuple, same_turn, same_known, number_at, number_or, kept_numbers, AreNumbersOf, count_in, AreOf}
+use Rattle.capture_items.specs.Numbers.{equal_tuple, same_turn, same_known, number_at, number_or, kept_numbers}
+use Rattle.capture_items.specs.Numbers.{AreNumbersOf, count_in, AreOf}
 use Rattle.capture_items.specs.declared.numbers.Turn.{Turn}
 use Rattle.capture_items.specs.declared.numbers.Known.{Known}
 use Rattle.capture_items.specs.declared.numbers.Numbering.{Numbering}
@@ -41,7 +44,8 @@ equal : (m n : ℕ) → (m == n) ≡ true → m ≡ n
 equal m n h = grind (arith, nat_tests, h)
 
 same_fields : (a b c d e f g h : ℕ) → a ≡ e → b ≡ f → c ≡ g → d ≡ h
-    → ◌≡◌ {A = FourTuple} (record { laddr = a; lport = b; raddr = c; rport = d }) (record { laddr = e; lport = f; raddr = g; rport = h })
+    → ◌≡◌ {A = FourTuple} (record { laddr = a; lport = b; raddr = c; rport = d })
+        (record { laddr = e; lport = f; raddr = g; rport = h })
 same_fields a b c d e f g h e1 e2 e3 e4 = cc (e1, e2, e3, e4)
 
 pub tuple_exact : (a b : FourTuple) → equal_tuple a b ≡ true → a ≡ b
@@ -49,7 +53,8 @@ tuple_exact a b h =
     let first = both _ _ h in
     let second = both _ _ first.1 in
     let third = both _ _ second.1 in
-    same_fields _ _ _ _ _ _ _ _ (equal a.laddr b.laddr first.0) (equal a.lport b.lport second.0) (equal a.raddr b.raddr third.0) (equal a.rport b.rport third.1)
+    same_fields _ _ _ _ _ _ _ _ (equal a.laddr b.laddr first.0) (equal a.lport b.lport second.0)
+        (equal a.raddr b.raddr third.0) (equal a.rport b.rport third.1)
 
 self_equal : (n : ℕ) → (n == n) ≡ true
 self_equal n = grind (arith, nat_tests)
@@ -80,11 +85,13 @@ one_less m k = by_equal (m == k) refl where
   by_equal true e = grind (arith, nat_tests, e)
   by_equal false e = grind (arith, nat_tests, e)
 
-mapped_cond : (b : Bool) (x : Seq) (o : Option Seq) → option_map (λ (s : Seq). s.0) (cond b (Some x) o) ≡ cond b (Some x.0) (option_map (λ (s : Seq). s.0) o)
+mapped_cond : (b : Bool) (x : Seq) (o : Option Seq)
+    → option_map (λ (s : Seq). s.0) (cond b (Some x) o) ≡ cond b (Some x.0) (option_map (λ (s : Seq). s.0) o)
 mapped_cond true x o = refl
 mapped_cond false x o = refl
 
-pub slice_get-push : (xs : List ℕ) (n k : ℕ) → slice_get (xs ++ n ∷ []) k ≡ cond (length xs == k) (Some n) (slice_get xs k)
+pub slice_get-push : (xs : List ℕ) (n k : ℕ) → slice_get (xs ++ n ∷ []) k
+    ≡ cond (length xs == k) (Some n) (slice_get xs k)
 slice_get-push [] n zero = refl
 slice_get-push [] n (suc k) =
     let apart : (0 == suc k) ≡ false = grind (arith, nat_tests) in
@@ -96,12 +103,14 @@ slice_get-push (x ∷ xs) n (suc k) =
     let same : (length (x ∷ xs) == suc k) ≡ (length xs == k) = one_less (length xs) k in
     slice_get-push xs n k ∙ ap (λ (b : Bool). cond b (Some n) (slice_get xs k)) (sym same)
 
-pub list_any-push : (xs : List ℕ) (n m : ℕ) → list_any (λ x. x == m) (xs ++ n ∷ []) ≡ cond (n == m) true (list_any (λ x. x == m) xs)
+pub list_any-push : (xs : List ℕ) (n m : ℕ) → list_any (λ x. x == m) (xs ++ n ∷ [])
+    ≡ cond (n == m) true (list_any (λ x. x == m) xs)
 list_any-push [] n m = or_false (n == m) where
   or_false : (b : Bool) → (b || false) ≡ cond b true false
   or_false true = refl
   or_false false = refl
-list_any-push (x ∷ xs) n m = ap (λ b. x == m || b) (list_any-push xs n m) ∙ later (x == m) (n == m) (list_any (λ x. x == m) xs) where
+list_any-push (x ∷ xs) n m = ap (λ b. x == m || b) (list_any-push xs n m)
+    ∙ later (x == m) (n == m) (list_any (λ x. x == m) xs) where
   later : (a b c : Bool) → (a || cond b true c) ≡ cond b true (a || c)
   later a true c = or_true a where
     or_true : (a : Bool) → (a || true) ≡ true
@@ -112,39 +121,65 @@ list_any-push (x ∷ xs) n m = ap (λ b. x == m || b) (list_any-push xs n m) ∙
 -- what one number more changes: it isn't listed yet
 pub record IsMore (s r : Numbering) (tuple : FourTuple) (number : Seq) : Type 0 where
   pub fresh : contains same_known s.known (record { tuple = tuple; number = number.0 }) ≡ false
-  pub counts : (q : FourTuple) → get equal_tuple r.counts q ≡ cond (equal_tuple tuple q) (Some (count_in s tuple + 1)) (get equal_tuple s.counts q)
-  pub known : (q : Known) → contains same_known r.known q ≡ cond (same_known (record { tuple = tuple; number = number.0 }) q) true (contains same_known s.known q)
-  pub numbers : (q : Turn) → get same_turn r.numbers q ≡ cond (same_turn (record { tuple = tuple; place = count_in s tuple }) q) (Some number) (get same_turn s.numbers q)
+  pub counts : (q : FourTuple) → get equal_tuple r.counts q
+      ≡ cond (equal_tuple tuple q) (Some (count_in s tuple + 1)) (get equal_tuple s.counts q)
+  pub known : (q : Known) → contains same_known r.known q
+      ≡ cond (same_known (record { tuple = tuple; number = number.0 }) q) true (contains same_known s.known q)
+  pub numbers : (q : Turn) → get same_turn r.numbers q
+      ≡ cond (same_turn (record { tuple = tuple; place = count_in s tuple }) q) (Some number)
+      (get same_turn s.numbers q)
 
-more_by : (s r : Numbering) (tuple t : FourTuple) (number : Seq) (list : List ℕ) → IsMore s r tuple number → AreOf s t list → AreOf r t (if equal_tuple t tuple then with_new list number.0 else list)
+more_by : (s r : Numbering) (tuple t : FourTuple) (number : Seq) (list : List ℕ) → IsMore s r tuple number
+    → AreOf s t list → AreOf r t (if equal_tuple t tuple then with_new list number.0 else list)
 more_by s r tuple t number list more are = by_same (equal_tuple t tuple) refl where
   by_same : (b : Bool) → equal_tuple t tuple ≡ b → AreOf r t (if b then with_new list number.0 else list)
   by_same false e =
       let apart : equal_tuple tuple t ≡ false = tuple_apart t tuple e in
       record {
-        counted = ap (λ (o : Option ℕ). unwrap_or o 0) (more.counts t ∙ ap (λ (b : Bool). cond b (Some (count_in s tuple + 1)) (get equal_tuple s.counts t)) apart) ∙ are.counted;
-        known = λ m. more.known (record { tuple = t; number = m }) ∙ (ap (λ (b : Bool). cond (b && number.0 == m) true (contains same_known s.known (record { tuple = t; number = m }))) apart ∙ are.known m);
-        numbers = λ k. ap (option_map (λ (s : Seq). s.0)) (more.numbers (record { tuple = t; place = k }) ∙ ap (λ (b : Bool). cond (b && count_in s tuple == k) (Some number) (get same_turn s.numbers (record { tuple = t; place = k }))) apart) ∙ are.numbers k;
+        counted = ap (λ (o : Option ℕ). unwrap_or o 0)
+            (more.counts t ∙ ap (λ (b : Bool). cond b (Some (count_in s tuple + 1)) (get equal_tuple s.counts t)) apart)
+            ∙ are.counted;
+        known = λ m. more.known (record { tuple = t; number = m })
+            ∙ (ap (λ (b : Bool). cond (b && number.0 == m) true
+            (contains same_known s.known (record { tuple = t; number = m }))) apart ∙ are.known m);
+        numbers = λ k. ap (option_map (λ (s : Seq). s.0))
+            (more.numbers (record { tuple = t; place = k })
+            ∙ ap (λ (b : Bool). cond (b && count_in s tuple == k) (Some number)
+            (get same_turn s.numbers (record { tuple = t; place = k }))) apart) ∙ are.numbers k;
       }
   by_same true e =
       let exact : t ≡ tuple = tuple_exact t tuple e in
       let here : equal_tuple tuple t ≡ true = ap (equal_tuple tuple) exact ∙ tuple_itself tuple in
       let count : count_in s tuple ≡ length list = ap (count_in s) (sym exact) ∙ are.counted in
-      let fresh : list_any (λ m. m == number.0) list ≡ false = sym (are.known number.0) ∙ (ap (λ (q : FourTuple). contains same_known s.known (record { tuple = q; number = number.0 })) exact ∙ more.fresh) in
-      let counted : count_in r t ≡ count_in s tuple + 1 = ap (λ (o : Option ℕ). unwrap_or o 0) (more.counts t ∙ ap (λ (b : Bool). cond b (Some (count_in s tuple + 1)) (get equal_tuple s.counts t)) here) in
+      let fresh : list_any (λ m. m == number.0) list ≡ false = sym (are.known number.0)
+          ∙ (ap (λ (q : FourTuple). contains same_known s.known (record { tuple = q; number = number.0 })) exact
+          ∙ more.fresh) in
+      let counted : count_in r t ≡ count_in s tuple + 1 = ap (λ (o : Option ℕ). unwrap_or o 0)
+          (more.counts t ∙ ap (λ (b : Bool). cond b (Some (count_in s tuple + 1)) (get equal_tuple s.counts t)) here) in
       let longer : AreOf r t (list ++ number.0 ∷ []) =
       record {
         counted = omega (arith, counted, count, length-append list (number.0 ∷ []));
-        known = λ m. more.known (record { tuple = t; number = m }) ∙ (ap (λ (b : Bool). cond (b && number.0 == m) true (contains same_known s.known (record { tuple = t; number = m }))) here ∙ (ap (cond (number.0 == m) true) (are.known m) ∙ sym (list_any-push list number.0 m)));
-        numbers = λ k. ap (option_map (λ (s : Seq). s.0)) (more.numbers (record { tuple = t; place = k }) ∙ ap (λ (b : Bool). cond (b && count_in s tuple == k) (Some number) (get same_turn s.numbers (record { tuple = t; place = k }))) here)
+        known = λ m. more.known (record { tuple = t; number = m })
+            ∙ (ap (λ (b : Bool). cond (b && number.0 == m) true
+            (contains same_known s.known (record { tuple = t; number = m }))) here
+            ∙ (ap (cond (number.0 == m) true) (are.known m) ∙ sym (list_any-push list number.0 m)));
+        numbers = λ k. ap (option_map (λ (s : Seq). s.0))
+            (more.numbers (record { tuple = t; place = k })
+            ∙ ap (λ (b : Bool). cond (b && count_in s tuple == k) (Some number)
+            (get same_turn s.numbers (record { tuple = t; place = k }))) here)
             ∙ (mapped_cond (count_in s tuple == k) number (get same_turn s.numbers (record { tuple = t; place = k }))
-            ∙ (ap (λ (n : ℕ). cond (n == k) (Some number.0) (number_at s.numbers.entries t k)) count ∙ (ap (cond (length list == k) (Some number.0)) (are.numbers k) ∙ sym (slice_get-push list number.0 k))));
+            ∙ (ap (λ (n : ℕ). cond (n == k) (Some number.0) (number_at s.numbers.entries t k)) count
+                ∙ (ap (cond (length list == k) (Some number.0)) (are.numbers k)
+                ∙ sym (slice_get-push list number.0 k))));
       }
       in
       rw fresh longer
 
-pub listed_more : (s r : Numbering) (tuple t : FourTuple) (number : Seq) (list : List ℕ) → IsMore s r tuple number → AreOf s t list → AreOf r t (if same_tuple t tuple then with_new list number.0 else list)
-listed_more s r tuple t number list more are = subst (λ (b : Bool). AreOf r t (if b then with_new list number.0 else list)) (sym (same_equal t tuple)) (more_by s r tuple t number list more are)
+pub listed_more : (s r : Numbering) (tuple t : FourTuple) (number : Seq) (list : List ℕ) → IsMore s r tuple number
+    → AreOf s t list → AreOf r t (if same_tuple t tuple then with_new list number.0 else list)
+listed_more s r tuple t number list more are = subst
+    (λ (b : Bool). AreOf r t (if b then with_new list number.0 else list)) (sym (same_equal t tuple))
+    (more_by s r tuple t number list more are)
 
 -- ----- one item more
 abbrev pub with_one : List ℕ → Option ℕ → List ℕ
@@ -155,10 +190,13 @@ folded : (o : Option ℕ) (list : List ℕ) → fold with_new list (cons_option 
 folded None list = refl
 folded (Some n) list = refl
 
-numbers_push : (items : List Item) (x : Item) (t : FourTuple) → local_numbers (items ++ x ∷ []) t ≡ with_one (local_numbers items t) (local_syn t x.content)
+numbers_push : (items : List Item) (x : Item) (t : FourTuple)
+    → local_numbers (items ++ x ∷ []) t ≡ with_one (local_numbers items t) (local_syn t x.content)
 numbers_push items x t =
     let f : Item → Option ℕ = λ (y : Item). local_syn t y.content in
-    ap (fold with_new []) (filter_map-append f items (x ∷ [])) ∙ (fold-append with_new [] (filter_map f items) (cons_option (f x) []) ∙ folded (f x) (fold with_new [] (filter_map f items)))
+    ap (fold with_new []) (filter_map-append f items (x ∷ []))
+        ∙ (fold-append with_new [] (filter_map f items) (cons_option (f x) [])
+        ∙ folded (f x) (fold with_new [] (filter_map f items)))
 
 with_one_few : (o : Option ℕ) (list : List ℕ) → length (with_one list o) ≤ length list + 1
 with_one_few None list = omega arith
@@ -168,21 +206,26 @@ with_one_few (Some n) list = by_known (list_any (λ m. m == n) list) where
   by_known false = omega (arith, length-append list (n ∷ []))
 
 -- one value more that stands for an item
-pub numbers_more : {X : Type 0} (f : X → Item) (xs : List X) (i : ℕ) (d : X) (t : FourTuple) (o : Option ℕ) → i < length xs → o ≡ local_syn t (f (get_or xs i d)).content
+pub numbers_more : {X : Type 0} (f : X → Item) (xs : List X) (i : ℕ) (d : X) (t : FourTuple) (o : Option ℕ)
+    → i < length xs → o ≡ local_syn t (f (get_or xs i d)).content
     → local_numbers (map f (take (i + 1) xs)) t ≡ with_one (local_numbers (map f (take i xs)) t) o
 numbers_more f xs i d t o below is =
     ap (λ (ys : List Item). local_numbers ys t) (map_more f xs i d below)
-    ∙ (numbers_push (map f (take i xs)) (f (get_or xs i d)) t ∙ ap (with_one (local_numbers (map f (take i xs)) t)) (sym is))
+    ∙ (numbers_push (map f (take i xs)) (f (get_or xs i d)) t
+        ∙ ap (with_one (local_numbers (map f (take i xs)) t)) (sym is))
 
-pub with_one_if : (b : Bool) (list : List ℕ) (n : ℕ) → with_one list (if b then Some n else None) ≡ (if b then with_new list n else list)
+pub with_one_if : (b : Bool) (list : List ℕ) (n : ℕ)
+    → with_one list (if b then Some n else None) ≡ (if b then with_new list n else list)
 with_one_if true list n = refl
 with_one_if false list n = refl
 
 -- at most one number an item
-pub numbers_few : {X : Type 0} (f : X → Item) (xs : List X) (i : ℕ) (d : X) (t : FourTuple) (o : Option ℕ) → i < length xs → o ≡ local_syn t (f (get_or xs i d)).content
+pub numbers_few : {X : Type 0} (f : X → Item) (xs : List X) (i : ℕ) (d : X) (t : FourTuple) (o : Option ℕ)
+    → i < length xs → o ≡ local_syn t (f (get_or xs i d)).content
     → length (local_numbers (map f (take i xs)) t) ≤ i → length (local_numbers (map f (take (i + 1) xs)) t) ≤ i + 1
 numbers_few f xs i d t o below is few =
-    let more : length (local_numbers (map f (take (i + 1) xs)) t) ≡ length (with_one (local_numbers (map f (take i xs)) t) o) = ap length (numbers_more f xs i d t o below is) in
+    let more : length (local_numbers (map f (take (i + 1) xs)) t)
+        ≡ length (with_one (local_numbers (map f (take i xs)) t) o) = ap length (numbers_more f xs i d t o below is) in
     let one = with_one_few o (local_numbers (map f (take i xs)) t) in
     omega (arith, few, one, more)
 

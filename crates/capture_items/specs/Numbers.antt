@@ -27,11 +27,14 @@ same_known a b = equal_tuple a.tuple b.tuple && a.number == b.number
 -- ----- what is kept
 -- the number that is kept of a four-tuple at this place
 abbrev pub number_at : List (Turn × Seq) → FourTuple → (place : ℕ) → Option ℕ
-number_at kept tuple place = option_map (λ (s : Seq). s.0) (lookup (same_turn (record { tuple = tuple; place = place })) kept)
+number_at kept tuple place = option_map (λ (s : Seq). s.0)
+    (lookup (same_turn (record { tuple = tuple; place = place })) kept)
 
--- What is kept are the numbers of the local SYN segments among the items: a four-tuple's different numbers, each at its place.
+-- What is kept are the numbers of the local SYN segments among the items: a four-tuple's different numbers, each at its
+-- place.
 abbrev pub AreNumbersOf : List Item → List (Turn × Seq) → Type 0
-AreNumbersOf items kept = (tuple : FourTuple) (place : ℕ) → number_at kept tuple place ≡ slice_get (local_numbers items tuple) place
+AreNumbersOf items kept = (tuple : FourTuple) (place : ℕ)
+    → number_at kept tuple place ≡ slice_get (local_numbers items tuple) place
 
 -- the number that is kept, or else that of the n-th flow of the host
 abbrev pub number_or : (n : ℕ) → Option ℕ → ℕ

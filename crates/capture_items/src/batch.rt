@@ -11,7 +11,8 @@ pub fn next_batch(items: &[Item<'_>]) -> usize
     ensures some { 0 < length items.now → 1 ≤ result }
     ensures most { result ≤ 64 }
     ensures inside { result ≤ length items.now }
-    ensures first { 0 < length items.now → batches_of (map item_in items.now) ≡ take result (map item_in items.now) ∷ batches_of (drop result (map item_in items.now)) }
+    ensures first { 0 < length items.now → batches_of (map item_in items.now)
+        ≡ take result (map item_in items.now) ∷ batches_of (drop result (map item_in items.now)) }
 {
     for (count, item) in items.iter().enumerate() {
         if !joins(&items[..count], item) {

@@ -23,7 +23,8 @@ impl Found<'_> {
     pub fn counts(&self) -> Counts
         requires { length self.now.items.items ≤ self.now.records }
         ensures records { result.records ≡ self.now.records }
-        ensures frames { result.frames ≡ length (map item_in self.now.items.items) - count_by is_damaged (map item_in self.now.items.items) }
+        ensures frames { result.frames ≡ length (map item_in self.now.items.items) - count_by is_damaged
+            (map item_in self.now.items.items) }
         ensures passed { result.passed ≡ self.now.records - length (map item_in self.now.items.items) }
         ensures refused { result.refused ≡ count_by is_damaged (map item_in self.now.items.items) }
     {

@@ -25,7 +25,8 @@ pub enum InputFault {
     Refused(PcapRefused),
 }
 
-/// What the capture of these bytes holds for the host of the address `local`, each record read once. With `loose` no checksum is looked at.
+/// What the capture of these bytes holds for the host of the address `local`, each record read once. With `loose` no
+/// checksum is looked at.
 /// Bytes that are no capture are refused, with the first fault in them; want of memory is told where it comes first.
 pub fn find_items<'a>(
     alloc: Global,
@@ -68,7 +69,8 @@ fn take_up<'a>(
     local: u32,
     loose: bool,
 ) -> Result<(), AllocError>
-    ensures ok { OnOk result (map item_in items.new.items ≡ map item_in items.old.items ++ items_of (form_in header.now) local loose (record_in view.now ∷ [])) }
+    ensures ok { OnOk result (map item_in items.new.items
+        ≡ map item_in items.old.items ++ items_of (form_in header.now) local loose (record_in view.now ∷ [])) }
 {
     if let Some(item) = read_item(header, view, local, loose) {
         items.push(item)?;

@@ -65,7 +65,8 @@ pub fn is_same_tuple(a: &FourTuple, b: &FourTuple) -> bool
     a.laddr == b.laddr && a.lport == b.lport && a.raddr == b.raddr && a.rport == b.rport
 }
 
-/// What a record of a capture with this header is for the host of the address `local`. None where it is passed over: it wasn't captured whole, or it is
+/// What a record of a capture with this header is for the host of the address `local`. None where it is passed over: it
+/// wasn't captured whole, or it is
 /// other traffic than TCP in IPv4, or neither of its addresses is local. With `loose` no checksum is looked at.
 pub fn read_item<'a>(
     header: &CaptureHeader,
@@ -73,7 +74,8 @@ pub fn read_item<'a>(
     local: u32,
     loose: bool,
 ) -> Option<Item<'a>>
-    ensures taken { IfSome result (λ item. item_of (form_in header.now) local loose (record_in view.now) ≡ Some (item_in item)) }
+    ensures taken { IfSome result (λ item. item_of (form_in header.now) local loose (record_in view.now)
+        ≡ Some (item_in item)) }
     ensures passed_over { IfNone result (item_of (form_in header.now) local loose (record_in view.now) ≡ None) }
 {
     let content = read_content(packet(header, view)?, local, loose)?;

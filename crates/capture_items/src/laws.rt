@@ -9,8 +9,10 @@ ghost use Rattle.capture_items.specs.declared.found.Found.{Found};
 /// The run of a capture in serial order is that of what was found in it; bytes that are no capture have none.
 #[tactic(auto, using(crate::proofs::Replays::fault_is_replayed))]
 pub fn what_is_found_is_replayed()
-    ensures found { (bytes : List ℕ) (local : ℕ) (loose : Bool) (found : Found) → IsFound bytes local loose found → serial_replay local bytes loose ≡ Ok (serial_log local found.records (map item_in found.items.items)) }
-    ensures refused { (bytes : List ℕ) (local : ℕ) (loose : Bool) (fault : Fault) → capture_of bytes ≡ Err fault → serial_replay local bytes loose ≡ Err fault }
+    ensures found { (bytes : List ℕ) (local : ℕ) (loose : Bool) (found : Found) → IsFound bytes local loose found
+        → serial_replay local bytes loose ≡ Ok (serial_log local found.records (map item_in found.items.items)) }
+    ensures refused { (bytes : List ℕ) (local : ℕ) (loose : Bool) (fault : Fault) → capture_of bytes ≡ Err fault
+        → serial_replay local bytes loose ≡ Err fault }
 {}
 
 /// Without items there is no batch.

@@ -1,4 +1,5 @@
-//! What the records of a capture are for the one host that a replay plays: frames that come to it, segments that it sent itself, and in which batches they come.
+//! What the records of a capture are for the one host that a replay plays: frames that come to it, segments that it
+//! sent itself, and in which batches they come.
 #![tactic(auto)]
 
 mod batch;

@@ -27,7 +27,8 @@ struct Known {
     number: u32,
 }
 
-/// The first sequence numbers of the local host's flows, which its own SYN segments in a capture have. They are seen as a list, in which each number stands
+/// The first sequence numbers of the local host's flows, which its own SYN segments in a capture have. They are seen as
+/// a list, in which each number stands
 /// behind its four-tuple and its place among the different numbers of that four-tuple.
 #[derive(Drop)]
 pub struct FirstNumbers {
@@ -57,7 +58,8 @@ impl Numbering {
     /// Takes up a number of a four-tuple, which is listed once.
     fn note(&mut self, tuple: FourTuple, number: Seq) -> Result<(), AllocError>
         requires small { count_in self.old tuple + 1 < 2 ^ 64 }
-        ensures ok { OnOk result ((t : FourTuple) (list : List ℕ) → AreOf self.old t list → AreOf self.new t (if same_tuple t tuple then with_new list number.0 else list)) }
+        ensures ok { OnOk result ((t : FourTuple) (list : List ℕ) → AreOf self.old t list
+            → AreOf self.new t (if same_tuple t tuple then with_new list number.0 else list)) }
     {
         let is_new = self.known.insert(Known {
             tuple,
@@ -107,10 +109,12 @@ impl FirstNumbers {
         })
     }
 
-    /// The first number of a flow of this four-tuple, where `k` flows of the four-tuple were opened before it, and `n` flows of the host.
+    /// The first number of a flow of this four-tuple, where `k` flows of the four-tuple were opened before it, and `n`
+    /// flows of the host.
     pub fn number(&self, tuple: FourTuple, k: usize, n: u32) -> Seq
         ensures kept { result.0 ≡ kept_numbers self.now tuple k n }
-        ensures items { (items : List model.Item) → AreNumbersOf items self.now → result.0 ≡ first_number items tuple k n }
+        ensures items { (items : List model.Item) → AreNumbersOf items self.now
+            → result.0 ≡ first_number items tuple k n }
     {
         match self.numbers.get(&Turn { tuple, place: k }) {
             Some(number) => *number,

@@ -5,7 +5,8 @@ use std::test::*;
 use tas_model::FourTuple;
 use tas_num::Seq;
 
-/// A capture of three packets from 10.0.0.1 to 10.0.0.2, as another program wrote them: a SYN, one that is no TCP, and one with a wrong TCP checksum.
+/// A capture of three packets from 10.0.0.1 to 10.0.0.2, as another program wrote them: a SYN, one that is no TCP, and
+/// one with a wrong TCP checksum.
 const CAPTURE: [u8; 194] = [
     0xd4, 0xc3, 0xb2, 0xa1, 0x02, 0x00, 0x04, 0x00, 0x00, 0x00, 0x00, 0x00, 0x00, 0x00, 0x00, 0x00,
     0xff, 0xff, 0x00, 0x00, 0x65, 0x00, 0x00, 0x00, 0x00, 0x00, 0x00, 0x00, 0x00, 0x00, 0x00, 0x00,
@@ -22,7 +23,8 @@ const CAPTURE: [u8; 194] = [
     0x68, 0x6a,
 ];
 
-/// The numbers of the items, each with the rule that its packet breaks, or 10 for a frame that comes, or 11 for a segment of the host itself.
+/// The numbers of the items, each with the rule that its packet breaks, or 10 for a frame that comes, or 11 for a
+/// segment of the host itself.
 fn kinds(alloc: Global, local: u32, loose: bool) -> Result<Vec<(u32, u8)>, Fail> {
     let mut kinds = Vec::new(alloc);
     if let Ok(found) = find_items(alloc, &CAPTURE, local, loose) {

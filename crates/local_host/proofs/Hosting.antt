@@ -1,5 +1,7 @@
 -- A host whose flow of a four-tuple changes, and one that opens a flow.
-use Rattle.std.proofs.Common.{◌≡◌, ℕ, suc, ◌+◌, ◌<◌, ◌++◌, ◌&&◌, ◌||◌, ◌==◌, not, count_by, Bool, true, false, cond, List, [], ◌∷◌, length, get_or, fold, map, drop, position, Option, Some, None, refl, sym, ap, ◌∙◌, true≢false, arith, tests, nat_lt}
+use Rattle.std.proofs.Common.{◌≡◌, ℕ, suc, ◌+◌, ◌<◌, ◌++◌, ◌&&◌, ◌||◌, ◌==◌, not, count_by, Bool, true, false, cond}
+use Rattle.std.proofs.Common.{List, [], ◌∷◌, length, get_or, fold, map, drop, position, Option, Some, None, refl, sym}
+use Rattle.std.proofs.Common.{ap, ◌∙◌, true≢false, arith, tests, nat_lt}
 use Rattle.std.specs.List.{list_any, position_or_len}
 use Rattle.std.proofs.lemmas.List.Sums.{fails_before_first}
 use Rattle.tas_num.specs.declared.seq.Seq.{Seq}
@@ -15,7 +17,9 @@ use Rattle.tas_model.specs.declared.entry.Reply.TheVariants as replies
 use Rattle.slow_handshake.specs.Strays.{sent_head, stray_answer as stray_answer_of, listener_reply as listener_reply_of}
 use Rattle.host_rounds.specs.Lists.{change_first, change_at}
 use Rattle.host_rounds.specs.declared.log.LogEvent.TheVariants as events
-use Rattle.host_rounds.specs.Hosts.{Live, Host, Listener, Holder, Waiting, Application, changed, logged, is_known, is_listening, is_full, waits_at, is_indexed_as, lowest_free, next_generation, first_entry, opened_in, Numbers, next_number}
+use Rattle.host_rounds.specs.Hosts.{Live, Host, Listener, Holder, Waiting, Application, changed, logged, is_known}
+use Rattle.host_rounds.specs.Hosts.{is_listening, is_full, waits_at, is_indexed_as, lowest_free, next_generation}
+use Rattle.host_rounds.specs.Hosts.{first_entry, opened_in, Numbers, next_number}
 use Rattle.host_rounds.specs.Deliveries.{answer_in, stray_answer, opens, opened_by_syn, met_no_flow}
 use Rattle.host_rounds.proofs.Loops.{none_found, known_found}
 use Rattle.tas_runs.specs.LocalScript.{connects, opened_by_connect, connected_where, connected}
@@ -23,18 +27,23 @@ use Rattle.local_host.specs.Live.{opened_live, connected_by}
 use Rattle.local_host.proofs.Places.{found_change}
 
 -- ----- the flow of a four-tuple
-pub changed_found : (host : Host) (tuple : FourTuple) (f : Live → Live) (i : ℕ) (flows : List Live) → position (is_indexed_as tuple) host.flows ≡ Some i → flows ≡ change_at i f host.flows
+pub changed_found : (host : Host) (tuple : FourTuple) (f : Live → Live) (i : ℕ) (flows : List Live)
+    → position (is_indexed_as tuple) host.flows ≡ Some i → flows ≡ change_at i f host.flows
     → ◌≡◌ {A = Host} (record host { flows = flows }) (changed host tuple f)
-changed_found host tuple f i flows found made = ap (λ (ls : List Live). record host { flows = ls }) (made ∙ (found_change (is_indexed_as tuple) f host.flows i found).1)
+changed_found host tuple f i flows found made = ap (λ (ls : List Live). record host { flows = ls })
+    (made ∙ (found_change (is_indexed_as tuple) f host.flows i found).1)
 
-pub changed_none : (host : Host) (tuple : FourTuple) (f : Live → Live) → position (is_indexed_as tuple) host.flows ≡ None → host ≡ changed host tuple f
-changed_none host tuple f none = sym (ap (λ (ls : List Live). record host { flows = ls }) (none_found (is_indexed_as tuple) f host.flows none))
+pub changed_none : (host : Host) (tuple : FourTuple) (f : Live → Live)
+    → position (is_indexed_as tuple) host.flows ≡ None → host ≡ changed host tuple f
+changed_none host tuple f none = sym (ap (λ (ls : List Live). record host { flows = ls })
+    (none_found (is_indexed_as tuple) f host.flows none))
 
 not_lower : (b : Bool) (i : ℕ) → cond b (Some i) None ≡ None → b ≡ false
 not_lower true i h = absurd (cc (h))
 not_lower false i h = refl
 
-none_any : {X : Type 0} (test : X → Bool) (xs : List X) (d : X) → ((k : ℕ) → k < length xs → test (get_or xs k d) ≡ false) → list_any test xs ≡ false
+none_any : {X : Type 0} (test : X → Bool) (xs : List X) (d : X)
+    → ((k : ℕ) → k < length xs → test (get_or xs k d) ≡ false) → list_any test xs ≡ false
 none_any test [] d fails = refl
 none_any test (x ∷ xs) d fails =
     let here : test x ≡ false = fails 0 (omega arith) in
@@ -48,14 +57,17 @@ unknown test (x ∷ xs) h =
     let ends : nat_lt (position_or_len test (x ∷ xs)) (length (x ∷ xs)) ≡ false = not_lower _ _ h in
     none_any test (x ∷ xs) x (λ k below. fails_before_first test (x ∷ xs) k x (grind (arith, tests, ends, below)))
 
-pub known_is : (tuple : FourTuple) (host : Host) (i : ℕ) → position (is_indexed_as tuple) host.flows ≡ Some i → is_known host tuple ≡ true
+pub known_is : (tuple : FourTuple) (host : Host) (i : ℕ) → position (is_indexed_as tuple) host.flows ≡ Some i
+    → is_known host tuple ≡ true
 known_is tuple host i found = known_found (is_indexed_as tuple) host.flows i found
 
-pub unknown_is : (tuple : FourTuple) (host : Host) → position (is_indexed_as tuple) host.flows ≡ None → is_known host tuple ≡ false
+pub unknown_is : (tuple : FourTuple) (host : Host) → position (is_indexed_as tuple) host.flows ≡ None
+    → is_known host tuple ≡ false
 unknown_is tuple host none = unknown (is_indexed_as tuple) host.flows none
 
 -- ----- openings
-opened_there : (host : Host) (slot : ℕ) (tuple : FourTuple) (holder : Holder) (x y : Entry) (id : FlowId) (flows : List Live)
+opened_there : (host : Host) (slot : ℕ) (tuple : FourTuple) (holder : Holder) (x y : Entry) (id : FlowId)
+    (flows : List Live)
     → id ≡ record { slot = slot; generation = next_generation slot host.flows } → x ≡ y
     → flows ≡ host.flows ++ opened_live id tuple host.params holder x ∷ []
     → ◌≡◌ {A = Host} (record host { flows = flows }) (opened_in host slot tuple holder y)
@@ -69,9 +81,12 @@ opened_there host slot tuple holder x y id flows is same made =
 number_is : (iss : Seq) (n : ℕ) → iss.0 ≡ n → ◌≡◌ {A = Seq} iss (record { 0 = n })
 number_is iss n is = ap (λ (m : ℕ). record { 0 = m }) is
 
-pub syn_opened : (host : Host) (slot n t : ℕ) (frame : FrameId) (tuple : FourTuple) (seg : Seg) (iss : Seq) (id : FlowId) (flows : List Live)
-    → lowest_free host ≡ Some slot → id ≡ record { slot = slot; generation = next_generation slot host.flows } → iss.0 ≡ n
-    → flows ≡ host.flows ++ opened_live id tuple host.params Waiting (first_entry Slow t (calls.Passive frame iss seg)) ∷ []
+pub syn_opened : (host : Host) (slot n t : ℕ) (frame : FrameId) (tuple : FourTuple) (seg : Seg) (iss : Seq)
+    (id : FlowId) (flows : List Live)
+    → lowest_free host ≡ Some slot → id ≡ record { slot = slot; generation = next_generation slot host.flows }
+        → iss.0 ≡ n
+    → flows ≡ host.flows ++ opened_live id tuple host.params Waiting
+        (first_entry Slow t (calls.Passive frame iss seg)) ∷ []
     → ◌≡◌ {A = Host} (record host { flows = flows }) (opened_by_syn false (lowest_free host) n t host frame tuple seg)
 syn_opened host slot n t frame tuple seg iss id flows free is number made =
     opened_there host slot tuple Waiting (first_entry Slow t (calls.Passive frame iss seg))
@@ -80,8 +95,10 @@ syn_opened host slot n t frame tuple seg iss id flows free is number made =
     ∙ ap (λ (o : Option ℕ). opened_by_syn false o n t host frame tuple seg) (sym free)
 
 pub connect_opened : (host : Host) (app slot n t : ℕ) (tuple : FourTuple) (iss : Seq) (id : FlowId) (flows : List Live)
-    → lowest_free host ≡ Some slot → id ≡ record { slot = slot; generation = next_generation slot host.flows } → iss.0 ≡ n
-    → flows ≡ host.flows ++ opened_live id tuple host.params (Application app) (first_entry (App app) t (calls.Connect iss)) ∷ []
+    → lowest_free host ≡ Some slot → id ≡ record { slot = slot; generation = next_generation slot host.flows }
+        → iss.0 ≡ n
+    → flows ≡ host.flows ++ opened_live id tuple host.params (Application app)
+        (first_entry (App app) t (calls.Connect iss)) ∷ []
     → ◌≡◌ {A = Host} (record host { flows = flows }) (connected_by app (lowest_free host) n t host tuple)
 connect_opened host app slot n t tuple iss id flows free is number made =
     opened_there host slot tuple (Application app) (first_entry (App app) t (calls.Connect iss))
@@ -92,28 +109,36 @@ connect_opened host app slot n t tuple iss id flows free is number made =
 -- ----- a segment of no flow
 -- where every port listens
 always_listening : (host : Host) (port : ℕ) → host.params.fixed ≡ true → is_listening host port ≡ true
-always_listening host port fixed = ap (λ (b : Bool). b || list_any (λ (l : Listener). l.port == port) host.listeners) fixed
+always_listening host port fixed = ap (λ (b : Bool). b || list_any (λ (l : Listener). l.port == port) host.listeners)
+    fixed
 
 never_full : (host : Host) (port : ℕ) → host.params.fixed ≡ true → is_full host port ≡ false
-never_full host port fixed = ap (λ (b : Bool). not b && not (nat_lt (count_by (waits_at port) host.flows) host.params.backlog)) fixed
+never_full host port fixed = ap (λ (b : Bool). not b && not
+    (nat_lt (count_by (waits_at port) host.flows) host.params.backlog)) fixed
 
 both_true : (a b : Bool) → a ≡ true → b ≡ true → (a && b) ≡ true
 both_true a b h g = ap (λ (c : Bool). c && b) h ∙ g
 
-pub met_listener : (n t : ℕ) (host : Host) (frame : FrameId) (tuple : FourTuple) (seg : Seg) → host.params.fixed ≡ true → opens seg ≡ true
+pub met_listener : (n t : ℕ) (host : Host) (frame : FrameId) (tuple : FourTuple) (seg : Seg) → host.params.fixed ≡ true
+    → opens seg ≡ true
     → opened_by_syn false (lowest_free host) n t host frame tuple seg
-      ≡ met_no_flow (is_listening host tuple.lport && opens seg) (is_listening host tuple.lport) n t host frame tuple seg
+      ≡ met_no_flow (is_listening host tuple.lport && opens seg)
+          (is_listening host tuple.lport) n t host frame tuple seg
 met_listener n t host frame tuple seg fixed opening =
-    ap (λ (b : Bool). opened_by_syn b (lowest_free host) n t host frame tuple seg) (sym (never_full host tuple.lport fixed))
+    ap (λ (b : Bool). opened_by_syn b (lowest_free host) n t host frame tuple seg)
+        (sym (never_full host tuple.lport fixed))
     ∙ ap (λ (b : Bool). met_no_flow b (is_listening host tuple.lport) n t host frame tuple seg)
     (sym (both_true (is_listening host tuple.lport) (opens seg) (always_listening host tuple.lport fixed) opening))
 
-pub met_stray : (n t : ℕ) (host : Host) (frame : FrameId) (tuple : FourTuple) (seg : Seg) → host.params.fixed ≡ true → opens seg ≡ false
+pub met_stray : (n t : ℕ) (host : Host) (frame : FrameId) (tuple : FourTuple) (seg : Seg) → host.params.fixed ≡ true
+    → opens seg ≡ false
     → logged host t (events.Stray frame tuple seg (stray_answer true seg))
-      ≡ met_no_flow (is_listening host tuple.lport && opens seg) (is_listening host tuple.lport) n t host frame tuple seg
+      ≡ met_no_flow (is_listening host tuple.lport && opens seg)
+          (is_listening host tuple.lport) n t host frame tuple seg
 met_stray n t host frame tuple seg fixed other =
     ap (λ (b : Bool). met_no_flow b true n t host frame tuple seg) (sym other)
-    ∙ ap (λ (b : Bool). met_no_flow (b && opens seg) b n t host frame tuple seg) (sym (always_listening host tuple.lport fixed))
+    ∙ ap (λ (b : Bool). met_no_flow (b && opens seg) b n t host frame tuple seg)
+        (sym (always_listening host tuple.lport fixed))
 
 -- a listener's answer
 pub listener_answers : (seg : Seg) → stray_answer_of seg true ≡ stray_answer true seg
@@ -123,7 +148,8 @@ listener_answers seg = by_reply (listener_reply_of seg) where
   by_reply _ = refl
 
 -- ----- a connect
-same_connect : (o : Option ℕ) (n t : ℕ) (host : Host) (tuple : FourTuple) → connected_by 0 o n t host tuple ≡ opened_by_connect o n t host tuple
+same_connect : (o : Option ℕ) (n t : ℕ) (host : Host) (tuple : FourTuple)
+    → connected_by 0 o n t host tuple ≡ opened_by_connect o n t host tuple
 same_connect None n t host tuple = refl
 same_connect (Some slot) n t host tuple = refl
 
@@ -143,18 +169,22 @@ wanted_so true true n t host tuple h g = absurd (true≢false g)
 pub connects_none : (numbers : Numbers) (t : ℕ) (tuple : FourTuple) (seg : Seg) (host : Host) (i : ℕ)
     → position (is_indexed_as tuple) host.flows ≡ Some i → host ≡ connected numbers t tuple seg host
 connects_none numbers t tuple seg host i found =
-    not_wanted (connects seg) (is_known host tuple) (next_number numbers host tuple) t host tuple (known_is tuple host i found)
+    not_wanted (connects seg) (is_known host tuple) (next_number numbers host tuple) t host tuple
+        (known_is tuple host i found)
 
 -- and none has it
 pub connects_one : (numbers : Numbers) (t : ℕ) (tuple : FourTuple) (seg : Seg) (host : Host)
     → position (is_indexed_as tuple) host.flows ≡ None → connects seg ≡ true
-    → connected_by 0 (lowest_free host) (next_number numbers host tuple) t host tuple ≡ connected numbers t tuple seg host
+    → connected_by 0 (lowest_free host) (next_number numbers host tuple) t host tuple
+        ≡ connected numbers t tuple seg host
 connects_one numbers t tuple seg host none wanted =
     same_connect (lowest_free host) (next_number numbers host tuple) t host tuple
-    ∙ wanted_so (connects seg) (is_known host tuple) (next_number numbers host tuple) t host tuple wanted (unknown_is tuple host none)
+    ∙ wanted_so (connects seg) (is_known host tuple) (next_number numbers host tuple) t host tuple wanted
+        (unknown_is tuple host none)
 
 -- the segment is no SYN of the host's own
 pub connects_not : (numbers : Numbers) (t : ℕ) (tuple : FourTuple) (seg : Seg) (host : Host) → connects seg ≡ false
     → host ≡ connected numbers t tuple seg host
 connects_not numbers t tuple seg host other =
-    ap (λ (b : Bool). connected_where (b && not (is_known host tuple)) (next_number numbers host tuple) t host tuple) (sym other)
+    ap (λ (b : Bool). connected_where (b && not (is_known host tuple)) (next_number numbers host tuple) t host tuple)
+        (sym other)

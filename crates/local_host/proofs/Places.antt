@@ -1,5 +1,7 @@
 -- A flow at its place among the flows, and the slots that they stand in.
-use Rattle.std.proofs.Common.{◌≡◌, ℕ, zero, suc, ◌+◌, ◌-◌, ◌<◌, ◌≤◌, ◌||◌, take, Bool, true, false, List, [], ◌∷◌, length, set, get_or, slice_get, position, Some, None, Result, Ok, Err, OnOk, refl, sym, ap, subst, ◌∙◌, arith}
+use Rattle.std.proofs.Common.{◌≡◌, ℕ, zero, suc, ◌+◌, ◌-◌, ◌<◌, ◌≤◌, ◌||◌, take, Bool, true, false, List, [], ◌∷◌}
+use Rattle.std.proofs.Common.{length, set, get_or, slice_get, position, Some, None, Result, Ok, Err, OnOk, refl, sym}
+use Rattle.std.proofs.Common.{ap, subst, ◌∙◌, arith}
 use Rattle.std.specs.List.{list_any}
 use Rattle.std.proofs.lemmas.List.Quantifiers.{position-Some}
 use Rattle.host_rounds.specs.Lists.{change_first, change_at}
@@ -15,47 +17,56 @@ ok_both (Ok x) f p q = f p q
 ok_both (Err e) f p q = tt
 
 -- a write of what the element there becomes
-pub set_change : {X : Type 0} (f : X → X) (xs : List X) (i : ℕ) (d : X) → i < length xs → set xs i (f (get_or xs i d)) ≡ change_at i f xs
+pub set_change : {X : Type 0} (f : X → X) (xs : List X) (i : ℕ) (d : X) → i < length xs
+    → set xs i (f (get_or xs i d)) ≡ change_at i f xs
 set_change f [] i d below = absurd (omega arith)
 set_change f (x ∷ xs) zero d below = refl
 set_change {X} f (x ∷ xs) (suc i) d below = ap (λ (zs : List X). x ∷ zs) (set_change f xs i d (omega arith))
 
 -- the same of what was written, where the element was read
-pub wrote_change : {X : Type 0} (f : X → X) (inside xs : List X) (i : ℕ) (old new : X) → inside ≡ xs → i < length xs → old ≡ get_or inside i old → new ≡ f old → set inside i new ≡ change_at i f xs
+pub wrote_change : {X : Type 0} (f : X → X) (inside xs : List X) (i : ℕ) (old new : X) → inside ≡ xs → i < length xs
+    → old ≡ get_or inside i old → new ≡ f old → set inside i new ≡ change_at i f xs
 wrote_change {X} f inside xs i old new same below read made =
     let here : old ≡ get_or xs i old = subst (λ (zs : List X). old ≡ get_or zs i old) same read in
     ap (λ (zs : List X). set zs i new) same ∙ (ap (set xs i) (made ∙ ap f here) ∙ set_change f xs i old below)
 
 -- the flow that is found is the first that passes
-pub found_change : {X : Type 0} (test : X → Bool) (f : X → X) (xs : List X) (i : ℕ) → position test xs ≡ Some i → (i < length xs) × (change_at i f xs ≡ change_first test f xs)
+pub found_change : {X : Type 0} (test : X → Bool) (f : X → X) (xs : List X) (i : ℕ) → position test xs ≡ Some i
+    → (i < length xs) × (change_at i f xs ≡ change_first test f xs)
 found_change test f [] i found = absurd (cc (found))
 found_change test f (x ∷ xs) i found =
     let at = position-Some test (x ∷ xs) i x found in
     (at.0, sym (set_change f (x ∷ xs) i x at.0) ∙ sym (changed_at test f (x ∷ xs) i x at.0 at.1 at.2))
 
 -- what was read at a place stands there
-pub read_is : {X : Type 0} (inside xs : List X) (i : ℕ) (was x : X) → inside ≡ xs → was ≡ get_or inside i was → slice_get xs i ≡ Some x → was ≡ x
-read_is {X} inside xs i was x same read here = read ∙ (ap (λ (zs : List X). get_or zs i was) same ∙ there xs i here) where
+pub read_is : {X : Type 0} (inside xs : List X) (i : ℕ) (was x : X) → inside ≡ xs → was ≡ get_or inside i was
+    → slice_get xs i ≡ Some x → was ≡ x
+read_is {X} inside xs i was x same read here = read
+    ∙ (ap (λ (zs : List X). get_or zs i was) same ∙ there xs i here) where
   there : (zs : List X) (k : ℕ) → slice_get zs k ≡ Some x → get_or zs k was ≡ x
   there [] k h = absurd (cc (h))
   there (z ∷ zs) zero h = cc (h)
   there (z ∷ zs) (suc k) h = there zs k h
 
 -- ----- slots
-past_taken : (most slot : ℕ) (flows : List Live) → list_any (is_in_slot slot) flows ≡ true → free_from (suc most) slot flows ≡ free_from most (slot + 1) flows
+past_taken : (most slot : ℕ) (flows : List Live) → list_any (is_in_slot slot) flows ≡ true
+    → free_from (suc most) slot flows ≡ free_from most (slot + 1) flows
 past_taken most slot flows taken = rw (taken, free_from) refl
 
-here_free : (most slot : ℕ) (flows : List Live) → list_any (is_in_slot slot) flows ≡ false → free_from (suc most) slot flows ≡ Some slot
+here_free : (most slot : ℕ) (flows : List Live) → list_any (is_in_slot slot) flows ≡ false
+    → free_from (suc most) slot flows ≡ Some slot
 here_free most slot flows free = rw (free, free_from) refl
 
 -- the search goes on past a slot that is taken
-pub slot_taken : (slots slot : ℕ) (flows : List Live) → slot < slots → list_any (is_in_slot slot) flows ≡ true → free_from (slots - slot) slot flows ≡ free_from (slots - (slot + 1)) (slot + 1) flows
+pub slot_taken : (slots slot : ℕ) (flows : List Live) → slot < slots → list_any (is_in_slot slot) flows ≡ true
+    → free_from (slots - slot) slot flows ≡ free_from (slots - (slot + 1)) (slot + 1) flows
 slot_taken slots slot flows below taken =
     let more : slots - slot ≡ suc (slots - (slot + 1)) = omega arith in
     ap (λ (n : ℕ). free_from n slot flows) more ∙ past_taken (slots - (slot + 1)) slot flows taken
 
 -- and ends at one that is free
-pub slot_free : (slots slot : ℕ) (flows : List Live) → slot < slots → list_any (is_in_slot slot) flows ≡ false → free_from (slots - slot) slot flows ≡ Some slot
+pub slot_free : (slots slot : ℕ) (flows : List Live) → slot < slots → list_any (is_in_slot slot) flows ≡ false
+    → free_from (slots - slot) slot flows ≡ Some slot
 slot_free slots slot flows below free =
     let more : slots - slot ≡ suc (slots - (slot + 1)) = omega arith in
     ap (λ (n : ℕ). free_from n slot flows) more ∙ here_free (slots - (slot + 1)) slot flows free
@@ -68,7 +79,8 @@ no_slots slots slot flows past = ap (λ (n : ℕ). free_from n slot flows) (none
 -- the flow that is left of the one at a place
 
 -- one flow more
-pub any_more : {X : Type 0} (test : X → Bool) (xs : List X) (i : ℕ) (d : X) → i < length xs → list_any test (take (i + 1) xs) ≡ (list_any test (take i xs) || test (get_or xs i d))
+pub any_more : {X : Type 0} (test : X → Bool) (xs : List X) (i : ℕ) (d : X) → i < length xs
+    → list_any test (take (i + 1) xs) ≡ (list_any test (take i xs) || test (get_or xs i d))
 any_more test [] i d below = absurd (omega arith)
 any_more test (x ∷ xs) zero d below = or_none (test x)
   where
@@ -77,7 +89,9 @@ any_more test (x ∷ xs) zero d below = or_none (test x)
     or_none false = refl
 any_more {X} test (x ∷ xs) (suc i) d below =
     let next : suc i + 1 ≡ suc (i + 1) = omega arith in
-    ap (λ (n : ℕ). list_any test (take n (x ∷ xs))) next ∙ (ap (λ (b : Bool). test x || b) (any_more test xs i d (omega arith)) ∙ sym (or_grouped (test x) (list_any test (take i xs)) (test (get_or xs i d))))
+    ap (λ (n : ℕ). list_any test (take n (x ∷ xs))) next
+        ∙ (ap (λ (b : Bool). test x || b) (any_more test xs i d (omega arith))
+        ∙ sym (or_grouped (test x) (list_any test (take i xs)) (test (get_or xs i d))))
   where
     or_grouped : (a b c : Bool) → ((a || b) || c) ≡ (a || (b || c))
     or_grouped true b c = refl

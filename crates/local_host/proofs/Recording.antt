@@ -1,5 +1,6 @@
 -- The records of a batch: the frames that come of them, and what the script does for each.
-use Rattle.std.proofs.Common.{◌≡◌, ℕ, zero, suc, ◌+◌, ◌<◌, List, [], ◌∷◌, length, get_or, fold, map, drop, filter_map, Option, Some, None, refl, sym, ap, ◌∙◌}
+use Rattle.std.proofs.Common.{◌≡◌, ℕ, zero, suc, ◌+◌, ◌<◌, List, [], ◌∷◌, length, get_or, fold, map, drop, filter_map}
+use Rattle.std.proofs.Common.{Option, Some, None, refl, sym, ap, ◌∙◌}
 use Rattle.std.specs.List.{cons_option}
 use Rattle.std.proofs.lemmas.List.{drop_more}
 use Rattle.tas_model.specs.declared.entry.FrameId.{FrameId}
@@ -8,12 +9,14 @@ use Rattle.tas_model.specs.declared.entry.Seg.{Seg}
 use Rattle.host_rounds.specs.Hosts.{Host, Numbers, next_number, is_known}
 use Rattle.host_rounds.specs.Scripts.{Site}
 use Rattle.host_rounds.specs.Rounds.{on_host}
-use Rattle.host_rounds.specs.Deliveries.{Packet, Damaged, Segment, Arrival, received_serially, arrived, delivered, delivered_packet}
+use Rattle.host_rounds.specs.Deliveries.{Packet, Damaged, Segment, Arrival, received_serially, arrived, delivered}
+use Rattle.host_rounds.specs.Deliveries.{delivered_packet}
 use Rattle.host_rounds.specs.SerialOrder.{slow_phase, frame_phase, ask_phase, emit_phase, serial_tick}
 use Rattle.tas_runs.specs.Records as model
 use Rattle.tas_runs.specs.Records.{Item, Content}
 use Rattle.tas_runs.specs.FirstNumbers.{first_number}
-use Rattle.tas_runs.specs.LocalScript.{Beginning, Shown, connects, connected_where, served_flow, served_content, capture_scripts, arrival_of, arrivals_in, asks_in, due_in}
+use Rattle.tas_runs.specs.LocalScript.{Beginning, Shown, connects, connected_where, served_flow, served_content}
+use Rattle.tas_runs.specs.LocalScript.{capture_scripts, arrival_of, arrivals_in, asks_in, due_in}
 use Rattle.capture_items.specs.declared.item.Item as code
 use Rattle.capture_items.specs.Items.{item_in}
 use Rattle.local_host.specs.Script.{served_later, served_whole}
@@ -22,7 +25,8 @@ use Rattle.std.specs.Prelude.{not, ◌&&◌}
 
 -- ----- frames
 frames_of : (numbers : Numbers) (t : ℕ) (host : Host) (o : Option Arrival) (xs : List Arrival)
-    → fold (delivered received_serially numbers t) host (cons_option o xs) ≡ fold (delivered received_serially numbers t) (came_where numbers t o host) xs
+    → fold (delivered received_serially numbers t) host (cons_option o xs)
+        ≡ fold (delivered received_serially numbers t) (came_where numbers t o host) xs
 frames_of numbers t host None xs = refl
 frames_of numbers t host (Some x) xs = refl
 
@@ -33,11 +37,14 @@ frames items t site xs = on_host (λ (host : Host). frame_phase (capture_scripts
 frames_next : (items : List Item) (t : ℕ) (site : Site (List Shown)) (x : Item) (xs : List Item)
     → frames items t site (x ∷ xs) ≡ frames items t (on_host (came (first_number items) t x) site) xs
 frames_next items t site x xs =
-    ap (λ (host : Host). record site { host = host }) (frames_of (first_number items) t site.host (arrival_of x) (arrivals_in xs))
+    ap (λ (host : Host). record site { host = host })
+        (frames_of (first_number items) t site.host (arrival_of x) (arrivals_in xs))
 
 -- the records that are left, one less
-pub frames_less : (items : List Item) (t : ℕ) (site after end : Site (List Shown)) (xs : List code.Item) (i : ℕ) (d : code.Item) → i < length xs
-    → after ≡ on_host (came (first_number items) t (item_in (get_or xs i d))) site → frames items t site (map item_in (drop i xs)) ≡ end
+pub frames_less : (items : List Item) (t : ℕ) (site after end : Site (List Shown)) (xs : List code.Item) (i : ℕ)
+    (d : code.Item) → i < length xs
+    → after ≡ on_host (came (first_number items) t (item_in (get_or xs i d))) site
+        → frames items t site (map item_in (drop i xs)) ≡ end
     → frames items t after (map item_in (drop (i + 1) xs)) ≡ end
 frames_less items t site after end xs i d below made left =
     let rest : List Item = map item_in (drop (i + 1) xs) in
@@ -54,8 +61,10 @@ asks_next : (items : List Item) (t : ℕ) (site : Site (List Shown)) (x : Item) 
 unfolding served_whole
 asks_next items t site x xs = refl
 
-pub asks_less : (items : List Item) (t : ℕ) (site after end : Site (List Shown)) (xs : List code.Item) (i : ℕ) (d : code.Item) → i < length xs
-    → after ≡ served_whole (first_number items) t (item_in (get_or xs i d)).content site → asks items t site (map item_in (drop i xs)) ≡ end
+pub asks_less : (items : List Item) (t : ℕ) (site after end : Site (List Shown)) (xs : List code.Item) (i : ℕ)
+    (d : code.Item) → i < length xs
+    → after ≡ served_whole (first_number items) t (item_in (get_or xs i d)).content site
+        → asks items t site (map item_in (drop i xs)) ≡ end
     → asks items t after (map item_in (drop (i + 1) xs)) ≡ end
 asks_less items t site after end xs i d below made left =
     let rest : List Item = map item_in (drop (i + 1) xs) in
@@ -68,10 +77,12 @@ abbrev pub AreAlike : Numbers → Numbers → Type 0
 AreAlike numbers others = (tuple : FourTuple) (k n : ℕ) → numbers tuple k n ≡ others tuple k n
 
 packet_alike : (numbers others : Numbers) (t : ℕ) (host : Host) (frame : FrameId) (p : Packet) → AreAlike numbers others
-    → delivered_packet received_serially numbers t host frame p ≡ delivered_packet received_serially others t host frame p
+    → delivered_packet received_serially numbers t host frame p
+        ≡ delivered_packet received_serially others t host frame p
 packet_alike numbers others t host frame (Damaged rule) alike = refl
 packet_alike numbers others t host frame (Segment tuple seg) alike =
-    ap (λ (n : ℕ). arrived (is_known host tuple) (received_serially t frame seg) n t host frame tuple seg) (alike tuple _ _)
+    ap (λ (n : ℕ). arrived (is_known host tuple) (received_serially t frame seg) n t host frame tuple seg)
+        (alike tuple _ _)
 
 came_by : (numbers others : Numbers) (t : ℕ) (o : Option Arrival) (host : Host) → AreAlike numbers others
     → came_where numbers t o host ≡ came_where others t o host
@@ -80,10 +91,12 @@ came_by numbers others t (Some x) host alike = packet_alike numbers others t hos
 
 pub came_alike : (numbers others : Numbers) (t : ℕ) (x : Item) (site : Site (List Shown)) → AreAlike numbers others
     → on_host (came numbers t x) site ≡ on_host (came others t x) site
-came_alike numbers others t x site alike = ap (λ (host : Host). record site { host = host }) (came_by numbers others t (arrival_of x) site.host alike)
+came_alike numbers others t x site alike = ap (λ (host : Host). record site { host = host })
+    (came_by numbers others t (arrival_of x) site.host alike)
 
 -- ----- one record
-pub whole_damaged : (numbers : Numbers) (t rule : ℕ) (site : Site (List Shown)) → site ≡ served_whole numbers t (model.Damaged rule) site
+pub whole_damaged : (numbers : Numbers) (t rule : ℕ) (site : Site (List Shown))
+    → site ≡ served_whole numbers t (model.Damaged rule) site
 unfolding served_whole
 whole_damaged numbers t rule site = refl
 
@@ -98,8 +111,10 @@ pub whole_local : (numbers : Numbers) (t : ℕ) (tuple : FourTuple) (seg : Seg) 
 unfolding served_whole served_later
 whole_local numbers t tuple seg site = refl
 
-began_alike : (numbers others : Numbers) (t : ℕ) (tuple : FourTuple) (seg : Seg) (site : Site (List Shown)) → AreAlike numbers others
-    → served_content numbers Beginning t (model.Local tuple seg) site ≡ served_content others Beginning t (model.Local tuple seg) site
+began_alike : (numbers others : Numbers) (t : ℕ) (tuple : FourTuple) (seg : Seg) (site : Site (List Shown))
+    → AreAlike numbers others
+    → served_content numbers Beginning t (model.Local tuple seg) site
+        ≡ served_content others Beginning t (model.Local tuple seg) site
 began_alike numbers others t tuple seg site alike =
     ap
     (λ (n : ℕ).
@@ -107,9 +122,11 @@ began_alike numbers others t tuple seg site alike =
     (record site { host = connected_where (connects seg && not (is_known site.host tuple)) n t site.host tuple }))
     (alike tuple _ _)
 
-pub served_alike : (numbers others : Numbers) (t : ℕ) (content : Content) (site : Site (List Shown)) → AreAlike numbers others
+pub served_alike : (numbers others : Numbers) (t : ℕ) (content : Content) (site : Site (List Shown))
+    → AreAlike numbers others
     → served_whole numbers t content site ≡ served_whole others t content site
-served_alike numbers others t (model.Damaged rule) site alike = sym (whole_damaged numbers t rule site) ∙ whole_damaged others t rule site
+served_alike numbers others t (model.Damaged rule) site alike = sym (whole_damaged numbers t rule site)
+    ∙ whole_damaged others t rule site
 served_alike numbers others t (model.Remote tuple seg) site alike =
     sym (whole_remote numbers t tuple seg site) ∙ whole_remote others t tuple seg site
 served_alike numbers others t (model.Local tuple seg) site alike =
@@ -118,10 +135,13 @@ served_alike numbers others t (model.Local tuple seg) site alike =
     ∙ whole_local others t tuple seg site)
 
 -- ----- a tick
-pub played : (items : List Item) (t : ℕ) (batch : List Item) (site : Site (List Shown)) (slow : Host) (framed asked : Site (List Shown)) (last : Host)
-    → slow ≡ slow_phase t site.host → framed ≡ frames items t (record site { host = slow }) batch → asked ≡ asks items t framed batch
+pub played : (items : List Item) (t : ℕ) (batch : List Item) (site : Site (List Shown)) (slow : Host)
+    (framed asked : Site (List Shown)) (last : Host)
+    → slow ≡ slow_phase t site.host → framed ≡ frames items t (record site { host = slow }) batch
+        → asked ≡ asks items t framed batch
     → last ≡ emit_phase t asked.host
-    → ◌≡◌ {A = Site (List Shown)} (record asked { host = last }) (serial_tick (capture_scripts items) t site (due_in batch))
+    → ◌≡◌ {A = Site (List Shown)} (record asked { host = last })
+        (serial_tick (capture_scripts items) t site (due_in batch))
 unfolding serial_tick
 played items t batch site slow framed asked last first second third fourth =
     ap (λ (h : Host). record asked { host = h }) fourth

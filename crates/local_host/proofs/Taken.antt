@@ -23,17 +23,23 @@ front_again (suc k) (x ∷ xs) = ap (λ (ys : List ℕ). x ∷ ys) (front_again 
 record SendsFront (offer : List ℕ) (o : Option Outcome) : Type 0 where
   begins : Begins offer (reply_or o replies.Nothing)
 
-send_takes_front : (c : Column) (e : Endpoint) (offered : ℕ) (offer : List ℕ) → SendsFront offer (send_in c e offered (take (send_room e) offer))
+send_takes_front : (c : Column) (e : Endpoint) (offered : ℕ) (offer : List ℕ)
+    → SendsFront offer (send_in c e offered (take (send_room e) offer))
 send_takes_front Opening e offered offer = record { begins = record { front = refl } }
 send_takes_front (Over why) e offered offer = record { begins = record { front = refl } }
 send_takes_front Running e offered offer =
     on_cond (SendsFront offer) e.tx.shut _ _ (λ t. record { begins = record { front = refl } })
-    (λ f. on_cond (SendsFront offer) (min offered (send_room e) == 0 && not (offered == 0)) _ _ (λ t. record { begins = record { front = refl } })
-    (λ f. on_cond (SendsFront offer) (length (take (send_room e) offer) == min offered (send_room e)) _ _ (λ t. record { begins = record { front = front_again (send_room e) offer } }) (λ f. record { begins = record { front = refl } })))
+    (λ f. on_cond (SendsFront offer) (min offered (send_room e) == 0 && not (offered == 0)) _ _
+        (λ t. record { begins = record { front = refl } })
+    (λ f. on_cond (SendsFront offer) (length (take (send_room e) offer) == min offered (send_room e)) _ _
+        (λ t. record { begins = record { front = front_again (send_room e) offer } })
+        (λ f. record { begins = record { front = refl } })))
 
 -- a Send takes the first of the bytes that it offers
 pub send_takes : (e : Endpoint) (tick offered : ℕ) (offer : List ℕ) →
-    taken_bytes (reply_or (step e tick (calls.Send offered) (shown e offer)) replies.Nothing) ≡ take (length (taken_bytes (reply_or (step e tick (calls.Send offered) (shown e offer)) replies.Nothing))) offer
+    taken_bytes (reply_or (step e tick (calls.Send offered) (shown e offer)) replies.Nothing)
+        ≡ take (length (taken_bytes (reply_or (step e tick (calls.Send offered) (shown e offer)) replies.Nothing)))
+        offer
 unfolding step
 send_takes e tick offered offer = (send_takes_front (column e) e offered offer).begins.front
 

@@ -1,5 +1,6 @@
 -- What the host keeps of its flows beside themselves, so that no search walks over all of them.
-use Rattle.std.specs.Prelude.{◌≡◌, ℕ, nat_eq, zero, suc, ◌<◌, ◌==◌, Bool, true, false, not, List, [], ◌∷◌, length, map, count_by, Option, Some, None, ⊤}
+use Rattle.std.specs.Prelude.{◌≡◌, ℕ, nat_eq, zero, suc, ◌<◌, ◌==◌, Bool, true, false, not, List, [], ◌∷◌, length, map}
+use Rattle.std.specs.Prelude.{count_by, Option, Some, None, ⊤}
 use Rattle.std.specs.HashMap.{get}
 use Rattle.tas_model.specs.declared.entry.FourTuple.{FourTuple}
 use Rattle.host_rounds.specs.Hosts.{Live, is_indexed_as, is_over, opened_as}
@@ -24,7 +25,8 @@ count_of (Some o) = o.count
 -- ----- four-tuples
 -- Only the flow that was opened last of its four-tuple may be indexed, and the flows of each four-tuple are counted.
 pub record IsIndex (known : FourTuple → Option Openings) (flows : List Live) : Type 0 where
-  pub leads : (tuple : FourTuple) (place : ℕ) → indexed_at tuple flows place ≡ true → latest_of (known tuple) ≡ Some place
+  pub leads : (tuple : FourTuple) (place : ℕ) → indexed_at tuple flows place ≡ true
+      → latest_of (known tuple) ≡ Some place
   pub within : (tuple : FourTuple) (place : ℕ) → latest_of (known tuple) ≡ Some place → place < length flows
   pub counts : (tuple : FourTuple) → count_of (known tuple) ≡ opened_as tuple flows
 
@@ -67,7 +69,8 @@ abbrev pub flows_in : (slot : ℕ) → List Live → ℕ
 flows_in slot flows = count_by (λ (l : Live). l.flow.id.slot == slot) flows
 
 -- ----- all of it
-pub record IsKnown (known : FourTuple → Option Openings) (slots : ℕ → Option ℕ) (places : List ℕ) (flows : List Live) : Type 0 where
+pub record IsKnown (known : FourTuple → Option Openings) (slots : ℕ → Option ℕ) (places : List ℕ)
+    (flows : List Live) : Type 0 where
   pub index : IsIndex known flows
   pub counts : (slot : ℕ) → number_of (slots slot) ≡ flows_in slot flows
   pub standing : places ≡ standing_places flows

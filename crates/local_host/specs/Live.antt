@@ -19,7 +19,8 @@ use Rattle.flow_state.specs.declared.call.Answer.TheVariants as answers
 use Rattle.flow_state.specs.Calls.{call_of}
 use Rattle.flow_state.specs.Flow as records
 use Rattle.host_rounds.specs.Logs.{Flow}
-use Rattle.host_rounds.specs.Hosts.{Live, Host, Holder, Waiting, Application, GivenUp, endpoint, with_call, logged, first_entry, opened_in}
+use Rattle.host_rounds.specs.Hosts.{Live, Host, Holder, Waiting, Application, GivenUp, endpoint, with_call, logged}
+use Rattle.host_rounds.specs.Hosts.{first_entry, opened_in}
 use Rattle.host_rounds.specs.declared.log.LogEvent.TheVariants as events
 use Rattle.host_rounds.specs.Upkeep.{quieted}
 use Rattle.local_host.specs.declared.live.Holder as code

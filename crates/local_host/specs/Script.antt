@@ -5,7 +5,8 @@ use Rattle.host_rounds.specs.Lists.{change_at}
 use Rattle.host_rounds.specs.Hosts.{Live, Numbers, at_flow}
 use Rattle.host_rounds.specs.Scripts.{Site}
 use Rattle.tas_runs.specs.Records.{Content}
-use Rattle.tas_runs.specs.LocalScript.{Stage, Accepting, Sending, Shutting, Aborting, Receiving, Leaving, stages, Shown, nothing_shown, all_shown, at_stage, shown_after, served_flow, served_content}
+use Rattle.tas_runs.specs.LocalScript.{Stage, Accepting, Sending, Shutting, Aborting, Receiving, Leaving, stages, Shown}
+use Rattle.tas_runs.specs.LocalScript.{nothing_shown, all_shown, at_stage, shown_after, served_flow, served_content}
 
 -- A flow, and what the capture showed of it.
 pub record Served : Type 0 where
@@ -36,7 +37,10 @@ shown_in site = all_shown site.host.flows site.scripts
 -- the flow at this place is this, and this was shown of it
 abbrev pub at_place : (place : ℕ) → Served → Site (List Shown) → Site (List Shown)
 at_place n p site =
-    record { host = at_flow n (λ (l : Live). p.live) site.host; scripts = change_at n (λ (s : Shown). p.shown) (shown_in site) }
+    record {
+      host = at_flow n (λ (l : Live). p.live) site.host;
+      scripts = change_at n (λ (s : Shown). p.shown) (shown_in site);
+    }
 
 -- the application's calls for the flow at this place, which is l
 abbrev pub asked_at : (place : ℕ) → Live → (tick : ℕ) → Content → Site (List Shown) → Site (List Shown)

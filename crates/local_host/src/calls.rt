@@ -20,10 +20,12 @@ pub fn make<E: Engine>(
     requires small { IsSmall call.now }
     requires timely { IsTimely flow.old.parts.phase call.now }
     requires serves { E.serves engine.now flow.old.parts call.now }
-    ensures made { OnOk result (flow_in flow.new ≡ called (flow_in flow.old) caller tick (call_of call.now) (offer_of call.now)) }
+    ensures made { OnOk result (flow_in flow.new ≡ called (flow_in flow.old) caller tick (call_of call.now)
+        (offer_of call.now)) }
     ensures legal { Legal flow.new.params flow.new.entries }
     ensures params { flow.new.params ≡ flow.old.params }
-    ensures answer { IfOk result (λ a. a ≡ answer_of (reply_to flow.old.params flow.old.entries tick (call_of call.now) (offer_of call.now))) }
+    ensures answer { IfOk result (λ a. a ≡ answer_of
+        (reply_to flow.old.params flow.old.entries tick (call_of call.now) (offer_of call.now))) }
 {
     match flow.act(caller, tick, call, engine)? {
         Some(answer) => Ok(answer),
@@ -39,7 +41,8 @@ pub fn offer(
     bytes: &[u8],
 ) -> Result<usize, AllocError>
     requires small { length bytes.now < 2 ^ 32 }
-    ensures made { OnOk result (flow_in flow.new ≡ called (flow_in flow.old) caller tick (calls.Send (length bytes.now)) bytes.now) }
+    ensures made { OnOk result (flow_in flow.new ≡ called (flow_in flow.old) caller tick
+        (calls.Send (length bytes.now)) bytes.now) }
     ensures few { IfOk result (λ n. n ≤ length bytes.now) }
     ensures out { IfOk result (λ n. out_in flow.new ≡ out_in flow.old ++ take n bytes.now) }
 {

@@ -1,11 +1,14 @@
-ghost use Rattle.std.specs.Prelude.{true, false, ◌≡◌, ℕ, ◌<◌, ◌+◌, ◌^◌, ◌==◌, ◌++◌, ◌∷◌, [], length, map, position, get_or, nat_eq, ◌||◌, List, slice_get, Some, None, cond, IfOk, IfSome, OnErr, OnOk, is_some};
+ghost use Rattle.std.specs.Prelude.{true, false, ◌≡◌, ℕ, ◌<◌, ◌+◌, ◌^◌, ◌==◌, ◌++◌, ◌∷◌, [], length, map, position};
+ghost use Rattle.std.specs.Prelude.{get_or, nat_eq, ◌||◌, List, slice_get, Some, None, cond, IfOk, IfSome, OnErr, OnOk};
+ghost use Rattle.std.specs.Prelude.{is_some};
 ghost use Rattle.std.specs.List.{list_any, filter};
 ghost use Rattle.std.specs.HashMap.{get};
 ghost use Rattle.capture_items.specs.Numbers.{equal_tuple};
 ghost use Rattle.tas_model.specs.declared.entry.Caller.TheVariants.{Slow};
 ghost use Rattle.flow_state.specs.Calls.{seg_of};
 ghost use Rattle.host_rounds.specs.Lists.{Each, change_at};
-ghost use Rattle.host_rounds.specs.Hosts.{Live, is_indexed_as, is_in_slot, free_from, next_generation, opened_as, flows_of};
+ghost use Rattle.host_rounds.specs.Hosts.{Live, is_indexed_as, is_in_slot, free_from, next_generation, opened_as};
+ghost use Rattle.host_rounds.specs.Hosts.{flows_of};
 ghost use Rattle.host_rounds.specs.Upkeep.{swept, timed, quieted};
 ghost use Rattle.host_rounds.specs.Deliveries.{received_serially};
 ghost use Rattle.tas_runs.specs.Records.{Content, is_remote};
@@ -43,7 +46,8 @@ struct Table {
     generations: HashMap<u32, usize>,
 }
 
-/// The flows of a host, in the order of their opening, filed ones among them. A flow is found by its four-tuple without a walk over the others.
+/// The flows of a host, in the order of their opening, filed ones among them. A flow is found by its four-tuple without
+/// a walk over the others.
 #[derive(Drop)]
 pub struct Flows {
     table: Table,
@@ -208,8 +212,11 @@ impl Flows {
     ) -> Result<(), AllocError>
         requires place { passes_at is_standing self.old i ≡ true }
         requires apart { remote ≡ true → resets ≡ false }
-        ensures flows { (content : Content) → is_remote content ≡ remote → resets_here content ≡ resets → OnOk result (self.new ≡ change_at i (asked_live tick content shown.old) self.old) }
-        ensures shown { (content : Content) (l : Live) → is_remote content ≡ remote → resets_here content ≡ resets → slice_get self.old i ≡ Some l → OnOk result (shown.new ≡ (asked_all tick content (record { live = l; shown = shown.old })).shown) }
+        ensures flows { (content : Content) → is_remote content ≡ remote → resets_here content ≡ resets
+            → OnOk result (self.new ≡ change_at i (asked_live tick content shown.old) self.old) }
+        ensures shown { (content : Content) (l : Live) → is_remote content ≡ remote → resets_here content ≡ resets
+            → slice_get self.old i ≡ Some l → OnOk result
+            (shown.new ≡ (asked_all tick content (record { live = l; shown = shown.old })).shown) }
     {
         let done = shown.serve(&mut self.table.flows[i], tick, remote, resets);
         self.table.settle(done)
@@ -259,7 +266,8 @@ fn note_opening(
     tuple: FourTuple,
     now: Openings,
 ) -> Result<(), AllocError>
-    ensures ok { OnOk result ((q : FourTuple) → get equal_tuple openings.new q ≡ cond (equal_tuple tuple q) (Some now) (get equal_tuple openings.old q)) }
+    ensures ok { OnOk result ((q : FourTuple) → get equal_tuple openings.new q
+        ≡ cond (equal_tuple tuple q) (Some now) (get equal_tuple openings.old q)) }
 {
     openings.insert(tuple, now)?;
     Ok(())
@@ -268,7 +276,8 @@ fn note_opening(
 /// One flow more in the slot. The error is want of memory.
 fn note_slot(generations: &mut HashMap<u32, usize>, slot: u32) -> Result<(), AllocError>
     requires { number_of (get nat_eq generations.old slot) < 2 ^ 63 }
-    ensures { OnOk result ((q : ℕ) → number_of (get nat_eq generations.new q) ≡ number_of (get nat_eq generations.old q) + cond (slot == q) 1 0) }
+    ensures { OnOk result ((q : ℕ) → number_of (get nat_eq generations.new q)
+        ≡ number_of (get nat_eq generations.old q) + cond (slot == q) 1 0) }
 {
     let count = generations.get(&slot).copied().unwrap_or(0);
     generations.insert(slot, count + 1)?;
@@ -301,7 +310,8 @@ fn taken_slots(
 ) -> Result<Vec<bool>, AllocError>
     requires { standing.now ≡ standing_places flows.now }
     ensures len { IfOk result (λ taken. length taken.items ≡ slots) }
-    ensures taken { IfOk result (λ taken. (slot : ℕ) → slot < slots → get_or taken.items slot false ≡ list_any (is_in_slot slot) flows.now) }
+    ensures taken { IfOk result (λ taken. (slot : ℕ) → slot < slots
+        → get_or taken.items slot false ≡ list_any (is_in_slot slot) flows.now) }
 {
     let mut taken = vec![in alloc; false; slots as usize]?;
     for place in standing {
@@ -313,7 +323,8 @@ fn taken_slots(
 /// The slot of the record of the flow at this place is taken.
 fn mark_at(taken: &mut [bool], flows: &[LiveFlow], place: usize)
     ensures len { length taken.new ≡ length taken.old }
-    ensures taken { (slot : ℕ) → slot < length taken.old → get_or taken.new slot false ≡ (get_or taken.old slot false || passes_at (is_in_slot slot) flows.now place) }
+    ensures taken { (slot : ℕ) → slot < length taken.old
+        → get_or taken.new slot false ≡ (get_or taken.old slot false || passes_at (is_in_slot slot) flows.now place) }
 {
     match flows.get(place) {
         Some(flow) => mark(taken, flow),
@@ -324,7 +335,8 @@ fn mark_at(taken: &mut [bool], flows: &[LiveFlow], place: usize)
 /// The slot of the flow's record is taken.
 fn mark(taken: &mut [bool], flow: &LiveFlow)
     ensures len { length taken.new ≡ length taken.old }
-    ensures taken { (slot : ℕ) → slot < length taken.old → get_or taken.new slot false ≡ (get_or taken.old slot false || is_in_slot slot flow.now) }
+    ensures taken { (slot : ℕ) → slot < length taken.old
+        → get_or taken.new slot false ≡ (get_or taken.old slot false || is_in_slot slot flow.now) }
 {
     let slot = flow.id().slot;
     if flow.is_in_slot(slot) && (slot as usize) < taken.len() {
@@ -335,7 +347,8 @@ fn mark(taken: &mut [bool], flow: &LiveFlow)
 /// The lowest slot that is not taken.
 fn first_free(taken: &[bool], slots: u32) -> Option<u32>
     requires { length taken.now ≡ slots }
-    ensures { (flows : List Live) → ((slot : ℕ) → slot < slots → get_or taken.now slot false ≡ list_any (is_in_slot slot) flows) → result ≡ free_from slots 0 flows }
+    ensures { (flows : List Live) → ((slot : ℕ) → slot < slots
+        → get_or taken.now slot false ≡ list_any (is_in_slot slot) flows) → result ≡ free_from slots 0 flows }
 {
     for slot in 0..slots {
         if !taken[slot as usize] {

@@ -1,11 +1,15 @@
-ghost use Rattle.std.specs.Prelude.{true, false, ◌≡◌, None, position, slice_get, ◌++◌, ◌∷◌, [], ◌<◌, ◌^◌, length, ◌&&◌, not, map, OnOk, IfOk, IfSome, Some};
+ghost use Rattle.std.specs.Prelude.{true, false, ◌≡◌, None, position, slice_get, ◌++◌, ◌∷◌, [], ◌<◌, ◌^◌, length, ◌&&◌};
+ghost use Rattle.std.specs.Prelude.{not, map, OnOk, IfOk, IfSome, Some};
 ghost use Rattle.tas_model.specs.Valid.{InRange};
 ghost use Rattle.tas_model.specs.declared.entry.Caller.TheVariants.{App};
 ghost use Rattle.flow_state.specs.Calls.{seg_of};
 ghost use Rattle.host_rounds.specs.declared.log.LogEvent.TheVariants as events;
 ghost use Rattle.host_rounds.specs.Lists.{Each};
-ghost use Rattle.host_rounds.specs.Hosts.{Host, Live, is_indexed_as, logged, is_known, is_listening, at_flow, lowest_free, next_generation, next_number, opened_in, flows_of};
-ghost use Rattle.host_rounds.specs.Deliveries.{received_serially, stray_answer, met_no_flow, opened_by_syn as model_opened_by_syn, opens as model_opens, arrived, delivered};
+ghost use Rattle.host_rounds.specs.Hosts.{Host, Live, is_indexed_as, logged, is_known, is_listening, at_flow};
+ghost use Rattle.host_rounds.specs.Hosts.{lowest_free, next_generation, next_number, opened_in, flows_of};
+ghost use Rattle.host_rounds.specs.Deliveries.{received_serially, stray_answer, met_no_flow};
+ghost use Rattle.host_rounds.specs.Deliveries.{opened_by_syn as model_opened_by_syn, opens as model_opens, arrived};
+ghost use Rattle.host_rounds.specs.Deliveries.{delivered};
 ghost use Rattle.host_rounds.specs.SerialOrder.{slow_phase, emit_phase};
 ghost use Rattle.tas_runs.specs.Records.{Content, is_remote};
 ghost use Rattle.tas_runs.specs.LocalScript.{resets_here};
@@ -59,7 +63,8 @@ pub struct HostEnd {
 }
 
 impl LocalHost {
-    /// A host of these parameters, without flows and with an empty log, on which every port listens. It takes no memory.
+    /// A host of these parameters, without flows and with an empty log, on which every port listens. It takes no
+    /// memory.
     pub fn new(alloc: Global, params: HostParams) -> LocalHost
         requires ranges { InRange params }
         requires listening { params.fixed ≡ true }
@@ -144,7 +149,8 @@ impl LocalHost {
         self.log_event(tick, LogEvent::Refused { frame, number })
     }
 
-    /// A segment came that is of no flow, at a port that listens, and opens none: its answer is a reset where it has ACK and no RST. The error is want of memory.
+    /// A segment came that is of no flow, at a port that listens, and opens none: its answer is a reset where it has
+    /// ACK and no RST. The error is want of memory.
     fn note_stray(
         &mut self,
         tick: u32,
@@ -152,7 +158,8 @@ impl LocalHost {
         tuple: FourTuple,
         seg: &Segment<'_>,
     ) -> Result<(), AllocError>
-        ensures { OnOk result (self.new ≡ logged self.old tick (events.Stray frame tuple (seg_of seg.now) (stray_answer true (seg_of seg.now)))) }
+        ensures { OnOk result (self.new ≡ logged self.old tick
+            (events.Stray frame tuple (seg_of seg.now) (stray_answer true (seg_of seg.now)))) }
     {
         let answer = stray(seg, true);
         let seg = owned(self.alloc, seg)?;
@@ -199,7 +206,8 @@ impl LocalHost {
         numbers: &N,
     ) -> Result<(), AllocError>
         requires fresh { position (is_indexed_as tuple) self.old.flows ≡ None }
-        ensures { OnOk result (self.new ≡ model_opened_by_syn false (lowest_free self.old) (next_number (N.numbers numbers.now) self.old tuple) tick self.old frame tuple (seg_of seg.now)) }
+        ensures { OnOk result (self.new ≡ model_opened_by_syn false (lowest_free self.old)
+            (next_number (N.numbers numbers.now) self.old tuple) tick self.old frame tuple (seg_of seg.now)) }
     {
         let free = self.flows.lowest_free(self.alloc, self.params.slots)?;
         match free {
@@ -228,7 +236,8 @@ impl LocalHost {
         }
     }
 
-    /// An application's connect opens a flow in the lowest free slot, and is refused where none is free. The error is want of memory.
+    /// An application's connect opens a flow in the lowest free slot, and is refused where none is free. The error is
+    /// want of memory.
     pub fn connect<N: NumberSource>(
         &mut self,
         tick: u32,
@@ -237,7 +246,8 @@ impl LocalHost {
         numbers: &N,
     ) -> Result<(), AllocError>
         requires fresh { position (is_indexed_as tuple) self.old.flows ≡ None }
-        ensures { OnOk result (self.new ≡ connected_by app (lowest_free self.old) (next_number (N.numbers numbers.now) self.old tuple) tick self.old tuple) }
+        ensures { OnOk result (self.new ≡ connected_by app (lowest_free self.old)
+            (next_number (N.numbers numbers.now) self.old tuple) tick self.old tuple) }
     {
         let free = self.flows.lowest_free(self.alloc, self.params.slots)?;
         match free {
@@ -270,7 +280,9 @@ impl LocalHost {
         numbers: &N,
     ) -> Result<(), AllocError>
         requires fresh { position (is_indexed_as tuple) self.old.flows ≡ None }
-        ensures { OnOk result (self.new ≡ met_no_flow (is_listening self.old tuple.lport && model_opens (seg_of seg.now)) (is_listening self.old tuple.lport) (next_number (N.numbers numbers.now) self.old tuple) tick self.old frame tuple (seg_of seg.now)) }
+        ensures { OnOk result (self.new ≡ met_no_flow
+            (is_listening self.old tuple.lport && model_opens (seg_of seg.now)) (is_listening self.old tuple.lport)
+            (next_number (N.numbers numbers.now) self.old tuple) tick self.old frame tuple (seg_of seg.now)) }
     {
         // Every port listens.
         let _params = &self.params;
@@ -290,7 +302,9 @@ impl LocalHost {
         seg: &Segment<'_>,
         numbers: &N,
     ) -> Result<(), AllocError>
-        ensures { OnOk result (self.new ≡ arrived (is_known self.old tuple) (received_serially tick frame (seg_of seg.now)) (next_number (N.numbers numbers.now) self.old tuple) tick self.old frame tuple (seg_of seg.now)) }
+        ensures { OnOk result (self.new ≡ arrived (is_known self.old tuple)
+            (received_serially tick frame (seg_of seg.now))
+            (next_number (N.numbers numbers.now) self.old tuple) tick self.old frame tuple (seg_of seg.now)) }
     {
         match self.flows.find(&tuple) {
             Some(i) => self.flows.receive(i, tick, frame, seg),
@@ -305,7 +319,8 @@ impl LocalHost {
         arrival: &Arrival<'_>,
         numbers: &N,
     ) -> Result<(), AllocError>
-        ensures { OnOk result (self.new ≡ delivered received_serially (N.numbers numbers.now) tick self.old (arrival_in arrival.now)) }
+        ensures { OnOk result (self.new ≡ delivered received_serially (N.numbers numbers.now) tick self.old
+            (arrival_in arrival.now)) }
     {
         match arrival.packet {
             Packet::Damaged(rule) => self.refuse(tick, arrival.frame, rule),
@@ -315,7 +330,8 @@ impl LocalHost {
         }
     }
 
-    /// What a capture's script does for a segment of the flow at place `i`: `remote` says that the segment is a remote one, `resets` that it is a local one with RST. The error is want of memory.
+    /// What a capture's script does for a segment of the flow at place `i`: `remote` says that the segment is a remote
+    /// one, `resets` that it is a local one with RST. The error is want of memory.
     pub fn serve(
         &mut self,
         i: usize,
@@ -326,8 +342,11 @@ impl LocalHost {
     ) -> Result<(), AllocError>
         requires place { passes_at is_standing self.old.flows i ≡ true }
         requires apart { remote ≡ true → resets ≡ false }
-        ensures host { (content : Content) → is_remote content ≡ remote → resets_here content ≡ resets → OnOk result (self.new ≡ at_flow i (asked_live tick content shown.old) self.old) }
-        ensures shown { (content : Content) (l : Live) → is_remote content ≡ remote → resets_here content ≡ resets → slice_get self.old.flows i ≡ Some l → OnOk result (shown.new ≡ (asked_all tick content (record { live = l; shown = shown.old })).shown) }
+        ensures host { (content : Content) → is_remote content ≡ remote → resets_here content ≡ resets
+            → OnOk result (self.new ≡ at_flow i (asked_live tick content shown.old) self.old) }
+        ensures shown { (content : Content) (l : Live) → is_remote content ≡ remote → resets_here content ≡ resets
+            → slice_get self.old.flows i ≡ Some l
+            → OnOk result (shown.new ≡ (asked_all tick content (record { live = l; shown = shown.old })).shown) }
     {
         self.flows.serve(i, shown, tick, remote, resets)
     }

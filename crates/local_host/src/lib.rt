@@ -1,4 +1,5 @@
-//! The host of a run, tick by tick in serial order: its flows, their timers and the frames that come to them; and above it the calls that a replay's application makes.
+//! The host of a run, tick by tick in serial order: its flows, their timers and the frames that come to them; and above
+//! it the calls that a replay's application makes.
 #![tactic(auto)]
 
 mod arrival;

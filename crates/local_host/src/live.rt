@@ -1,4 +1,5 @@
-ghost use Rattle.std.specs.Prelude.{◌≡◌, ℕ, ◌∷◌, [], ◌==◌, ◌||◌, ◌&&◌, ◌<◌, ◌≤◌, ◌^◌, ◌++◌, not, true, false, length, take, is_some, OnOk, IfOk};
+ghost use Rattle.std.specs.Prelude.{◌≡◌, ℕ, ◌∷◌, [], ◌==◌, ◌||◌, ◌&&◌, ◌<◌, ◌≤◌, ◌^◌, ◌++◌, not, true, false, length};
+ghost use Rattle.std.specs.Prelude.{take, is_some, OnOk, IfOk};
 ghost use Rattle.tas_model.specs.declared.entry.Call.TheVariants as calls;
 ghost use Rattle.tas_model.specs.declared.entry.Caller.TheVariants.{Slow, Core, App};
 ghost use Rattle.tas_model.specs.Valid.{InRange};
@@ -7,7 +8,8 @@ ghost use Rattle.flow_state.specs.Calls.{seg_of, answer_of, call_of};
 ghost use Rattle.flow_state.specs.App.{column_of};
 ghost use Rattle.flow_state.specs.Flow.{reply_to};
 ghost use Rattle.tas_model.specs.ApplicationCalls.{column};
-ghost use Rattle.host_rounds.specs.Hosts.{same_tuple, is_indexed_as, is_in_slot, endpoint, with_call, is_over, is_running, is_held, first_entry};
+ghost use Rattle.host_rounds.specs.Hosts.{same_tuple, is_indexed_as, is_in_slot, endpoint, with_call, is_over};
+ghost use Rattle.host_rounds.specs.Hosts.{is_running, is_held, first_entry};
 ghost use Rattle.host_rounds.specs.Upkeep.{swept, timed, controlled, quieted};
 ghost use Rattle.host_rounds.specs.Deliveries.{received_serially};
 ghost use Rattle.local_host.specs.Index.{is_standing};
@@ -73,7 +75,8 @@ impl LiveFlow {
         tick: u32,
     ) -> Result<LiveFlow, AllocError>
         requires ranges { InRange params.now }
-        ensures { IfOk result (λ l. l ≡ opened_live id tuple params.now (holder_in Holder.Waiting) (first_entry Slow tick (calls.Passive frame iss (seg_of seg.now)))) }
+        ensures { IfOk result (λ l. l ≡ opened_live id tuple params.now (holder_in Holder.Waiting)
+            (first_entry Slow tick (calls.Passive frame iss (seg_of seg.now)))) }
     {
         let history = FlowRecord::passive(alloc, id, tuple, params, iss, frame, seg, tick)?;
         Ok(LiveFlow::fresh(history, Holder::Waiting))
@@ -90,7 +93,8 @@ impl LiveFlow {
         tick: u32,
     ) -> Result<LiveFlow, AllocError>
         requires ranges { InRange params.now }
-        ensures { IfOk result (λ l. l ≡ opened_live id tuple params.now (holder_in (Holder.Application app)) (first_entry (App app) tick (calls.Connect iss))) }
+        ensures { IfOk result (λ l. l ≡ opened_live id tuple params.now (holder_in (Holder.Application app))
+            (first_entry (App app) tick (calls.Connect iss))) }
     {
         let history =
             FlowRecord::connect(alloc, id, tuple, params, iss, Caller::App(app), tick)?;
@@ -225,7 +229,8 @@ impl LiveFlow {
         Ok(())
     }
 
-    /// A segment comes to it: by the fast path of core 0 where it is one for that, and else by the slow path. The error is want of memory.
+    /// A segment comes to it: by the fast path of core 0 where it is one for that, and else by the slow path. The error
+    /// is want of memory.
     pub fn receive(
         &mut self,
         tick: u32,
@@ -246,7 +251,8 @@ impl LiveFlow {
     /// An application accepts it, where it stands. The error is want of memory.
     pub fn accept(&mut self, app: u32, tick: u32) -> Result<(), AllocError>
         requires { is_running self.old ≡ true }
-        ensures { OnOk result (self.new ≡ record (with_call self.old (App app) tick calls.Accept []) { holder = holder_in (Holder.Application app) }) }
+        ensures { OnOk result (self.new ≡ record (with_call self.old (App app) tick calls.Accept [])
+            { holder = holder_in (Holder.Application app) }) }
     {
         match stage_of(&self.history) {
             Stage::Running => {
@@ -267,7 +273,8 @@ impl LiveFlow {
     /// An application offers bytes, and is told how many of them were taken. The error is want of memory.
     pub fn offer(&mut self, app: u32, tick: u32, bytes: &[u8]) -> Result<usize, AllocError>
         requires small { length bytes.now < 2 ^ 32 }
-        ensures made { OnOk result (self.new ≡ with_call self.old (App app) tick (calls.Send (length bytes.now)) bytes.now) }
+        ensures made { OnOk result (self.new ≡ with_call self.old (App app) tick
+            (calls.Send (length bytes.now)) bytes.now) }
         ensures few { IfOk result (λ n. n ≤ length bytes.now) }
         ensures out { IfOk result (λ n. (endpoint self.new).tx.out ≡ (endpoint self.old).tx.out ++ take n bytes.now) }
     {
@@ -278,7 +285,8 @@ impl LiveFlow {
     pub fn ask(&mut self, app: u32, tick: u32, call: &CallIn<'_>) -> Result<Answer, AllocError>
         requires kind { IsLaterCall call.now }
         ensures made { OnOk result (self.new ≡ asked_by app tick call.now self.old) }
-        ensures answer { IfOk result (λ a. a ≡ answer_of (reply_to self.old.flow.params self.old.flow.entries tick (call_of call.now) [])) }
+        ensures answer { IfOk result (λ a. a ≡ answer_of
+            (reply_to self.old.flow.params self.old.flow.entries tick (call_of call.now) [])) }
     {
         make(&mut self.history, Caller::App(app), tick, call, &AppCalls)
     }
@@ -303,7 +311,8 @@ impl LiveFlow {
     fn may_send(&self) -> bool
         ensures going { result ≡ is_some (going (endpoint self.now)) }
         ensures done { (tick : ℕ) → result ≡ false → quieted tick self.now ≡ self.now }
-        ensures next { (tick : ℕ) → result ≡ true → IsNext tick self.now (with_call self.now (Core 0) tick calls.Emit []) }
+        ensures next { (tick : ℕ) → result ≡ true
+            → IsNext tick self.now (with_call self.now (Core 0) tick calls.Emit []) }
     {
         may_send(&self.history)
     }

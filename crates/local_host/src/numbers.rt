@@ -10,7 +10,8 @@ pub trait NumberSource {
 
     ghost numbers: { Self → Numbers };
 
-    /// The first number of a flow of this four-tuple, where `k` flows of the four-tuple were opened before it, and `n` flows of the host.
+    /// The first number of a flow of this four-tuple, where `k` flows of the four-tuple were opened before it, and `n`
+    /// flows of the host.
     fn first_number(&self, tuple: FourTuple, k: usize, n: u32) -> Seq
         ensures { result.0 ≡ numbers self.now tuple k n };
 }

@@ -34,7 +34,8 @@ pub fn is_closed(flow: &FlowRecord) -> bool
     flow.parts().is_closed()
 }
 
-/// Whether the segment is one for the fast path: an acknowledgement without SYN, FIN, RST and URG, while the connection carries data both ways, or could.
+/// Whether the segment is one for the fast path: an acknowledgement without SYN, FIN, RST and URG, while the connection
+/// carries data both ways, or could.
 pub fn is_fast(flow: &FlowRecord, seg: &Segment<'_>) -> bool
     ensures fast { result ≡ model_fast (replay flow.now.params flow.now.entries) (seg_of seg.now) }
     ensures common { result ≡ true → exception flow.now.parts.phase seg.now ≡ None }

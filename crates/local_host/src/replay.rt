@@ -1,4 +1,5 @@
-ghost use Rattle.std.specs.Prelude.{true, false, ◌≡◌, ◌<◌, ◌&&◌, not, ℕ, ◌≤◌, Some, None, slice_get, position, length, List, map, fold, OnOk, IfOk};
+ghost use Rattle.std.specs.Prelude.{true, false, ◌≡◌, ◌<◌, ◌&&◌, not, ℕ, ◌≤◌, Some, None, slice_get, position, length};
+ghost use Rattle.std.specs.Prelude.{List, map, fold, OnOk, IfOk};
 ghost use Rattle.flow_state.specs.Calls.{seg_of};
 ghost use Rattle.host_rounds.specs.Lists.{Each};
 ghost use Rattle.tas_model.specs.declared.entry.FourTuple.{FourTuple};
@@ -8,7 +9,9 @@ ghost use Rattle.host_rounds.specs.SerialOrder.{slow_phase, frame_phase, ask_pha
 ghost use Rattle.tas_runs.specs.Records as model;
 ghost use Rattle.tas_runs.specs.Records.{is_remote};
 ghost use Rattle.tas_runs.specs.FirstNumbers.{first_number};
-ghost use Rattle.tas_runs.specs.LocalScript.{Beginning, connects as model_connects, connected, connected_where, all_shown, resets_here, served_where, served_content, capture_scripts, arrivals_in, asks_in, due_in};
+ghost use Rattle.tas_runs.specs.LocalScript.{Beginning, connects as model_connects, connected, connected_where};
+ghost use Rattle.tas_runs.specs.LocalScript.{all_shown, resets_here, served_where, served_content, capture_scripts};
+ghost use Rattle.tas_runs.specs.LocalScript.{arrivals_in, asks_in, due_in};
 ghost use Rattle.tas_runs.specs.Replays.{at_start};
 ghost use Rattle.capture_items.specs.Items.{item_in};
 ghost use Rattle.capture_items.specs.Numbers.{AreNumbersOf, kept_numbers};
@@ -86,14 +89,17 @@ impl LocalReplay {
         self.host.finish()
     }
 
-    /// One tick, in serial order: the slow path, the frames of the batch, the application, and what may go. The error is want of memory.
+    /// One tick, in serial order: the slow path, the frames of the batch, the application, and what may go. The error
+    /// is want of memory.
     pub fn play(
         &mut self,
         tick: u32,
         batch: &[Item<'_>],
         numbers: &FirstNumbers,
     ) -> Result<(), AllocError>
-        ensures { (items : List model.Item) → AreNumbersOf items numbers.now → OnOk result (self.new ≡ serial_tick (capture_scripts items) tick self.old (due_in (map item_in batch.now))) }
+        ensures { (items : List model.Item) → AreNumbersOf items numbers.now
+            → OnOk result (self.new ≡ serial_tick (capture_scripts items) tick self.old
+            (due_in (map item_in batch.now))) }
     {
         self.host.pass_time(tick)?;
         self.deliver_all(tick, batch, numbers)?;
@@ -107,7 +113,9 @@ impl LocalReplay {
         batch: &[Item<'_>],
         numbers: &FirstNumbers,
     ) -> Result<(), AllocError>
-        ensures { (items : List model.Item) → AreNumbersOf items numbers.now → OnOk result (self.new ≡ on_host (λ host. frame_phase (capture_scripts items) tick host (arrivals_in (map item_in batch.now))) self.old) }
+        ensures { (items : List model.Item) → AreNumbersOf items numbers.now
+            → OnOk result (self.new ≡ on_host (λ host. frame_phase (capture_scripts items) tick host
+            (arrivals_in (map item_in batch.now))) self.old) }
     {
         for item in batch {
             self.deliver(tick, item, numbers)?;
@@ -136,7 +144,9 @@ impl LocalReplay {
         batch: &[Item<'_>],
         numbers: &FirstNumbers,
     ) -> Result<(), AllocError>
-        ensures { (items : List model.Item) → AreNumbersOf items numbers.now → OnOk result (self.new ≡ ask_phase (capture_scripts items) tick self.old (asks_in (map item_in batch.now))) }
+        ensures { (items : List model.Item) → AreNumbersOf items numbers.now
+            → OnOk result (self.new ≡ ask_phase (capture_scripts items) tick self.old (asks_in (map item_in batch.now)))
+            }
     {
         for item in batch {
             self.serve(tick, item, numbers)?;
@@ -151,7 +161,8 @@ impl LocalReplay {
         item: &Item<'_>,
         numbers: &FirstNumbers,
     ) -> Result<(), AllocError>
-        ensures { OnOk result (self.new ≡ served_whole (kept_numbers numbers.now) tick (item_in item.now).content self.old) }
+        ensures { OnOk result (self.new ≡ served_whole (kept_numbers numbers.now) tick
+            (item_in item.now).content self.old) }
     {
         match item.content {
             Content::Damaged(_) => Ok(()),
@@ -163,7 +174,8 @@ impl LocalReplay {
         }
     }
 
-    /// The application connects where no flow is and the segment is a SYN of its own, and what a local segment shows is seen. The error is want of memory.
+    /// The application connects where no flow is and the segment is a SYN of its own, and what a local segment shows is
+    /// seen. The error is want of memory.
     fn begin(
         &mut self,
         tick: u32,
@@ -171,7 +183,8 @@ impl LocalReplay {
         seg: &Segment<'_>,
         numbers: &FirstNumbers,
     ) -> Result<(), AllocError>
-        ensures { OnOk result (self.new ≡ served_content (kept_numbers numbers.now) Beginning tick (model.Local tuple (seg_of seg.now)) self.old) }
+        ensures { OnOk result (self.new ≡ served_content (kept_numbers numbers.now) Beginning tick
+            (model.Local tuple (seg_of seg.now)) self.old) }
     {
         self.connect_where(tick, tuple, seg, numbers)?;
         match self.host.find(&tuple) {
@@ -187,7 +200,8 @@ impl LocalReplay {
         seg: &Segment<'_>,
         numbers: &FirstNumbers,
     ) -> Result<(), AllocError>
-        ensures { OnOk result (self.new ≡ on_host (connected (kept_numbers numbers.now) tick tuple (seg_of seg.now)) self.old) }
+        ensures { OnOk result (self.new ≡ on_host
+            (connected (kept_numbers numbers.now) tick tuple (seg_of seg.now)) self.old) }
     {
         if !connects(seg) {
             return Ok(());
@@ -201,7 +215,8 @@ impl LocalReplay {
     /// What a local segment shows of the flow at place `i` is seen. The error is want of memory.
     fn see(&mut self, i: usize, seg: &Segment<'_>) -> Result<(), AllocError>
         requires { i < length self.old.host.flows }
-        ensures { (tick : ℕ) (tuple : FourTuple) → OnOk result (self.new ≡ served_where (Some i) Beginning tick (model.Local tuple (seg_of seg.now)) self.old) }
+        ensures { (tick : ℕ) (tuple : FourTuple) → OnOk result
+            (self.new ≡ served_where (Some i) Beginning tick (model.Local tuple (seg_of seg.now)) self.old) }
     {
         let count = self.host.flow_count();
         show_all(self.alloc, &mut self.shown, count)?;
@@ -217,7 +232,8 @@ impl LocalReplay {
         resets: bool,
     ) -> Result<(), AllocError>
         requires apart { remote ≡ true → resets ≡ false }
-        ensures { (content : model.Content) → is_remote content ≡ remote → resets_here content ≡ resets → OnOk result (self.new ≡ served_later tick content tuple.now self.old) }
+        ensures { (content : model.Content) → is_remote content ≡ remote → resets_here content ≡ resets
+            → OnOk result (self.new ≡ served_later tick content tuple.now self.old) }
     {
         match self.host.find(tuple) {
             Some(i) => self.ask_at(i, tick, remote, resets),
@@ -235,7 +251,8 @@ impl LocalReplay {
     ) -> Result<(), AllocError>
         requires place { passes_at is_standing self.old.host.flows i ≡ true }
         requires apart { remote ≡ true → resets ≡ false }
-        ensures { (content : model.Content) (l : Live) → is_remote content ≡ remote → resets_here content ≡ resets → slice_get self.old.host.flows i ≡ Some l → OnOk result (self.new ≡ asked_at i l tick content self.old) }
+        ensures { (content : model.Content) (l : Live) → is_remote content ≡ remote → resets_here content ≡ resets
+            → slice_get self.old.host.flows i ≡ Some l → OnOk result (self.new ≡ asked_at i l tick content self.old) }
     {
         let count = self.host.flow_count();
         show_all(self.alloc, &mut self.shown, count)?;
@@ -245,7 +262,8 @@ impl LocalReplay {
 
 /// Something may be shown of each of so many flows. The error is want of memory.
 fn show_all(alloc: Global, shown: &mut Vec<Shown>, count: usize) -> Result<(), AllocError>
-    ensures shown { (flows : List Live) → length flows ≡ count → OnOk result (shown.new.items ≡ all_shown flows shown.old.items) }
+    ensures shown { (flows : List Live) → length flows ≡ count
+        → OnOk result (shown.new.items ≡ all_shown flows shown.old.items) }
     ensures len { OnOk result (count ≤ length shown.new.items) }
 {
     while shown.len() < count {

@@ -1,8 +1,11 @@
-ghost use Rattle.std.specs.Prelude.{◌≡◌, ℕ, ◌+◌, ◌^◌, ◌<◌, ◌≤◌, ◌++◌, ◌==◌, ◌||◌, ◌&&◌, not, true, false, [], length, drop, OnOk};
+ghost use Rattle.std.specs.Prelude.{◌≡◌, ℕ, ◌+◌, ◌^◌, ◌<◌, ◌≤◌, ◌++◌, ◌==◌, ◌||◌, ◌&&◌, not, true, false, [], length};
+ghost use Rattle.std.specs.Prelude.{drop, OnOk};
 ghost use Rattle.flow_state.specs.Calls.{seg_of};
 ghost use Rattle.host_rounds.specs.Hosts.{Live, endpoint, is_held, is_opening, is_running as model_running};
 ghost use Rattle.tas_runs.specs.Records.{Content, is_remote};
-ghost use Rattle.tas_runs.specs.LocalScript.{Accepting, Sending, Shutting, Aborting, Receiving, Leaving, is_served, resets_here, sees, fresh_bytes as model_fresh, at_stage, shown_after, nothing_shown};
+ghost use Rattle.tas_runs.specs.LocalScript.{Accepting, Sending, Shutting, Aborting, Receiving, Leaving, is_served};
+ghost use Rattle.tas_runs.specs.LocalScript.{resets_here, sees, fresh_bytes as model_fresh, at_stage, shown_after};
+ghost use Rattle.tas_runs.specs.LocalScript.{nothing_shown};
 ghost use Rattle.tas_runs.specs.LocalScript.{Shown as ModelShown};
 ghost use Rattle.local_host.specs.Script.{asked_all, asked_live};
 
@@ -52,7 +55,8 @@ impl Shown {
         }
     }
 
-    /// A local segment of the flow shows bytes of its stream, or its end. The error is want of memory, also where 2^32 bytes would wait.
+    /// A local segment of the flow shows bytes of its stream, or its end. The error is want of memory, also where 2^32
+    /// bytes would wait.
     pub fn see(&mut self, flow: &LiveFlow, seg: &Segment<'_>) -> Result<(), AllocError>
         ensures { OnOk result (self.new ≡ sees (seg_of seg.now) flow.now self.old) }
     {
@@ -68,7 +72,8 @@ impl Shown {
     /// The application offers all bytes that wait, where it has the connection. The error is want of memory.
     fn send(&mut self, flow: &mut LiveFlow, tick: u32) -> Result<(), AllocError>
         ensures flow { (content : Content) → OnOk result (flow.new ≡ at_stage Sending tick content self.old flow.old) }
-        ensures shown { (content : Content) → OnOk result (self.new ≡ shown_after Sending tick content flow.old self.old) }
+        ensures shown { (content : Content) → OnOk result
+            (self.new ≡ shown_after Sending tick content flow.old self.old) }
     {
         if is_served(flow) && self.pending.len() > 0 {
             let taken = flow.offer(THE_APP, tick, self.pending.as_slice())?;
@@ -80,7 +85,8 @@ impl Shown {
     /// The local stream ends, where all of it was shown and no byte waits. The error is want of memory.
     fn shut(&mut self, flow: &mut LiveFlow, tick: u32) -> Result<(), AllocError>
         ensures flow { (content : Content) → OnOk result (flow.new ≡ at_stage Shutting tick content self.old flow.old) }
-        ensures shown { (content : Content) → OnOk result (self.new ≡ shown_after Shutting tick content flow.old self.old) }
+        ensures shown { (content : Content) → OnOk result
+            (self.new ≡ shown_after Shutting tick content flow.old self.old) }
     {
         if is_served(flow) && self.ends && self.pending.len() == 0 && !self.shut {
             flow.ask(THE_APP, tick, &CallIn::Shut)?;
@@ -89,7 +95,8 @@ impl Shown {
         Ok(())
     }
 
-    /// The calls that the application makes for a segment of the flow, in their order. `remote` says that the segment is a remote one, `resets` that it is a local one with RST. The error is want of memory.
+    /// The calls that the application makes for a segment of the flow, in their order. `remote` says that the segment
+    /// is a remote one, `resets` that it is a local one with RST. The error is want of memory.
     pub fn serve(
         &mut self,
         flow: &mut LiveFlow,
@@ -97,8 +104,10 @@ impl Shown {
         remote: bool,
         resets: bool,
     ) -> Result<(), AllocError>
-        ensures flow { (content : Content) → is_remote content ≡ remote → resets_here content ≡ resets → OnOk result (flow.new ≡ asked_live tick content self.old flow.old) }
-        ensures shown { (content : Content) → is_remote content ≡ remote → resets_here content ≡ resets → OnOk result (self.new ≡ (asked_all tick content (record { live = flow.old; shown = self.old })).shown) }
+        ensures flow { (content : Content) → is_remote content ≡ remote → resets_here content ≡ resets
+            → OnOk result (flow.new ≡ asked_live tick content self.old flow.old) }
+        ensures shown { (content : Content) → is_remote content ≡ remote → resets_here content ≡ resets
+            → OnOk result (self.new ≡ (asked_all tick content (record { live = flow.old; shown = self.old })).shown) }
     {
         accept(flow, tick)?;
         self.send(flow, tick)?;
@@ -119,7 +128,8 @@ fn is_served(flow: &LiveFlow) -> bool
 
 /// The application accepts it, where it stands and is not held yet. The error is want of memory.
 fn accept(flow: &mut LiveFlow, tick: u32) -> Result<(), AllocError>
-    ensures { (content : Content) (s : ModelShown) → OnOk result (flow.new ≡ at_stage Accepting tick content s flow.old) }
+    ensures { (content : Content) (s : ModelShown)
+        → OnOk result (flow.new ≡ at_stage Accepting tick content s flow.old) }
 {
     if !flow.is_held() && matches!(flow.stage(), Stage::Running) {
         flow.accept(THE_APP, tick)?;
@@ -129,7 +139,8 @@ fn accept(flow: &mut LiveFlow, tick: u32) -> Result<(), AllocError>
 
 /// The application gives the connection up, where a local segment resets it. The error is want of memory.
 fn abort(flow: &mut LiveFlow, tick: u32, resets: bool) -> Result<(), AllocError>
-    ensures { (content : Content) (s : ModelShown) → resets_here content ≡ resets → OnOk result (flow.new ≡ at_stage Aborting tick content s flow.old) }
+    ensures { (content : Content) (s : ModelShown) → resets_here content ≡ resets
+        → OnOk result (flow.new ≡ at_stage Aborting tick content s flow.old) }
 {
     if resets && (flow.is_held() || matches!(flow.stage(), Stage::Opening)) {
         flow.ask(THE_APP, tick, &CallIn::Abort)?;
@@ -139,7 +150,8 @@ fn abort(flow: &mut LiveFlow, tick: u32, resets: bool) -> Result<(), AllocError>
 
 /// The application reads all that came, where the segment is a remote one. The error is want of memory.
 fn read(flow: &mut LiveFlow, tick: u32, remote: bool) -> Result<(), AllocError>
-    ensures { (content : Content) (s : ModelShown) → is_remote content ≡ remote → OnOk result (flow.new ≡ at_stage Receiving tick content s flow.old) }
+    ensures { (content : Content) (s : ModelShown) → is_remote content ≡ remote
+        → OnOk result (flow.new ≡ at_stage Receiving tick content s flow.old) }
 {
     if remote && is_served(flow) {
         flow.ask(THE_APP, tick, &CallIn::Recv { most: 65535 })?;
@@ -156,7 +168,8 @@ fn leave(flow: &mut LiveFlow)
     }
 }
 
-/// The bytes of a local segment from the first place on that was not yet shown, where it has that place. `sent` bytes were taken, and `waiting` more were shown.
+/// The bytes of a local segment from the first place on that was not yet shown, where it has that place. `sent` bytes
+/// were taken, and `waiting` more were shown.
 fn fresh_bytes<'a>(iss: Seq, seg: &Segment<'a>, sent: u128, waiting: usize) -> &'a [u8]
     requires near { sent < 2 ^ 127 }
     ensures { result.now ≡ model_fresh iss.0 (seg_of seg.now) (sent + waiting) }

@@ -7,10 +7,10 @@ use Rattle.std.proofs.KnownBytes.{Keeps-refl}
 use Rattle.std.specs.Io.KnownBytes.{Keeps, IsAtEnd}
 use Rattle.std.specs.Net.Addr.{ipv4_bits}
 use Rattle.tas_num.specs.Captures.{Capture, Fault, capture_of}
-use Rattle.tas_runs.specs.Logs.{RunLog}
+use Rattle.host_rounds.specs.Logs.{RunLog}
 use Rattle.tas_runs.specs.Replays.{Replay}
 use Rattle.tas_runs.specs.SerialOrder.{serial_replay}
-use Rattle.tas_runs.proofs.SerialRounds.{serial_is_replay}
+use Rattle.tas_runs.proofs.SerialRun.{serial_is_replay}
 use Rattle.tas_runs.proofs.Runs.{replays_sound}
 use Rattle.tas_num.specs.Streams.{SourceState, SinkState, Wrote}
 use Rattle.tas_num.specs.declared.outside.IoFault.{IoFault}

@@ -5,11 +5,11 @@ use Rattle.tas_num.specs.Captures.{Capture, capture_of}
 use Rattle.tas_num.specs.Causes.{Rose}
 use Rattle.tas_num.specs.Streams.{Wrote}
 use Rattle.tas_num.specs.declared.outside.IoFault.{IoFault}
-use Rattle.tas_runs.specs.Logs.{HostRun, RunLog}
-use Rattle.tas_runs.specs.Rounds.{Each}
+use Rattle.host_rounds.specs.Logs.{HostRun, RunLog}
+use Rattle.host_rounds.specs.Lists.{Each}
 use Rattle.tas_runs.specs.Replays.{Replay}
 use Rattle.tas_runs.specs.SerialOrder.{serial_replay}
-use Rattle.tas_runs.specs.Histories.{IsSound}
+use Rattle.host_rounds.specs.Histories.{IsSound}
 use Rattle.tas_runs.specs.Report.{report}
 use Rattle.tas_runs.specs.SentFrames.{capture}
 use Rattle.tas_main.specs.Words.{Request, IsReplay}

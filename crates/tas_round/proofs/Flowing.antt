@@ -6,7 +6,7 @@ use Rattle.std.proofs.lemmas.List.{take_all}
 use Rattle.std.proofs.lemmas.Option.{slice_get_within}
 use Rattle.tas_num.specs.declared.outside.IoFault.{IoFault}
 use Rattle.tas_num.specs.Streams.{SinkState}
-use Rattle.tas_runs.specs.Logs.{Flow}
+use Rattle.host_rounds.specs.Logs.{Flow}
 use Rattle.tas_runs.specs.Report.{flow_lines, flows_text, host_text, hosts_text, names_of}
 use Rattle.tas_round.specs.declared.run.HostRun as code
 use Rattle.tas_round.specs.Runs.{host_in}

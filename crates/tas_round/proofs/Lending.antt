@@ -5,8 +5,8 @@ use Rattle.std.proofs.lemmas.List.{map-append, take_all}
 use Rattle.flow_state.specs.Flow as records
 use Rattle.tas_model.specs.LegalHistory.{Legal}
 use Rattle.tas_model.specs.Valid.{InRange}
-use Rattle.tas_runs.specs.Logs.{Flow, HostRun}
-use Rattle.tas_runs.specs.Rounds.{Each}
+use Rattle.host_rounds.specs.Logs.{Flow, HostRun}
+use Rattle.host_rounds.specs.Lists.{Each}
 use Rattle.tas_runs.specs.SentFrames.{ticks_from}
 use Rattle.run_texts.specs.declared.frames.Frame.{Frame}
 use Rattle.run_texts.specs.declared.frames.HostFrames.{HostFrames}

@@ -4,24 +4,32 @@ use Rattle.std.proofs.Common.{IfOk, refl, ap, subst, sym, ◌∙◌, arith}
 use Rattle.std.proofs.lemmas.List.{take-map, drop-map, take_all, drop-drop, length-drop}
 use Rattle.tas_runs.specs.Records.{Item}
 use Rattle.tas_runs.specs.Batches.{batches_of}
-use Rattle.tas_runs.specs.Hosts.{Host}
-use Rattle.tas_runs.specs.SerialOrder.{serial_tick, serial_ticks}
-use Rattle.tas_runs.proofs.Loops.{ticks_done}
+use Rattle.tas_runs.specs.LocalScript.{Shown, capture_scripts, due_in}
+use Rattle.host_rounds.specs.Scripts.{Site}
+use Rattle.host_rounds.specs.SerialOrder.{serial_tick, serial_ticks}
+use Rattle.host_rounds.proofs.Loops.{ticks_done}
 use Rattle.capture_items.proofs.Batches.{no_batch}
 use Rattle.capture_items.proofs.Replays.{ticks_next}
 
-pub one_batch : {X : Type 0} (f : X → Item) (items : List Item) (rest : List X) (n t : ℕ) (host next whole : Host)
-    → batches_of (map f rest) ≡ take n (map f rest) ∷ batches_of (drop n (map f rest))
-    → next ≡ serial_tick items t host (map f (take n rest)) → serial_ticks items t host (batches_of (map f rest))
-    ≡ whole
-    → serial_ticks items (t + 1) next (batches_of (map f (drop n rest))) ≡ whole
-one_batch {X} f items rest n t host next whole first made so_far =
-    let made' : next ≡ serial_tick items t host (take n (map f rest)) = made
-    ∙ ap (serial_tick items t host) (sym (take-map f n rest)) in
-    ap (λ (h : Host). serial_ticks items (t + 1) h (batches_of (map f (drop n rest)))) made'
-    ∙ (ap (λ (xs : List Item). serial_ticks items (t + 1) (serial_tick items t host (take n (map f rest)))
-    (batches_of xs)) (sym (drop-map f n rest))
-    ∙ (sym (ticks_next items (map f rest) n t host first) ∙ so_far))
+-- the ticks of these records
+abbrev pub ticks : (items : List Item) (t : ℕ) → Site (List Shown) → List Item → Site (List Shown)
+ticks items t site xs = serial_ticks (capture_scripts items) t site (map due_in (batches_of xs))
+
+-- the tick of a batch
+abbrev pub tick : (items : List Item) (t : ℕ) → Site (List Shown) → (batch : List Item) → Site (List Shown)
+tick items t site batch = serial_tick (capture_scripts items) t site (due_in batch)
+
+pub one_batch : {X : Type 0} (f : X → Item) (items : List Item) (rest : List X) (n t : ℕ)
+    (site next whole : Site (List Shown)) → batches_of (map f rest)
+    ≡ take n (map f rest) ∷ batches_of (drop n (map f rest))
+    → next ≡ tick items t site (map f (take n rest)) → ticks items t site (map f rest) ≡ whole
+    → ticks items (t + 1) next (map f (drop n rest)) ≡ whole
+one_batch {X} f items rest n t site next whole first made so_far =
+    let made' : next ≡ tick items t site (take n (map f rest)) =
+    made ∙ ap (tick items t site) (sym (take-map f n rest)) in
+    ap (λ (s : Site (List Shown)). ticks items (t + 1) s (map f (drop n rest))) made'
+    ∙ (ap (ticks items (t + 1) (tick items t site (take n (map f rest)))) (sym (drop-map f n rest))
+    ∙ (sym (ticks_next items (map f rest) n t site first) ∙ so_far))
 
 pub one_tick : {X : Type 0} (f : X → Item) (rest : List X) (n t whole : ℕ) → batches_of (map f rest)
     ≡ take n (map f rest) ∷ batches_of (drop n (map f rest))
@@ -32,11 +40,13 @@ one_tick {X} f rest n t whole first so_far =
     (λ (xs : List Item). length (batches_of xs)) (sym (drop-map f n rest)) in
     omega (arith, len, same, so_far)
 
-pub no_more : {X : Type 0} (f : X → Item) (items : List Item) (rest : List X) (t : ℕ) (host whole : Host) → rest ≡ []
-    → serial_ticks items t host (batches_of (map f rest)) ≡ whole → host ≡ whole
-no_more {X} f items rest t host whole none so_far =
+pub no_more : {X : Type 0} (f : X → Item) (items : List Item) (rest : List X) (t : ℕ) (site whole : Site (List Shown))
+    → rest ≡ [] → ticks items t site (map f rest) ≡ whole → site ≡ whole
+no_more {X} f items rest t site whole none so_far =
     let empty : batches_of (map f rest) ≡ [] = ap (λ (xs : List X). batches_of (map f xs)) none ∙ no_batch in
-    sym (ap (serial_ticks items t host) empty ∙ ticks_done items t host) ∙ so_far
+    let scripts = capture_scripts items in
+    sym (ap (λ (bs : List (List Item)). serial_ticks scripts t site (map due_in bs)) empty ∙ ticks_done scripts t site)
+    ∙ so_far
 
 pub no_more_ticks : {X : Type 0} (f : X → Item) (rest : List X) (t whole : ℕ) → rest ≡ []
     → t + length (batches_of (map f rest)) ≡ whole → t ≡ whole
@@ -49,22 +59,22 @@ no_more_ticks {X} f rest t whole none so_far =
 pub rest_is : {X : Type 0} (at : ℕ) (xs : List X) → take (length xs - at) (drop at xs) ≡ drop at xs
 rest_is at xs = take_all (length xs - at) (drop at xs) (omega (arith, length-drop at xs))
 
-pub next_played : {X : Type 0} (f : X → Item) (items : List Item) (xs : List X) (at n t : ℕ) (host next whole : Host)
+pub next_played : {X : Type 0} (f : X → Item) (items : List Item) (xs : List X) (at n t : ℕ)
+    (site next whole : Site (List Shown))
     → batches_of (map f (take (length xs - at) (drop at xs))) ≡ take n (map f (take (length xs - at) (drop at xs)))
     ∷ batches_of (drop n (map f (take (length xs - at) (drop at xs))))
-    → next ≡ serial_tick items t host (map f (take n (take (length xs - at) (drop at xs))))
-    → serial_ticks items t host (batches_of (map f (drop at xs))) ≡ whole
-    → serial_ticks items (t + 1) next (batches_of (map f (drop (at + n) xs))) ≡ whole
-next_played {X} f items xs at n t host next whole first made so_far =
+    → next ≡ tick items t site (map f (take n (take (length xs - at) (drop at xs))))
+    → ticks items t site (map f (drop at xs)) ≡ whole → ticks items (t + 1) next (map f (drop (at + n) xs)) ≡ whole
+next_played {X} f items xs at n t site next whole first made so_far =
     let same = rest_is at xs in
     let first' : batches_of (map f (drop at xs)) ≡ take n (map f (drop at xs))
     ∷ batches_of (drop n (map f (drop at xs))) =
     subst (λ (rest : List X). batches_of (map f rest) ≡ take n (map f rest) ∷ batches_of (drop n (map f rest))) same
     first in
-    let made' : next ≡ serial_tick items t host (map f (take n (drop at xs))) = subst
-    (λ (rest : List X). next ≡ serial_tick items t host (map f (take n rest))) same made in
-    ap (λ (rest : List X). serial_ticks items (t + 1) next (batches_of (map f rest))) (sym (drop-drop n at xs))
-    ∙ one_batch f items (drop at xs) n t host next whole first' made' so_far
+    let made' : next ≡ tick items t site (map f (take n (drop at xs))) =
+    subst (λ (rest : List X). next ≡ tick items t site (map f (take n rest))) same made in
+    ap (λ (rest : List X). ticks items (t + 1) next (map f rest)) (sym (drop-drop n at xs))
+    ∙ one_batch f items (drop at xs) n t site next whole first' made' so_far
 
 pub next_counted : {X : Type 0} (f : X → Item) (xs : List X) (at n t whole : ℕ)
     → batches_of (map f (take (length xs - at) (drop at xs))) ≡ take n (map f (take (length xs - at) (drop at xs)))

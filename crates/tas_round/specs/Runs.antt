@@ -2,16 +2,17 @@
 use Rattle.std.specs.Prelude.{◌≡◌, ℕ, ◌≤◌, List, length, map, Err, ⊤}
 use Rattle.tas_num.specs.Captures.{capture_of}
 use Rattle.pcap_frames.specs.Views.{fault_in}
-use Rattle.tas_runs.specs.Logs.{Flow, HostRun, RunLog}
-use Rattle.tas_runs.specs.Rounds.{Each}
+use Rattle.host_rounds.specs.Logs.{Flow, HostRun, RunLog}
+use Rattle.host_rounds.specs.Lists.{Each}
 use Rattle.tas_model.specs.LegalHistory.{Legal}
 use Rattle.tas_model.specs.Valid.{InRange}
 use Rattle.run_texts.specs.declared.frames.Frame.{Frame}
 use Rattle.run_texts.specs.Frames.{history_of, host_of, all_frames, AreShort, IsInOrder}
 use Rattle.tas_runs.specs.Records.{Item}
 use Rattle.tas_runs.specs.Batches.{batches_of}
+use Rattle.tas_runs.specs.LocalScript.{capture_scripts, due_in}
 use Rattle.tas_runs.specs.Replays.{at_start}
-use Rattle.tas_runs.specs.SerialOrder.{serial_ticks}
+use Rattle.host_rounds.specs.SerialOrder.{serial_ticks}
 use Rattle.tas_round.specs.declared.run.HostRun as code_host
 use Rattle.tas_round.specs.declared.run.RunLog as code
 use Rattle.tas_round.specs.declared.replaying.Ending.{Ending}
@@ -49,9 +50,10 @@ pub record AreSentBy (hosts : List code_host.HostRun) (frames : List Frame) : Ty
   pub order : IsInOrder (all_frames (map unnamed_in hosts)) frames
   pub short : AreShort (map unnamed_in hosts)
 
--- the host after all ticks of these items, and how many they are
+-- the host and its script after all ticks of these items, and how many they are
 pub record Ended (local : ℕ) (items : List Item) (ending : Ending) : Type 0 where
-  pub host : ending.host ≡ serial_ticks items 0 (at_start local) (batches_of items)
+  pub played : ending.replay
+      ≡ serial_ticks (capture_scripts items) 0 (at_start local) (map due_in (batches_of items))
   pub ticks : ending.ticks ≡ length (batches_of items)
 
 -- the bytes are no capture, where it isn't want of memory

@@ -1,6 +1,6 @@
 ghost use Rattle.std.specs.Prelude.{◌≡◌, ℕ, ◌≤◌, ◌++◌, ◌∷◌, [], List, map, false, Err, OnOk, OnErr, IfOk};
 ghost use Rattle.tas_num.specs.Captures.{file_header};
-ghost use Rattle.tas_runs.specs.Rounds.{Each};
+ghost use Rattle.host_rounds.specs.Lists.{Each};
 ghost use Rattle.tas_runs.specs.SentFrames.{capture, ticks_from};
 ghost use Rattle.run_texts.specs.Frames.{seen_host};
 ghost use Rattle.run_texts.specs.Writes.{Writes};

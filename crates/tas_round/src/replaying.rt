@@ -1,9 +1,11 @@
 ghost use Rattle.std.specs.Prelude.{◌≡◌, ℕ, ◌≤◌, ◌<◌, ◌^◌, ◌∷◌, take, drop, List, length, map, codes, Ok, IfOk, IfErr};
 ghost use Rattle.tas_runs.specs.Records as model;
 ghost use Rattle.tas_runs.specs.Batches.{batches_of};
-ghost use Rattle.tas_runs.specs.Hosts.{run_of};
+ghost use Rattle.host_rounds.specs.Hosts.{run_of};
+ghost use Rattle.tas_runs.specs.LocalScript.{capture_scripts, due_in};
 ghost use Rattle.tas_runs.specs.Replays.{at_start, Replay};
-ghost use Rattle.tas_runs.specs.SerialOrder.{serial_replay, serial_log, serial_tick, serial_ticks};
+ghost use Rattle.host_rounds.specs.SerialOrder.{serial_tick, serial_ticks};
+ghost use Rattle.tas_runs.specs.SerialOrder.{serial_replay, serial_log};
 ghost use Rattle.capture_items.specs.Items.{item_in};
 ghost use Rattle.capture_items.specs.Numbers.{AreNumbersOf};
 ghost use Rattle.tas_round.specs.Runs.{host_in, log_in, AreCores, Ended, Refuses};
@@ -11,7 +13,7 @@ ghost use Rattle.tas_round.specs.declared.replaying.Mode.{Mode};
 
 use crate::run::{FlowList, HostRun, HostRuns, RunLog};
 use capture_items::{FirstNumbers, Found, InputFault, Item, find_items, next_batch};
-use local_host::LocalHost;
+use local_host::LocalReplay;
 use pcap_frames::PcapRefused;
 use std::alloc::{AllocError, Global};
 use std::sync::Wait;
@@ -47,10 +49,10 @@ impl From<AllocError> for ReplayFault {
     }
 }
 
-/// A host after its last tick, and how many ticks there were.
+/// A replay after its last tick, and how many ticks there were.
 #[derive(Drop)]
 pub struct Ending {
-    pub host: LocalHost,
+    pub replay: LocalReplay,
     pub ticks: u32,
 }
 
@@ -101,7 +103,7 @@ pub fn replay_serially(
     Ok(log)
 }
 
-/// The host after all batches of these items.
+/// The replay after all batches of these items.
 fn run_batches(
     alloc: Global,
     local: u32,
@@ -112,19 +114,22 @@ fn run_batches(
     requires few { length items.now < 2 ^ 32 }
     ensures { IfOk result (Ended local (map item_in items.now)) }
 {
-    let mut host = LocalHost::at_start(alloc, local);
+    let mut replay = LocalReplay::at_start(alloc, local);
     let mut at = 0;
     let mut tick = 0;
     while at < items.len() {
-        at += play_batch(&mut host, tick, &items[at..], numbers)?;
+        at += play_batch(&mut replay, tick, &items[at..], numbers)?;
         tick += 1;
     }
-    Ok(Ending { host, ticks: tick })
+    Ok(Ending {
+        replay,
+        ticks: tick,
+    })
 }
 
 /// Plays the first batch of these items as one tick, and answers how many items it has. The error is want of memory.
 fn play_batch(
-    host: &mut LocalHost,
+    replay: &mut LocalReplay,
     tick: u32,
     rest: &[Item<'_>],
     numbers: &FirstNumbers,
@@ -133,12 +138,13 @@ fn play_batch(
     ensures batch { IfOk result (λ n. batches_of (map item_in rest.now) ≡ take n (map item_in rest.now)
         ∷ batches_of (drop n (map item_in rest.now))) }
     ensures played { (items : List model.Item) → AreNumbersOf items numbers.now
-        → IfOk result (λ n. host.new ≡ serial_tick items tick host.old (map item_in (take n rest.now))) }
+        → IfOk result (λ n. replay.new
+        ≡ serial_tick (capture_scripts items) tick replay.old (due_in (map item_in (take n rest.now)))) }
     ensures some { IfOk result (λ n. 0 < n) }
     ensures inside { IfOk result (λ n. n ≤ length rest.now) }
 {
     let count = next_batch(rest);
-    host.play(tick, &rest[..count], numbers)?;
+    replay.play(tick, &rest[..count], numbers)?;
     Ok(count)
 }
 
@@ -149,7 +155,7 @@ fn log_of(alloc: Global, found: &Found<'_>, ending: Ending) -> Result<RunLog, Al
         → IfOk result (λ log. log_in log ≡ serial_log local found.now.records (map item_in found.now.items.items)) }
 {
     let counts = found.counts();
-    let host = host_run(alloc, ending.host)?;
+    let host = host_run(alloc, ending.replay)?;
     Ok(RunLog {
         replay: true,
         hosts: HostRuns::of(vec![in alloc; host]?),
@@ -163,11 +169,11 @@ fn log_of(alloc: Global, found: &Found<'_>, ending: Ending) -> Result<RunLog, Al
 }
 
 /// What the one host of a replay leaves. The error is want of memory.
-fn host_run(alloc: Global, host: LocalHost) -> Result<HostRun, AllocError>
-    ensures { IfOk result (λ run. host_in run ≡ run_of (codes "local") host) }
+fn host_run(alloc: Global, replay: LocalReplay) -> Result<HostRun, AllocError>
+    ensures { IfOk result (λ run. host_in run ≡ run_of (codes "local") replay.host) }
 {
-    let addr = host.params().addr;
-    let end = host.finish()?;
+    let addr = replay.params().addr;
+    let end = replay.finish()?;
     Ok(HostRun {
         name: Bytes::copy(alloc, b"local")?,
         addr,

@@ -1,5 +1,5 @@
 ghost use Rattle.std.specs.Prelude.{◌≡◌, ◌<◌, length, slice_get, Some};
-ghost use Rattle.tas_runs.specs.Rounds.{Each};
+ghost use Rattle.host_rounds.specs.Lists.{Each};
 ghost use Rattle.local_host.specs.Live.{IsLegal};
 
 use flow_state::FlowRecord;
@@ -16,7 +16,7 @@ pub struct FlowList {
 impl Model for FlowList {
     ghost use Rattle.std.specs.Prelude.{List};
     ghost use Rattle.flow_state.specs.Flow.{Flow};
-    ghost use Rattle.tas_runs.specs.Rounds.{Each};
+    ghost use Rattle.host_rounds.specs.Lists.{Each};
     ghost use Rattle.local_host.specs.Live.{IsLegal};
 
     ghost Value = { List Flow };

@@ -1,5 +1,5 @@
 use Rattle.std.proofs.Common.{◌≡◌, take, map}
-use Rattle.tas_runs.specs.Rounds.{Each}
+use Rattle.host_rounds.specs.Lists.{Each}
 use Rattle.run_texts.specs.Frames.{seen_host}
 use Rattle.tas_round.specs.Runs.{unnamed_in, AreLegal}
 use Rattle.tas_round.proofs.capture.lent_frames.Given as goal

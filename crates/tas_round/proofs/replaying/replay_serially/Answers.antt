@@ -1,8 +1,8 @@
 use Rattle.std.proofs.Common.{rules, ◌≡◌, Ok, sym, ap, ◌∙◌, map}
-use Rattle.tas_runs.specs.Logs.{RunLog}
+use Rattle.host_rounds.specs.Logs.{RunLog}
 use Rattle.tas_runs.specs.Replays.{Replay}
 use Rattle.tas_runs.specs.SerialOrder.{serial_log, serial_replay}
-use Rattle.tas_runs.proofs.SerialRounds.{serial_is_replay}
+use Rattle.tas_runs.proofs.SerialRun.{serial_is_replay}
 use Rattle.capture_items.specs.Items.{item_in}
 use Rattle.capture_items.proofs.Replays.{found_is_replayed}
 use Rattle.tas_round.specs.Runs.{log_in, Ended}

@@ -11,7 +11,7 @@ loop-at-preserved c =
     let batch = c.in_ok-at.ensures.batch in
     let made = c.in_ok-at.ensures.played (map item_in xs) c.requires.numbers in
     record {
-      played = next_played item_in (map item_in xs) xs at n c.loop-at.tick c.loop-at.host _ _ batch made
+      played = next_played item_in (map item_in xs) xs at n c.loop-at.tick c.loop-at.replay _ _ batch made
           c.loop-at.invariant.played;
       ticks = next_counted item_in xs at n c.loop-at.tick _ batch c.loop-at.invariant.ticks;
       inside = still_inside xs at n c.loop-at.invariant.inside c.in_ok-at.ensures.inside;
@@ -23,7 +23,7 @@ returns c =
     let xs = c.args.items.now in
     let none : drop c.loop-at.at xs ≡ [] = none_left c.loop-at.at xs c.loop-at-test.false in
     record {
-      host = no_more item_in (map item_in xs) (drop c.loop-at.at xs) c.loop-at.tick c.loop-at.host _ none
+      played = no_more item_in (map item_in xs) (drop c.loop-at.at xs) c.loop-at.tick c.loop-at.replay _ none
           c.loop-at.invariant.played;
       ticks = no_more_ticks item_in (drop c.loop-at.at xs) c.loop-at.tick _ none c.loop-at.invariant.ticks;
     }

@@ -1,14 +1,14 @@
 use Rattle.std.proofs.Common.{◌≡◌, ◌+◌, ◌-◌, ◌≤◌, length, map, drop}
 use Rattle.tas_runs.specs.Batches.{batches_of}
 use Rattle.tas_runs.specs.Replays.{at_start}
-use Rattle.tas_runs.specs.SerialOrder.{serial_ticks}
+use Rattle.tas_round.proofs.Playing.{ticks}
 use Rattle.capture_items.specs.Items.{item_in}
 use Rattle.tas_round.proofs.replaying.run_batches.Given as goal
 
 abbrev pub invariant-loop-at : goal.invariant-loop-at
 invariant-loop-at l = record {
-  played : serial_ticks (map item_in l.items) l.tick l.host (batches_of (map item_in (drop l.at l.items)))
-      ≡ serial_ticks (map item_in l.items) 0 (at_start l.local) (batches_of (map item_in l.items));
+  played : ticks (map item_in l.items) l.tick l.replay (map item_in (drop l.at l.items))
+      ≡ ticks (map item_in l.items) 0 (at_start l.local) (map item_in l.items);
   ticks : l.tick + length (batches_of (map item_in (drop l.at l.items))) ≡ length (batches_of (map item_in l.items));
   inside : l.at ≤ length l.items;
   few : l.tick ≤ l.at;

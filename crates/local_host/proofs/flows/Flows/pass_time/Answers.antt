@@ -3,4 +3,5 @@ use Rattle.local_host.proofs.Standing.{timed_rests, timed_stays, sound_by_map}
 use Rattle.local_host.proofs.flows.Flows.pass_time.Goals as goal
 
 pub settle-requires : goal.settle-requires
-settle-requires c = sound_by_map c.time_all-done.result c.time_all-done.new.flows.items (timed_keeps c.args.tick) (timed_rests c.args.tick) (timed_stays c.args.tick) c.self.invariant c.time_all-done.ensures
+settle-requires c = sound_by_map c.time_all-done.result c.time_all-done.new.flows.items (timed_keeps c.args.tick)
+    (timed_rests c.args.tick) (timed_stays c.args.tick) c.self.invariant c.time_all-done.ensures

@@ -3,4 +3,5 @@ use Rattle.local_host.proofs.Standing.{quieted_rests, quieted_stays, sound_by_ma
 use Rattle.local_host.proofs.flows.Flows.send_all.Goals as goal
 
 pub settle-requires : goal.settle-requires
-settle-requires c = sound_by_map c.empty_all-done.result c.empty_all-done.new.flows.items (quieted_keeps c.args.tick) (quieted_rests c.args.tick) (quieted_stays c.args.tick) c.self.invariant c.empty_all-done.ensures
+settle-requires c = sound_by_map c.empty_all-done.result c.empty_all-done.new.flows.items (quieted_keeps c.args.tick)
+    (quieted_rests c.args.tick) (quieted_stays c.args.tick) c.self.invariant c.empty_all-done.ensures

@@ -10,8 +10,10 @@ returns-then-opens g c =
     ok_by c.open_by_syn.result
     (λ made.
     made
-    ∙ met_listener (next_number (g.N.NumberSource.numbers c.args.numbers.now) c.args.self.now c.args.tuple) c.args.tick c.args.self.now c.args.frame c.args.tuple (seg_of c.args.seg.now)
-    (subst (λ (h : Host). h.params.fixed ≡ true) c.self.view_is c.self.invariant.1) (sym c.opens.ensures ∙ c.if-opens.true))
+    ∙ met_listener (next_number (g.N.NumberSource.numbers c.args.numbers.now) c.args.self.now c.args.tuple) c.args.tick
+        c.args.self.now c.args.frame c.args.tuple (seg_of c.args.seg.now)
+    (subst (λ (h : Host). h.params.fixed ≡ true) c.self.view_is c.self.invariant.1)
+        (sym c.opens.ensures ∙ c.if-opens.true))
     c.open_by_syn.ensures
 
 pub returns-else-opens : goal.returns-else-opens
@@ -19,6 +21,8 @@ returns-else-opens g c =
     ok_by c.note_stray.result
     (λ made.
     made
-    ∙ met_stray (next_number (g.N.NumberSource.numbers c.args.numbers.now) c.args.self.now c.args.tuple) c.args.tick c.args.self.now c.args.frame c.args.tuple (seg_of c.args.seg.now)
-    (subst (λ (h : Host). h.params.fixed ≡ true) c.self.view_is c.self.invariant.1) (sym c.opens.ensures ∙ c.if-opens.false))
+    ∙ met_stray (next_number (g.N.NumberSource.numbers c.args.numbers.now) c.args.self.now c.args.tuple) c.args.tick
+        c.args.self.now c.args.frame c.args.tuple (seg_of c.args.seg.now)
+    (subst (λ (h : Host). h.params.fixed ≡ true) c.self.view_is c.self.invariant.1)
+        (sym c.opens.ensures ∙ c.if-opens.false))
     c.note_stray.ensures

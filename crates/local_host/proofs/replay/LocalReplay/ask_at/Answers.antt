@@ -18,7 +18,8 @@ returns c = λ content l remote resets here.
     let site : Site (List Shown) = record { host = c.self.inside.host; scripts = c.self.inside.shown.items } in
     let at : slice_get site.host.flows c.args.i ≡ Some l =
     subst (λ (s : Site (List Shown)). slice_get s.host.flows c.args.i ≡ Some l) (sym c.self.view_is) here in
-    let enough : c.show_all.new.shown.items ≡ shown_in site = c.in_ok-show_all.ensures.shown site.host.flows (sym c.flow_count-count.ensures) in
+    let enough : c.show_all.new.shown.items ≡ shown_in site = c.in_ok-show_all.ensures.shown site.host.flows
+        (sym c.flow_count-count.ensures) in
     ok_both c.serve.result
     (λ served shown.
     subst
@@ -26,6 +27,7 @@ returns c = λ content l remote resets here.
     record { host = c.serve.new.self; scripts = set c.show_all.new.shown.items c.args.i c.serve.new.shown }
     ≡ asked_at c.args.i l c.args.tick content s)
     c.self.view_is
-    (asked_placed site c.args.i c.args.tick content l c.show_all.new.shown.items c.index_mut.result.now c.serve.new.shown c.serve.new.self
+    (asked_placed site c.args.i c.args.tick content l c.show_all.new.shown.items c.index_mut.result.now
+        c.serve.new.shown c.serve.new.self
     at enough c.index_mut.ensures.value served shown))
     (c.serve.ensures.host content remote resets) (c.serve.ensures.shown content l remote resets at)
