@@ -19,9 +19,9 @@ behind before c = record { done = before ++ c.done; current = c.current }
 
 step_by : (b : Bool) (before done : List (List Item)) (current : List Item) (x : Item)
     → ◌≡◌ {A = Cut} (if b then record { done = before ++ done; current = current ++ x ∷ [] } else record
-        { done = (before ++ done) ++ current ∷ []; current = x ∷ [] })
+    { done = (before ++ done) ++ current ∷ []; current = x ∷ [] })
     (behind before (if b then record { done = done; current = current ++ x ∷ [] } else record
-        { done = done ++ current ∷ []; current = x ∷ [] }))
+    { done = done ++ current ∷ []; current = x ∷ [] }))
 step_by true before done current x = refl
 step_by false before done current x = ap (λ (d : List (List Item)). record { done = d; current = x ∷ [] })
     (append_assoc before done (current ∷ []))
@@ -67,11 +67,11 @@ pub grows : (xs : List Item) (n : ℕ) (x : Item) → n < length xs → joins (t
     → fold cut_at (growing (take n xs)) (drop n xs) ≡ fold cut_at (growing (take (n + 1) xs)) (drop (n + 1) xs)
 grows xs n x below joined =
     let P : List Item → Type 0 = λ ys. fold cut_at (growing (take n xs)) ys
-        ≡ fold cut_at (growing (take (n + 1) xs)) (drop (n + 1) xs) in
+    ≡ fold cut_at (growing (take (n + 1) xs)) (drop (n + 1) xs) in
     let first : cut_at (growing (take n xs)) (get_or xs n x)
-        ≡ growing (take n xs ++ get_or xs n x ∷ []) = cut_true (growing (take n xs)) (get_or xs n x) joined in
+    ≡ growing (take n xs ++ get_or xs n x ∷ []) = cut_true (growing (take n xs)) (get_or xs n x) joined in
     let more : growing (take n xs ++ get_or xs n x ∷ [])
-        ≡ growing (take (n + 1) xs) = ap growing (sym (take_more xs n x below)) in
+    ≡ growing (take (n + 1) xs) = ap growing (sym (take_more xs n x below)) in
     subst P (sym (left xs n x below)) (ap (λ (c : Cut). fold cut_at c (drop (n + 1) xs)) (first ∙ more))
 
 -- a record that doesn't join begins the batches of all that are left
@@ -90,9 +90,9 @@ pub batch_ends : (xs : List Item) (n : ℕ) (x : Item) → n < length xs
 unfolding batches_of
 batch_ends xs n x below so_far apart =
     let P : List Item → Type 0 = λ ys. closed_cut (fold cut_at (growing (take n xs)) ys)
-        ≡ take n xs ∷ closed_cut (fold cut_at (growing []) ys) in
+    ≡ take n xs ∷ closed_cut (fold cut_at (growing []) ys) in
     ap closed_cut so_far ∙ subst P (sym (left xs n x below))
-        (next_begins (take n xs) (get_or xs n x) (drop (n + 1) xs) apart)
+    (next_begins (take n xs) (get_or xs n x) (drop (n + 1) xs) apart)
 
 -- nothing is left behind the batch that grows
 all_joined : (front rest : List Item) → 0 < length front → length rest ≡ 0
@@ -136,7 +136,7 @@ pub joins_at : {X : Type 0} (f : X → Item) (xs : List X) (n : ℕ) (x : X) (b 
     → b ≡ joins (map f (take n xs)) (f (get_or xs n x)) → b ≡ joins (take n (map f xs)) (get_or (map f xs) n (f x))
 joins_at f xs n x b below is =
     is ∙ (ap (λ (ys : List Item). joins ys (f (get_or xs n x))) (sym (take-map f n xs))
-        ∙ ap (joins (take n (map f xs))) (sym (get_or-map f xs n x (f x) below)))
+    ∙ ap (joins (take n (map f xs))) (sym (get_or-map f xs n x (f x) below)))
 
 -- a batch that is joined has fewer than 64
 pub joined_few : {X : Type 0} (f : X → Item) (xs : List X) (n : ℕ) (x : X) (b : Bool) → n < length xs

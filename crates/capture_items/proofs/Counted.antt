@@ -33,7 +33,7 @@ pub found_few : (bytes : List ℕ) (local : ℕ) (loose : Bool) (found : Found) 
     → length found.items.items ≤ found.records
 found_few bytes local loose found is =
     let len : length (map item_in found.items.items)
-        ≡ length found.items.items = length-map found.items.items item_in in
+    ≡ length found.items.items = length-map found.items.items item_in in
     let same : length (map item_in found.items.items)
-        ≡ length (items_of is.capture.form local loose is.capture.records) = ap length is.items in
+    ≡ length (items_of is.capture.form local loose is.capture.records) = ap length is.items in
     omega (arith, len, same, is.records, items_of-few is.capture.form local loose is.capture.records)

@@ -34,41 +34,41 @@ same_seen xs ys m n a b = cc (a, b)
 after_joined : (form : Form) (local : ℕ) (loose : Bool) (items : List Item) (records : ℕ) (x : Record)
     (rest : Result (List Record) Fault)
     → after items records (seen form local loose (joined (x ∷ []) rest))
-        ≡ after (items ++ items_of form local loose (x ∷ [])) (records + 1) (seen form local loose rest)
+    ≡ after (items ++ items_of form local loose (x ∷ [])) (records + 1) (seen form local loose rest)
 after_joined form local loose items records x (Err fault) = refl
 after_joined form local loose items records x (Ok more) =
     let first : List Item = items_of form local loose (x ∷ []) in
     let then : List Item = items_of form local loose more in
     same_seen _ _ _ _ (ap (λ (zs : List Item). items ++ zs) (items_of-append form local loose (x ∷ []) more)
-        ∙ sym (append_assoc items first then)) (omega arith)
+    ∙ sym (append_assoc items first then)) (omega arith)
 
 pub seen_next : (form : Form) (local : ℕ) (loose : Bool) (number : ℕ) (b : List ℕ) (next : Next) (items : List Item)
     (records : ℕ) (whole : Result Seen Fault)
     → first_record form number b ≡ Ok (Some next)
-        → after items records (seen form local loose (records_from form number b)) ≡ whole
+    → after items records (seen form local loose (records_from form number b)) ≡ whole
     → after (items ++ items_of form local loose (next.item ∷ [])) (records + 1)
-        (seen form local loose (records_from form (number + 1) next.rest)) ≡ whole
+    (seen form local loose (records_from form (number + 1) next.rest)) ≡ whole
 seen_next form local loose number b next items records whole found so_far =
     sym (after_joined form local loose items records next.item (records_from form (number + 1) next.rest))
     ∙ (ap (λ (r : Result (List Record) Fault). after items records (seen form local loose r))
-        (sym (records_from_next form number b next found)) ∙ so_far)
+    (sym (records_from_next form number b next found)) ∙ so_far)
 
 pub seen_ends : (form : Form) (local : ℕ) (loose : Bool) (number : ℕ) (b : List ℕ) (items : List Item) (records : ℕ)
     (whole : Result Seen Fault)
     → first_record form number b ≡ Ok None → after items records (seen form local loose (records_from form number b))
-        ≡ whole → whole ≡ Ok (record { items = items; records = records })
+    ≡ whole → whole ≡ Ok (record { items = items; records = records })
 unfolding items_of
 seen_ends form local loose number b items records whole none so_far =
     sym so_far ∙ (ap (λ (r : Result (List Record) Fault). after items records (seen form local loose r))
-        (records_from_ends form number b none) ∙ same_seen _ _ _ _ (append-nil items) (omega arith))
+    (records_from_ends form number b none) ∙ same_seen _ _ _ _ (append-nil items) (omega arith))
 
 pub seen_refused : (form : Form) (local : ℕ) (loose : Bool) (number : ℕ) (b : List ℕ) (fault : Fault)
     (items : List Item) (records : ℕ) (whole : Result Seen Fault)
     → first_record form number b ≡ Err fault → after items records (seen form local loose (records_from form number b))
-        ≡ whole → whole ≡ Err fault
+    ≡ whole → whole ≡ Err fault
 seen_refused form local loose number b fault items records whole refused so_far =
     sym so_far ∙ ap (λ (r : Result (List Record) Fault). after items records (seen form local loose r))
-        (records_from_refused form number b fault refused)
+    (records_from_refused form number b fault refused)
 
 -- where it begins: nothing was seen yet
 pub seen_nothing : (r : Result Seen Fault) → after [] 0 r ≡ r

@@ -45,7 +45,7 @@ equal m n h = grind (arith, nat_tests, h)
 
 same_fields : (a b c d e f g h : ℕ) → a ≡ e → b ≡ f → c ≡ g → d ≡ h
     → ◌≡◌ {A = FourTuple} (record { laddr = a; lport = b; raddr = c; rport = d })
-        (record { laddr = e; lport = f; raddr = g; rport = h })
+    (record { laddr = e; lport = f; raddr = g; rport = h })
 same_fields a b c d e f g h e1 e2 e3 e4 = cc (e1, e2, e3, e4)
 
 pub tuple_exact : (a b : FourTuple) → equal_tuple a b ≡ true → a ≡ b
@@ -54,7 +54,7 @@ tuple_exact a b h =
     let second = both _ _ first.1 in
     let third = both _ _ second.1 in
     same_fields _ _ _ _ _ _ _ _ (equal a.laddr b.laddr first.0) (equal a.lport b.lport second.0)
-        (equal a.raddr b.raddr third.0) (equal a.rport b.rport third.1)
+    (equal a.raddr b.raddr third.0) (equal a.rport b.rport third.1)
 
 self_equal : (n : ℕ) → (n == n) ≡ true
 self_equal n = grind (arith, nat_tests)
@@ -111,12 +111,12 @@ list_any-push [] n m = or_false (n == m) where
   or_false false = refl
 list_any-push (x ∷ xs) n m = ap (λ b. x == m || b) (list_any-push xs n m)
     ∙ later (x == m) (n == m) (list_any (λ x. x == m) xs) where
-  later : (a b c : Bool) → (a || cond b true c) ≡ cond b true (a || c)
-  later a true c = or_true a where
-    or_true : (a : Bool) → (a || true) ≡ true
-    or_true true = refl
-    or_true false = refl
-  later a false c = refl
+      later : (a b c : Bool) → (a || cond b true c) ≡ cond b true (a || c)
+      later a true c = or_true a where
+        or_true : (a : Bool) → (a || true) ≡ true
+        or_true true = refl
+        or_true false = refl
+      later a false c = refl
 
 -- what one number more changes: it isn't listed yet
 pub record IsMore (s r : Numbering) (tuple : FourTuple) (number : Seq) : Type 0 where
@@ -152,10 +152,10 @@ more_by s r tuple t number list more are = by_same (equal_tuple t tuple) refl wh
       let here : equal_tuple tuple t ≡ true = ap (equal_tuple tuple) exact ∙ tuple_itself tuple in
       let count : count_in s tuple ≡ length list = ap (count_in s) (sym exact) ∙ are.counted in
       let fresh : list_any (λ m. m == number.0) list ≡ false = sym (are.known number.0)
-          ∙ (ap (λ (q : FourTuple). contains same_known s.known (record { tuple = q; number = number.0 })) exact
-          ∙ more.fresh) in
+      ∙ (ap (λ (q : FourTuple). contains same_known s.known (record { tuple = q; number = number.0 })) exact
+      ∙ more.fresh) in
       let counted : count_in r t ≡ count_in s tuple + 1 = ap (λ (o : Option ℕ). unwrap_or o 0)
-          (more.counts t ∙ ap (λ (b : Bool). cond b (Some (count_in s tuple + 1)) (get equal_tuple s.counts t)) here) in
+      (more.counts t ∙ ap (λ (b : Bool). cond b (Some (count_in s tuple + 1)) (get equal_tuple s.counts t)) here) in
       let longer : AreOf r t (list ++ number.0 ∷ []) =
       record {
         counted = omega (arith, counted, count, length-append list (number.0 ∷ []));
@@ -169,8 +169,8 @@ more_by s r tuple t number list more are = by_same (equal_tuple t tuple) refl wh
             (get same_turn s.numbers (record { tuple = t; place = k }))) here)
             ∙ (mapped_cond (count_in s tuple == k) number (get same_turn s.numbers (record { tuple = t; place = k }))
             ∙ (ap (λ (n : ℕ). cond (n == k) (Some number.0) (number_at s.numbers.entries t k)) count
-                ∙ (ap (cond (length list == k) (Some number.0)) (are.numbers k)
-                ∙ sym (slice_get-push list number.0 k))));
+            ∙ (ap (cond (length list == k) (Some number.0)) (are.numbers k)
+            ∙ sym (slice_get-push list number.0 k))));
       }
       in
       rw fresh longer
@@ -195,8 +195,8 @@ numbers_push : (items : List Item) (x : Item) (t : FourTuple)
 numbers_push items x t =
     let f : Item → Option ℕ = λ (y : Item). local_syn t y.content in
     ap (fold with_new []) (filter_map-append f items (x ∷ []))
-        ∙ (fold-append with_new [] (filter_map f items) (cons_option (f x) [])
-        ∙ folded (f x) (fold with_new [] (filter_map f items)))
+    ∙ (fold-append with_new [] (filter_map f items) (cons_option (f x) [])
+    ∙ folded (f x) (fold with_new [] (filter_map f items)))
 
 with_one_few : (o : Option ℕ) (list : List ℕ) → length (with_one list o) ≤ length list + 1
 with_one_few None list = omega arith
@@ -212,7 +212,7 @@ pub numbers_more : {X : Type 0} (f : X → Item) (xs : List X) (i : ℕ) (d : X)
 numbers_more f xs i d t o below is =
     ap (λ (ys : List Item). local_numbers ys t) (map_more f xs i d below)
     ∙ (numbers_push (map f (take i xs)) (f (get_or xs i d)) t
-        ∙ ap (with_one (local_numbers (map f (take i xs)) t)) (sym is))
+    ∙ ap (with_one (local_numbers (map f (take i xs)) t)) (sym is))
 
 pub with_one_if : (b : Bool) (list : List ℕ) (n : ℕ)
     → with_one list (if b then Some n else None) ≡ (if b then with_new list n else list)
@@ -225,7 +225,7 @@ pub numbers_few : {X : Type 0} (f : X → Item) (xs : List X) (i : ℕ) (d : X) 
     → length (local_numbers (map f (take i xs)) t) ≤ i → length (local_numbers (map f (take (i + 1) xs)) t) ≤ i + 1
 numbers_few f xs i d t o below is few =
     let more : length (local_numbers (map f (take (i + 1) xs)) t)
-        ≡ length (with_one (local_numbers (map f (take i xs)) t) o) = ap length (numbers_more f xs i d t o below is) in
+    ≡ length (with_one (local_numbers (map f (take i xs)) t) o) = ap length (numbers_more f xs i d t o below is) in
     let one = with_one_few o (local_numbers (map f (take i xs)) t) in
     omega (arith, few, one, more)
 

@@ -17,7 +17,7 @@ unfolding serial_replay
 found_is_replayed bytes local loose found is =
     ap (serial_log_found local loose) is.stands
     ∙ (ap (λ (n : ℕ). Ok (serial_log local n (items_of is.capture.form local loose is.capture.records)))
-        (sym is.records)
+    (sym is.records)
     ∙ ap (λ (items : List Item). Ok (serial_log local found.records items)) (sym is.items))
 
 pub fault_is_replayed : (bytes : List ℕ) (local : ℕ) (loose : Bool) (fault : Fault) → capture_of bytes ≡ Err fault
@@ -29,8 +29,8 @@ fault_is_replayed bytes local loose fault refused = ap (serial_log_found local l
 pub ticks_next : (items xs : List Item) (n t : ℕ) (site : Site (List Shown))
     → batches_of xs ≡ take n xs ∷ batches_of (drop n xs)
     → serial_ticks (capture_scripts items) t site (map due_in (batches_of xs))
-      ≡ serial_ticks (capture_scripts items) (t + 1) (serial_tick (capture_scripts items) t site (due_in (take n xs)))
-          (map due_in (batches_of (drop n xs)))
+    ≡ serial_ticks (capture_scripts items) (t + 1) (serial_tick (capture_scripts items) t site (due_in (take n xs)))
+    (map due_in (batches_of (drop n xs)))
 unfolding serial_ticks
 ticks_next items xs n t site first =
     ap (λ (batches : List (List Item)). serial_ticks (capture_scripts items) t site (map due_in batches)) first

@@ -23,10 +23,10 @@ all_is_sent t l none = by_going (going (endpoint l)) refl none where
 -- Once the next segment went, what is left to send leads to the same end, and is less.
 pub one_is_sent : (t : ℕ) (l : Live) → Legal l.flow.params l.flow.entries → is_some (going (endpoint l)) ≡ true
     → (quieted t (with_call l (Core 0) t calls.Emit []) ≡ quieted t l)
-        × (left_in (endpoint (with_call l (Core 0) t calls.Emit [])) < left_in (endpoint l))
+    × (left_in (endpoint (with_call l (Core 0) t calls.Emit [])) < left_in (endpoint l))
 one_is_sent t l legal some = by_going (going (endpoint l)) refl some where
   by_going : (g : Option Going) → going (endpoint l) ≡ g → is_some g ≡ true
       → (quieted t (with_call l (Core 0) t calls.Emit []) ≡ quieted t l)
-          × (left_in (endpoint (with_call l (Core 0) t calls.Emit [])) < left_in (endpoint l))
+      × (left_in (endpoint (with_call l (Core 0) t calls.Emit [])) < left_in (endpoint l))
   by_going None is h = absurd (true≢false (sym h))
   by_going (Some g) is h = (sym (quieted_next t l g legal is), sent_falls t l g legal is)

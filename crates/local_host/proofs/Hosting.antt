@@ -84,9 +84,9 @@ number_is iss n is = ap (λ (m : ℕ). record { 0 = m }) is
 pub syn_opened : (host : Host) (slot n t : ℕ) (frame : FrameId) (tuple : FourTuple) (seg : Seg) (iss : Seq)
     (id : FlowId) (flows : List Live)
     → lowest_free host ≡ Some slot → id ≡ record { slot = slot; generation = next_generation slot host.flows }
-        → iss.0 ≡ n
+    → iss.0 ≡ n
     → flows ≡ host.flows ++ opened_live id tuple host.params Waiting
-        (first_entry Slow t (calls.Passive frame iss seg)) ∷ []
+    (first_entry Slow t (calls.Passive frame iss seg)) ∷ []
     → ◌≡◌ {A = Host} (record host { flows = flows }) (opened_by_syn false (lowest_free host) n t host frame tuple seg)
 syn_opened host slot n t frame tuple seg iss id flows free is number made =
     opened_there host slot tuple Waiting (first_entry Slow t (calls.Passive frame iss seg))
@@ -96,9 +96,9 @@ syn_opened host slot n t frame tuple seg iss id flows free is number made =
 
 pub connect_opened : (host : Host) (app slot n t : ℕ) (tuple : FourTuple) (iss : Seq) (id : FlowId) (flows : List Live)
     → lowest_free host ≡ Some slot → id ≡ record { slot = slot; generation = next_generation slot host.flows }
-        → iss.0 ≡ n
+    → iss.0 ≡ n
     → flows ≡ host.flows ++ opened_live id tuple host.params (Application app)
-        (first_entry (App app) t (calls.Connect iss)) ∷ []
+    (first_entry (App app) t (calls.Connect iss)) ∷ []
     → ◌≡◌ {A = Host} (record host { flows = flows }) (connected_by app (lowest_free host) n t host tuple)
 connect_opened host app slot n t tuple iss id flows free is number made =
     opened_there host slot tuple (Application app) (first_entry (App app) t (calls.Connect iss))
@@ -122,23 +122,23 @@ both_true a b h g = ap (λ (c : Bool). c && b) h ∙ g
 pub met_listener : (n t : ℕ) (host : Host) (frame : FrameId) (tuple : FourTuple) (seg : Seg) → host.params.fixed ≡ true
     → opens seg ≡ true
     → opened_by_syn false (lowest_free host) n t host frame tuple seg
-      ≡ met_no_flow (is_listening host tuple.lport && opens seg)
-          (is_listening host tuple.lport) n t host frame tuple seg
+    ≡ met_no_flow (is_listening host tuple.lport && opens seg)
+    (is_listening host tuple.lport) n t host frame tuple seg
 met_listener n t host frame tuple seg fixed opening =
     ap (λ (b : Bool). opened_by_syn b (lowest_free host) n t host frame tuple seg)
-        (sym (never_full host tuple.lport fixed))
+    (sym (never_full host tuple.lport fixed))
     ∙ ap (λ (b : Bool). met_no_flow b (is_listening host tuple.lport) n t host frame tuple seg)
     (sym (both_true (is_listening host tuple.lport) (opens seg) (always_listening host tuple.lport fixed) opening))
 
 pub met_stray : (n t : ℕ) (host : Host) (frame : FrameId) (tuple : FourTuple) (seg : Seg) → host.params.fixed ≡ true
     → opens seg ≡ false
     → logged host t (events.Stray frame tuple seg (stray_answer true seg))
-      ≡ met_no_flow (is_listening host tuple.lport && opens seg)
-          (is_listening host tuple.lport) n t host frame tuple seg
+    ≡ met_no_flow (is_listening host tuple.lport && opens seg)
+    (is_listening host tuple.lport) n t host frame tuple seg
 met_stray n t host frame tuple seg fixed other =
     ap (λ (b : Bool). met_no_flow b true n t host frame tuple seg) (sym other)
     ∙ ap (λ (b : Bool). met_no_flow (b && opens seg) b n t host frame tuple seg)
-        (sym (always_listening host tuple.lport fixed))
+    (sym (always_listening host tuple.lport fixed))
 
 -- a listener's answer
 pub listener_answers : (seg : Seg) → stray_answer_of seg true ≡ stray_answer true seg
@@ -170,21 +170,21 @@ pub connects_none : (numbers : Numbers) (t : ℕ) (tuple : FourTuple) (seg : Seg
     → position (is_indexed_as tuple) host.flows ≡ Some i → host ≡ connected numbers t tuple seg host
 connects_none numbers t tuple seg host i found =
     not_wanted (connects seg) (is_known host tuple) (next_number numbers host tuple) t host tuple
-        (known_is tuple host i found)
+    (known_is tuple host i found)
 
 -- and none has it
 pub connects_one : (numbers : Numbers) (t : ℕ) (tuple : FourTuple) (seg : Seg) (host : Host)
     → position (is_indexed_as tuple) host.flows ≡ None → connects seg ≡ true
     → connected_by 0 (lowest_free host) (next_number numbers host tuple) t host tuple
-        ≡ connected numbers t tuple seg host
+    ≡ connected numbers t tuple seg host
 connects_one numbers t tuple seg host none wanted =
     same_connect (lowest_free host) (next_number numbers host tuple) t host tuple
     ∙ wanted_so (connects seg) (is_known host tuple) (next_number numbers host tuple) t host tuple wanted
-        (unknown_is tuple host none)
+    (unknown_is tuple host none)
 
 -- the segment is no SYN of the host's own
 pub connects_not : (numbers : Numbers) (t : ℕ) (tuple : FourTuple) (seg : Seg) (host : Host) → connects seg ≡ false
     → host ≡ connected numbers t tuple seg host
 connects_not numbers t tuple seg host other =
     ap (λ (b : Bool). connected_where (b && not (is_known host tuple)) (next_number numbers host tuple) t host tuple)
-        (sym other)
+    (sym other)

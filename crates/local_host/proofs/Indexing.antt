@@ -67,11 +67,13 @@ or_second true b h = absurd (true≢false h)
 was_indexed : (t : FourTuple) (l m : Live) → Same l m → is_indexed_as t m ≡ true → is_indexed_as t l ≡ true
 was_indexed t l m s h =
     and_both l.indexed (same_tuple t l.flow.tuple) (s.index (and_first m.indexed (same_tuple t m.flow.tuple) h))
-        (ap (same_tuple t) (sym s.tuple) ∙ and_second m.indexed (same_tuple t m.flow.tuple) h)
+    (ap (same_tuple t) (sym s.tuple) ∙ and_second m.indexed (same_tuple t m.flow.tuple) h)
 
 pub swept_keeps : Keeps swept
-swept_keeps = record { same = λ l. on_cond (Same l) (is_over l) _ l
-    (λ t. record { tuple = refl; id = refl; index = λ h. absurd (true≢false (sym h)) }) (λ f. itself l) }
+swept_keeps = record {
+  same = λ l. on_cond (Same l) (is_over l) _ l
+      (λ t. record { tuple = refl; id = refl; index = λ h. absurd (true≢false (sym h)) }) (λ f. itself l);
+}
 
 controlled_same : (b : Bool) (t : ℕ) (l : Live) → Same l (controlled_where b Slow t (with_call l Slow t calls.Tick []))
 controlled_same true t l = record { tuple = refl; id = refl; index = λ h. h }
@@ -193,17 +195,17 @@ opened_map t f keeps (l ∷ ls) =
     let rest : opened_as t (map f ls) ≡ opened_as t ls = opened_map t f keeps ls in
     let here : one t (f l) ≡ one t l = same_one t l (f l) (keeps.same l) in
     opened_cons t (f l) (map f ls) ∙ (ap (λ (n : ℕ). n + opened_as t (map f ls)) here
-        ∙ (ap (λ (n : ℕ). one t l + n) rest ∙ sym (opened_cons t l ls)))
+    ∙ (ap (λ (n : ℕ). one t l + n) rest ∙ sym (opened_cons t l ls)))
 
 opened_change : (t : FourTuple) (f : Live → Live) → Keeps f → (ls : List Live) (i : ℕ)
     → opened_as t (change_at i f ls) ≡ opened_as t ls
 opened_change t f keeps [] i = refl
 opened_change t f keeps (l ∷ ls) zero =
     opened_cons t (f l) ls ∙ (ap (λ (n : ℕ). n + opened_as t ls) (same_one t l (f l) (keeps.same l))
-        ∙ sym (opened_cons t l ls))
+    ∙ sym (opened_cons t l ls))
 opened_change t f keeps (l ∷ ls) (suc i) =
     opened_cons t l (change_at i f ls) ∙ (ap (λ (n : ℕ). one t l + n) (opened_change t f keeps ls i)
-        ∙ sym (opened_cons t l ls))
+    ∙ sym (opened_cons t l ls))
 
 -- ----- the index
 pub map_index : (known : FourTuple → Option Openings) (f : Live → Live) (ls : List Live) → Keeps f → IsIndex known ls
@@ -286,7 +288,7 @@ latest_not_found known t ls i d index latest away = by_found (position (is_index
   by_found (Some j) is =
       let same : j ≡ i = found_by known t ls i j index latest is in
       absurd (true≢false (sym (found_passes t ls j d is)
-          ∙ (ap (λ (k : ℕ). is_indexed_as t (get_or ls k d)) same ∙ away)))
+      ∙ (ap (λ (k : ℕ). is_indexed_as t (get_or ls k d)) same ∙ away)))
 
 pub none_latest : (known : FourTuple → Option Openings) (t : FourTuple) (ls : List Live) → IsIndex known ls
     → latest_of (known t) ≡ None → None ≡ position (is_indexed_as t) ls
@@ -361,30 +363,30 @@ push_index known later tuple ls l is own none index = record {
     counts_by t true e =
         let same : tuple ≡ t = tuple_exact tuple t e in
         let mine : one t l ≡ 1 = ap (λ (b : Bool). cond b 1 0)
-            (own_equal t ∙ (ap (equal_tuple t) same ∙ tuple_itself t)) in
+        (own_equal t ∙ (ap (equal_tuple t) same ∙ tuple_itself t)) in
         let before : count_of (known tuple) ≡ opened_as t ls = index.counts tuple
-            ∙ ap (λ (u : FourTuple). opened_as u ls) same in
+        ∙ ap (λ (u : FourTuple). opened_as u ls) same in
         ap count_of (here t e) ∙ (ap (λ (n : ℕ). n + 1) before
-            ∙ (ap (λ (n : ℕ). opened_as t ls + n) (sym mine) ∙ sym (opened_push t ls l)))
+        ∙ (ap (λ (n : ℕ). opened_as t ls + n) (sym mine) ∙ sym (opened_push t ls l)))
     counts_by t false e =
         let other : one t l ≡ 0 = ap (λ (b : Bool). cond b 1 0) (own_equal t ∙ tuple_apart tuple t e) in
         let sum : opened_as t (ls ++ l ∷ []) ≡ opened_as t ls + one t l = opened_push t ls l in
         ap count_of (away t e) ∙ (index.counts t ∙
-            (sym (nothing (opened_as t ls)) ∙ (ap (λ (n : ℕ). opened_as t ls + n) (sym other) ∙ sym sum)))
+        (sym (nothing (opened_as t ls)) ∙ (ap (λ (n : ℕ). opened_as t ls + n) (sym other) ∙ sym sum)))
 
 -- the same where place and count are known by equations
 pub pushed_index : (known later : FourTuple → Option Openings) (tuple : FourTuple) (ls : List Live) (l : Live)
     (place before : ℕ) → place ≡ length ls → before ≡ opened_as tuple ls
     → ((q : FourTuple) → later q ≡ cond (equal_tuple tuple q) (Some (record { latest = place; count = 1 + before }))
-        (known q))
+    (known q))
     → l.flow.tuple ≡ tuple → position (is_indexed_as tuple) ls ≡ None → IsIndex known ls → IsIndex later (ls ++ l ∷ [])
 pushed_index known later tuple ls l place before at counted is own none index =
     let more : 1 + before ≡ count_of (known tuple) + 1 = one_more before (count_of (known tuple))
-        (counted ∙ sym (index.counts tuple)) in
+    (counted ∙ sym (index.counts tuple)) in
     push_index known later tuple ls l
     (λ q. is q ∙ (ap (λ (n : ℕ). cond (equal_tuple tuple q) (Some (record { latest = n; count = 1 + before }))
-        (known q)) at ∙ ap (λ (n : ℕ). cond (equal_tuple tuple q) (Some (record { latest = length ls; count = n }))
-        (known q)) more))
+    (known q)) at ∙ ap (λ (n : ℕ). cond (equal_tuple tuple q) (Some (record { latest = length ls; count = n }))
+    (known q)) more))
     own none index
   where
     one_more : (a b : ℕ) → a ≡ b → 1 + a ≡ b + 1
@@ -395,8 +397,17 @@ abbrev no_tuple : FourTuple
 no_tuple = record { laddr = 0; lport = 0; raddr = 0; rport = 0 }
 
 abbrev bare_seg : (resets : Bool) → Seg
-bare_seg resets = record { head = record { flags = if resets then 4 else 0; seq = record { 0 = 0 }; ack = record
-    { 0 = 0 }; window = 0; mss = None }; bytes = [] }
+bare_seg resets = record {
+  head = record {
+    flags = if resets then 4 else 0;
+    seq = record { 0 = 0 };
+    ack = record
+        { 0 = 0 };
+    window = 0;
+    mss = None;
+  };
+  bytes = [];
+}
 
 abbrev pub some_content : (remote resets : Bool) → Content
 some_content true resets = Remote no_tuple (bare_seg false)

@@ -43,10 +43,10 @@ pub read_is : {X : Type 0} (inside xs : List X) (i : ℕ) (was x : X) → inside
     → slice_get xs i ≡ Some x → was ≡ x
 read_is {X} inside xs i was x same read here = read
     ∙ (ap (λ (zs : List X). get_or zs i was) same ∙ there xs i here) where
-  there : (zs : List X) (k : ℕ) → slice_get zs k ≡ Some x → get_or zs k was ≡ x
-  there [] k h = absurd (cc (h))
-  there (z ∷ zs) zero h = cc (h)
-  there (z ∷ zs) (suc k) h = there zs k h
+      there : (zs : List X) (k : ℕ) → slice_get zs k ≡ Some x → get_or zs k was ≡ x
+      there [] k h = absurd (cc (h))
+      there (z ∷ zs) zero h = cc (h)
+      there (z ∷ zs) (suc k) h = there zs k h
 
 -- ----- slots
 past_taken : (most slot : ℕ) (flows : List Live) → list_any (is_in_slot slot) flows ≡ true
@@ -90,8 +90,8 @@ any_more test (x ∷ xs) zero d below = or_none (test x)
 any_more {X} test (x ∷ xs) (suc i) d below =
     let next : suc i + 1 ≡ suc (i + 1) = omega arith in
     ap (λ (n : ℕ). list_any test (take n (x ∷ xs))) next
-        ∙ (ap (λ (b : Bool). test x || b) (any_more test xs i d (omega arith))
-        ∙ sym (or_grouped (test x) (list_any test (take i xs)) (test (get_or xs i d))))
+    ∙ (ap (λ (b : Bool). test x || b) (any_more test xs i d (omega arith))
+    ∙ sym (or_grouped (test x) (list_any test (take i xs)) (test (get_or xs i d))))
   where
     or_grouped : (a b c : Bool) → ((a || b) || c) ≡ (a || (b || c))
     or_grouped true b c = refl

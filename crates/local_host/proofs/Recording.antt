@@ -26,7 +26,7 @@ use Rattle.std.specs.Prelude.{not, ◌&&◌}
 -- ----- frames
 frames_of : (numbers : Numbers) (t : ℕ) (host : Host) (o : Option Arrival) (xs : List Arrival)
     → fold (delivered received_serially numbers t) host (cons_option o xs)
-        ≡ fold (delivered received_serially numbers t) (came_where numbers t o host) xs
+    ≡ fold (delivered received_serially numbers t) (came_where numbers t o host) xs
 frames_of numbers t host None xs = refl
 frames_of numbers t host (Some x) xs = refl
 
@@ -38,13 +38,13 @@ frames_next : (items : List Item) (t : ℕ) (site : Site (List Shown)) (x : Item
     → frames items t site (x ∷ xs) ≡ frames items t (on_host (came (first_number items) t x) site) xs
 frames_next items t site x xs =
     ap (λ (host : Host). record site { host = host })
-        (frames_of (first_number items) t site.host (arrival_of x) (arrivals_in xs))
+    (frames_of (first_number items) t site.host (arrival_of x) (arrivals_in xs))
 
 -- the records that are left, one less
 pub frames_less : (items : List Item) (t : ℕ) (site after end : Site (List Shown)) (xs : List code.Item) (i : ℕ)
     (d : code.Item) → i < length xs
     → after ≡ on_host (came (first_number items) t (item_in (get_or xs i d))) site
-        → frames items t site (map item_in (drop i xs)) ≡ end
+    → frames items t site (map item_in (drop i xs)) ≡ end
     → frames items t after (map item_in (drop (i + 1) xs)) ≡ end
 frames_less items t site after end xs i d below made left =
     let rest : List Item = map item_in (drop (i + 1) xs) in
@@ -64,7 +64,7 @@ asks_next items t site x xs = refl
 pub asks_less : (items : List Item) (t : ℕ) (site after end : Site (List Shown)) (xs : List code.Item) (i : ℕ)
     (d : code.Item) → i < length xs
     → after ≡ served_whole (first_number items) t (item_in (get_or xs i d)).content site
-        → asks items t site (map item_in (drop i xs)) ≡ end
+    → asks items t site (map item_in (drop i xs)) ≡ end
     → asks items t after (map item_in (drop (i + 1) xs)) ≡ end
 asks_less items t site after end xs i d below made left =
     let rest : List Item = map item_in (drop (i + 1) xs) in
@@ -78,11 +78,11 @@ AreAlike numbers others = (tuple : FourTuple) (k n : ℕ) → numbers tuple k n 
 
 packet_alike : (numbers others : Numbers) (t : ℕ) (host : Host) (frame : FrameId) (p : Packet) → AreAlike numbers others
     → delivered_packet received_serially numbers t host frame p
-        ≡ delivered_packet received_serially others t host frame p
+    ≡ delivered_packet received_serially others t host frame p
 packet_alike numbers others t host frame (Damaged rule) alike = refl
 packet_alike numbers others t host frame (Segment tuple seg) alike =
     ap (λ (n : ℕ). arrived (is_known host tuple) (received_serially t frame seg) n t host frame tuple seg)
-        (alike tuple _ _)
+    (alike tuple _ _)
 
 came_by : (numbers others : Numbers) (t : ℕ) (o : Option Arrival) (host : Host) → AreAlike numbers others
     → came_where numbers t o host ≡ came_where others t o host
@@ -107,14 +107,14 @@ whole_remote numbers t tuple seg site = refl
 
 pub whole_local : (numbers : Numbers) (t : ℕ) (tuple : FourTuple) (seg : Seg) (site : Site (List Shown))
     → served_later t (model.Local tuple seg) tuple (served_content numbers Beginning t (model.Local tuple seg) site)
-      ≡ served_whole numbers t (model.Local tuple seg) site
+    ≡ served_whole numbers t (model.Local tuple seg) site
 unfolding served_whole served_later
 whole_local numbers t tuple seg site = refl
 
 began_alike : (numbers others : Numbers) (t : ℕ) (tuple : FourTuple) (seg : Seg) (site : Site (List Shown))
     → AreAlike numbers others
     → served_content numbers Beginning t (model.Local tuple seg) site
-        ≡ served_content others Beginning t (model.Local tuple seg) site
+    ≡ served_content others Beginning t (model.Local tuple seg) site
 began_alike numbers others t tuple seg site alike =
     ap
     (λ (n : ℕ).
@@ -138,10 +138,10 @@ served_alike numbers others t (model.Local tuple seg) site alike =
 pub played : (items : List Item) (t : ℕ) (batch : List Item) (site : Site (List Shown)) (slow : Host)
     (framed asked : Site (List Shown)) (last : Host)
     → slow ≡ slow_phase t site.host → framed ≡ frames items t (record site { host = slow }) batch
-        → asked ≡ asks items t framed batch
+    → asked ≡ asks items t framed batch
     → last ≡ emit_phase t asked.host
     → ◌≡◌ {A = Site (List Shown)} (record asked { host = last })
-        (serial_tick (capture_scripts items) t site (due_in batch))
+    (serial_tick (capture_scripts items) t site (due_in batch))
 unfolding serial_tick
 played items t batch site slow framed asked last first second third fourth =
     ap (λ (h : Host). record asked { host = h }) fourth

@@ -16,8 +16,8 @@ pub record_push : (rs after : List records.Flow) (r : records.Flow) (ls : List L
     → flow_in r ≡ l.flow → map flow_in rs ≡ flows_of ls → map flow_in after ≡ flows_of (ls ++ l ∷ [])
 record_push rs after r ls l made same before =
     ap (map flow_in) made ∙ (map-append flow_in rs (r ∷ [])
-        ∙ (ap (λ (fs : List Flow). fs ++ flow_in r ∷ []) before
-        ∙ (ap (λ (f : Flow). flows_of ls ++ f ∷ []) same ∙ flows_push ls l)))
+    ∙ (ap (λ (fs : List Flow). fs ++ flow_in r ∷ []) before
+    ∙ (ap (λ (f : Flow). flows_of ls ++ f ∷ []) same ∙ flows_push ls l)))
 
 pub each_push : {X : Type 0} (P : X → Type 0) (xs : List X) (x : X) → Each P xs → P x → Each P (xs ++ x ∷ [])
 each_push P [] x each here = (here, tt)

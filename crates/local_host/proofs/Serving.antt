@@ -80,7 +80,7 @@ position_change {X} test xs i x y h same =
     let front : position_or_len test after ≡ position_or_len test xs = front_change test xs i x y h same in
     ap (λ (n : ℕ). cond (nat_lt n (length after)) (Some n) None) front
     ∙ ap (λ (n : ℕ). cond (nat_lt (position_or_len test xs) n) (Some (position_or_len test xs)) None)
-        (const_length xs i y)
+    (const_length xs i y)
 
 -- ----- what was shown
 pub all_enough : (ls : List Live) (shown : List Shown) → length ls ≤ length shown → all_shown ls shown ≡ shown
@@ -123,62 +123,83 @@ placed_is tuple i l p site at kept = record {
 placed_shown : (i : ℕ) (p : Served) (site : Site (List Shown))
     → shown_in (at_place i p site) ≡ change_at i (λ (s : Shown). p.shown) (shown_in site)
 placed_shown i p site =
-    all_enough _ _ (omega (arith, const_length site.host.flows i p.live, const_length
-        (shown_in site) i p.shown, all_length site.host.flows site.scripts))
+    all_enough _ _ (omega (
+      arith,
+      const_length site.host.flows i p.live,
+      const_length
+          (shown_in site) i p.shown,
+      all_length site.host.flows site.scripts,
+    ))
 
 placed_twice : (i : ℕ) (p q : Served) (site : Site (List Shown)) → at_place i q (at_place i p site) ≡ at_place i q site
 placed_twice i p q site =
     let shown : change_at i (λ (s : Shown). q.shown) (shown_in (at_place i p site))
-        ≡ change_at i (λ (s : Shown). q.shown) (shown_in site) =
+    ≡ change_at i (λ (s : Shown). q.shown) (shown_in site) =
     ap (change_at i (λ (s : Shown). q.shown)) (placed_shown i p site)
-        ∙ change_again (shown_in site) i p.shown q.shown in
-    ap (λ (ls : List Live). record { host = record (site.host) { flows = ls }; scripts = change_at i
-        (λ (s : Shown). q.shown) (shown_in (at_place i p site)) })
+    ∙ change_again (shown_in site) i p.shown q.shown in
+    ap (λ (ls : List Live). record {
+      host = record (site.host) { flows = ls };
+      scripts = change_at i
+          (λ (s : Shown). q.shown) (shown_in (at_place i p site));
+    })
     (change_again site.host.flows i p.live q.live)
-    ∙ ap (λ (ss : List Shown). record { host = record
-        (site.host) { flows = change_at i (λ (l : Live). q.live) site.host.flows }; scripts = ss }) shown
+    ∙ ap (λ (ss : List Shown). record {
+      host = record
+          (site.host) { flows = change_at i (λ (l : Live). q.live) site.host.flows };
+      scripts = ss;
+    }) shown
 
 placed_get : (i : ℕ) (l : Live) (p : Served) (site : Site (List Shown)) → slice_get site.host.flows i ≡ Some l
     → get_or (shown_in (at_place i p site)) i nothing_shown ≡ p.shown
 placed_get i l p site here =
     ap (λ (ss : List Shown). get_or ss i nothing_shown) (placed_shown i p site)
     ∙ or_change (shown_in site) i p.shown nothing_shown
-        (omega (arith, some_below site.host.flows i l here, all_length site.host.flows site.scripts))
+    (omega (arith, some_below site.host.flows i l here, all_length site.host.flows site.scripts))
 
 -- ----- one stage
 served_by : (stage : Stage) (t : ℕ) (content : Content) (i : ℕ) (l : Live) (site : Site (List Shown))
     → slice_get site.host.flows i ≡ Some l
     → served_at i (Some l) stage t content site
-      ≡ at_place i (staged t content (record { live = l; shown = get_or (shown_in site) i nothing_shown }) stage) site
+    ≡ at_place i (staged t content (record { live = l; shown = get_or (shown_in site) i nothing_shown }) stage) site
 served_by stage t content i l site here =
     let s : Shown = get_or (shown_in site) i nothing_shown in
-    ap (λ (ls : List Live). record { host = record (site.host) { flows = ls }; scripts = change_at i
-        (shown_after stage t content l) (shown_in site) })
+    ap (λ (ls : List Live). record {
+      host = record (site.host) { flows = ls };
+      scripts = change_at i
+          (shown_after stage t content l) (shown_in site);
+    })
     (change_get (at_stage stage t content s) site.host.flows i l here)
-    ∙ ap (λ (ss : List Shown). record { host = record
-        (site.host) { flows = change_at i (λ (m : Live). at_stage stage t content s l) site.host.flows }; scripts = ss
-        })
+    ∙ ap (λ (ss : List Shown). record {
+      host = record
+          (site.host) { flows = change_at i (λ (m : Live). at_stage stage t content s l) site.host.flows };
+      scripts = ss;
+    })
     (change_or (shown_after stage t content l) (shown_in site) i nothing_shown)
 
 pub served_one : (stage : Stage) (t : ℕ) (content : Content) (tuple : FourTuple) (i : ℕ) (l : Live)
     (site : Site (List Shown)) → IsAt tuple i l site
     → served_flow stage t content tuple site
-      ≡ at_place i (staged t content (record { live = l; shown = get_or (shown_in site) i nothing_shown }) stage) site
+    ≡ at_place i (staged t content (record { live = l; shown = get_or (shown_in site) i nothing_shown }) stage) site
 served_one stage t content tuple i l site at =
     ap (λ (o : Option ℕ). served_where o stage t content site) at.found
     ∙ (ap (λ (o : Option Live). served_at i o stage t content site) at.here
-        ∙ served_by stage t content i l site at.here)
+    ∙ served_by stage t content i l site at.here)
 
 -- ----- all stages
 after_kept : (l m n : Live) → Kept l m → Kept m n → Kept l n
-after_kept l m n a b = record { tuple = b.tuple ∙ a.tuple; id = b.id ∙ a.id; indexed = b.indexed
-    ∙ a.indexed; filed = b.filed ∙ a.filed }
+after_kept l m n a b = record {
+  tuple = b.tuple ∙ a.tuple;
+  id = b.id ∙ a.id;
+  indexed = b.indexed
+      ∙ a.indexed;
+  filed = b.filed ∙ a.filed;
+}
 
 stages_served : (stages : List Stage) (t : ℕ) (content : Content) (tuple : FourTuple) (i : ℕ) (l : Live) (p : Served)
     (site : Site (List Shown))
     → IsAt tuple i l site → Kept l p.live
     → fold (λ (s : Site (List Shown)) (stage : Stage). served_flow stage t content tuple s) (at_place i p site) stages
-      ≡ at_place i (fold (staged t content) p stages) site
+    ≡ at_place i (fold (staged t content) p stages) site
 stages_served [] t content tuple i l p site at kept = refl
 stages_served (stage ∷ stages) t content tuple i l p site at kept =
     let here : Site (List Shown) = at_place i p site in
@@ -186,26 +207,26 @@ stages_served (stage ∷ stages) t content tuple i l p site at kept =
     let one : served_flow stage t content tuple here ≡ at_place i next site =
     served_one stage t content tuple i p.live here (placed_is tuple i l p site at kept)
     ∙ (ap (λ (s : Shown). at_place i (staged t content (record { live = p.live; shown = s }) stage) here)
-        (placed_get i l p site at.here)
+    (placed_get i l p site at.here)
     ∙ placed_twice i p next site) in
     ap (λ (s : Site (List Shown)). fold (λ (r : Site (List Shown)) (later : Stage). served_flow later t content tuple r)
-        s stages) one
+    s stages) one
     ∙ stages_served stages t content tuple i l next site at
-        (after_kept l p.live next.live kept (stage_kept stage t content p.shown p.live))
+    (after_kept l p.live next.live kept (stage_kept stage t content p.shown p.live))
 
 all_served : (stage : Stage) (stages : List Stage) (t : ℕ) (content : Content) (tuple : FourTuple) (i : ℕ) (l : Live)
     (site : Site (List Shown))
     → IsAt tuple i l site
     → fold (λ (s : Site (List Shown)) (later : Stage). served_flow later t content tuple s) site (stage ∷ stages)
-      ≡ at_place i (fold (staged t content) (record { live = l; shown = get_or (shown_in site) i nothing_shown })
-          (stage ∷ stages)) site
+    ≡ at_place i (fold (staged t content) (record { live = l; shown = get_or (shown_in site) i nothing_shown })
+    (stage ∷ stages)) site
 all_served stage stages t content tuple i l site at =
     let s : Shown = get_or (shown_in site) i nothing_shown in
     ap (λ (r : Site (List Shown)). fold (λ (q : Site (List Shown)) (later : Stage). served_flow later t content tuple q)
-        r stages)
+    r stages)
     (served_one stage t content tuple i l site at)
     ∙ stages_served stages t content tuple i l (staged t content (record { live = l; shown = s }) stage) site at
-        (stage_kept stage t content s l)
+    (stage_kept stage t content s l)
 
 -- where the index leads to a flow
 pub later_served_at : (t : ℕ) (content : Content) (tuple : FourTuple) (i : ℕ) (l : Live) (site : Site (List Shown))
@@ -222,7 +243,7 @@ served_nowhere : (stages : List Stage) (t : ℕ) (content : Content) (tuple : Fo
 served_nowhere [] t content tuple site none = refl
 served_nowhere (stage ∷ stages) t content tuple site none =
     ap (λ (s : Site (List Shown)). fold (λ (r : Site (List Shown)) (later : Stage). served_flow later t content tuple r)
-        s stages)
+    s stages)
     (ap (λ (o : Option ℕ). served_where o stage t content site) none)
     ∙ served_nowhere stages t content tuple site none
 
@@ -266,33 +287,44 @@ pub asked_placed : (site : Site (List Shown)) (i t : ℕ) (content : Content) (l
     → made ≡ (asked_all t content (record { live = l; shown = was })).shown
     → ◌≡◌ {A = Site (List Shown)} (record { host = host; scripts = set inside i made }) (asked_at i l t content site)
 asked_placed site i t content l inside was made host here same read served shown =
-    let low : i < length (shown_in site) = omega (arith, some_below site.host.flows i l here, all_length site.host.flows
-        site.scripts) in
+    let low : i < length (shown_in site) = omega (
+      arith,
+      some_below site.host.flows i l here,
+      all_length site.host.flows
+          site.scripts,
+    ) in
     let s : Shown = get_or (shown_in site) i nothing_shown in
     let is : was ≡ s = was_shown site i inside was same read low in
     let first : host ≡ at_flow i (λ (m : Live). asked_live t content s l) site.host =
     served
     ∙ (ap (λ (r : Shown). at_flow i (asked_live t content r) site.host) is
     ∙ ap (λ (ls : List Live). record (site.host) { flows = ls })
-        (change_get (asked_live t content s) site.host.flows i l here)) in
+    (change_get (asked_live t content s) site.host.flows i l here)) in
     let f : Shown → Shown = λ r. (asked_all t content (record { live = l; shown = r })).shown in
     let second : set inside i made ≡ change_at i (λ (r : Shown). f s) (shown_in site) =
     wrote_change f inside (shown_in site) i was made same low read shown
-        ∙ change_or f (shown_in site) i nothing_shown in
+    ∙ change_or f (shown_in site) i nothing_shown in
     ap (λ (h : Host). record { host = h; scripts = set inside i made }) first
-    ∙ ap (λ (ss : List Shown). record { host = at_flow i
-        (λ (m : Live). asked_live t content s l) site.host; scripts = ss }) second
+    ∙ ap (λ (ss : List Shown). record {
+      host = at_flow i
+          (λ (m : Live). asked_live t content s l) site.host;
+      scripts = ss;
+    }) second
 
 pub seen_placed : (site : Site (List Shown)) (i t : ℕ) (tuple : FourTuple) (seg : Seg) (l : Live) (inside : List Shown)
     (was made : Shown)
     → slice_get site.host.flows i ≡ Some l → inside ≡ shown_in site → was ≡ get_or inside i was → made ≡ sees seg l was
     → ◌≡◌ {A = Site (List Shown)} (record { host = site.host; scripts = set inside i made })
-      (served_where (Some i) Beginning t (Local tuple seg) site)
+    (served_where (Some i) Beginning t (Local tuple seg) site)
 seen_placed site i t tuple seg l inside was made here same read shown =
-    let low : i < length (shown_in site) = omega (arith, some_below site.host.flows i l here, all_length site.host.flows
-        site.scripts) in
+    let low : i < length (shown_in site) = omega (
+      arith,
+      some_below site.host.flows i l here,
+      all_length site.host.flows
+          site.scripts,
+    ) in
     ap (λ (ls : List Live). record { host = record (site.host) { flows = ls }; scripts = set inside i made })
-        (same_change site.host.flows i)
+    (same_change site.host.flows i)
     ∙ (ap (λ (ss : List Shown). record { host = at_flow i (λ (m : Live). m) site.host; scripts = ss })
     (wrote_change (sees seg l) inside (shown_in site) i was made same low read shown)
     ∙ ap (λ (o : Option Live). served_at i o Beginning t (Local tuple seg) site) (sym here))

@@ -14,10 +14,10 @@ pair l m r s same shown =
 
 pub six_stages : (t : ℕ) (content : Content) (l a b c d e f : Live) (s sent ended : Shown)
     → a ≡ at_stage Accepting t content s l → b ≡ at_stage Sending t content s a
-        → sent ≡ shown_after Sending t content a s
+    → sent ≡ shown_after Sending t content a s
     → c ≡ at_stage Shutting t content sent b → ended ≡ shown_after Shutting t content b sent
     → d ≡ at_stage Aborting t content ended c → e ≡ at_stage Receiving t content ended d
-        → f ≡ at_stage Leaving t content ended e
+    → f ≡ at_stage Leaving t content ended e
     → ◌≡◌ {A = Served} (record { live = f; shown = ended }) (asked_all t content (record { live = l; shown = s }))
 unfolding asked_all
 six_stages t content l a b c d e f s sent ended first second took third shut fourth fifth sixth =
@@ -38,7 +38,7 @@ pub added_few : (before after bytes : List ℕ) (n : ℕ) → n ≤ length bytes
     → length after - length before ≡ n
 added_few before after bytes n few grown =
     let long : length after ≡ length before + length (take n bytes) = ap length grown
-        ∙ length-append before (take n bytes) in
+    ∙ length-append before (take n bytes) in
     let short : length (take n bytes) ≡ min n (length bytes) = length-take n bytes in
     omega (arith, few, long, short)
 

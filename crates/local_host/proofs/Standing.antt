@@ -107,9 +107,11 @@ rest_map f rests stays (l ∷ ls) at = (here, rest_map f rests stays ls at.1) wh
 
 pub rest_swept : (ls : List Live) → AreAtRest ls → AreAtRest (map swept ls)
 rest_swept [] at = tt
-rest_swept (l ∷ ls) at =
-    (on_cond (λ (m : Live). m.filed ≡ true → IsAtRest m) (is_over l) _ l
-        (λ over. λ h. record { over = over; index = refl }) (λ runs. at.0), rest_swept ls at.1)
+rest_swept (l ∷ ls) at = (
+  on_cond (λ (m : Live). m.filed ≡ true → IsAtRest m) (is_over l) _ l
+      (λ over. λ h. record { over = over; index = refl }) (λ runs. at.0),
+  rest_swept ls at.1,
+)
 
 filed_apart : (l : Live) → is_standing l ≡ true → l.filed ≡ true → ⊥
 filed_apart l stands filed = true≢false (sym stands ∙ ap not filed)
@@ -146,7 +148,7 @@ pub places_push : (ls : List Live) (l : Live) → l.filed ≡ false
 places_push [] l fresh = ap (λ (b : Bool). with_first (not b) []) fresh
 places_push (m ∷ ls) l fresh =
     ap (λ (places : List ℕ). with_first (is_standing m) (map (λ (place : ℕ). suc place) places))
-        (places_push ls l fresh)
+    (places_push ls l fresh)
     ∙ (ap (with_first (is_standing m)) (map-append (λ (place : ℕ). suc place) (standing_places ls) (length ls ∷ []))
     ∙ first_behind (is_standing m) (map (λ (place : ℕ). suc place) (standing_places ls)) (suc (length ls) ∷ []))
 
@@ -213,7 +215,7 @@ filter_next test (p ∷ ps) = by_test (test (suc p)) refl (filter_next test ps) 
   by_test : (b : Bool) → test (suc p) ≡ b → filter test (map (λ (place : ℕ). suc place) ps)
       ≡ map (λ (place : ℕ). suc place) (filter (λ (q : ℕ). test (suc q)) ps)
       → filter test (suc p ∷ map (λ (place : ℕ). suc place) ps)
-          ≡ map (λ (place : ℕ). suc place) (filter (λ (q : ℕ). test (suc q)) (p ∷ ps))
+      ≡ map (λ (place : ℕ). suc place) (filter (λ (q : ℕ). test (suc q)) (p ∷ ps))
   by_test true is rest = rw (is) (ap (λ (qs : List ℕ). suc p ∷ qs) rest)
   by_test false is rest = rw (is) rest
 
@@ -226,22 +228,22 @@ pub places_swept : (ls : List Live) → filter (passes_at is_standing (map swept
 places_swept [] = refl
 places_swept (l ∷ ls) = by_filed l.filed refl (filter_next test (standing_places ls)
     ∙ ap (map (λ (place : ℕ). suc place)) (places_swept ls)) where
-  test : ℕ → Bool
-  test = passes_at is_standing (swept l ∷ map swept ls)
+      test : ℕ → Bool
+      test = passes_at is_standing (swept l ∷ map swept ls)
 
-  rest : List ℕ
-  rest = map (λ (place : ℕ). suc place) (standing_places (map swept ls))
+      rest : List ℕ
+      rest = map (λ (place : ℕ). suc place) (standing_places (map swept ls))
 
-  by_first : (b : Bool) (ps qs : List ℕ) → ps ≡ qs → cond b (0 ∷ ps) ps ≡ with_first b qs
-  by_first true ps qs same = ap (λ (rs : List ℕ). 0 ∷ rs) same
-  by_first false ps qs same = same
+      by_first : (b : Bool) (ps qs : List ℕ) → ps ≡ qs → cond b (0 ∷ ps) ps ≡ with_first b qs
+      by_first true ps qs same = ap (λ (rs : List ℕ). 0 ∷ rs) same
+      by_first false ps qs same = same
 
-  by_filed : (b : Bool) → l.filed ≡ b → filter test (map (λ (place : ℕ). suc place) (standing_places ls)) ≡ rest
-      → filter test (with_first (not b) (map (λ (place : ℕ). suc place) (standing_places ls)))
+      by_filed : (b : Bool) → l.filed ≡ b → filter test (map (λ (place : ℕ). suc place) (standing_places ls)) ≡ rest
+          → filter test (with_first (not b) (map (λ (place : ℕ). suc place) (standing_places ls)))
           ≡ with_first (is_standing (swept l)) rest
-  by_filed true is same = same ∙ ap (λ (b : Bool). with_first (not b) rest) (sym (swept_filed l is))
-  by_filed false is same = by_first (is_standing (swept l))
-      (filter test (map (λ (place : ℕ). suc place) (standing_places ls))) rest same
+      by_filed true is same = same ∙ ap (λ (b : Bool). with_first (not b) rest) (sym (swept_filed l is))
+      by_filed false is same = by_first (is_standing (swept l))
+          (filter test (map (λ (place : ℕ). suc place) (standing_places ls))) rest same
 
 -- ----- a test that none at rest passes
 any_next : (test : ℕ → Bool) (ps : List ℕ) → list_any test (map (λ (place : ℕ). suc place) ps)
@@ -254,12 +256,12 @@ pub any_standing : (test : Live → Bool) → ((l : Live) → l.filed ≡ true �
 any_standing test never [] = refl
 any_standing test never (l ∷ ls) = by_filed l.filed refl
     (any_next (passes_at test (l ∷ ls)) (standing_places ls) ∙ any_standing test never ls) where
-  by_filed : (b : Bool) → l.filed ≡ b → list_any (passes_at test (l ∷ ls))
-      (map (λ (place : ℕ). suc place) (standing_places ls)) ≡ list_any test ls
-      → list_any (passes_at test (l ∷ ls)) (with_first (not b) (map (λ (place : ℕ). suc place) (standing_places ls)))
+      by_filed : (b : Bool) → l.filed ≡ b → list_any (passes_at test (l ∷ ls))
+          (map (λ (place : ℕ). suc place) (standing_places ls)) ≡ list_any test ls
+          → list_any (passes_at test (l ∷ ls)) (with_first (not b) (map (λ (place : ℕ). suc place) (standing_places ls)))
           ≡ (test l || list_any test ls)
-  by_filed true is rest = rest ∙ ap (λ (b : Bool). b || list_any test ls) (sym (never l is))
-  by_filed false is rest = ap (λ (b : Bool). test l || b) rest
+      by_filed true is rest = rest ∙ ap (λ (b : Bool). b || list_any test ls) (sym (never l is))
+      by_filed false is rest = ap (λ (b : Bool). test l || b) rest
 
 slot_by : (b other : Bool) → b ≡ true → (not b && other) ≡ false
 slot_by true other h = refl
@@ -335,7 +337,7 @@ in_map : (slot : ℕ) (f : Live → Live) → Keeps f → (ls : List Live) → f
 in_map slot f keeps [] = refl
 in_map slot f keeps (l ∷ ls) =
     in_cons slot (f l) (map f ls) ∙ (ap (λ (n : ℕ). n + flows_in slot (map f ls)) (same_slot slot f keeps l)
-        ∙ (ap (λ (n : ℕ). one_in slot l + n) (in_map slot f keeps ls) ∙ sym (in_cons slot l ls)))
+    ∙ (ap (λ (n : ℕ). one_in slot l + n) (in_map slot f keeps ls) ∙ sym (in_cons slot l ls)))
 
 in_change : (slot : ℕ) (f : Live → Live) → Keeps f → (ls : List Live) (i : ℕ)
     → flows_in slot (change_at i f ls) ≡ flows_in slot ls
@@ -407,7 +409,7 @@ pub leads_on : {f : Live → Live} {places : List ℕ} {k : ℕ} {ls old : List 
     → Leads f places (k + 1) (set ls (get_or places k 0) made) old
 leads_on {f} {places} {k} {ls} {old} {was} {made} leads is low read by =
     let wrote : set ls (get_or places k 0) made ≡ change_at (get_or places k 0) f ls = wrote_change f ls ls
-        (get_or places k 0) was made refl (leads_below leads is low) read by in
+    (get_or places k 0) was made refl (leads_below leads is low) read by in
     record {
       same = ap (changed_all f (drop (k + 1) places)) wrote ∙ (sym (changed_more f places k 0 ls low) ∙ leads.same);
       len = ap length wrote ∙ (length_change f ls (get_or places k 0) ∙ leads.len);
@@ -424,35 +426,35 @@ pub leads_to_all : {f : Live → Live} {places : List ℕ} {k : ℕ} {ls old : L
     → places ≡ standing_places old → AreAtRest old → length places ≤ k → ls ≡ map f old
 leads_to_all {f} {places} {k} {ls} {old} rests leads is rest past =
     sym (ap (λ (ps : List ℕ). changed_all f ps ls) (none_left places k past))
-        ∙ (leads.same ∙ (ap (λ (ps : List ℕ). changed_all f ps old) is ∙ all_changed f rests old rest))
+    ∙ (leads.same ∙ (ap (λ (ps : List ℕ). changed_all f ps old) is ∙ all_changed f rests old rest))
 
 -- ----- one flow more
 pub known_push : (known later : FourTuple → Option Openings) (slots more : ℕ → Option ℕ) (places longer : List ℕ)
     (tuple : FourTuple) (now : Openings) (ls : List Live) (l : Live)
     → now.latest ≡ length ls → now.count ≡ 1 + opened_as tuple ls
-        → ((q : FourTuple) → later q ≡ cond (equal_tuple tuple q) (Some now) (known q))
+    → ((q : FourTuple) → later q ≡ cond (equal_tuple tuple q) (Some now) (known q))
     → ((slot : ℕ) → number_of (more slot) ≡ number_of (slots slot) + cond (l.flow.id.slot == slot) 1 0)
-        → longer ≡ places ++ length ls ∷ []
+    → longer ≡ places ++ length ls ∷ []
     → l.flow.tuple ≡ tuple → position (is_indexed_as tuple) ls ≡ None → l.filed ≡ false → IsKnown known slots places ls
-        → IsKnown later more longer (ls ++ l ∷ [])
+    → IsKnown later more longer (ls ++ l ∷ [])
 known_push known later slots more places longer tuple now ls l latest count noted counted grown own none fresh is =
     record {
-  index =
-      pushed_index known later tuple ls l now.latest (opened_as tuple ls) latest refl
-      (λ q. noted q ∙ ap (λ (n : ℕ). cond (equal_tuple tuple q) (Some (record { latest = now.latest; count = n }))
+      index =
+          pushed_index known later tuple ls l now.latest (opened_as tuple ls) latest refl
+          (λ q. noted q ∙ ap (λ (n : ℕ). cond (equal_tuple tuple q) (Some (record { latest = now.latest; count = n }))
           (known q)) count)
-      own none is.index;
-  counts = λ slot. counted slot ∙ (ap (λ (n : ℕ). n + one_in slot l) (is.counts slot) ∙ sym (in_push slot ls l));
-  standing = grown ∙ (ap (λ (ps : List ℕ). ps ++ length ls ∷ []) is.standing ∙ sym (places_push ls l fresh));
-  filed = rest_push ls l fresh is.filed;
-}
+          own none is.index;
+      counts = λ slot. counted slot ∙ (ap (λ (n : ℕ). n + one_in slot l) (is.counts slot) ∙ sym (in_push slot ls l));
+      standing = grown ∙ (ap (λ (ps : List ℕ). ps ++ length ls ∷ []) is.standing ∙ sym (places_push ls l fresh));
+      filed = rest_push ls l fresh is.filed;
+    }
 
 -- ----- a slice that was written whole
 pub written_whole : (made old : List Bool) (n : ℕ) → n ≡ length old → length made ≡ length old
     → take n (made ++ drop (length made) old) ≡ made
 written_whole made old n all same =
     ap (λ (k : ℕ). take k (made ++ drop (length made) old)) (all ∙ sym same)
-        ∙ take_at made (drop (length made) old) (length made) refl
+    ∙ take_at made (drop (length made) old) (length made) refl
 
 -- ----- what was done
 -- What is known is right after a change of all flows,
@@ -471,9 +473,9 @@ pub sound_by_change : {T E : Type 0} (r : Result T E) {known : FourTuple → Opt
 sound_by_change r {known} {slots} {places} f i {ls} {seen} was made keeps stays sound same stands read =
     ok_by r
     (λ by. subst (IsKnown known slots places) (sym
-        (wrote_change f ls ls i was made refl (stands_below i same stands) read by))
+    (wrote_change f ls ls i was made refl (stands_below i same stands) read by))
     (known_change known slots places f ls i keeps stays
-        (subst (λ (ms : List Live). passes_at is_standing ms i ≡ true) (sym same) stands) sound))
+    (subst (λ (ms : List Live). passes_at is_standing ms i ≡ true) (sym same) stands) sound))
 
 -- which is the change that was meant.
 pub done_by_change : {T E : Type 0} (r s : Result T E) (f : Live → Live) (i : ℕ) {ls seen : List Live} (was made : Live)

@@ -30,16 +30,16 @@ send_takes_front (Over why) e offered offer = record { begins = record { front =
 send_takes_front Running e offered offer =
     on_cond (SendsFront offer) e.tx.shut _ _ (λ t. record { begins = record { front = refl } })
     (λ f. on_cond (SendsFront offer) (min offered (send_room e) == 0 && not (offered == 0)) _ _
-        (λ t. record { begins = record { front = refl } })
+    (λ t. record { begins = record { front = refl } })
     (λ f. on_cond (SendsFront offer) (length (take (send_room e) offer) == min offered (send_room e)) _ _
-        (λ t. record { begins = record { front = front_again (send_room e) offer } })
-        (λ f. record { begins = record { front = refl } })))
+    (λ t. record { begins = record { front = front_again (send_room e) offer } })
+    (λ f. record { begins = record { front = refl } })))
 
 -- a Send takes the first of the bytes that it offers
 pub send_takes : (e : Endpoint) (tick offered : ℕ) (offer : List ℕ) →
     taken_bytes (reply_or (step e tick (calls.Send offered) (shown e offer)) replies.Nothing)
-        ≡ take (length (taken_bytes (reply_or (step e tick (calls.Send offered) (shown e offer)) replies.Nothing)))
-        offer
+    ≡ take (length (taken_bytes (reply_or (step e tick (calls.Send offered) (shown e offer)) replies.Nothing)))
+    offer
 unfolding step
 send_takes e tick offered offer = (send_takes_front (column e) e offered offer).begins.front
 

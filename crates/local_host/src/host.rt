@@ -263,8 +263,15 @@ impl LocalHost {
             Some(slot) => {
                 let id = self.next_id(slot)?;
                 let iss = self.next_number(tuple, numbers);
-                let flow =
-                    LiveFlow::connected(self.alloc, id, tuple, &self.params, iss, app, tick)?;
+                let flow = LiveFlow::connected(
+                    self.alloc,
+                    id,
+                    tuple,
+                    &self.params,
+                    iss,
+                    app,
+                    tick,
+                )?;
                 self.flows.push(tuple, flow)
             }
         }

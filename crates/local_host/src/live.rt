@@ -17,7 +17,9 @@ ghost use Rattle.local_host.specs.declared.live.Holder.TheVariants as Holder;
 ghost use Rattle.local_host.specs.Live.{flow_in, holder_in, asked_by, IsLaterCall, IsLegal, opened_live, IsNext};
 
 use crate::calls::{make, offer};
-use crate::reading::{first_number, is_closed, is_control_tick, is_fast, may_send, sent_count, stage_of};
+use crate::reading::{
+    first_number, is_closed, is_control_tick, is_fast, may_send, sent_count, stage_of,
+};
 use capture_items::is_same_tuple;
 use fast_rx::FastRx;
 use fast_tx::FastTx;
@@ -96,8 +98,7 @@ impl LiveFlow {
         ensures { IfOk result (λ l. l ≡ opened_live id tuple params.now (holder_in (Holder.Application app))
             (first_entry (App app) tick (calls.Connect iss))) }
     {
-        let history =
-            FlowRecord::connect(alloc, id, tuple, params, iss, Caller::App(app), tick)?;
+        let history = FlowRecord::connect(alloc, id, tuple, params, iss, Caller::App(app), tick)?;
         Ok(LiveFlow::fresh(history, Holder::Application(app)))
     }
 

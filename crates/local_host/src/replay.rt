@@ -145,8 +145,7 @@ impl LocalReplay {
         numbers: &FirstNumbers,
     ) -> Result<(), AllocError>
         ensures { (items : List model.Item) → AreNumbersOf items numbers.now
-            → OnOk result (self.new ≡ ask_phase (capture_scripts items) tick self.old (asks_in (map item_in batch.now)))
-            }
+            → OnOk result (self.new ≡ ask_phase (capture_scripts items) tick self.old (asks_in (map item_in batch.now))) }
     {
         for item in batch {
             self.serve(tick, item, numbers)?;
@@ -242,13 +241,7 @@ impl LocalReplay {
     }
 
     /// The application's calls for a segment of the flow at place `i`. The error is want of memory.
-    fn ask_at(
-        &mut self,
-        i: usize,
-        tick: u32,
-        remote: bool,
-        resets: bool,
-    ) -> Result<(), AllocError>
+    fn ask_at(&mut self, i: usize, tick: u32, remote: bool, resets: bool) -> Result<(), AllocError>
         requires place { passes_at is_standing self.old.host.flows i ≡ true }
         requires apart { remote ≡ true → resets ≡ false }
         ensures { (content : model.Content) (l : Live) → is_remote content ≡ remote → resets_here content ≡ resets

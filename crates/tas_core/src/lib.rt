@@ -5,5 +5,5 @@ mod log;
 #[cfg(test)]
 mod tests;
 
-pub use log::HostLog;
 pub use host_rounds::{LogEvent, LogLine};
+pub use log::HostLog;

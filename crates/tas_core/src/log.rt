@@ -1,8 +1,8 @@
 ghost use Rattle.std.specs.Prelude.{◌≡◌, ◌<◌, ◌++◌, ◌∷◌, [], length, slice_get, Some, OnOk, OnErr};
 
+use host_rounds::LogLine;
 use std::alloc::{AllocError, Global};
 use std::marker::Model;
-use host_rounds::LogLine;
 
 /// The log of a host, seen as the list of its lines in the order in which they came.
 #[derive(Drop)]

@@ -18,7 +18,7 @@ use Rattle.tas_num.specs.declared.outside.IoFault.TheVariants.{Failed, OutOfMemo
 use Rattle.tas_main.specs.declared.stop.Stop.{Stop}
 use Rattle.tas_main.specs.declared.stop.Stop.TheVariants.{Words, Input, Read, Write, Memory, TooLong, NotBuilt}
 use Rattle.tas_main.specs.Words.{Request, IsReplay, IsForm, is_built, form_of}
-use Rattle.tas_main.specs.Stops.{Given, Cause, IsNoCapture, Unreplayed, Unwritten, SinkCalm, ReadsAll, ReadBefore}
+use Rattle.tas_main.specs.Stops.{Given, most_bytes, Cause, IsNoCapture, Unreplayed, Unwritten, SinkCalm, ReadsAll, ReadBefore}
 use Rattle.tas_main.specs.Stops.{writes_nothing, status_of}
 use Rattle.tas_main.specs.Outputs.{IsRun, IsWhole, WritesAll, WritesFront, output}
 
@@ -129,7 +129,7 @@ whole_ends_well g Read cause w = absurd (w.read cause)
 whole_ends_well g Write cause w = absurd (w.written cause)
 whole_ends_well g Memory cause w = inr refl
 whole_ends_well g TooLong cause w =
-    let long = told g.source.left w.input (λ (b : List ℕ). 67108864 < length b) w.told cause in
+    let long = told g.source.left w.input (λ (b : List ℕ). most_bytes < length b) w.told cause in
     absurd (omega (arith, long, w.short))
 whole_ends_well g NotBuilt cause w = absurd (true≢false (sym (asked_built g.words w.request w.asked) ∙ cause.1))
 
@@ -166,9 +166,9 @@ kept_same a (Err stop) = λ e. Keeps-refl a.held
 
 -- ----- what was read
 pub reads_all : (before after : SourceState) (b : List ℕ) → IfSome before.left (λ bytes. b ≡ bytes)
-    → length b ≤ 67108864 → IsAtEnd after.left → ReadsAll 67108864 before after
+    → length b ≤ most_bytes → IsAtEnd after.left → ReadsAll most_bytes before after
 reads_all before after b same short end =
-    record { fits = of_input before.left b (λ (bytes : List ℕ). length bytes ≤ 67108864) same short; end = end }
+    record { fits = of_input before.left b (λ (bytes : List ℕ). length bytes ≤ most_bytes) same short; end = end }
 
 pub unreplayed_why : (g : Given) (b : List ℕ) (stop : Stop) → IfSome g.source.left (λ bytes. b ≡ bytes)
     → Unreplayed b stop → Cause g stop
@@ -181,7 +181,7 @@ unreplayed_why g b Write same why = absurd why
 unreplayed_why g b TooLong same why = absurd why
 unreplayed_why g b NotBuilt same why = absurd why
 
-pub unreplayed_read : (before after : SourceState) (b : List ℕ) (stop : Stop) → ReadsAll 67108864 before after
+pub unreplayed_read : (before after : SourceState) (b : List ℕ) (stop : Stop) → ReadsAll most_bytes before after
     → Unreplayed b stop → ReadBefore before after stop
 unreplayed_read before after b (Input number) all why = all
 unreplayed_read before after b Memory all why = tt
@@ -192,7 +192,7 @@ unreplayed_read before after b TooLong all why = absurd why
 unreplayed_read before after b NotBuilt all why = absurd why
 
 pub unwritten_read : (before after : SourceState) (a b : SinkState) (text : List ℕ) (stop : Stop)
-    → ReadsAll 67108864 before after → Unwritten a b text stop → ReadBefore before after stop
+    → ReadsAll most_bytes before after → Unwritten a b text stop → ReadBefore before after stop
 unwritten_read before after a b text Write all why = all
 unwritten_read before after a b text Memory all why = tt
 unwritten_read before after a b text Words all why = absurd why

@@ -5,7 +5,7 @@ ghost use Rattle.std.specs.Net.Addr.{ipv4_bits};
 ghost use Rattle.tas_num.specs.Streams.{Wrote};
 ghost use Rattle.tas_runs.specs.SerialOrder.{serial_replay};
 ghost use Rattle.tas_round.specs.Runs.{log_in};
-ghost use Rattle.tas_main.specs.Stops.{given, Cause, status_of, writes_nothing, Unreplayed, Unwritten, Unwrites};
+ghost use Rattle.tas_main.specs.Stops.{given, most_bytes, Cause, status_of, writes_nothing, Unreplayed, Unwritten, Unwrites};
 ghost use Rattle.tas_main.specs.Stops.{WordsFirst, Untouched, ReadsAll, ReadsPast, ReadBefore, SourceCalm, SinkCalm};
 ghost use Rattle.tas_main.specs.Telling.{IsTold};
 ghost use Rattle.tas_main.specs.Outputs.{output, WritesAll, WritesFront, IsWhole};
@@ -54,8 +54,8 @@ pub fn tas<R: Threads + Wait + Sync, S: Source, K: Sink, F: Sink, G: Gate>(
     ensures unread { (result ≡ 2) ⊎ (result ≡ 8) → S.state source.new ≡ S.state source.old }
     // Then all of the input is read, which is within its length at 0, 3 and 5; at 7 one byte past that was taken.
     ensures read { (result ≡ 0) ⊎ ((result ≡ 3) ⊎ (result ≡ 5))
-        → ReadsAll 67108864 (S.state source.old) (S.state source.new) }
-    ensures past { result ≡ 7 → ReadsPast 67108864 (S.state source.old) (S.state source.new) }
+        → ReadsAll most_bytes (S.state source.old) (S.state source.new) }
+    ensures past { result ≡ 7 → ReadsPast most_bytes (S.state source.old) (S.state source.new) }
     // A fault of a stream is told as its own status.
     ensures reading { (result ≡ 4) ⊎ ((S.state source.new).faults ≡ (S.state source.old).faults) }
     ensures writing { (result ≡ 5) ⊎ ((K.state sink.new).faults ≡ (K.state sink.old).faults) }
@@ -104,7 +104,7 @@ fn serve<S: Source, K: Sink>(
     ensures first { IfErr result (WordsFirst (map string_bytes words.now)) }
     ensures asked { OnOk result (IsAsked (map string_bytes words.now)) }
     ensures untouched { IfErr result (Untouched (S.state source.old) (S.state source.new)) }
-    ensures read { OnOk result (ReadsAll 67108864 (S.state source.old) (S.state source.new)) }
+    ensures read { OnOk result (ReadsAll most_bytes (S.state source.old) (S.state source.new)) }
     ensures before { IfErr result (ReadBefore (S.state source.old) (S.state source.new)) }
     ensures reads_calmly { OnOk result ((S.state source.new).faults ≡ (S.state source.old).faults) }
     ensures source_calm { IfErr result (SourceCalm (S.state source.old) (S.state source.new)) }
@@ -119,7 +119,7 @@ fn serve<S: Source, K: Sink>(
 
 /// The run that the words ask for, of the capture that these bytes are.
 fn replay_of(alloc: Global, asked: &Request, bytes: &[u8]) -> Result<RunLog, Stop>
-    requires { length bytes.now ≤ 67108864 }
+    requires { length bytes.now ≤ most_bytes }
     ensures ok { IfOk result (λ log.
         serial_replay (ipv4_bits asked.now.local) bytes.now asked.now.loose ≡ Ok (log_in log)) }
     ensures refused { IfErr result (Unreplayed bytes.now) }

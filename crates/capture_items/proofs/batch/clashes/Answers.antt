@@ -8,4 +8,4 @@ pub returns-in-Some : goal.returns-in-Some
 returns-in-Some c =
     let tuple : tuple_of (item_in c.args.item.now).content ≡ Some c.in-Some.tuple = search rules in
     c.has_flow.ensures ∙ (sym (any_mapped (is_of c.in-Some.tuple) item_in c.args.batch.now)
-        ∙ sym (clashes_of (map item_in c.args.batch.now) (item_in c.args.item.now) c.in-Some.tuple tuple))
+    ∙ sym (clashes_of (map item_in c.args.batch.now) (item_in c.args.item.now) c.in-Some.tuple tuple))

@@ -22,7 +22,7 @@ loop-count-preserved c =
     let len : length xs ≡ length c.args.items.now = length-map c.args.items.now item_in in
     let below : n < length xs = omega (arith, len, c.loop-count-test.true) in
     let joined = sym (joins_at item_in c.args.items.now n _ _ c.loop-count-test.true c.joins.ensures)
-        ∙ c.if-not-joins.false in
+    ∙ c.if-not-joins.false in
     record {
       few = joined_few item_in c.args.items.now n _ _ c.loop-count-test.true c.joins.ensures c.if-not-joins.false;
       so_far = c.loop-count.invariant.so_far ∙ grows xs n _ below joined;
@@ -33,8 +33,8 @@ returns-clause-first c = λ some.
     let xs : List Item = map item_in c.args.items.now in
     let len : length xs ≡ length c.args.items.now = length-map c.args.items.now item_in in
     let ends : c.loop-count.count ≡ length c.args.items.now = omega
-        (arith, c.loop-count-test.false, c.loop-count.auto.count-end) in
+    (arith, c.loop-count-test.false, c.loop-count.auto.count-end) in
     let n = length c.args.items.now in
     batch_is_all xs n (omega (arith, len, some)) (sym len)
-        (subst (λ (k : ℕ). fold cut_at (growing []) xs ≡ fold cut_at (growing (take k xs)) (drop k xs)) ends
-        c.loop-count.invariant.so_far)
+    (subst (λ (k : ℕ). fold cut_at (growing []) xs ≡ fold cut_at (growing (take k xs)) (drop k xs)) ends
+    c.loop-count.invariant.so_far)

@@ -19,8 +19,8 @@ loop-view-preserved c =
     let next = next_in c.args.bytes.now view in
     let rest : Result Seen Fault = seen form c.args.local c.args.loose (records_from form (number + 1) next.rest) in
     let taken : map item_in c.take_up.new.items.items
-        ≡ map item_in c.loop-view.items.items ++ items_of form c.args.local c.args.loose
-        (record_in view ∷ []) = search rules in
+    ≡ map item_in c.loop-view.items.items ++ items_of form c.args.local c.args.loose
+    (record_in view ∷ []) = search rules in
     let found : first_record form number (drop c.loop-view.at c.args.bytes.now) ≡ Ok (Some next) = search rules in
     record {
       so_far = ap (λ (items : List Item). after items number rest) taken
@@ -37,7 +37,7 @@ returns-in-Ok-None-clause-found c =
     let number = c.loop-view.records + 1 in
     let none : first_record form number (drop c.loop-view.at c.args.bytes.now) ≡ Ok None = search rules in
     let ends = seen_ends form c.args.local c.args.loose number _ _ c.loop-view.records _ none
-        c.loop-view.invariant.so_far in
+    c.loop-view.invariant.so_far in
     let all = seen_all form c.args.local c.args.loose _ _ _ ends in
     record {
       capture = record { form = form; records = all.0 };
@@ -52,11 +52,11 @@ returns-in-Err-next_record-clause-refused c =
     let number = c.loop-view.records + 1 in
     let fault = fault_in c.in-Err-next_record.fault in
     let refused : first_record form number (drop c.loop-view.at c.args.bytes.now)
-        ≡ Err fault = c.in-Err-next_record.ensures.refused in
+    ≡ Err fault = c.in-Err-next_record.ensures.refused in
     let ends = seen_refused form c.args.local c.args.loose number _ fault _ c.loop-view.records _ refused
-        c.loop-view.invariant.so_far in
+    c.loop-view.invariant.so_far in
     capture_of_form _ form c.loop-view.invariant.form
-        ∙ ap (capture_with form) (seen_fault form c.args.local c.args.loose _ fault ends)
+    ∙ ap (capture_with form) (seen_fault form c.args.local c.args.loose _ fault ends)
 
 pub returns-in-Ok-None-clause-few : goal.returns-in-Ok-None-clause-few
 returns-in-Ok-None-clause-few c = found_few c.args.bytes.now c.args.local c.args.loose _

@@ -11,12 +11,16 @@ returns-in_ok-push c =
     let before = map item_in c.args.items.now.items in
     let pushed : c.push.new.self.items ≡ c.args.items.now.items ++ x ∷ [] = search rules in
     let mapped : map item_in c.push.new.self.items ≡ before ++ item_in x ∷ [] = ap (map item_in) pushed
-        ∙ map-append item_in c.args.items.now.items (x ∷ []) in
-    record { ok = mapped ∙ ap (λ (xs : List Item). before ++ xs)
-        (sym (items_of-taken _ _ _ _ (item_in x) c.in-Some.ensures.taken)) }
+    ∙ map-append item_in c.args.items.now.items (x ∷ []) in
+    record {
+      ok = mapped ∙ ap (λ (xs : List Item). before ++ xs)
+          (sym (items_of-taken _ _ _ _ (item_in x) c.in-Some.ensures.taken));
+    }
 
 pub returns-in_default : goal.returns-in_default
 returns-in_default c =
     let before = map item_in c.args.items.now.items in
-    record { ok = sym (ap (λ (xs : List Item). before ++ xs) (items_of-passed _ _ _ _ c.in_default.ensures.passed_over)
-        ∙ append-nil before) }
+    record {
+      ok = sym (ap (λ (xs : List Item). before ++ xs) (items_of-passed _ _ _ _ c.in_default.ensures.passed_over)
+          ∙ append-nil before);
+    }

@@ -6,10 +6,10 @@ pub returns-then-not-taken-slot : goal.returns-then-not-taken-slot
 returns-then-not-taken-slot c = λ flows told.
     let here : get_or c.args.taken.now c.loop-slot.slot false ≡ false = search rules in
     sym (slot_free c.args.slots c.loop-slot.slot flows c.loop-slot-test.true
-        (sym (told c.loop-slot.slot c.loop-slot-test.true) ∙ here)) ∙ c.loop-slot.invariant flows told
+    (sym (told c.loop-slot.slot c.loop-slot-test.true) ∙ here)) ∙ c.loop-slot.invariant flows told
 
 pub loop-slot-preserved : goal.loop-slot-preserved
 loop-slot-preserved c = λ flows told.
     let here : get_or c.args.taken.now c.loop-slot.slot false ≡ true = search rules in
     sym (slot_taken c.args.slots c.loop-slot.slot flows c.loop-slot-test.true
-        (sym (told c.loop-slot.slot c.loop-slot-test.true) ∙ here)) ∙ c.loop-slot.invariant flows told
+    (sym (told c.loop-slot.slot c.loop-slot-test.true) ∙ here)) ∙ c.loop-slot.invariant flows told

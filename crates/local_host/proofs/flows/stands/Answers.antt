@@ -7,7 +7,7 @@ pub returns-in-Some : goal.returns-in-Some
 returns-in-Some c =
     let below : c.args.place < length c.args.flows.now = search rules in
     c.is_standing.ensures ∙ (ap is_standing c.in-Some.ensures.lookup.1
-        ∙ sym (passes_get is_standing c.args.flows.now c.args.place c.in-Some.flow.now below))
+    ∙ sym (passes_get is_standing c.args.flows.now c.args.place c.in-Some.flow.now below))
 
 pub returns-in-None : goal.returns-in-None
 returns-in-None c =

@@ -3,8 +3,11 @@ use Rattle.local_host.proofs.Standing.{swept_rests, leads_below, leads_on, leads
 use Rattle.local_host.proofs.flows.sweep_all.Goals as goal
 
 pub index_mut-requires : goal.index_mut-requires
-index_mut-requires c = omega (arith, leads_below c.loop-place.invariant c.requires.places c.loop-place-test.true,
-    c.loop-place.flows.ok)
+index_mut-requires c = omega (
+  arith,
+  leads_below c.loop-place.invariant c.requires.places c.loop-place-test.true,
+  c.loop-place.flows.ok,
+)
 
 pub loop-place-preserved : goal.loop-place-preserved
 loop-place-preserved c = leads_on c.loop-place.invariant c.requires.places c.loop-place-test.true

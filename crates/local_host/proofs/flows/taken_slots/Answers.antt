@@ -16,18 +16,18 @@ loop-place-preserved c =
     let lent : c.deref_mut.result.now ≡ old = c.deref_mut.ensures.value in
     let size : length made ≡ length old = c.mark_at.ensures.len ∙ ap length lent in
     let whole : take c.loop-place.taken.len (made ++ drop (length made) old)
-        ≡ made = written_whole made old c.loop-place.taken.len (search rules) size in
+    ≡ made = written_whole made old c.loop-place.taken.len (search rules) size in
     record {
       len = ap length whole ∙ (size ∙ c.loop-place.invariant.len);
       taken = λ slot low.
           let inside : slot < length c.deref_mut.result.now = omega
-              (arith, low, ap length lent, c.loop-place.invariant.len) in
+          (arith, low, ap length lent, c.loop-place.invariant.len) in
           ap (λ (ts : List Bool). get_or ts slot false) whole
           ∙ (c.mark_at.ensures.taken slot inside
           ∙ (ap (λ (b : Bool). b || passes_at (is_in_slot slot) c.args.flows.now place)
-              (ap (λ (ts : List Bool). get_or ts slot false) lent ∙ c.loop-place.invariant.taken slot low)
+          (ap (λ (ts : List Bool). get_or ts slot false) lent ∙ c.loop-place.invariant.taken slot low)
           ∙ sym (any_more (passes_at (is_in_slot slot) c.args.flows.now) c.args.standing.now c.loop-place.place-index 0
-              c.loop-place-test.true)));
+          c.loop-place-test.true)));
     }
 
 pub returns-clause-taken : goal.returns-clause-taken
@@ -35,4 +35,4 @@ returns-clause-taken c = λ slot low.
     let test : ℕ → Bool = passes_at (is_in_slot slot) c.args.flows.now in
     c.loop-place.invariant.taken slot low
     ∙ (ap (list_any test) (take_all c.loop-place.place-index c.args.standing.now c.loop-place-test.false ∙ c.requires)
-        ∙ any_standing (is_in_slot slot) (filed_in_no_slot slot) c.args.flows.now)
+    ∙ any_standing (is_in_slot slot) (filed_in_no_slot slot) c.args.flows.now)

@@ -12,7 +12,7 @@ pub returns-clause-going : goal.returns-clause-going
 returns-clause-going c =
     let e : Endpoint = replay c.args.flow.now.params c.args.flow.now.entries in
     let stands : Stands c.parts.result.now e = subst (λ (p : Parts). Stands p e)
-        (sym c.parts.ensures.parts) c.parts.ensures.stands in
+    (sym c.parts.ensures.parts) c.parts.ensures.stands in
     c.is_some.ensures ∙ (ap is_some (c.next_out.ensures.segment e
-        (valid_replay c.args.flow.now.params c.args.flow.now.entries c.parts.ensures.ranges c.parts.ensures.legal)
-        stands) ∙ some_out (going e))
+    (valid_replay c.args.flow.now.params c.args.flow.now.entries c.parts.ensures.ranges c.parts.ensures.legal)
+    stands) ∙ some_out (going e))

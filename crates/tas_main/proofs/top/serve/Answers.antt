@@ -2,7 +2,7 @@ use Rattle.std.proofs.Common.{rules, refl, ◌≡◌, IfSome, Ok, List, ℕ, map
 use Rattle.std.specs.Net.Addr.{ipv4_bits}
 use Rattle.tas_runs.specs.SerialOrder.{serial_replay}
 use Rattle.tas_round.specs.Runs.{log_in}
-use Rattle.tas_main.specs.Stops.{given, Cause, ReadsAll, ReadBefore, Unreplayed}
+use Rattle.tas_main.specs.Stops.{given, most_bytes, Cause, ReadsAll, ReadBefore, Unreplayed}
 use Rattle.tas_main.specs.Outputs.{output}
 use Rattle.tas_main.specs.Requests.{request_in}
 use Rattle.tas_main.proofs.Causes.{writes_all, writes_front, writes_none, unwritten_kept, unwritten_read, reads_all}
@@ -58,7 +58,7 @@ returns-clause-before g c =
     let before = g.S.Source.state c.args.source.now in
     let after = g.S.Source.state c.read_all.new.source in
     let bytes = c.in_ok-bytes.bytes.items in
-    let all : ReadsAll 67108864 before after = reads_all before after bytes (search rules) (search rules)
+    let all : ReadsAll most_bytes before after = reads_all before after bytes (search rules) (search rules)
     (search rules) in
     let text = output (request_in c.in_ok-asked.asked) (log_in c.in_ok-log.log) in
     let sink = g.K.Sink.state c.args.sink.now in
@@ -107,7 +107,7 @@ returns-in_err-log-clause-before g c =
     let before = g.S.Source.state c.args.source.now in
     let after = g.S.Source.state c.read_all.new.source in
     let bytes = c.in_ok-bytes.bytes.items in
-    let all : ReadsAll 67108864 before after = reads_all before after bytes (search rules) (search rules)
+    let all : ReadsAll most_bytes before after = reads_all before after bytes (search rules) (search rules)
     (search rules) in
     let why : Unreplayed bytes c.in_err-log.field-0.0 = search rules in
     let stop = c.in_err-log.field-0.0 in

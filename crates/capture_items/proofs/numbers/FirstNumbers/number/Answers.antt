@@ -7,7 +7,7 @@ use Rattle.capture_items.proofs.numbers.FirstNumbers.number.Goals as goal
 pub returns-in-Some-clause-kept : goal.returns-in-Some-clause-kept
 returns-in-Some-clause-kept c =
     let found : lookup (same_turn (record { tuple = c.args.tuple; place = c.args.k })) c.args.self.now
-        ≡ Some c.in-Some.number.now = search rules in
+    ≡ Some c.in-Some.number.now = search rules in
     number_found c.args.self.now c.args.tuple c.args.k c.args.n (Some c.in-Some.number.now) found
 
 pub returns-in-Some-clause-items : goal.returns-in-Some-clause-items
@@ -17,7 +17,7 @@ returns-in-Some-clause-items c = λ items are.
 pub returns-in-None-clause-kept : goal.returns-in-None-clause-kept
 returns-in-None-clause-kept c =
     let found : lookup (same_turn (record { tuple = c.args.tuple; place = c.args.k })) c.args.self.now
-        ≡ None = search rules in
+    ≡ None = search rules in
     let number : c.args.n * 64000 % 2 ^ 32 ≡ 64000 * c.args.n % 2 ^ 32 = omega arith in
     number ∙ number_found c.args.self.now c.args.tuple c.args.k c.args.n None found
 

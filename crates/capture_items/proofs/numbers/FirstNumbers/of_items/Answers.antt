@@ -17,14 +17,14 @@ loop-item-preserved c =
     let before : FourTuple → List ℕ = λ t. local_numbers (map item_in (take i xs)) t in
     let after : FourTuple → List ℕ = λ t. local_numbers (map item_in (take (i + 1) xs)) t in
     let few : (t : FourTuple) → length (after t) ≤ i + 1 = λ t. numbers_few item_in xs i _ t _ below
-        (c.local_syn.ensures t) (c.loop-item.invariant.few t) in
+    (c.local_syn.ensures t) (c.loop-item.invariant.few t) in
     elim c.match-local_syn.branch [
       | in-Some+in_ok-note w ↦
           let tuple = w.in-Some.tuple in
           let n = w.in-Some.number.0 in
           let more : (t : FourTuple) → after t ≡ (if same_tuple t tuple then with_new (before t) n else before t) = λ t.
           numbers_more item_in xs i _ t (number_for t (Some (tuple, w.in-Some.number))) below (w.in-Some.ensures t)
-              ∙ with_one_if (same_tuple t tuple) (before t) n in
+          ∙ with_one_if (same_tuple t tuple) (before t) n in
           record {
             listed = λ t. subst (λ (s : Numbering). AreOf s t (after t)) (sym w.numbering-is)
                 (subst (AreOf w.note.new.self t) (sym (more t))
@@ -33,7 +33,7 @@ loop-item-preserved c =
           }
       | in_default w ↦
           let same : (t : FourTuple) → after t ≡ before t = λ t. numbers_more item_in xs i _ t None below
-              (w.in_default.ensures t) in
+          (w.in_default.ensures t) in
           record {
             listed = λ t. subst (λ (s : Numbering). AreOf s t (after t)) (sym w.numbering-is)
                 (subst (AreOf c.loop-item.numbering t) (sym (same t)) (c.loop-item.invariant.listed t));

@@ -12,8 +12,12 @@ overflow_add-count c =
 pub returns : goal.returns
 returns c =
     let count : c.unwrap_or-count.result ≡ count_in c.args.self.now c.args.tuple = search rules in
-    let more : IsMore c.args.self.now (record { numbers = c.insert-2.new.self; known = c.insert.new.self; counts =
-        c.insert-3.new.self }) c.args.tuple c.args.number =
+    let more : IsMore c.args.self.now (record {
+      numbers = c.insert-2.new.self;
+      known = c.insert.new.self;
+      counts =
+          c.insert-3.new.self;
+    }) c.args.tuple c.args.number =
     record {
       fresh = was_new _ _ c.if-not-is_new.false c.in_ok-is_new.ensures.added;
       counts = λ q. rw (← count) (c.in_ok-insert-2.ensures.updates.0 q);

@@ -8,12 +8,12 @@ use Rattle.local_host.proofs.flows.Flows.opened_as.Goals as goal
 pub returns-in-Some : goal.returns-in-Some
 returns-in-Some c =
     let kept : get equal_tuple c.self.inside.table.openings c.args.tuple.now
-        ≡ Some c.in-Some.openings.now = sym c.in-Some.ensures.value in
+    ≡ Some c.in-Some.openings.now = sym c.in-Some.ensures.value in
     sym (ap count_of kept) ∙ (c.self.invariant.index.counts c.args.tuple.now
-        ∙ ap (opened_as c.args.tuple.now) c.self.view_is)
+    ∙ ap (opened_as c.args.tuple.now) c.self.view_is)
 
 pub returns-in-None : goal.returns-in-None
 returns-in-None c =
     let none : get equal_tuple c.self.inside.table.openings c.args.tuple.now ≡ None = sym c.in-None.ensures.value in
     sym (ap count_of none) ∙ (c.self.invariant.index.counts c.args.tuple.now
-        ∙ ap (opened_as c.args.tuple.now) c.self.view_is)
+    ∙ ap (opened_as c.args.tuple.now) c.self.view_is)

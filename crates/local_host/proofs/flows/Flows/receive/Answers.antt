@@ -11,13 +11,13 @@ index_mut-requires c = omega (arith, stands_below c.args.i c.self.view_is c.requ
 pub settle-requires : goal.settle-requires
 settle-requires c =
     sound_by_change c.receive-done.result (received_serially c.args.tick c.args.frame (seg_of c.args.seg.now)) c.args.i
-        c.index_mut.result.now c.receive-done.new.self (received_keeps c.args.tick c.args.frame (seg_of c.args.seg.now))
-        (received_stays c.args.tick c.args.frame (seg_of c.args.seg.now)) c.self.invariant c.self.view_is c.requires
-        c.index_mut.ensures.value c.receive-done.ensures
+    c.index_mut.result.now c.receive-done.new.self (received_keeps c.args.tick c.args.frame (seg_of c.args.seg.now))
+    (received_stays c.args.tick c.args.frame (seg_of c.args.seg.now)) c.self.invariant c.self.view_is c.requires
+    c.index_mut.ensures.value c.receive-done.ensures
 
 pub returns : goal.returns
 returns c =
     done_by_change c.receive-done.result c.settle.result
-        (received_serially c.args.tick c.args.frame (seg_of c.args.seg.now)) c.args.i c.index_mut.result.now
-        c.receive-done.new.self c.settle.new.self.flows.items c.self.view_is c.requires c.index_mut.ensures.value
-        c.receive-done.ensures c.settle.ensures.same c.settle.ensures.flows
+    (received_serially c.args.tick c.args.frame (seg_of c.args.seg.now)) c.args.i c.index_mut.result.now
+    c.receive-done.new.self c.settle.new.self.flows.items c.self.view_is c.requires c.index_mut.ensures.value
+    c.receive-done.ensures c.settle.ensures.same c.settle.ensures.flows

@@ -11,13 +11,13 @@ pub returns-clause-sound : goal.returns-clause-sound
 returns-clause-sound c =
     let ls : List Live = c.args.self.now.flows.items in
     let places : c.push.new.self.items ≡ c.args.self.now.standing.items ++ length ls ∷ [] = c.in_ok-push.ensures.items
-        ∙ ap (λ (n : ℕ). c.args.self.now.standing.items ++ n ∷ []) (search rules) in
+    ∙ ap (λ (n : ℕ). c.args.self.now.standing.items ++ n ∷ []) (search rules) in
     subst (IsKnown (get equal_tuple c.note_opening.new.openings)
-        (get nat_eq c.note_slot.new.generations) c.push.new.self.items) (sym c.in_ok-push-2.ensures.items)
+    (get nat_eq c.note_slot.new.generations) c.push.new.self.items) (sym c.in_ok-push-2.ensures.items)
     (known_push (get equal_tuple c.args.self.now.openings) (get equal_tuple c.note_opening.new.openings)
-        (get nat_eq c.args.self.now.generations) (get nat_eq c.note_slot.new.generations) c.args.self.now.standing.items
-        c.push.new.self.items c.args.tuple c.args.now ls c.args.flow
+    (get nat_eq c.args.self.now.generations) (get nat_eq c.note_slot.new.generations) c.args.self.now.standing.items
+    c.push.new.self.items c.args.tuple c.args.now ls c.args.flow
     c.requires.latest c.requires.count c.in_ok-note_opening.ensures.ok
     (λ slot. c.in_ok-note_slot.ensures slot ∙ ap (λ (id : FlowId). number_of
-        (get nat_eq c.args.self.now.generations slot) + cond (id.slot == slot) 1 0) c.id.ensures)
+    (get nat_eq c.args.self.now.generations slot) + cond (id.slot == slot) 1 0) c.id.ensures)
     places c.requires.own c.requires.fresh c.requires.standing c.requires.sound)

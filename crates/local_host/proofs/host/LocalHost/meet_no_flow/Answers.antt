@@ -11,9 +11,9 @@ returns-then-opens g c =
     (λ made.
     made
     ∙ met_listener (next_number (g.N.NumberSource.numbers c.args.numbers.now) c.args.self.now c.args.tuple) c.args.tick
-        c.args.self.now c.args.frame c.args.tuple (seg_of c.args.seg.now)
+    c.args.self.now c.args.frame c.args.tuple (seg_of c.args.seg.now)
     (subst (λ (h : Host). h.params.fixed ≡ true) c.self.view_is c.self.invariant.1)
-        (sym c.opens.ensures ∙ c.if-opens.true))
+    (sym c.opens.ensures ∙ c.if-opens.true))
     c.open_by_syn.ensures
 
 pub returns-else-opens : goal.returns-else-opens
@@ -22,7 +22,7 @@ returns-else-opens g c =
     (λ made.
     made
     ∙ met_stray (next_number (g.N.NumberSource.numbers c.args.numbers.now) c.args.self.now c.args.tuple) c.args.tick
-        c.args.self.now c.args.frame c.args.tuple (seg_of c.args.seg.now)
+    c.args.self.now c.args.frame c.args.tuple (seg_of c.args.seg.now)
     (subst (λ (h : Host). h.params.fixed ≡ true) c.self.view_is c.self.invariant.1)
-        (sym c.opens.ensures ∙ c.if-opens.false))
+    (sym c.opens.ensures ∙ c.if-opens.false))
     c.note_stray.ensures

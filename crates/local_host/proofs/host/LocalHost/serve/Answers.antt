@@ -5,4 +5,4 @@ use Rattle.local_host.proofs.host.LocalHost.serve.Goals as goal
 pub returns-clause-shown : goal.returns-clause-shown
 returns-clause-shown c = λ content l remote resets here.
     c.serve.ensures.shown content l remote resets
-        (subst (λ (h : Host). slice_get h.flows c.args.i ≡ Some l) (sym c.self.view_is) here)
+    (subst (λ (h : Host). slice_get h.flows c.args.i ≡ Some l) (sym c.self.view_is) here)

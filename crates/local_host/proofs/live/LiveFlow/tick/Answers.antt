@@ -16,6 +16,6 @@ returns c =
     (λ made.
     made
     ∙ subst (λ (m : Live). controlled Slow c.args.tick (record l { flow = flow_in c.make.new.flow })
-        ≡ timed Slow c.args.tick m)
+    ≡ timed Slow c.args.tick m)
     c.self.view_is (ticked l (flow_in c.make.new.flow) c.args.tick c.in_ok-make.ensures.made runs))
     c.control.ensures

@@ -10,7 +10,7 @@ pub returns-in-Some : goal.returns-in-Some
 returns-in-Some c = λ content remote resets.
     let found : position (is_indexed_as c.args.tuple.now) c.args.self.now.host.flows ≡ Some c.in-Some.i =
     subst (λ (s : Site (List Shown)). position (is_indexed_as c.args.tuple.now) s.host.flows ≡ Some c.in-Some.i)
-        c.self.view_is
+    c.self.view_is
     (sym c.find.ensures.place ∙ c.in-Some.is) in
     let there = found_at (is_indexed_as c.args.tuple.now) c.args.self.now.host.flows c.in-Some.i found in
     ok_by c.ask_at.result
@@ -18,7 +18,7 @@ returns-in-Some c = λ content remote resets.
     made
     ∙ sym
     (later_served_at c.args.tick content c.args.tuple.now c.in-Some.i there.0 c.args.self.now
-        (record { found = found; here = there.1 })))
+    (record { found = found; here = there.1 })))
     (c.ask_at.ensures content there.0 remote resets there.1)
 
 pub returns-in-None : goal.returns-in-None

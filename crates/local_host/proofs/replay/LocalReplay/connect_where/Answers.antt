@@ -13,11 +13,11 @@ pub returns-in-Some : goal.returns-in-Some
 returns-in-Some c =
     let site : Site (List Shown) = record { host = c.self.inside.host; scripts = c.self.inside.shown.items } in
     subst (λ (s : Site (List Shown)). s ≡ on_host
-        (connected (kept_numbers c.args.numbers.now) c.args.tick c.args.tuple (seg_of c.args.seg.now)) s)
+    (connected (kept_numbers c.args.numbers.now) c.args.tick c.args.tuple (seg_of c.args.seg.now)) s)
     c.self.view_is
     (ap (λ (h : Host). record site { host = h })
     (connects_none (kept_numbers c.args.numbers.now) c.args.tick c.args.tuple
-        (seg_of c.args.seg.now) c.self.inside.host c.in-Some.field-0
+    (seg_of c.args.seg.now) c.self.inside.host c.in-Some.field-0
     (sym c.find.ensures.place ∙ c.in-Some.is)))
 
 pub returns-in-None : goal.returns-in-None

@@ -9,7 +9,7 @@ use Rattle.local_host.proofs.replay.LocalReplay.deliver_all.Goals as goal
 pub loop-item-preserved : goal.loop-item-preserved
 loop-item-preserved c = λ items are.
     frames_less items c.args.tick c.loop-item.self c.deliver.new.self
-        (frames items c.args.tick c.args.self.now (map item_in c.args.batch.now))
+    (frames items c.args.tick c.args.self.now (map item_in c.args.batch.now))
     c.args.batch.now c.loop-item.item-index _ c.loop-item-test.true
     (c.in_ok-deliver.ensures
     ∙ came_alike (kept_numbers c.args.numbers.now) (first_number items) c.args.tick (item_in _) c.loop-item.self

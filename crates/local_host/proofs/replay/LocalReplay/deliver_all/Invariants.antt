@@ -10,4 +10,4 @@ abbrev pub invariant-loop-item : goal.invariant-loop-item
 invariant-loop-item l =
     (items : List Item) → AreNumbersOf items l.numbers
     → frames items l.tick l.self (map item_in (drop l.item-index l.batch))
-        ≡ frames items l.tick l.fn.self (map item_in l.batch)
+    ≡ frames items l.tick l.fn.self (map item_in l.batch)

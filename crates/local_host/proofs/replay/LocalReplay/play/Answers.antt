@@ -16,10 +16,10 @@ returns c = λ items are.
     subst
     (λ (s : Site (List Shown)).
     record asked { host = c.send_all.new.self } ≡ serial_tick (capture_scripts items) c.args.tick s
-        (due_in (map item_in c.args.batch.now)))
+    (due_in (map item_in c.args.batch.now)))
     c.self.view_is
     (played items c.args.tick (map item_in c.args.batch.now) site c.pass_time.new.self c.deliver_all.new.self asked
-        c.send_all.new.self
+    c.send_all.new.self
     c.in_ok-pass_time.ensures (c.in_ok-deliver_all.ensures items are)
-        (c.self-2.view_is ∙ c.in_ok-serve_all.ensures items are) made))
+    (c.self-2.view_is ∙ c.in_ok-serve_all.ensures items are) made))
     c.send_all.ensures

@@ -12,7 +12,7 @@ pub returns : goal.returns
 returns c = λ tick tuple.
     let site : Site (List Shown) = record { host = c.self.inside.host; scripts = c.self.inside.shown.items } in
     let enough : c.show_all.new.shown.items ≡ shown_in site = c.in_ok-show_all.ensures.shown site.host.flows
-        (sym c.flow_count-count.ensures) in
+    (sym c.flow_count-count.ensures) in
     ok_by c.see.result
     (λ shown.
     subst

@@ -33,7 +33,7 @@ returns-in_ok-begin-in-Local c =
     (λ made.
     made
     ∙ (ap (served_later c.args.tick (Local c.in-Local.tuple (seg_of c.in-Local.seg)) c.in-Local.tuple)
-        c.in_ok-begin-in-Local.ensures
+    c.in_ok-begin-in-Local.ensures
     ∙ (whole_local numbers c.args.tick c.in-Local.tuple (seg_of c.in-Local.seg) c.args.self.now
     ∙ ap (λ (k : code.Content). served_whole numbers c.args.tick (content_in k) c.args.self.now) (sym c.in-Local.is))))
     (c.ask-in-Local.ensures (Local c.in-Local.tuple (seg_of c.in-Local.seg)) refl (sym c.is_rst.ensures))

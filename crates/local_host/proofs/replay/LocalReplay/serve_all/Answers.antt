@@ -9,7 +9,7 @@ use Rattle.local_host.proofs.replay.LocalReplay.serve_all.Goals as goal
 pub loop-item-preserved : goal.loop-item-preserved
 loop-item-preserved c = λ items are.
     asks_less items c.args.tick c.loop-item.self c.serve.new.self
-        (asks items c.args.tick c.args.self.now (map item_in c.args.batch.now))
+    (asks items c.args.tick c.args.self.now (map item_in c.args.batch.now))
     c.args.batch.now c.loop-item.item-index _ c.loop-item-test.true
     (c.in_ok-serve.ensures
     ∙ served_alike (kept_numbers c.args.numbers.now) (first_number items) c.args.tick _ c.loop-item.self

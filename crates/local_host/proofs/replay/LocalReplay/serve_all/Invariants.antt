@@ -10,4 +10,4 @@ abbrev pub invariant-loop-item : goal.invariant-loop-item
 invariant-loop-item l =
     (items : List Item) → AreNumbersOf items l.numbers
     → asks items l.tick l.self (map item_in (drop l.item-index l.batch))
-        ≡ asks items l.tick l.fn.self (map item_in l.batch)
+    ≡ asks items l.tick l.fn.self (map item_in l.batch)
