@@ -239,8 +239,11 @@ fn a_source_is_asked_for_whole_pieces_until_its_end(rt: HostRuntime) -> Result<(
         again: false,
         ended: false,
     };
-    let bytes = read_all(alloc, 67_108_864, &mut source);
-    assert!(rt; matches!(bytes, Ok(bytes) if bytes.len() == 10000));
+    let count = match read_all(alloc, 67_108_864, &mut source) {
+        Ok(bytes) => bytes.len(),
+        Err(_) => 0,
+    };
+    assert_eq!(rt; count, 10000);
     assert_eq!(rt; source.calls, 4);
     assert_eq!(rt; source.most, 4096);
     assert!(rt; !source.again);
