@@ -80,3 +80,10 @@ pub enum Reading {
     Wrong(u8),
     Says(Statement),
 }
+
+/// What a name of an application's is.
+#[derive(Clone, Copy, PartialEq, Eq, Debug)]
+pub enum Role {
+    Listener,
+    Socket,
+}
