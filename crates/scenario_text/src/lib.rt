@@ -14,5 +14,5 @@ mod taking;
 mod words;
 
 pub use lists::{AppList, HostList, KillList, MoveList, StepList};
-pub use reading::ScenarioFault;
+pub use reading::{ScenarioFault, read_scenario};
 pub use scenario::{AppLine, HostLine, KillLine, MoveLine, Scenario, Step};

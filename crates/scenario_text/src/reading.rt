@@ -22,12 +22,6 @@ pub enum ScenarioFault {
     Refused { line: u64, kind: u8 },
 }
 
-impl From<AllocError> for ScenarioFault {
-    fn from(_: AllocError) -> ScenarioFault {
-        ScenarioFault::OutOfMemory
-    }
-}
-
 /// More bytes than any memory holds.
 const LONGEST_TEXT: usize = 1 << 62;
 
@@ -40,20 +34,26 @@ pub fn read_scenario(alloc: Global, text: &[u8]) -> Result<Scenario, ScenarioFau
     if text.len() > LONGEST_TEXT {
         return Err(ScenarioFault::OutOfMemory);
     }
-    let mut draft = Draft::new(alloc)?;
+    let Ok(mut draft) = Draft::new(alloc) else {
+        return Err(ScenarioFault::OutOfMemory);
+    };
     let mut roles = BTreeMap::new(alloc);
     let mut line: u64 = 1;
     let mut rest = text;
     while let Some((front, behind)) = cut(rest, b'\n') {
-        if let Some(kind) = draft.take_line(alloc, &mut roles, without_return(front))? {
-            return Err(ScenarioFault::Refused { line, kind });
+        match draft.take_line(alloc, &mut roles, without_return(front)) {
+            Ok(None) => {}
+            Ok(Some(kind)) => return Err(ScenarioFault::Refused { line, kind }),
+            Err(_) => return Err(ScenarioFault::OutOfMemory),
         }
         line += 1;
         rest = behind;
     }
     if !rest.is_empty() {
-        if let Some(kind) = draft.take_line(alloc, &mut roles, rest)? {
-            return Err(ScenarioFault::Refused { line, kind });
+        match draft.take_line(alloc, &mut roles, rest) {
+            Ok(None) => {}
+            Ok(Some(kind)) => return Err(ScenarioFault::Refused { line, kind }),
+            Err(_) => return Err(ScenarioFault::OutOfMemory),
         }
         line += 1;
     }
