@@ -96,6 +96,7 @@ role_taken m n before step name role key e same entries h fresh = λ q.
         by_role : (o : Option Role) → is_some o ≡ false → o ≡ None
         by_role None i = refl
         by_role (Some r) i = absurd (cc (i))
+
     by_name : (q : List ℕ) (b : Bool) → bytes_eq q key.items ≡ b → cond b (Some role) (lookup (finds q) m.entries) ≡ role_of (before ++ step ∷ []) q
     by_name q true i =
         let is_name : q ≡ name = same_text q key.items i ∙ same in

@@ -148,18 +148,18 @@ judged d statement = if is_unknown d statement then Some 6 else if repeats d sta
 -- a host with the options that its line gives, and with those that stand else
 abbrev pub host_with : (name : List ℕ) → (addr : ℕ) → Given → HostLine
 host_with name addr given = record {
-    name = name;
-    params = record {
-      addr = addr;
-      iss = unwrap_or given.iss 0;
-      ring = unwrap_or given.ring 16384;
-      mss = unwrap_or given.mss 1460;
-      rto = unwrap_or given.rto 20;
-      slots = unwrap_or given.slots 1024;
-      backlog = unwrap_or given.backlog 16;
-      fixed = false;
-    };
-  }
+  name = name;
+  params = record {
+    addr = addr;
+    iss = unwrap_or given.iss 0;
+    ring = unwrap_or given.ring 16384;
+    mss = unwrap_or given.mss 1460;
+    rto = unwrap_or given.rto 20;
+    slots = unwrap_or given.slots 1024;
+    backlog = unwrap_or given.backlog 16;
+    fixed = false;
+  };
+}
 
 -- a step is the last application's
 abbrev pub with_step : List AppLine → Step → List AppLine

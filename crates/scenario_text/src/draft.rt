@@ -68,8 +68,14 @@ fn is_lost_step(hosts: &[HostLine], roles: &Roles, step: &Step) -> bool
         Step::Listen(_, _) | Step::Wait(_) => false,
         Step::Accept(_, listener) => !is_listener(roles, listener.as_slice()),
         Step::Connect(_, host, _) => !has_host(hosts, host.as_slice()),
-        Step::Send(name, _) | Step::Fill(name, _) | Step::Recv(name, _) => !is_socket(roles, name.as_slice()),
-        Step::Drain(name) | Step::Shut(name) | Step::Close(name) | Step::Abort(name) => !is_socket(roles, name.as_slice()),
+        Step::Send(name, _) | Step::Fill(name, _) | Step::Recv(name, _) => !is_socket(
+            roles,
+            name.as_slice(),
+        ),
+        Step::Drain(name) | Step::Shut(name) | Step::Close(name) | Step::Abort(name) => !is_socket(
+            roles,
+            name.as_slice(),
+        ),
     }
 }
 
@@ -117,7 +123,12 @@ impl Draft {
             Statement::OnFrame(host, _, _, _) => !has_host(hosts, host.as_slice()),
             Statement::DropEach(host, _) => !has_host(hosts, host.as_slice()),
             Statement::Move(line, worded) => !*worded || !has_host(hosts, line.host.as_slice()),
-            Statement::Kill(line, worded) => !*worded || !has_app(self.apps.as_slice(), line.host.as_slice(), line.app.as_slice()),
+            Statement::Kill(line, worded) => !*worded
+                || !has_app(
+                    self.apps.as_slice(),
+                    line.host.as_slice(),
+                    line.app.as_slice(),
+                ),
         }
     }
 
@@ -128,13 +139,27 @@ impl Draft {
         let hosts = self.hosts.as_slice();
         match statement {
             Statement::Limit(_) => self.limit.is_some(),
-            Statement::Host(name, addr, given) => given.repeated || has_host(hosts, name.as_slice()) || has_address(hosts, *addr),
-            Statement::App(host, name) => has_app(self.apps.as_slice(), host.as_slice(), name.as_slice()),
+            Statement::Host(name, addr, given) => given.repeated
+                || has_host(hosts, name.as_slice())
+                || has_address(hosts, *addr),
+            Statement::App(host, name) => has_app(
+                self.apps.as_slice(),
+                host.as_slice(),
+                name.as_slice(),
+            ),
             Statement::Do(step) => brings_again(roles, step),
-            Statement::OnFrame(host, flow, number, _) => self.is_second(host.as_slice(), *flow, *number),
+            Statement::OnFrame(host, flow, number, _) => self.is_second(
+                host.as_slice(),
+                *flow,
+                *number,
+            ),
             Statement::DropEach(host, _) => self.is_second_each(host.as_slice()),
             Statement::Move(_, _) => false,
-            Statement::Kill(line, _) => has_kill(self.kills.as_slice(), line.host.as_slice(), line.app.as_slice()),
+            Statement::Kill(line, _) => has_kill(
+                self.kills.as_slice(),
+                line.host.as_slice(),
+                line.app.as_slice(),
+            ),
         }
     }
 

@@ -20,7 +20,11 @@ pub(crate) fn named(alloc: Global, name: &[u8]) -> Result<Option<Bytes>, AllocEr
 }
 
 /// A name and a number, where both are.
-pub(crate) fn named_number(alloc: Global, name: &[u8], number: Option<u32>) -> Result<Option<(Bytes, u32)>, AllocError>
+pub(crate) fn named_number(
+    alloc: Global,
+    name: &[u8],
+    number: Option<u32>,
+) -> Result<Option<(Bytes, u32)>, AllocError>
     ensures { IfOk result (λ r. r ≡ forms.named_number name.now number) }
 {
     match (named(alloc, name)?, number) {
@@ -30,7 +34,11 @@ pub(crate) fn named_number(alloc: Global, name: &[u8], number: Option<u32>) -> R
 }
 
 /// Two names, where both are.
-pub(crate) fn two_names(alloc: Global, a: &[u8], b: &[u8]) -> Result<Option<(Bytes, Bytes)>, AllocError>
+pub(crate) fn two_names(
+    alloc: Global,
+    a: &[u8],
+    b: &[u8],
+) -> Result<Option<(Bytes, Bytes)>, AllocError>
     ensures { IfOk result (λ r. r ≡ forms.two_names a.now b.now) }
 {
     match (named(alloc, a)?, named(alloc, b)?) {
@@ -40,10 +48,19 @@ pub(crate) fn two_names(alloc: Global, a: &[u8], b: &[u8]) -> Result<Option<(Byt
 }
 
 /// A frame of a host: the host's name, the flow's opening number and the frame's number.
-pub(crate) fn frame_named(alloc: Global, host: &[u8], flow: &[u8], number: &[u8]) -> Result<Option<(Bytes, u32, u32)>, AllocError>
+pub(crate) fn frame_named(
+    alloc: Global,
+    host: &[u8],
+    flow: &[u8],
+    number: &[u8],
+) -> Result<Option<(Bytes, u32, u32)>, AllocError>
     ensures { IfOk result (λ r. r ≡ forms.frame_named host.now flow.now number.now) }
 {
-    match (named(alloc, host)?, number_in(0, 4_294_967_294, flow), number_in(0, 4_294_967_294, number)) {
+    match (
+        named(alloc, host)?,
+        number_in(0, 4_294_967_294, flow),
+        number_in(0, 4_294_967_294, number),
+    ) {
         (Some(host), Some(flow), Some(number)) => Ok(Some((host, flow, number))),
         _ => Ok(None),
     }
@@ -54,7 +71,9 @@ pub(crate) fn on_frame(frame: Option<(Bytes, u32, u32)>, act: Option<LinkAct>) -
     ensures { result ≡ forms.on_frame frame act }
 {
     match (frame, act) {
-        (Some((host, flow, number)), Some(act)) => Reading::Says(Statement::OnFrame(host, flow, number, act)),
+        (Some((host, flow, number)), Some(act)) => Reading::Says(Statement::OnFrame(
+            host, flow, number, act,
+        )),
         _ => Reading::Wrong(5),
     }
 }
@@ -64,29 +83,58 @@ pub(crate) fn connecting(names: Option<(Bytes, Bytes)>, port: Option<u32>) -> Re
     ensures { result ≡ forms.connecting names port }
 {
     match (names, port) {
-        (Some((socket, host)), Some(port)) => Reading::Says(Statement::Do(Step::Connect(socket, host, port))),
+        (Some((socket, host)), Some(port)) => Reading::Says(Statement::Do(Step::Connect(
+            socket, host, port,
+        ))),
         _ => Reading::Wrong(5),
     }
 }
 
 /// A move.
-pub(crate) fn moving(host: Option<Bytes>, group: Option<u32>, core: Option<u32>, at: Option<u32>, worded: bool) -> Reading
+pub(crate) fn moving(
+    host: Option<Bytes>,
+    group: Option<u32>,
+    core: Option<u32>,
+    at: Option<u32>,
+    worded: bool,
+) -> Reading
     ensures { result ≡ forms.moving host group core at worded }
 {
     match (host, group, core, at) {
         (Some(host), Some(group), Some(core), Some(at)) => {
-            Reading::Says(Statement::Move(MoveLine { host, group, core, at }, worded))
+            Reading::Says(Statement::Move(
+                MoveLine {
+                    host,
+                    group,
+                    core,
+                    at,
+                },
+                worded,
+            ))
         }
         _ => Reading::Wrong(5),
     }
 }
 
 /// A kill.
-pub(crate) fn killing(names: Option<(Bytes, Bytes)>, at: Option<u32>, holding: bool, worded: bool) -> Reading
+pub(crate) fn killing(
+    names: Option<(Bytes, Bytes)>,
+    at: Option<u32>,
+    holding: bool,
+    worded: bool,
+) -> Reading
     ensures { result ≡ forms.killing names at holding worded }
 {
     match (names, at) {
-        (Some((host, app)), Some(at)) => Reading::Says(Statement::Kill(KillLine { host, app, at, holding }, worded)),
+        (Some((host, app)), Some(at)) => Reading::Says(Statement::Kill(
+            KillLine {
+                host,
+                app,
+                at,
+                holding,
+            },
+            worded,
+        )),
         _ => Reading::Wrong(5),
     }
 }

@@ -11,6 +11,8 @@ mod roles;
 mod scenario;
 mod statement;
 mod taking;
+#[cfg(test)]
+mod tests;
 mod words;
 
 pub use lists::{AppList, HostList, KillList, MoveList, StepList};

@@ -2,7 +2,9 @@ ghost use Rattle.std.specs.Prelude.{◌≡◌, ◌&&◌, map, bytes_eq, codes, I
 ghost use Rattle.std.specs.List.{list_all};
 ghost use Rattle.scenario_text.specs.Statements as forms;
 
-use crate::fields::{connecting, frame_named, killing, moving, named, named_number, on_frame, two_names};
+use crate::fields::{
+    connecting, frame_named, killing, moving, named, named_number, on_frame, two_names,
+};
 use crate::options::given_by;
 use crate::scenario::Step;
 use crate::statement::{Given, Keyword, Reading, Statement};
@@ -141,7 +143,12 @@ fn other_keyword(word: &[u8]) -> Option<Keyword>
 }
 
 /// What a line with this first word says, by the words behind it.
-fn by_keyword(alloc: Global, line: &[u8], keyword: Keyword, words: &[&[u8]]) -> Result<Reading, AllocError>
+fn by_keyword(
+    alloc: Global,
+    line: &[u8],
+    keyword: Keyword,
+    words: &[&[u8]],
+) -> Result<Reading, AllocError>
     ensures { IfOk result (λ r. r ≡ forms.by_keyword line.now (Some keyword) (map (λ w. w.now) words.now)) }
 {
     match keyword {
@@ -195,7 +202,12 @@ fn host_line(alloc: Global, words: &[&[u8]]) -> Result<Reading, AllocError>
     }
 }
 
-fn host_said(alloc: Global, name: &[u8], addr: Option<u32>, given: Given) -> Result<Reading, AllocError>
+fn host_said(
+    alloc: Global,
+    name: &[u8],
+    addr: Option<u32>,
+    given: Given,
+) -> Result<Reading, AllocError>
     ensures { IfOk result (λ r. r ≡ forms.host_said name.now addr given) }
 {
     match addr {
@@ -237,7 +249,9 @@ fn accept_line(alloc: Global, words: &[&[u8]]) -> Result<Reading, AllocError>
 {
     match words {
         [socket, listener] => match two_names(alloc, socket, listener)? {
-            Some((socket, listener)) => Ok(Reading::Says(Statement::Do(Step::Accept(socket, listener)))),
+            Some((socket, listener)) => Ok(Reading::Says(Statement::Do(Step::Accept(
+                socket, listener,
+            )))),
             None => Ok(Reading::Wrong(5)),
         },
         _ => Ok(Reading::Wrong(4)),
@@ -248,7 +262,10 @@ fn connect_line(alloc: Global, words: &[&[u8]]) -> Result<Reading, AllocError>
     ensures { IfOk result (λ r. r ≡ forms.connect_line (map (λ w. w.now) words.now)) }
 {
     match words {
-        [socket, host, port] => Ok(connecting(two_names(alloc, socket, host)?, number_in(1, 65_535, port))),
+        [socket, host, port] => Ok(connecting(
+            two_names(alloc, socket, host)?,
+            number_in(1, 65_535, port),
+        )),
         _ => Ok(Reading::Wrong(4)),
     }
 }

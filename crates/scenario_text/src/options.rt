@@ -69,13 +69,36 @@ impl Given {
         ensures { result ≡ forms.by_option self option value.now }
     {
         match option {
-            None => Given { unknown: true, ..self },
+            None => Given {
+                unknown: true,
+                ..self
+            },
             Some(OptionName::Mss) => self.with_mss(mss_in(value)),
-            Some(OptionName::Iss) => self.put(self.iss.is_some(), number_in(0, 4_294_967_295, value), OptionName::Iss),
-            Some(OptionName::Ring) => self.put(self.ring.is_some(), number_in(256, 65_535, value), OptionName::Ring),
-            Some(OptionName::Rto) => self.put(self.rto.is_some(), number_in(1, 1_000, value), OptionName::Rto),
-            Some(OptionName::Slots) => self.put(self.slots.is_some(), number_in(1, 1_024, value), OptionName::Slots),
-            Some(OptionName::Backlog) => self.put(self.backlog.is_some(), number_in(1, 1_024, value), OptionName::Backlog),
+            Some(OptionName::Iss) => self.put(
+                self.iss.is_some(),
+                number_in(0, 4_294_967_295, value),
+                OptionName::Iss,
+            ),
+            Some(OptionName::Ring) => self.put(
+                self.ring.is_some(),
+                number_in(256, 65_535, value),
+                OptionName::Ring,
+            ),
+            Some(OptionName::Rto) => self.put(
+                self.rto.is_some(),
+                number_in(1, 1_000, value),
+                OptionName::Rto,
+            ),
+            Some(OptionName::Slots) => self.put(
+                self.slots.is_some(),
+                number_in(1, 1_024, value),
+                OptionName::Slots,
+            ),
+            Some(OptionName::Backlog) => self.put(
+                self.backlog.is_some(),
+                number_in(1, 1_024, value),
+                OptionName::Backlog,
+            ),
         }
     }
 
@@ -83,10 +106,16 @@ impl Given {
         ensures { result ≡ forms.put_option self (is_some self.mss) mss (record self { mss = mss }) }
     {
         if mss.is_none() {
-            return Given { wrong: true, ..self };
+            return Given {
+                wrong: true,
+                ..self
+            };
         }
         if self.mss.is_some() {
-            return Given { repeated: true, ..self };
+            return Given {
+                repeated: true,
+                ..self
+            };
         }
         Given { mss, ..self }
     }
@@ -96,10 +125,16 @@ impl Given {
         ensures { result ≡ forms.put_option self before number (forms.taken_option self option number) }
     {
         if number.is_none() {
-            return Given { wrong: true, ..self };
+            return Given {
+                wrong: true,
+                ..self
+            };
         }
         if before {
-            return Given { repeated: true, ..self };
+            return Given {
+                repeated: true,
+                ..self
+            };
         }
         self.taken(option, number)
     }
@@ -108,11 +143,26 @@ impl Given {
         ensures { result ≡ forms.taken_option self option number }
     {
         match option {
-            OptionName::Iss => Given { iss: number, ..self },
-            OptionName::Ring => Given { ring: number, ..self },
-            OptionName::Rto => Given { rto: number, ..self },
-            OptionName::Slots => Given { slots: number, ..self },
-            OptionName::Backlog => Given { backlog: number, ..self },
+            OptionName::Iss => Given {
+                iss: number,
+                ..self
+            },
+            OptionName::Ring => Given {
+                ring: number,
+                ..self
+            },
+            OptionName::Rto => Given {
+                rto: number,
+                ..self
+            },
+            OptionName::Slots => Given {
+                slots: number,
+                ..self
+            },
+            OptionName::Backlog => Given {
+                backlog: number,
+                ..self
+            },
             OptionName::Mss => self,
         }
     }

@@ -72,7 +72,12 @@ fn without_return(line: &[u8]) -> &[u8]
 
 impl Draft {
     /// Reads a line, and gives the kind of its refusal where it is refused; then nothing more is to be read. The error is want of memory.
-    fn take_line(&mut self, alloc: Global, roles: &mut Roles, line: &[u8]) -> Result<Option<u8>, AllocError>
+    fn take_line(
+        &mut self,
+        alloc: Global,
+        roles: &mut Roles,
+        line: &[u8],
+    ) -> Result<Option<u8>, AllocError>
         requires roles { drafts.AreRoles roles.old (drafts.last_steps self.old.apps) }
         requires few { length self.old.hosts ≤ 8 }
         ensures line { IfOk result (λ kind. MatchOption kind (rules.taken self.old line.now ≡ Ok self.new) (λ k. rules.taken self.old line.now ≡ Err k)) }

@@ -32,7 +32,12 @@ fn host_with(name: Bytes, addr: u32, given: Given) -> HostLine
 
 impl Draft {
     /// Takes a line up that is not refused. The error is want of memory.
-    pub(crate) fn take(&mut self, alloc: Global, roles: &mut Roles, statement: Statement) -> Result<(), AllocError>
+    pub(crate) fn take(
+        &mut self,
+        alloc: Global,
+        roles: &mut Roles,
+        statement: Statement,
+    ) -> Result<(), AllocError>
         requires roles { drafts.AreRoles roles.old (drafts.last_steps self.old.apps) }
         requires few { length self.old.hosts ≤ 8 }
         requires right { drafts.judged self.old statement ≡ None }
@@ -56,7 +61,13 @@ impl Draft {
     }
 
     /// Takes an application up, which has no names yet. The error is want of memory.
-    fn take_app(&mut self, alloc: Global, roles: &mut Roles, host: Bytes, name: Bytes) -> Result<(), AllocError>
+    fn take_app(
+        &mut self,
+        alloc: Global,
+        roles: &mut Roles,
+        host: Bytes,
+        name: Bytes,
+    ) -> Result<(), AllocError>
         ensures apps { OnOk result (self.new ≡ record self.old { apps = self.old.apps ++ (record { host = host; name = name; steps = [] }) ∷ [] }) }
         ensures roles { OnOk result (drafts.AreRoles roles.new (drafts.last_steps (self.old.apps ++ (record { host = host; name = name; steps = [] }) ∷ []))) }
     {
@@ -81,7 +92,13 @@ impl Draft {
     }
 
     /// Takes a line on a frame up, which is the first one on it. The error is want of memory.
-    fn take_act(&mut self, host: &Bytes, flow: u32, number: u32, act: LinkAct) -> Result<(), AllocError>
+    fn take_act(
+        &mut self,
+        host: &Bytes,
+        flow: u32,
+        number: u32,
+        act: LinkAct,
+    ) -> Result<(), AllocError>
         requires few { length self.old.hosts ≤ 8 }
         requires first { drafts.is_second self.old.link (drafts.host_of self.old.hosts host.now) flow number ≡ false }
         requires known { drafts.has_host self.old.hosts host.now ≡ true }
