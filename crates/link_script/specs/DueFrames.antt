@@ -14,10 +14,10 @@ use Rattle.link_script.specs.declared.frames.Sent.{Sent}
 abbrev pub act_on : LinkLines → FrameId → Option LinkAct
 act_on lines id = if nat_le id.number 4294967294 then line_on lines (record { host = id.host; flow = id.flow; number = id.number }) else None
 
--- a frame is lost by its host's line where it is of a flow, and its number is k - 1, 2k - 1 and so on
+-- a frame is lost by its host's line where it is of a flow, and its number is k - 1, 2k - 1 and so on; k is at least 1
 abbrev pub is_kth : (k : Option ℕ) → FrameId → Bool
 is_kth None id = false
-is_kth (Some k) id = not (id.flow == 4294967295) && (id.number % k == k - 1)
+is_kth (Some k) id = nat_lt 0 k && not (id.flow == 4294967295) && (id.number % k == k - 1)
 
 -- a frame is lost by its own line
 abbrev pub is_dropped : Option LinkAct → Bool

@@ -55,7 +55,3 @@ pub record TakesDelay (before after : BTreeSet ℕ) (act : LinkAct) : Type 0 whe
 pub record AreDelays (lines : LinkLines) (delays : BTreeSet ℕ) : Type 0 where
   pub none : contains nat_cmp delays 0 ≡ true
   pub each : (target : Target) (ticks : ℕ) → line_on lines target ≡ Some (acts.Delay ticks) → contains nat_cmp delays ticks ≡ true
-
--- each k of a host's line is at least 1
-abbrev pub ArePositive : List DropEach → Type 0
-ArePositive drops = All (λ (d : DropEach). 1 ≤ d.k) drops

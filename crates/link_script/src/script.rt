@@ -1,4 +1,4 @@
-ghost use Rattle.std.specs.Prelude.{◌≡◌, ◌≤◌, IsNone, IfSome, IfOk, OnOk, OnErr};
+ghost use Rattle.std.specs.Prelude.{◌≡◌, IsNone, IfOk, OnOk, OnErr};
 ghost use Rattle.link_script.specs.DueFrames.{act_on, is_kth};
 ghost use Rattle.link_script.specs.LinkLines.{no_lines, line_on, drop_each_of, with_act, with_drop_each, TakesDelay, AreDelays};
 
@@ -47,13 +47,13 @@ pub struct LinkScript {
 }
 
 impl Model for LinkScript {
-    ghost use Rattle.link_script.specs.LinkLines.{LinkLines, HasDelays, ArePositive};
+    ghost use Rattle.link_script.specs.LinkLines.{LinkLines, HasDelays};
 
     ghost Value = { LinkLines };
 
     ghost view = { λ s. record { acts = s.acts.entries; drops = s.drops.items } };
 
-    ghost invariant = { λ s. record { delays : HasDelays s.acts s.delays; positive : ArePositive s.drops.items } };
+    ghost invariant = { λ s. HasDelays s.acts s.delays };
 }
 
 impl LinkScript {
@@ -81,10 +81,9 @@ impl LinkScript {
         Ok(())
     }
 
-    /// A line by which each `k`-th frame of each flow of the host is lost; the host has none yet. The error is want of memory, and leaves the link as it was.
+    /// A line by which each `k`-th frame of each flow of the host is lost, and none where `k` is 0; the host has no such line yet. The error is want of memory, and leaves the link as it was.
     pub fn drop_each(&mut self, host: u32, k: u32) -> Result<(), AllocError>
-        requires positive { 1 ≤ k }
-        requires first { IsNone (drop_each_of self.old.drops host) }
+        requires { IsNone (drop_each_of self.old.drops host) }
         ensures ok { OnOk result (self.new ≡ with_drop_each self.old host k) }
         ensures err { OnErr result (self.new ≡ self.old) }
     {
@@ -108,8 +107,7 @@ impl LinkScript {
 
     /// The k of the host's line, where it has one.
     pub fn drop_each_of(&self, host: u32) -> Option<u32>
-        ensures line { result ≡ drop_each_of self.now.drops host }
-        ensures positive { IfSome result (λ k. 1 ≤ k) }
+        ensures { result ≡ drop_each_of self.now.drops host }
     {
         self.drops
             .iter()
@@ -150,7 +148,7 @@ impl LinkScript {
         ensures { result ≡ is_kth (drop_each_of self.now.drops id.now.host) id.now }
     {
         match self.drop_each_of(id.host) {
-            Some(k) => id.flow != NO_FLOW && id.number % k as u64 == k as u64 - 1,
+            Some(k) => k > 0 && id.flow != NO_FLOW && id.number % k as u64 == k as u64 - 1,
             None => false,
         }
     }

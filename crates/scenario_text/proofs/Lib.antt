@@ -1,1 +1,4 @@
 pub mod Cuts
+pub mod Others
+pub mod RoleMaps
+pub mod Readings

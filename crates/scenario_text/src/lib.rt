@@ -1,9 +1,20 @@
 //! The text of scenarios: which texts are scenarios, the text of a scenario, and made scenarios.
 #![tactic(auto)]
 
+mod draft;
+mod fields;
+mod line;
 mod lists;
+mod options;
+mod reading;
+mod roles;
 mod scenario;
+mod statement;
+mod taking;
+#[cfg(test)]
+mod tests;
 mod words;
 
 pub use lists::{AppList, HostList, KillList, MoveList, StepList};
+pub use reading::{ScenarioFault, read_scenario};
 pub use scenario::{AppLine, HostLine, KillLine, MoveLine, Scenario, Step};

@@ -20,6 +20,8 @@ impl Model for HostList {
 }
 
 impl HostList {
+    ghost use Rattle.scenario_text.specs.Drafts.{has_none};
+
     /// An empty list. It takes no memory.
     pub fn new(alloc: Global) -> HostList
         ensures { result ≡ [] }
@@ -36,6 +38,16 @@ impl HostList {
     {
         self.items.push(item)?;
         Ok(())
+    }
+
+    /// Whether there is none.
+    pub(crate) fn is_nil(&self) -> bool
+        ensures { result ≡ has_none self.now }
+    {
+        match self.items.as_slice() {
+            [] => true,
+            [_, ..] => false,
+        }
     }
 
     /// How many there are.
@@ -77,6 +89,8 @@ impl Model for AppList {
 }
 
 impl AppList {
+    ghost use Rattle.scenario_text.specs.Drafts.{with_step, is_nil, last_steps};
+
     /// An empty list. It takes no memory.
     pub fn new(alloc: Global) -> AppList
         ensures { result ≡ [] }
@@ -93,6 +107,36 @@ impl AppList {
     {
         self.items.push(item)?;
         Ok(())
+    }
+
+    /// Appends a step to the last application's, where there is one. The error is want of memory.
+    pub(crate) fn push_step(&mut self, step: Step) -> Result<(), AllocError>
+        ensures { OnOk result (self.new ≡ with_step self.old step) }
+    {
+        if let Some(last) = self.items.len().checked_sub(1) {
+            self.items[last].steps.push(step)?;
+        }
+        Ok(())
+    }
+
+    /// Whether there is none.
+    pub(crate) fn is_nil(&self) -> bool
+        ensures { result ≡ is_nil self.now }
+    {
+        match self.items.as_slice() {
+            [] => true,
+            [_, ..] => false,
+        }
+    }
+
+    /// How many steps the last one has.
+    pub(crate) fn last_steps(&self) -> usize
+        ensures { result ≡ length (last_steps self.now) }
+    {
+        match self.items.len().checked_sub(1) {
+            Some(last) => self.items[last].steps.len(),
+            None => 0,
+        }
     }
 
     /// How many there are.
