@@ -11,34 +11,36 @@ use Rattle.tas_model.specs.Timers.{ticks, control}
 use Rattle.tas_model.specs.LegalHistory.{step, replay}
 use Rattle.host_rounds.specs.SerialOrder.{serial_tick}
 use Rattle.tas_runs.specs.Report.{report}
+use Rattle.scenario_text.specs.Statements.{reading}
+use Rattle.scenario_text.specs.Reads.{reads}
 use Rattle.scenario_runs.specs.Runs.{serial_world, serial_from}
 use Rattle.scenario_runs.specs.WorkedParts.{reported}
 use Rattle.scenario_runs.specs.WorkedTalks.{hello, hello_report, lost, lost_report, doubled, doubled_report, damaged, damaged_report, wrapped, wrapped_report, nobody, nobody_report, lone, lone_report}
 
 pub hello_is : reported hello ≡ hello_report
-unfolding digits nearest ip_header tcp_fixed refusal mss_of rx rx_later rx_syn_sent going ticks control step replay serial_tick report serial_world serial_from
+unfolding reads reading digits nearest ip_header tcp_fixed refusal mss_of rx rx_later rx_syn_sent going ticks control step replay serial_tick report serial_world serial_from
 hello_is = refl
 
 pub lost_is : reported lost ≡ lost_report
-unfolding digits nearest ip_header tcp_fixed refusal mss_of rx rx_later rx_syn_sent going ticks control step replay serial_tick report serial_world serial_from
+unfolding reads reading digits nearest ip_header tcp_fixed refusal mss_of rx rx_later rx_syn_sent going ticks control step replay serial_tick report serial_world serial_from
 lost_is = refl
 
 pub doubled_is : reported doubled ≡ doubled_report
-unfolding digits nearest ip_header tcp_fixed refusal mss_of rx rx_later rx_syn_sent going ticks control step replay serial_tick report serial_world serial_from
+unfolding reads reading digits nearest ip_header tcp_fixed refusal mss_of rx rx_later rx_syn_sent going ticks control step replay serial_tick report serial_world serial_from
 doubled_is = refl
 
 pub damaged_is : reported damaged ≡ damaged_report
-unfolding digits nearest ip_header tcp_fixed refusal mss_of rx rx_later rx_syn_sent going ticks control step replay serial_tick report serial_world serial_from
+unfolding reads reading digits nearest ip_header tcp_fixed refusal mss_of rx rx_later rx_syn_sent going ticks control step replay serial_tick report serial_world serial_from
 damaged_is = refl
 
 pub wrapped_is : reported wrapped ≡ wrapped_report
-unfolding digits nearest ip_header tcp_fixed refusal mss_of rx rx_later rx_syn_sent going ticks control step replay serial_tick report serial_world serial_from
+unfolding reads reading digits nearest ip_header tcp_fixed refusal mss_of rx rx_later rx_syn_sent going ticks control step replay serial_tick report serial_world serial_from
 wrapped_is = refl
 
 pub nobody_is : reported nobody ≡ nobody_report
-unfolding digits nearest ip_header tcp_fixed refusal mss_of rx rx_later rx_syn_sent going ticks control step replay serial_tick report serial_world serial_from
+unfolding reads reading digits nearest ip_header tcp_fixed refusal mss_of rx rx_later rx_syn_sent going ticks control step replay serial_tick report serial_world serial_from
 nobody_is = refl
 
 pub lone_is : reported lone ≡ lone_report
-unfolding digits nearest ip_header tcp_fixed refusal mss_of rx rx_later rx_syn_sent going ticks control step replay serial_tick report serial_world serial_from
+unfolding reads reading digits nearest ip_header tcp_fixed refusal mss_of rx rx_later rx_syn_sent going ticks control step replay serial_tick report serial_world serial_from
 lone_is = refl

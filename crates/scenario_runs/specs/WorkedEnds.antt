@@ -1,31 +1,20 @@
--- Worked runs of scenarios: for each its data and the report of its run in serial order. The reports were written by another program.
-use Rattle.std.specs.Prelude.{ℕ, true, false, List, [], ◌∷◌, codes}
+-- Worked runs of scenarios: for each its text and the report of its run in serial order. The reports were written by another program.
+use Rattle.std.specs.Prelude.{ℕ, List, [], ◌∷◌, codes}
 use Rattle.tas_runs.specs.WorkedTexts.{lines}
-use Rattle.link_script.specs.declared.script.LinkAct.TheVariants as acts
-use Rattle.scenario_text.specs.declared.scenario.Scenario.{Scenario}
-use Rattle.scenario_text.specs.declared.scenario.Step.TheVariants as steps
-use Rattle.scenario_runs.specs.WorkedParts.{a_host, an_app}
 
 -- Every frame of a host is lost, but its answers to segments of no flow are no frames of a flow.
-abbrev pub unanswered : Scenario
+abbrev pub unanswered : List ℕ
 unanswered =
-    record {
-      limit = 1000;
-      hosts = a_host (codes "a") 167772161 1000 16384 1460 3 1024 16 ∷ a_host (codes "b") 167772162 5000 16384 1460 3 1024 16 ∷ [];
-      apps =
-          an_app (codes "a") (codes "client") (
-          steps.Connect (codes "s") (codes "b") 80
-          ∷ steps.Send (codes "s") (codes "hello")
-          ∷ steps.Recv (codes "s") 5
-          ∷ steps.Close (codes "s")
-          ∷ []
-          )
-          ∷
-          [];
-      link = record { acts = []; drops = (record { host = 1; k = 1 }) ∷ [] };
-      moves = [];
-      kills = [];
-    }
+    lines (
+    codes "host a 10.0.0.1 iss 1000 rto 3"
+    ∷ codes "host b 10.0.0.2 iss 5000 rto 3"
+    ∷ codes "app a client"
+    ∷ codes "connect s b 80"
+    ∷ codes "send s hello"
+    ∷ codes "recv s 5"
+    ∷ codes "close s"
+    ∷ codes "dropeach b 1"
+    ∷ [])
 
 abbrev pub unanswered_report : List ℕ
 unanswered_report =
@@ -51,31 +40,21 @@ unanswered_report =
     ∷ [])
 
 -- A client is killed whose script is over, while its socket is still its own.
-abbrev pub killed_late : Scenario
+abbrev pub killed_late : List ℕ
 killed_late =
-    record {
-      limit = 1000;
-      hosts = a_host (codes "a") 167772161 1000 16384 1460 3 1024 16 ∷ a_host (codes "b") 167772162 5000 16384 1460 3 1024 16 ∷ [];
-      apps =
-          an_app (codes "b") (codes "server") (
-          steps.Listen (codes "lst") 80
-          ∷ steps.Accept (codes "s") (codes "lst")
-          ∷ steps.Recv (codes "s") 5
-          ∷ steps.Send (codes "s") (codes "world")
-          ∷ steps.Close (codes "s")
-          ∷ []
-          )
-          ∷
-          an_app (codes "a") (codes "client") (
-          steps.Connect (codes "s") (codes "b") 80
-          ∷ []
-          )
-          ∷
-          [];
-      link = record { acts = []; drops = [] };
-      moves = [];
-      kills = (record { host = codes "a"; app = codes "client"; at = 12; holding = false }) ∷ [];
-    }
+    lines (
+    codes "host a 10.0.0.1 iss 1000 rto 3"
+    ∷ codes "host b 10.0.0.2 iss 5000 rto 3"
+    ∷ codes "app b server"
+    ∷ codes "listen lst 80"
+    ∷ codes "accept s lst"
+    ∷ codes "recv s 5"
+    ∷ codes "send s world"
+    ∷ codes "close s"
+    ∷ codes "app a client"
+    ∷ codes "connect s b 80"
+    ∷ codes "kill a client at 12"
+    ∷ [])
 
 abbrev pub killed_late_report : List ℕ
 killed_late_report =
@@ -145,34 +124,24 @@ killed_late_report =
     ∷ [])
 
 -- A kill after the end of the run.
-abbrev pub killed_after : Scenario
+abbrev pub killed_after : List ℕ
 killed_after =
-    record {
-      limit = 1000;
-      hosts = a_host (codes "a") 167772161 1000 16384 1460 3 1024 16 ∷ a_host (codes "b") 167772162 5000 16384 1460 3 1024 16 ∷ [];
-      apps =
-          an_app (codes "b") (codes "server") (
-          steps.Listen (codes "lst") 80
-          ∷ steps.Accept (codes "s") (codes "lst")
-          ∷ steps.Recv (codes "s") 5
-          ∷ steps.Send (codes "s") (codes "world")
-          ∷ steps.Close (codes "s")
-          ∷ []
-          )
-          ∷
-          an_app (codes "a") (codes "client") (
-          steps.Connect (codes "s") (codes "b") 80
-          ∷ steps.Send (codes "s") (codes "hello")
-          ∷ steps.Recv (codes "s") 5
-          ∷ steps.Close (codes "s")
-          ∷ []
-          )
-          ∷
-          [];
-      link = record { acts = []; drops = [] };
-      moves = [];
-      kills = (record { host = codes "a"; app = codes "client"; at = 100; holding = false }) ∷ [];
-    }
+    lines (
+    codes "host a 10.0.0.1 iss 1000 rto 3"
+    ∷ codes "host b 10.0.0.2 iss 5000 rto 3"
+    ∷ codes "app b server"
+    ∷ codes "listen lst 80"
+    ∷ codes "accept s lst"
+    ∷ codes "recv s 5"
+    ∷ codes "send s world"
+    ∷ codes "close s"
+    ∷ codes "app a client"
+    ∷ codes "connect s b 80"
+    ∷ codes "send s hello"
+    ∷ codes "recv s 5"
+    ∷ codes "close s"
+    ∷ codes "kill a client at 100"
+    ∷ [])
 
 abbrev pub killed_after_report : List ℕ
 killed_after_report =
@@ -251,34 +220,24 @@ killed_after_report =
     ∷ [])
 
 -- A server is killed in the tick in which a connection comes.
-abbrev pub killed_early : Scenario
+abbrev pub killed_early : List ℕ
 killed_early =
-    record {
-      limit = 1000;
-      hosts = a_host (codes "a") 167772161 1000 16384 1460 3 1024 16 ∷ a_host (codes "b") 167772162 5000 16384 1460 3 1024 16 ∷ [];
-      apps =
-          an_app (codes "b") (codes "server") (
-          steps.Listen (codes "lst") 80
-          ∷ steps.Accept (codes "s") (codes "lst")
-          ∷ steps.Recv (codes "s") 5
-          ∷ steps.Send (codes "s") (codes "world")
-          ∷ steps.Close (codes "s")
-          ∷ []
-          )
-          ∷
-          an_app (codes "a") (codes "client") (
-          steps.Connect (codes "s") (codes "b") 80
-          ∷ steps.Send (codes "s") (codes "hello")
-          ∷ steps.Recv (codes "s") 5
-          ∷ steps.Close (codes "s")
-          ∷ []
-          )
-          ∷
-          [];
-      link = record { acts = []; drops = [] };
-      moves = [];
-      kills = (record { host = codes "b"; app = codes "server"; at = 1; holding = false }) ∷ [];
-    }
+    lines (
+    codes "host a 10.0.0.1 iss 1000 rto 3"
+    ∷ codes "host b 10.0.0.2 iss 5000 rto 3"
+    ∷ codes "app b server"
+    ∷ codes "listen lst 80"
+    ∷ codes "accept s lst"
+    ∷ codes "recv s 5"
+    ∷ codes "send s world"
+    ∷ codes "close s"
+    ∷ codes "app a client"
+    ∷ codes "connect s b 80"
+    ∷ codes "send s hello"
+    ∷ codes "recv s 5"
+    ∷ codes "close s"
+    ∷ codes "kill b server at 1"
+    ∷ [])
 
 abbrev pub killed_early_report : List ℕ
 killed_early_report =
@@ -318,26 +277,18 @@ killed_early_report =
     ∷ [])
 
 -- Connects of a host with one slot.
-abbrev pub one_slot : Scenario
+abbrev pub one_slot : List ℕ
 one_slot =
-    record {
-      limit = 1000;
-      hosts = a_host (codes "a") 167772161 0 16384 1460 20 1 16 ∷ a_host (codes "b") 167772162 0 16384 1460 20 1024 16 ∷ [];
-      apps =
-          an_app (codes "a") (codes "x") (
-          steps.Connect (codes "s") (codes "b") 80
-          ∷ steps.Connect (codes "r") (codes "b") 80
-          ∷ steps.Close (codes "r")
-          ∷ steps.Close (codes "s")
-          ∷ steps.Connect (codes "q") (codes "b") 81
-          ∷ []
-          )
-          ∷
-          [];
-      link = record { acts = []; drops = [] };
-      moves = [];
-      kills = [];
-    }
+    lines (
+    codes "host a 10.0.0.1 slots 1"
+    ∷ codes "host b 10.0.0.2"
+    ∷ codes "app a x"
+    ∷ codes "connect s b 80"
+    ∷ codes "connect r b 80"
+    ∷ codes "close r"
+    ∷ codes "close s"
+    ∷ codes "connect q b 81"
+    ∷ [])
 
 abbrev pub one_slot_report : List ℕ
 one_slot_report =
@@ -373,41 +324,27 @@ one_slot_report =
     ∷ [])
 
 -- A slot is kept until the flow is closed and given up.
-abbrev pub slot_kept : Scenario
+abbrev pub slot_kept : List ℕ
 slot_kept =
-    record {
-      limit = 1000;
-      hosts = a_host (codes "a") 167772161 1000 16384 1460 3 1 16 ∷ a_host (codes "b") 167772162 5000 16384 1460 3 1024 16 ∷ [];
-      apps =
-          an_app (codes "b") (codes "server") (
-          steps.Listen (codes "lst") 80
-          ∷ steps.Accept (codes "s") (codes "lst")
-          ∷ steps.Recv (codes "s") 5
-          ∷ steps.Send (codes "s") (codes "world")
-          ∷ steps.Close (codes "s")
-          ∷ []
-          )
-          ∷
-          an_app (codes "a") (codes "client") (
-          steps.Connect (codes "s") (codes "b") 80
-          ∷ steps.Send (codes "s") (codes "hello")
-          ∷ steps.Recv (codes "s") 5
-          ∷ steps.Close (codes "s")
-          ∷ []
-          )
-          ∷
-          an_app (codes "a") (codes "late") (
-          steps.Wait 8
-          ∷ steps.Connect (codes "s") (codes "b") 80
-          ∷ steps.Close (codes "s")
-          ∷ []
-          )
-          ∷
-          [];
-      link = record { acts = []; drops = [] };
-      moves = [];
-      kills = [];
-    }
+    lines (
+    codes "host a 10.0.0.1 iss 1000 slots 1 rto 3"
+    ∷ codes "host b 10.0.0.2 iss 5000 rto 3"
+    ∷ codes "app b server"
+    ∷ codes "listen lst 80"
+    ∷ codes "accept s lst"
+    ∷ codes "recv s 5"
+    ∷ codes "send s world"
+    ∷ codes "close s"
+    ∷ codes "app a client"
+    ∷ codes "connect s b 80"
+    ∷ codes "send s hello"
+    ∷ codes "recv s 5"
+    ∷ codes "close s"
+    ∷ codes "app a late"
+    ∷ codes "wait 8"
+    ∷ codes "connect s b 80"
+    ∷ codes "close s"
+    ∷ [])
 
 abbrev pub slot_kept_report : List ℕ
 slot_kept_report =
@@ -487,34 +424,24 @@ slot_kept_report =
     ∷ [])
 
 -- The limit ends a run whose scripts have not ended.
-abbrev pub stalled : Scenario
+abbrev pub stalled : List ℕ
 stalled =
-    record {
-      limit = 3;
-      hosts = a_host (codes "a") 167772161 1000 16384 1460 3 1024 16 ∷ a_host (codes "b") 167772162 5000 16384 1460 3 1024 16 ∷ [];
-      apps =
-          an_app (codes "b") (codes "server") (
-          steps.Listen (codes "lst") 80
-          ∷ steps.Accept (codes "s") (codes "lst")
-          ∷ steps.Recv (codes "s") 5
-          ∷ steps.Send (codes "s") (codes "world")
-          ∷ steps.Close (codes "s")
-          ∷ []
-          )
-          ∷
-          an_app (codes "a") (codes "client") (
-          steps.Connect (codes "s") (codes "b") 80
-          ∷ steps.Send (codes "s") (codes "hello")
-          ∷ steps.Recv (codes "s") 5
-          ∷ steps.Close (codes "s")
-          ∷ []
-          )
-          ∷
-          [];
-      link = record { acts = []; drops = [] };
-      moves = [];
-      kills = [];
-    }
+    lines (
+    codes "host a 10.0.0.1 iss 1000 rto 3"
+    ∷ codes "host b 10.0.0.2 iss 5000 rto 3"
+    ∷ codes "app b server"
+    ∷ codes "listen lst 80"
+    ∷ codes "accept s lst"
+    ∷ codes "recv s 5"
+    ∷ codes "send s world"
+    ∷ codes "close s"
+    ∷ codes "app a client"
+    ∷ codes "connect s b 80"
+    ∷ codes "send s hello"
+    ∷ codes "recv s 5"
+    ∷ codes "close s"
+    ∷ codes "limit 3"
+    ∷ [])
 
 abbrev pub stalled_report : List ℕ
 stalled_report =
@@ -545,28 +472,18 @@ stalled_report =
     ∷ [])
 
 -- A run of three ticks.
-abbrev pub cut_short : Scenario
+abbrev pub cut_short : List ℕ
 cut_short =
-    record {
-      limit = 3;
-      hosts = a_host (codes "a") 167772161 0 16384 1460 20 1024 16 ∷ a_host (codes "b") 167772162 0 16384 1460 20 1024 16 ∷ [];
-      apps =
-          an_app (codes "b") (codes "x") (
-          steps.Listen (codes "l") 80
-          ∷ []
-          )
-          ∷
-          an_app (codes "a") (codes "y") (
-          steps.Wait 1
-          ∷ steps.Connect (codes "s") (codes "b") 80
-          ∷ []
-          )
-          ∷
-          [];
-      link = record { acts = []; drops = [] };
-      moves = [];
-      kills = [];
-    }
+    lines (
+    codes "limit 3"
+    ∷ codes "host a 10.0.0.1"
+    ∷ codes "host b 10.0.0.2"
+    ∷ codes "app b x"
+    ∷ codes "listen l 80"
+    ∷ codes "app a y"
+    ∷ codes "wait 1"
+    ∷ codes "connect s b 80"
+    ∷ [])
 
 abbrev pub cut_short_report : List ℕ
 cut_short_report =
@@ -591,28 +508,18 @@ cut_short_report =
     ∷ [])
 
 -- Flows may be open at the limit.
-abbrev pub open_flows : Scenario
+abbrev pub open_flows : List ℕ
 open_flows =
-    record {
-      limit = 4;
-      hosts = a_host (codes "a") 167772161 0 16384 1460 20 1024 16 ∷ a_host (codes "b") 167772162 0 16384 1460 20 1024 16 ∷ [];
-      apps =
-          an_app (codes "b") (codes "x") (
-          steps.Listen (codes "l") 80
-          ∷ []
-          )
-          ∷
-          an_app (codes "a") (codes "y") (
-          steps.Wait 1
-          ∷ steps.Connect (codes "s") (codes "b") 80
-          ∷ []
-          )
-          ∷
-          [];
-      link = record { acts = []; drops = [] };
-      moves = [];
-      kills = [];
-    }
+    lines (
+    codes "limit 4"
+    ∷ codes "host a 10.0.0.1"
+    ∷ codes "host b 10.0.0.2"
+    ∷ codes "app b x"
+    ∷ codes "listen l 80"
+    ∷ codes "app a y"
+    ∷ codes "wait 1"
+    ∷ codes "connect s b 80"
+    ∷ [])
 
 abbrev pub open_flows_report : List ℕ
 open_flows_report =
@@ -641,34 +548,24 @@ open_flows_report =
     ∷ [])
 
 -- A byte is inverted that the packet does not have.
-abbrev pub no_such_byte : Scenario
+abbrev pub no_such_byte : List ℕ
 no_such_byte =
-    record {
-      limit = 1000;
-      hosts = a_host (codes "a") 167772161 1000 16384 1460 3 1024 16 ∷ a_host (codes "b") 167772162 5000 16384 1460 3 1024 16 ∷ [];
-      apps =
-          an_app (codes "b") (codes "server") (
-          steps.Listen (codes "lst") 80
-          ∷ steps.Accept (codes "s") (codes "lst")
-          ∷ steps.Recv (codes "s") 5
-          ∷ steps.Send (codes "s") (codes "world")
-          ∷ steps.Close (codes "s")
-          ∷ []
-          )
-          ∷
-          an_app (codes "a") (codes "client") (
-          steps.Connect (codes "s") (codes "b") 80
-          ∷ steps.Send (codes "s") (codes "hello")
-          ∷ steps.Recv (codes "s") 5
-          ∷ steps.Close (codes "s")
-          ∷ []
-          )
-          ∷
-          [];
-      link = record { acts = (record { host = 0; flow = 0; number = 2 }, acts.Corrupt 45) ∷ []; drops = [] };
-      moves = [];
-      kills = [];
-    }
+    lines (
+    codes "host a 10.0.0.1 iss 1000 rto 3"
+    ∷ codes "host b 10.0.0.2 iss 5000 rto 3"
+    ∷ codes "app b server"
+    ∷ codes "listen lst 80"
+    ∷ codes "accept s lst"
+    ∷ codes "recv s 5"
+    ∷ codes "send s world"
+    ∷ codes "close s"
+    ∷ codes "app a client"
+    ∷ codes "connect s b 80"
+    ∷ codes "send s hello"
+    ∷ codes "recv s 5"
+    ∷ codes "close s"
+    ∷ codes "corrupt a 0 2 45"
+    ∷ [])
 
 abbrev pub no_such_byte_report : List ℕ
 no_such_byte_report =
@@ -747,28 +644,20 @@ no_such_byte_report =
     ∷ [])
 
 -- Steps on a socket whose connection was refused.
-abbrev pub all_steps : Scenario
+abbrev pub all_steps : List ℕ
 all_steps =
-    record {
-      limit = 1000;
-      hosts = a_host (codes "a") 167772161 0 16384 1460 20 1024 16 ∷ a_host (codes "b") 167772162 0 16384 1460 20 1024 16 ∷ [];
-      apps =
-          an_app (codes "a") (codes "x") (
-          steps.Connect (codes "s") (codes "b") 80
-          ∷ steps.Send (codes "s") (codes "hi")
-          ∷ steps.Recv (codes "s") 1
-          ∷ steps.Shut (codes "s")
-          ∷ steps.Abort (codes "s")
-          ∷ steps.Send (codes "s") (codes "hi")
-          ∷ steps.Close (codes "s")
-          ∷ []
-          )
-          ∷
-          [];
-      link = record { acts = []; drops = [] };
-      moves = [];
-      kills = [];
-    }
+    lines (
+    codes "host a 10.0.0.1"
+    ∷ codes "host b 10.0.0.2"
+    ∷ codes "app a x"
+    ∷ codes "connect s b 80"
+    ∷ codes "send s hi"
+    ∷ codes "recv s 1"
+    ∷ codes "shut s"
+    ∷ codes "abort s"
+    ∷ codes "send s hi"
+    ∷ codes "close s"
+    ∷ [])
 
 abbrev pub all_steps_report : List ℕ
 all_steps_report =

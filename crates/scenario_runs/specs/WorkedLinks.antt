@@ -1,38 +1,22 @@
--- Worked runs of scenarios: for each its data and the report of its run in serial order. The reports were written by another program.
-use Rattle.std.specs.Prelude.{ℕ, true, false, List, [], ◌∷◌, codes}
+-- Worked runs of scenarios: for each its text and the report of its run in serial order. The reports were written by another program.
+use Rattle.std.specs.Prelude.{ℕ, List, [], ◌∷◌, codes}
 use Rattle.tas_runs.specs.WorkedTexts.{lines}
-use Rattle.link_script.specs.declared.script.LinkAct.TheVariants as acts
-use Rattle.scenario_text.specs.declared.scenario.Scenario.{Scenario}
-use Rattle.scenario_text.specs.declared.scenario.Step.TheVariants as steps
-use Rattle.scenario_runs.specs.WorkedParts.{a_host, an_app}
 
 -- A host connects to itself.
-abbrev pub own_host : Scenario
+abbrev pub own_host : List ℕ
 own_host =
-    record {
-      limit = 1000;
-      hosts = a_host (codes "a") 167772161 0 16384 1460 20 1024 16 ∷ [];
-      apps =
-          an_app (codes "a") (codes "x") (
-          steps.Listen (codes "l") 80
-          ∷ steps.Accept (codes "s") (codes "l")
-          ∷ steps.Recv (codes "s") 2
-          ∷ steps.Close (codes "s")
-          ∷ []
-          )
-          ∷
-          an_app (codes "a") (codes "y") (
-          steps.Connect (codes "s") (codes "a") 80
-          ∷ steps.Send (codes "s") (codes "hi")
-          ∷ steps.Close (codes "s")
-          ∷ []
-          )
-          ∷
-          [];
-      link = record { acts = []; drops = [] };
-      moves = [];
-      kills = [];
-    }
+    lines (
+    codes "host a 10.0.0.1"
+    ∷ codes "app a x"
+    ∷ codes "listen l 80"
+    ∷ codes "accept s l"
+    ∷ codes "recv s 2"
+    ∷ codes "close s"
+    ∷ codes "app a y"
+    ∷ codes "connect s a 80"
+    ∷ codes "send s hi"
+    ∷ codes "close s"
+    ∷ [])
 
 abbrev pub own_host_report : List ℕ
 own_host_report =
@@ -174,34 +158,24 @@ own_host_report =
     ∷ [])
 
 -- A frame in the middle of a stream comes late.
-abbrev pub late_middle : Scenario
+abbrev pub late_middle : List ℕ
 late_middle =
-    record {
-      limit = 1000;
-      hosts = a_host (codes "a") 167772161 1000 16384 64 20 1024 16 ∷ a_host (codes "b") 167772162 5000 16384 64 20 1024 16 ∷ [];
-      apps =
-          an_app (codes "b") (codes "server") (
-          steps.Listen (codes "lst") 80
-          ∷ steps.Accept (codes "s") (codes "lst")
-          ∷ steps.Recv (codes "s") 192
-          ∷ steps.Send (codes "s") (codes "world")
-          ∷ steps.Close (codes "s")
-          ∷ []
-          )
-          ∷
-          an_app (codes "a") (codes "client") (
-          steps.Connect (codes "s") (codes "b") 80
-          ∷ steps.Fill (codes "s") 192
-          ∷ steps.Recv (codes "s") 5
-          ∷ steps.Close (codes "s")
-          ∷ []
-          )
-          ∷
-          [];
-      link = record { acts = (record { host = 0; flow = 0; number = 3 }, acts.Delay 5) ∷ []; drops = [] };
-      moves = [];
-      kills = [];
-    }
+    lines (
+    codes "host a 10.0.0.1 iss 1000 mss 64 rto 20"
+    ∷ codes "host b 10.0.0.2 iss 5000 mss 64 rto 20"
+    ∷ codes "app b server"
+    ∷ codes "listen lst 80"
+    ∷ codes "accept s lst"
+    ∷ codes "recv s 192"
+    ∷ codes "send s world"
+    ∷ codes "close s"
+    ∷ codes "app a client"
+    ∷ codes "connect s b 80"
+    ∷ codes "fill s 192"
+    ∷ codes "recv s 5"
+    ∷ codes "close s"
+    ∷ codes "delay a 0 3 5"
+    ∷ [])
 
 abbrev pub late_middle_report : List ℕ
 late_middle_report =
@@ -383,34 +357,25 @@ late_middle_report =
     ∷ [])
 
 -- Two frames are lost, with others behind each.
-abbrev pub two_holes : Scenario
+abbrev pub two_holes : List ℕ
 two_holes =
-    record {
-      limit = 1000;
-      hosts = a_host (codes "a") 167772161 1000 16384 64 20 1024 16 ∷ a_host (codes "b") 167772162 5000 16384 64 20 1024 16 ∷ [];
-      apps =
-          an_app (codes "b") (codes "server") (
-          steps.Listen (codes "lst") 80
-          ∷ steps.Accept (codes "s") (codes "lst")
-          ∷ steps.Recv (codes "s") 256
-          ∷ steps.Send (codes "s") (codes "world")
-          ∷ steps.Close (codes "s")
-          ∷ []
-          )
-          ∷
-          an_app (codes "a") (codes "client") (
-          steps.Connect (codes "s") (codes "b") 80
-          ∷ steps.Fill (codes "s") 256
-          ∷ steps.Recv (codes "s") 5
-          ∷ steps.Close (codes "s")
-          ∷ []
-          )
-          ∷
-          [];
-      link = record { acts = (record { host = 0; flow = 0; number = 2 }, acts.Delay 9) ∷ (record { host = 0; flow = 0; number = 4 }, acts.Delay 9) ∷ []; drops = [] };
-      moves = [];
-      kills = [];
-    }
+    lines (
+    codes "host a 10.0.0.1 iss 1000 mss 64 rto 20"
+    ∷ codes "host b 10.0.0.2 iss 5000 mss 64 rto 20"
+    ∷ codes "app b server"
+    ∷ codes "listen lst 80"
+    ∷ codes "accept s lst"
+    ∷ codes "recv s 256"
+    ∷ codes "send s world"
+    ∷ codes "close s"
+    ∷ codes "app a client"
+    ∷ codes "connect s b 80"
+    ∷ codes "fill s 256"
+    ∷ codes "recv s 5"
+    ∷ codes "close s"
+    ∷ codes "delay a 0 2 9"
+    ∷ codes "delay a 0 4 9"
+    ∷ [])
 
 abbrev pub two_holes_report : List ℕ
 two_holes_report =
@@ -707,34 +672,25 @@ two_holes_report =
     ∷ [])
 
 -- All frames of a host are lost: its connect is given up.
-abbrev pub silent : Scenario
+abbrev pub silent : List ℕ
 silent =
-    record {
-      limit = 60;
-      hosts = a_host (codes "a") 167772161 1000 16384 1460 3 1024 16 ∷ a_host (codes "b") 167772162 5000 16384 1460 3 1024 16 ∷ [];
-      apps =
-          an_app (codes "b") (codes "server") (
-          steps.Listen (codes "lst") 80
-          ∷ steps.Accept (codes "s") (codes "lst")
-          ∷ steps.Recv (codes "s") 5
-          ∷ steps.Send (codes "s") (codes "world")
-          ∷ steps.Close (codes "s")
-          ∷ []
-          )
-          ∷
-          an_app (codes "a") (codes "client") (
-          steps.Connect (codes "s") (codes "b") 80
-          ∷ steps.Send (codes "s") (codes "hello")
-          ∷ steps.Recv (codes "s") 5
-          ∷ steps.Close (codes "s")
-          ∷ []
-          )
-          ∷
-          [];
-      link = record { acts = []; drops = (record { host = 0; k = 1 }) ∷ [] };
-      moves = [];
-      kills = [];
-    }
+    lines (
+    codes "host a 10.0.0.1 iss 1000 rto 3"
+    ∷ codes "host b 10.0.0.2 iss 5000 rto 3"
+    ∷ codes "app b server"
+    ∷ codes "listen lst 80"
+    ∷ codes "accept s lst"
+    ∷ codes "recv s 5"
+    ∷ codes "send s world"
+    ∷ codes "close s"
+    ∷ codes "app a client"
+    ∷ codes "connect s b 80"
+    ∷ codes "send s hello"
+    ∷ codes "recv s 5"
+    ∷ codes "close s"
+    ∷ codes "limit 60"
+    ∷ codes "dropeach a 1"
+    ∷ [])
 
 abbrev pub silent_report : List ℕ
 silent_report =
@@ -933,42 +889,29 @@ silent_report =
     ∷ [])
 
 -- One slot at the server: the second SYN finds none.
-abbrev pub one_waits : Scenario
+abbrev pub one_waits : List ℕ
 one_waits =
-    record {
-      limit = 40;
-      hosts = a_host (codes "a") 167772161 1000 16384 1460 3 1024 16 ∷ a_host (codes "b") 167772162 5000 16384 1460 3 1 16 ∷ [];
-      apps =
-          an_app (codes "b") (codes "server") (
-          steps.Listen (codes "lst") 80
-          ∷ steps.Accept (codes "s") (codes "lst")
-          ∷ steps.Recv (codes "s") 5
-          ∷ steps.Send (codes "s") (codes "world")
-          ∷ steps.Close (codes "s")
-          ∷ []
-          )
-          ∷
-          an_app (codes "a") (codes "client") (
-          steps.Connect (codes "s") (codes "b") 80
-          ∷ steps.Send (codes "s") (codes "hello")
-          ∷ steps.Recv (codes "s") 5
-          ∷ steps.Close (codes "s")
-          ∷ []
-          )
-          ∷
-          an_app (codes "a") (codes "second") (
-          steps.Connect (codes "s") (codes "b") 80
-          ∷ steps.Send (codes "s") (codes "hello")
-          ∷ steps.Recv (codes "s") 5
-          ∷ steps.Close (codes "s")
-          ∷ []
-          )
-          ∷
-          [];
-      link = record { acts = []; drops = [] };
-      moves = [];
-      kills = [];
-    }
+    lines (
+    codes "host a 10.0.0.1 iss 1000 rto 3"
+    ∷ codes "host b 10.0.0.2 iss 5000 slots 1 rto 3"
+    ∷ codes "app b server"
+    ∷ codes "listen lst 80"
+    ∷ codes "accept s lst"
+    ∷ codes "recv s 5"
+    ∷ codes "send s world"
+    ∷ codes "close s"
+    ∷ codes "app a client"
+    ∷ codes "connect s b 80"
+    ∷ codes "send s hello"
+    ∷ codes "recv s 5"
+    ∷ codes "close s"
+    ∷ codes "limit 40"
+    ∷ codes "app a second"
+    ∷ codes "connect s b 80"
+    ∷ codes "send s hello"
+    ∷ codes "recv s 5"
+    ∷ codes "close s"
+    ∷ [])
 
 abbrev pub one_waits_report : List ℕ
 one_waits_report =

@@ -1,40 +1,25 @@
--- Worked runs of scenarios: for each its data and the report of its run in serial order. The reports were written by another program.
-use Rattle.std.specs.Prelude.{ℕ, true, false, List, [], ◌∷◌, codes}
+-- Worked runs of scenarios: for each its text and the report of its run in serial order. The reports were written by another program.
+use Rattle.std.specs.Prelude.{ℕ, List, [], ◌∷◌, codes}
 use Rattle.tas_runs.specs.WorkedTexts.{lines}
-use Rattle.link_script.specs.declared.script.LinkAct.TheVariants as acts
-use Rattle.scenario_text.specs.declared.scenario.Scenario.{Scenario}
-use Rattle.scenario_text.specs.declared.scenario.Step.TheVariants as steps
-use Rattle.scenario_runs.specs.WorkedParts.{a_host, an_app}
 
 -- One application says hello, the other answers world, and both close.
-abbrev pub hello : Scenario
+abbrev pub hello : List ℕ
 hello =
-    record {
-      limit = 1000;
-      hosts = a_host (codes "a") 167772161 1000 16384 1460 3 1024 16 ∷ a_host (codes "b") 167772162 5000 16384 1460 3 1024 16 ∷ [];
-      apps =
-          an_app (codes "b") (codes "server") (
-          steps.Listen (codes "lst") 80
-          ∷ steps.Accept (codes "s") (codes "lst")
-          ∷ steps.Recv (codes "s") 5
-          ∷ steps.Send (codes "s") (codes "world")
-          ∷ steps.Close (codes "s")
-          ∷ []
-          )
-          ∷
-          an_app (codes "a") (codes "client") (
-          steps.Connect (codes "s") (codes "b") 80
-          ∷ steps.Send (codes "s") (codes "hello")
-          ∷ steps.Recv (codes "s") 5
-          ∷ steps.Close (codes "s")
-          ∷ []
-          )
-          ∷
-          [];
-      link = record { acts = []; drops = [] };
-      moves = [];
-      kills = [];
-    }
+    lines (
+    codes "host a 10.0.0.1 iss 1000 rto 3"
+    ∷ codes "host b 10.0.0.2 iss 5000 rto 3"
+    ∷ codes "app b server"
+    ∷ codes "listen lst 80"
+    ∷ codes "accept s lst"
+    ∷ codes "recv s 5"
+    ∷ codes "send s world"
+    ∷ codes "close s"
+    ∷ codes "app a client"
+    ∷ codes "connect s b 80"
+    ∷ codes "send s hello"
+    ∷ codes "recv s 5"
+    ∷ codes "close s"
+    ∷ [])
 
 abbrev pub hello_report : List ℕ
 hello_report =
@@ -113,34 +98,24 @@ hello_report =
     ∷ [])
 
 -- The first frame with data is lost, and sent again.
-abbrev pub lost : Scenario
+abbrev pub lost : List ℕ
 lost =
-    record {
-      limit = 1000;
-      hosts = a_host (codes "a") 167772161 1000 16384 1460 3 1024 16 ∷ a_host (codes "b") 167772162 5000 16384 1460 3 1024 16 ∷ [];
-      apps =
-          an_app (codes "b") (codes "server") (
-          steps.Listen (codes "lst") 80
-          ∷ steps.Accept (codes "s") (codes "lst")
-          ∷ steps.Recv (codes "s") 5
-          ∷ steps.Send (codes "s") (codes "world")
-          ∷ steps.Close (codes "s")
-          ∷ []
-          )
-          ∷
-          an_app (codes "a") (codes "client") (
-          steps.Connect (codes "s") (codes "b") 80
-          ∷ steps.Send (codes "s") (codes "hello")
-          ∷ steps.Recv (codes "s") 5
-          ∷ steps.Close (codes "s")
-          ∷ []
-          )
-          ∷
-          [];
-      link = record { acts = (record { host = 0; flow = 0; number = 2 }, acts.Drop) ∷ []; drops = [] };
-      moves = [];
-      kills = [];
-    }
+    lines (
+    codes "host a 10.0.0.1 iss 1000 rto 3"
+    ∷ codes "host b 10.0.0.2 iss 5000 rto 3"
+    ∷ codes "app b server"
+    ∷ codes "listen lst 80"
+    ∷ codes "accept s lst"
+    ∷ codes "recv s 5"
+    ∷ codes "send s world"
+    ∷ codes "close s"
+    ∷ codes "app a client"
+    ∷ codes "connect s b 80"
+    ∷ codes "send s hello"
+    ∷ codes "recv s 5"
+    ∷ codes "close s"
+    ∷ codes "drop a 0 2"
+    ∷ [])
 
 abbrev pub lost_report : List ℕ
 lost_report =
@@ -234,34 +209,25 @@ lost_report =
     ∷ [])
 
 -- Frames come twice.
-abbrev pub doubled : Scenario
+abbrev pub doubled : List ℕ
 doubled =
-    record {
-      limit = 1000;
-      hosts = a_host (codes "a") 167772161 1000 16384 1460 3 1024 16 ∷ a_host (codes "b") 167772162 5000 16384 1460 3 1024 16 ∷ [];
-      apps =
-          an_app (codes "b") (codes "server") (
-          steps.Listen (codes "lst") 80
-          ∷ steps.Accept (codes "s") (codes "lst")
-          ∷ steps.Recv (codes "s") 5
-          ∷ steps.Send (codes "s") (codes "world")
-          ∷ steps.Close (codes "s")
-          ∷ []
-          )
-          ∷
-          an_app (codes "a") (codes "client") (
-          steps.Connect (codes "s") (codes "b") 80
-          ∷ steps.Send (codes "s") (codes "hello")
-          ∷ steps.Recv (codes "s") 5
-          ∷ steps.Close (codes "s")
-          ∷ []
-          )
-          ∷
-          [];
-      link = record { acts = (record { host = 0; flow = 0; number = 0 }, acts.Dup) ∷ (record { host = 0; flow = 0; number = 2 }, acts.Dup) ∷ []; drops = [] };
-      moves = [];
-      kills = [];
-    }
+    lines (
+    codes "host a 10.0.0.1 iss 1000 rto 3"
+    ∷ codes "host b 10.0.0.2 iss 5000 rto 3"
+    ∷ codes "app b server"
+    ∷ codes "listen lst 80"
+    ∷ codes "accept s lst"
+    ∷ codes "recv s 5"
+    ∷ codes "send s world"
+    ∷ codes "close s"
+    ∷ codes "app a client"
+    ∷ codes "connect s b 80"
+    ∷ codes "send s hello"
+    ∷ codes "recv s 5"
+    ∷ codes "close s"
+    ∷ codes "dup a 0 0"
+    ∷ codes "dup a 0 2"
+    ∷ [])
 
 abbrev pub doubled_report : List ℕ
 doubled_report =
@@ -344,34 +310,24 @@ doubled_report =
     ∷ [])
 
 -- A byte of a frame is inverted: it is refused, and sent again.
-abbrev pub damaged : Scenario
+abbrev pub damaged : List ℕ
 damaged =
-    record {
-      limit = 1000;
-      hosts = a_host (codes "a") 167772161 1000 16384 1460 3 1024 16 ∷ a_host (codes "b") 167772162 5000 16384 1460 3 1024 16 ∷ [];
-      apps =
-          an_app (codes "b") (codes "server") (
-          steps.Listen (codes "lst") 80
-          ∷ steps.Accept (codes "s") (codes "lst")
-          ∷ steps.Recv (codes "s") 5
-          ∷ steps.Send (codes "s") (codes "world")
-          ∷ steps.Close (codes "s")
-          ∷ []
-          )
-          ∷
-          an_app (codes "a") (codes "client") (
-          steps.Connect (codes "s") (codes "b") 80
-          ∷ steps.Send (codes "s") (codes "hello")
-          ∷ steps.Recv (codes "s") 5
-          ∷ steps.Close (codes "s")
-          ∷ []
-          )
-          ∷
-          [];
-      link = record { acts = (record { host = 0; flow = 0; number = 2 }, acts.Corrupt 40) ∷ []; drops = [] };
-      moves = [];
-      kills = [];
-    }
+    lines (
+    codes "host a 10.0.0.1 iss 1000 rto 3"
+    ∷ codes "host b 10.0.0.2 iss 5000 rto 3"
+    ∷ codes "app b server"
+    ∷ codes "listen lst 80"
+    ∷ codes "accept s lst"
+    ∷ codes "recv s 5"
+    ∷ codes "send s world"
+    ∷ codes "close s"
+    ∷ codes "app a client"
+    ∷ codes "connect s b 80"
+    ∷ codes "send s hello"
+    ∷ codes "recv s 5"
+    ∷ codes "close s"
+    ∷ codes "corrupt a 0 2 40"
+    ∷ [])
 
 abbrev pub damaged_report : List ℕ
 damaged_report =
@@ -466,34 +422,23 @@ damaged_report =
     ∷ [])
 
 -- The sequence numbers pass 2^32.
-abbrev pub wrapped : Scenario
+abbrev pub wrapped : List ℕ
 wrapped =
-    record {
-      limit = 1000;
-      hosts = a_host (codes "a") 167772161 4294967290 16384 1460 3 1024 16 ∷ a_host (codes "b") 167772162 5000 16384 1460 3 1024 16 ∷ [];
-      apps =
-          an_app (codes "b") (codes "server") (
-          steps.Listen (codes "lst") 80
-          ∷ steps.Accept (codes "s") (codes "lst")
-          ∷ steps.Recv (codes "s") 10
-          ∷ steps.Send (codes "s") (codes "world")
-          ∷ steps.Close (codes "s")
-          ∷ []
-          )
-          ∷
-          an_app (codes "a") (codes "client") (
-          steps.Connect (codes "s") (codes "b") 80
-          ∷ steps.Send (codes "s") (codes "helloworld")
-          ∷ steps.Recv (codes "s") 5
-          ∷ steps.Close (codes "s")
-          ∷ []
-          )
-          ∷
-          [];
-      link = record { acts = []; drops = [] };
-      moves = [];
-      kills = [];
-    }
+    lines (
+    codes "host a 10.0.0.1 iss 4294967290 rto 3"
+    ∷ codes "host b 10.0.0.2 iss 5000 rto 3"
+    ∷ codes "app b server"
+    ∷ codes "listen lst 80"
+    ∷ codes "accept s lst"
+    ∷ codes "recv s 10"
+    ∷ codes "send s world"
+    ∷ codes "close s"
+    ∷ codes "app a client"
+    ∷ codes "connect s b 80"
+    ∷ codes "send s helloworld"
+    ∷ codes "recv s 5"
+    ∷ codes "close s"
+    ∷ [])
 
 abbrev pub wrapped_report : List ℕ
 wrapped_report =
@@ -572,25 +517,17 @@ wrapped_report =
     ∷ [])
 
 -- Nobody listens: the connect is refused.
-abbrev pub nobody : Scenario
+abbrev pub nobody : List ℕ
 nobody =
-    record {
-      limit = 1000;
-      hosts = a_host (codes "a") 167772161 1000 16384 1460 3 1024 16 ∷ a_host (codes "b") 167772162 5000 16384 1460 3 1024 16 ∷ [];
-      apps =
-          an_app (codes "a") (codes "client") (
-          steps.Connect (codes "s") (codes "b") 80
-          ∷ steps.Send (codes "s") (codes "hello")
-          ∷ steps.Recv (codes "s") 5
-          ∷ steps.Close (codes "s")
-          ∷ []
-          )
-          ∷
-          [];
-      link = record { acts = []; drops = [] };
-      moves = [];
-      kills = [];
-    }
+    lines (
+    codes "host a 10.0.0.1 iss 1000 rto 3"
+    ∷ codes "host b 10.0.0.2 iss 5000 rto 3"
+    ∷ codes "app a client"
+    ∷ codes "connect s b 80"
+    ∷ codes "send s hello"
+    ∷ codes "recv s 5"
+    ∷ codes "close s"
+    ∷ [])
 
 abbrev pub nobody_report : List ℕ
 nobody_report =
@@ -616,17 +553,11 @@ nobody_report =
     ∷ [])
 
 -- One host without applications.
-abbrev pub lone : Scenario
+abbrev pub lone : List ℕ
 lone =
-    record {
-      limit = 1000;
-      hosts = a_host (codes "a") 167772161 0 16384 1460 20 1024 16 ∷ [];
-      apps =
-          [];
-      link = record { acts = []; drops = [] };
-      moves = [];
-      kills = [];
-    }
+    lines (
+    codes "host a 10.0.0.1"
+    ∷ [])
 
 abbrev pub lone_report : List ℕ
 lone_report =
