@@ -3,3 +3,4 @@ pub mod AllRuns
 pub mod WorkedTalks
 pub mod WorkedEnds
 pub mod WorkedLinks
+pub mod WorkedHoles

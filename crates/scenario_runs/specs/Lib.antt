@@ -6,3 +6,4 @@ pub mod WorkedParts
 pub mod WorkedTalks
 pub mod WorkedEnds
 pub mod WorkedLinks
+pub mod WorkedHoles
