@@ -1,5 +1,6 @@
 -- What holds of every run of a scenario, and that the serial one is among them.
-use Rattle.std.proofs.Common.{◌≡◌, ℕ, zero, suc, ◌+◌, not, Bool, true, false, List, [], ◌∷◌, map, refl, sym, subst, ap, ◌∙◌, true≢false}
+use Rattle.std.proofs.Common.{◌≡◌, ℕ, zero, suc, ◌+◌, not, Bool, true, false, List, [], ◌∷◌, map, refl, sym, subst}
+use Rattle.std.proofs.Common.{ap, ◌∙◌, true≢false}
 use Rattle.tas_model.specs.declared.entry.HostParams.{HostParams}
 use Rattle.tas_model.specs.Valid.{InRange}
 use Rattle.host_rounds.specs.Logs.{HostRun, RunLog}
@@ -17,8 +18,9 @@ use Rattle.scenario_text.specs.declared.scenario.Scenario.{Scenario}
 use Rattle.scenario_text.specs.declared.scenario.HostLine.{HostLine}
 use Rattle.scenario_runs.specs.Applications.{Script}
 use Rattle.scenario_runs.specs.Worlds.{World, site_of, at_start, numbers_of, scripts_of, due_at, all_ended, is_at_rest}
-use Rattle.scenario_runs.specs.Runs.{AreRounds, IsTick, serial_sites, serial_world, End, RunsFrom, serial_from, hosts_of, scenario_log, Run, serial_run}
-use Rattle.scenario_runs.specs.Histories.{AreInRange}
+use Rattle.scenario_runs.specs.Runs.{AreRounds, IsTick, serial_sites, serial_world, End, RunsFrom, serial_from}
+use Rattle.scenario_runs.specs.Runs.{hosts_of, scenario_log, Run, serial_run}
+use Rattle.scenario_runs.specs.Histories.{AreInRange, AreSound}
 use Rattle.scenario_runs.proofs.ByMoves.{scenarios_by_moves}
 
 -- ----- the serial run
@@ -112,7 +114,7 @@ hosts_sound (h ∷ hs) [] fits right = tt
 hosts_sound (h ∷ hs) (site ∷ sites) fits right =
     (flows_sound (numbers_of h.params) h.params [] site.host.flows fits.0 right.0.opened right.0.legal, hosts_sound hs sites fits.1 right.1)
 
-pub runs_sound : (s : Scenario) (log : RunLog) → AreInRange s.hosts → Run s log → Each (λ (h : HostRun). Each IsSound h.flows) log.hosts
+pub runs_sound : (s : Scenario) (log : RunLog) → AreInRange s.hosts → Run s log → AreSound log.hosts
 runs_sound s log fits run =
     subst (λ (r : RunLog). Each (λ (h : HostRun). Each IsSound h.flows) r.hosts) (sym run.2)
     (hosts_sound s.hosts run.0.world fits (runs_right s s.limit 0 (at_start s) run.0 run.1 (start_right s s.hosts)))

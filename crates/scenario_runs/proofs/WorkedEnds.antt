@@ -15,7 +15,11 @@ use Rattle.scenario_text.specs.Statements.{reading}
 use Rattle.scenario_text.specs.Reads.{reads}
 use Rattle.scenario_runs.specs.Runs.{serial_world, serial_from}
 use Rattle.scenario_runs.specs.WorkedParts.{reported}
-use Rattle.scenario_runs.specs.WorkedEnds.{unanswered, unanswered_report, killed_late, killed_late_report, killed_after, killed_after_report, killed_early, killed_early_report, one_slot, one_slot_report, slot_kept, slot_kept_report, stalled, stalled_report, cut_short, cut_short_report, open_flows, open_flows_report, no_such_byte, no_such_byte_report, all_steps, all_steps_report}
+use Rattle.scenario_runs.specs.WorkedEnds.{unanswered, unanswered_report, killed_late, killed_late_report}
+use Rattle.scenario_runs.specs.WorkedEnds.{killed_after, killed_after_report, killed_early, killed_early_report}
+use Rattle.scenario_runs.specs.WorkedEnds.{one_slot, one_slot_report, slot_kept, slot_kept_report, stalled}
+use Rattle.scenario_runs.specs.WorkedEnds.{stalled_report, cut_short, cut_short_report, open_flows, open_flows_report}
+use Rattle.scenario_runs.specs.WorkedEnds.{no_such_byte, no_such_byte_report, all_steps, all_steps_report}
 
 pub unanswered_is : reported unanswered ≡ unanswered_report
 unfolding reads reading digits nearest ip_header tcp_fixed refusal mss_of rx rx_later rx_syn_sent going ticks control step replay serial_tick report serial_world serial_from

@@ -15,7 +15,8 @@ use Rattle.scenario_text.specs.Statements.{reading}
 use Rattle.scenario_text.specs.Reads.{reads}
 use Rattle.scenario_runs.specs.Runs.{serial_world, serial_from}
 use Rattle.scenario_runs.specs.WorkedParts.{reported}
-use Rattle.scenario_runs.specs.WorkedLinks.{own_host, own_host_report, silent, silent_report, one_waits, one_waits_report}
+use Rattle.scenario_runs.specs.WorkedLinks.{own_host, own_host_report, silent, silent_report, one_waits}
+use Rattle.scenario_runs.specs.WorkedLinks.{one_waits_report}
 
 pub own_host_is : reported own_host ≡ own_host_report
 unfolding reads reading digits nearest ip_header tcp_fixed refusal mss_of rx rx_later rx_syn_sent going ticks control step replay serial_tick report serial_world serial_from

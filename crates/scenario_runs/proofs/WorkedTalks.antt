@@ -15,7 +15,9 @@ use Rattle.scenario_text.specs.Statements.{reading}
 use Rattle.scenario_text.specs.Reads.{reads}
 use Rattle.scenario_runs.specs.Runs.{serial_world, serial_from}
 use Rattle.scenario_runs.specs.WorkedParts.{reported}
-use Rattle.scenario_runs.specs.WorkedTalks.{hello, hello_report, lost, lost_report, doubled, doubled_report, damaged, damaged_report, wrapped, wrapped_report, nobody, nobody_report, lone, lone_report}
+use Rattle.scenario_runs.specs.WorkedTalks.{hello, hello_report, lost, lost_report, doubled, doubled_report, damaged}
+use Rattle.scenario_runs.specs.WorkedTalks.{damaged_report, wrapped, wrapped_report, nobody, nobody_report, lone}
+use Rattle.scenario_runs.specs.WorkedTalks.{lone_report}
 
 pub hello_is : reported hello ≡ hello_report
 unfolding reads reading digits nearest ip_header tcp_fixed refusal mss_of rx rx_later rx_syn_sent going ticks control step replay serial_tick report serial_world serial_from

@@ -1,5 +1,7 @@
 -- What an application of a scenario asks of its host: one call in a tick, as the step says that is under way.
-use Rattle.std.specs.Prelude.{ℕ, ◌+◌, ◌-◌, ◌%◌, ◌==◌, ◌&&◌, not, Bool, true, false, List, [], ◌∷◌, ◌++◌, length, take, drop, map, filter, count_by, min, nat_le, nat_lt, ◌^◌, position, slice_get, bytes_eq, Option, Some, None, if◌then◌else◌}
+use Rattle.std.specs.Prelude.{ℕ, ◌+◌, ◌-◌, ◌%◌, ◌==◌, ◌&&◌, not, Bool, true, false, List, [], ◌∷◌, ◌++◌, length, take}
+use Rattle.std.specs.Prelude.{drop, map, filter, count_by, min, nat_le, nat_lt, ◌^◌, position, slice_get, bytes_eq}
+use Rattle.std.specs.Prelude.{Option, Some, None, if◌then◌else◌}
 use Rattle.std.specs.List.{list_any, range_with_len}
 use Rattle.tas_model.specs.declared.entry.FourTuple.{FourTuple}
 use Rattle.tas_model.specs.declared.entry.Entry.{Entry}
@@ -9,7 +11,9 @@ use Rattle.tas_model.specs.declared.entry.Call.TheVariants as calls
 use Rattle.tas_model.specs.declared.entry.Reply.{Reply}
 use Rattle.tas_model.specs.declared.entry.Reply.TheVariants as replies
 use Rattle.host_rounds.specs.declared.log.LogEvent.TheVariants as events
-use Rattle.host_rounds.specs.Hosts.{Live, Host, Holder, Waiting, Application, GivenUp, Listener, Numbers, next_number, is_over, is_running, is_waiting_by, with_call, logged, at_flow, lowest_free, first_entry, opened_in}
+use Rattle.host_rounds.specs.Hosts.{Live, Host, Holder, Waiting, Application, GivenUp, Listener, Numbers, next_number}
+use Rattle.host_rounds.specs.Hosts.{is_over, is_running, is_waiting_by, with_call, logged, at_flow, lowest_free}
+use Rattle.host_rounds.specs.Hosts.{first_entry, opened_in}
 use Rattle.scenario_text.specs.declared.scenario.Step.{Step}
 use Rattle.scenario_text.specs.declared.scenario.Step.TheVariants as steps
 
@@ -68,11 +72,13 @@ last_reply reply (x ∷ xs) = last_reply x.reply xs
 
 -- what the last call of a flow was answered
 abbrev pub answer_of : (flow : ℕ) → Host → Reply
-answer_of n host = elim (slice_get host.flows n) [ None ↦ replies.Nothing | Some l ↦ last_reply replies.Nothing l.flow.entries ]
+answer_of n host =
+    elim (slice_get host.flows n) [ None ↦ replies.Nothing | Some l ↦ last_reply replies.Nothing l.flow.entries ]
 
 -- the application makes this call on the flow
 abbrev pub called : (flow : ℕ) → (tick : ℕ) → Call → (offer : List ℕ) → Turn → Turn
-called n t call offer x = record x { host = at_flow n (λ (l : Live). with_call l (App x.script.number) t call offer) x.host }
+called n t call offer x =
+    record x { host = at_flow n (λ (l : Live). with_call l (App x.script.number) t call offer) x.host }
 
 -- it has the socket of the flow, or gave it up
 abbrev pub holds : (flow : ℕ) → Holder → Turn → Turn
@@ -106,7 +112,8 @@ is_ready port l = l.flow.tuple.lport == port && is_waiting_by l.holder && is_run
 abbrev pub accepts_one : (ready : Option ℕ) → (tick : ℕ) → (socket : List ℕ) → (port : ℕ) → Turn → Turn
 accepts_one None t socket port x = record x { host = logged x.host t (events.AcceptNotYet x.script.number port) }
 accepts_one (Some n) t socket port x =
-    on_script (λ (s : Script). stepped (bind socket (ASocket n) s)) (holds n (Application x.script.number) (called n t calls.Accept [] x))
+    on_script (λ (s : Script). stepped (bind socket (ASocket n) s)) (holds n (Application x.script.number)
+    (called n t calls.Accept [] x))
 
 -- of those the one that was opened first
 abbrev pub accepts : (port : Option ℕ) → (tick : ℕ) → (socket : List ℕ) → Turn → Turn
@@ -134,7 +141,8 @@ opens numbers slot t socket tuple x =
       script = record (bind socket (ASocket (length x.host.flows)) x.script) { begun = true };
     }
 
-abbrev pub opens_where : (left : Bool) → Numbers → (slot port tick : ℕ) → (socket : List ℕ) → (raddr rport : ℕ) → Turn → Turn
+abbrev pub opens_where : (left : Bool) → Numbers → (slot port tick : ℕ) → (socket : List ℕ)
+    → (raddr rport : ℕ) → Turn → Turn
 opens_where true numbers slot port t socket raddr rport x =
     opens numbers slot t socket (record { laddr = x.host.params.addr; lport = port; raddr = raddr; rport = rport }) x
 opens_where false numbers slot port t socket raddr rport x = refused true t raddr rport x
@@ -219,8 +227,10 @@ connects_on numbers true t socket raddr rport x = on_socket socket (λ (n : ℕ)
 -- `address` tells the address of a host by its name.
 abbrev pub step_of : Numbers → (address : List ℕ → ℕ) → (tick : ℕ) → Step → Turn → Turn
 step_of numbers address t (steps.Listen name port) x = listens t name port x
-step_of numbers address t (steps.Accept socket listener) x = accepts (port_of (bound_in x.script.names listener)) t socket x
-step_of numbers address t (steps.Connect socket host port) x = connects_on numbers x.script.begun t socket (address host) port x
+step_of numbers address t (steps.Accept socket listener) x =
+    accepts (port_of (bound_in x.script.names listener)) t socket x
+step_of numbers address t (steps.Connect socket host port) x =
+    connects_on numbers x.script.begun t socket (address host) port x
 step_of numbers address t (steps.Send socket text) x = on_socket socket (λ (n : ℕ). sends n t text) x
 step_of numbers address t (steps.Fill socket count) x = on_socket socket (λ (n : ℕ). sends n t (filling count)) x
 step_of numbers address t (steps.Recv socket count) x = on_socket socket (λ (n : ℕ). receives n t (Some count)) x
@@ -228,7 +238,8 @@ step_of numbers address t (steps.Drain socket) x = on_socket socket (λ (n : ℕ
 step_of numbers address t (steps.Shut socket) x = on_socket socket (λ (n : ℕ). once n t calls.Shut) x
 step_of numbers address t (steps.Close socket) x = on_socket socket (λ (n : ℕ). ends n t calls.Close socket) x
 step_of numbers address t (steps.Abort socket) x = on_socket socket (λ (n : ℕ). ends n t calls.Abort socket) x
-step_of numbers address t (steps.Wait ticks) x = on_script (λ (s : Script). done_or (s.done + 1 == ticks) (s.done + 1) s) x
+step_of numbers address t (steps.Wait ticks) x =
+    on_script (λ (s : Script). done_or (s.done + 1 == ticks) (s.done + 1) s) x
 
 -- ----- a kill
 abbrev pub has_listener : (app port : ℕ) → Host → Bool

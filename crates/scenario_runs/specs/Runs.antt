@@ -11,7 +11,8 @@ use Rattle.scenario_runs.specs.Applications.{Script}
 use Rattle.scenario_runs.specs.Worlds.{World, at_start, scripts_of, due_at, all_ended, is_at_rest}
 
 -- ----- one tick
--- A right tick of each host, the first of which has this number: a frame of this tick comes in a later one, so that within a tick each host is by itself.
+-- A right tick of each host, the first of which has this number: a frame of this tick comes in a later one, so that
+-- within a tick each host is by itself.
 abbrev pub AreRounds : Scenario → (whole : World) → (tick host : ℕ) → (before after : World) → Type 0
 AreRounds s whole t h [] [] = ⊤
 AreRounds s whole t h (b ∷ bs) (a ∷ az) =
@@ -25,13 +26,15 @@ IsTick s t before after = AreRounds s before t 0 before after
 abbrev pub serial_sites : Scenario → (whole : World) → (tick host : ℕ) → World → World
 serial_sites s whole t h [] = []
 serial_sites s whole t h (site ∷ sites) =
-    serial_tick (scripts_of s site.host.params) t site (due_at s whole t h site.scripts) ∷ serial_sites s whole t (h + 1) sites
+    serial_tick (scripts_of s site.host.params) t site (due_at s whole t h site.scripts)
+    ∷ serial_sites s whole t (h + 1) sites
 
 unfoldable pub serial_world : Scenario → (tick : ℕ) → World → World
 serial_world s t world = serial_sites s world t 0 world
 
 -- ----- runs
--- How a run ended: the last world, how many ticks there were, and whether a script has not ended after the last one that the limit allows.
+-- How a run ended: the last world, how many ticks there were, and whether a script has not ended after the last one
+-- that the limit allows.
 pub record End : Type 0 where
   pub world : World
   pub ticks : ℕ

@@ -1,5 +1,8 @@
--- Several hosts, their applications and the link between them: how a world begins, and which frames come to a host in a tick.
-use Rattle.std.specs.Prelude.{ℕ, ◌+◌, ◌*◌, ◌-◌, ◌%◌, ◌^◌, ◌==◌, ◌&&◌, not, Bool, true, false, List, [], ◌∷◌, ◌++◌, length, map, filter, position, nat_lt, bytes_eq, Option, Some, None, unwrap_or, if◌then◌else◌}
+-- Several hosts, their applications and the link between them: how a world begins, and which frames come to a host
+-- in a tick.
+use Rattle.std.specs.Prelude.{ℕ, ◌+◌, ◌*◌, ◌-◌, ◌%◌, ◌^◌, ◌==◌, ◌&&◌, not, Bool, true, false, List, [], ◌∷◌, ◌++◌}
+use Rattle.std.specs.Prelude.{length, map, filter, position, nat_lt, bytes_eq, Option, Some, None, unwrap_or}
+use Rattle.std.specs.Prelude.{if◌then◌else◌}
 use Rattle.std.specs.List.{list_any, list_all, find}
 use Rattle.tas_model.specs.declared.entry.HostParams.{HostParams}
 use Rattle.tas_model.specs.declared.entry.FourTuple.{FourTuple}
@@ -73,11 +76,17 @@ numbers_of params tuple k n = (params.iss + 64000 * n) % 2 ^ 32
 
 abbrev pub with_turn : Turn → List Script → Site (List Script)
 with_turn x scripts =
-    record { host = x.host; scripts = change_first (λ (s : Script). s.number == x.script.number) (λ (s : Script). x.script) scripts }
+    record {
+      host = x.host;
+      scripts = change_first
+          (λ (s : Script). s.number == x.script.number) (λ (s : Script). x.script) scripts;
+    }
 
-abbrev pub asked_of : Numbers → (address : List ℕ → ℕ) → (tick : ℕ) → Option Script → Site (List Script) → Site (List Script)
+abbrev pub asked_of : Numbers → (address : List ℕ → ℕ) → (tick : ℕ) → Option Script → Site (List Script)
+    → Site (List Script)
 asked_of numbers address t None site = site
-asked_of numbers address t (Some s) site = with_turn (turn numbers address t (record { host = site.host; script = s })) site.scripts
+asked_of numbers address t (Some s) site =
+    with_turn (turn numbers address t (record { host = site.host; script = s })) site.scripts
 
 -- The scripts of a host's applications; an application is asked by its number.
 abbrev pub scripts_of : Scenario → HostParams → Scripts (List Script) ℕ
@@ -92,9 +101,11 @@ scripts_of s params =
 -- ----- what was sent
 -- the number of the host with this address
 abbrev pub host_at : World → (addr : ℕ) → ℕ
-host_at world addr = unwrap_or (position (λ (site : Site (List Script)). site.host.params.addr == addr) world) (length world)
+host_at world addr =
+    unwrap_or (position (λ (site : Site (List Script)). site.host.params.addr == addr) world) (length world)
 
--- The segments of one entry are frames of its flow, the first of them with this number; the segments of all its entries are numbered on.
+-- The segments of one entry are frames of its flow, the first of them with this number; the segments of all its
+-- entries are numbered on.
 abbrev pub frames_of_segments : (host flow number tick to : ℕ) → FourTuple → List Seg → List Sent
 frames_of_segments host flow n t to tuple [] = []
 frames_of_segments host flow n t to tuple (seg ∷ segs) =
@@ -116,7 +127,8 @@ frames_of_entries host flow n to tuple (x ∷ xs) =
 abbrev pub frames_of_flows : World → (host flow : ℕ) → List Live → List Sent
 frames_of_flows world host n [] = []
 frames_of_flows world host n (l ∷ ls) =
-    frames_of_entries host n 0 (host_at world l.flow.tuple.raddr) l.flow.tuple l.flow.entries ++ frames_of_flows world host (n + 1) ls
+    frames_of_entries host n 0 (host_at world l.flow.tuple.raddr) l.flow.tuple l.flow.entries
+    ++ frames_of_flows world host (n + 1) ls
 
 -- a frame of no flow has the highest number as its flow
 abbrev pub no_flow : ℕ
@@ -129,7 +141,8 @@ answer_on _ = None
 
 abbrev pub frames_of_answer : World → (host number tick : ℕ) → Option (FourTuple × Head) → List Sent
 frames_of_answer world host n t None = []
-frames_of_answer world host n t (Some a) = frames_of_segments host no_flow n t (host_at world a.0.raddr) a.0 (bare a.1 ∷ [])
+frames_of_answer world host n t (Some a) =
+    frames_of_segments host no_flow n t (host_at world a.0.raddr) a.0 (bare a.1 ∷ [])
 
 -- The answers to segments of no flow are the host's own frames; one that was not answered takes no number.
 abbrev pub frames_of_log : World → (host number : ℕ) → List LogLine → List Sent
@@ -141,7 +154,8 @@ frames_of_log world host n (l ∷ ls) =
 abbrev pub frames_of_hosts : World → (host : ℕ) → World → List Sent
 frames_of_hosts world h [] = []
 frames_of_hosts world h (site ∷ sites) =
-    (frames_of_flows world h 0 site.host.flows ++ frames_of_log world h 0 site.host.log) ++ frames_of_hosts world (h + 1) sites
+    (frames_of_flows world h 0 site.host.flows ++ frames_of_log world h 0 site.host.log)
+    ++ frames_of_hosts world (h + 1) sites
 
 -- All that was sent so far.
 abbrev pub sent_in : World → List Sent

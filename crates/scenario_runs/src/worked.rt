@@ -1,11 +1,20 @@
 ghost use Rattle.std.specs.Prelude.{◌≡◌};
 ghost use Rattle.scenario_runs.specs.WorkedParts.{reported};
-ghost use Rattle.scenario_runs.specs.WorkedTalks.{hello, hello_report, lost, lost_report, doubled, doubled_report, damaged, damaged_report, wrapped, wrapped_report, nobody, nobody_report, lone, lone_report};
-ghost use Rattle.scenario_runs.specs.WorkedEnds.{unanswered, unanswered_report, killed_late, killed_late_report, killed_after, killed_after_report, killed_early, killed_early_report, one_slot, one_slot_report, slot_kept, slot_kept_report, stalled, stalled_report, cut_short, cut_short_report, open_flows, open_flows_report, no_such_byte, no_such_byte_report, all_steps, all_steps_report};
-ghost use Rattle.scenario_runs.specs.WorkedLinks.{own_host, own_host_report, silent, silent_report, one_waits, one_waits_report};
+ghost use Rattle.scenario_runs.specs.WorkedTalks.{hello, hello_report, lost, lost_report, doubled, doubled_report};
+ghost use Rattle.scenario_runs.specs.WorkedTalks.{damaged, damaged_report, wrapped, wrapped_report, nobody};
+ghost use Rattle.scenario_runs.specs.WorkedTalks.{nobody_report, lone, lone_report};
+ghost use Rattle.scenario_runs.specs.WorkedEnds.{unanswered, unanswered_report, killed_late, killed_late_report};
+ghost use Rattle.scenario_runs.specs.WorkedEnds.{killed_after, killed_after_report, killed_early};
+ghost use Rattle.scenario_runs.specs.WorkedEnds.{killed_early_report, one_slot, one_slot_report, slot_kept};
+ghost use Rattle.scenario_runs.specs.WorkedEnds.{slot_kept_report, stalled, stalled_report, cut_short};
+ghost use Rattle.scenario_runs.specs.WorkedEnds.{cut_short_report, open_flows, open_flows_report, no_such_byte};
+ghost use Rattle.scenario_runs.specs.WorkedEnds.{no_such_byte_report, all_steps, all_steps_report};
+ghost use Rattle.scenario_runs.specs.WorkedLinks.{own_host, own_host_report, silent, silent_report, one_waits};
+ghost use Rattle.scenario_runs.specs.WorkedLinks.{one_waits_report};
 ghost use Rattle.scenario_runs.specs.WorkedHoles.{late_middle, late_middle_report, two_holes, two_holes_report};
 
-/// Reports that another program wrote for scenarios whose frames are lost, doubled and damaged are those of the run in serial order.
+/// Reports that another program wrote for scenarios whose frames are lost, doubled and damaged are those of the run
+/// in serial order.
 pub fn worked_talks()
     ensures hello { reported hello ≡ hello_report }
     ensures lost { reported lost ≡ lost_report }

@@ -1,4 +1,6 @@
-use Rattle.scenario_runs.proofs.WorkedEnds.{unanswered_is, killed_late_is, killed_after_is, killed_early_is, one_slot_is, slot_kept_is, stalled_is, cut_short_is, open_flows_is, no_such_byte_is, all_steps_is}
+use Rattle.scenario_runs.proofs.WorkedEnds.{unanswered_is, killed_late_is, killed_after_is, killed_early_is}
+use Rattle.scenario_runs.proofs.WorkedEnds.{one_slot_is, slot_kept_is, stalled_is, cut_short_is, open_flows_is}
+use Rattle.scenario_runs.proofs.WorkedEnds.{no_such_byte_is, all_steps_is}
 use Rattle.scenario_runs.proofs.worked.worked_ends.Goals as goal
 
 pub returns-clause-unanswered : goal.returns-clause-unanswered
