@@ -1,5 +1,5 @@
 //! Cores and applications share flows.
-ghost use Rattle.std.specs.Prelude.{true, ◌≡◌, ℕ, ◌+◌, ◌<◌, ◌≤◌, ◌∷◌, ◌++◌, [], length, List, All, IfOk, IfErr, IfSome, Some, None};
+ghost use Rattle.std.specs.Prelude.{true, ◌≡◌, ℕ, ◌+◌, ◌<◌, ◌≤◌, ◌∷◌, ◌++◌, [], length, IfOk, IfErr, IfSome};
 ghost use Rattle.tas_model.specs.declared.entry.Entry.{Entry};
 ghost use Rattle.flow_lock.specs.Callers.{IsGuest, IsUser, IsHolder, IsKeeper, IsOwner};
 ghost use Rattle.flow_lock.specs.Answers.{next_in};
@@ -10,8 +10,6 @@ use crate::table::FlowTable;
 use crate::word::Word;
 use std::alloc::{AllocError, Global};
 use std::test::Fail;
-use std::thread;
-use std::thread::Threads;
 use tas_model::{Call, Caller, Entry, FlowId, FourTuple, HostParams, Recorded, Reply};
 
 #[derive(Drop)]
@@ -329,125 +327,5 @@ fn a_flow_is_shared_doomed_and_freed(rt: HostRuntime) -> Result<(), Fail> {
         panic!(rt; "one record alone came out")
     };
     assert!(rt; record.id == last && closed.next().is_none());
-    Ok(())
-}
-
-/// A pass at work on one flow.
-#[derive(Drop)]
-struct Worker {
-    pass: Pass<Record>,
-    pin: Pin,
-    core: u32,
-    made: u64,
-}
-
-/// Appends until 1,000 entries are made.
-fn work(table: &FlowTable<Record>, worker: &mut Worker)
-    requires { IsUser table.now worker.old.pin worker.old.pass × (worker.old.pin.slot < table.now.slots) }
-    ensures { IsUser table.now worker.new.pin worker.new.pass × (worker.new.pin.slot < table.now.slots) }
-{
-    let mut tries = 0u64;
-    while worker.made < 1000 && tries < 100_000_000 {
-        tries += 1;
-        if add(table, &mut worker.pass, &worker.pin, worker.core) {
-            worker.made += 1;
-        }
-    }
-}
-
-fn all_work<R: Threads + Sync>(rt: &R, table: &FlowTable<Record>, workers: &mut [Worker])
-    requires { All (λ w. IsUser table.now w.pin w.pass × (w.pin.slot < table.now.slots)) workers.old }
-    ensures { All (λ w. IsUser table.now w.pin w.pass × (w.pin.slot < table.now.slots)) workers.new }
-{
-    let threads = workers.len().max(1);
-    thread::for_each_mut(rt, workers, threads, &|_, worker| work(table, worker));
-}
-
-/// Takes on so many workers for a flow, fewer where one of them can't pin it.
-fn hire(
-    alloc: Global,
-    table: &FlowTable<Record>,
-    slow: &mut SlowPass<Record>,
-    id: FlowId,
-    count: u32,
-) -> Result<Vec<Worker>, AllocError>
-    requires { IsKeeper table.now slow.old × (slow.old.view.baton ≡ true) × (slow.old.view.parts ≡ 4097) }
-    requires few { (count ≤ 16) × (id.slot < table.now.slots) }
-    ensures workers { IfOk result (λ ws. All (λ w. IsUser table.now w.pin w.pass × (w.pin.slot < table.now.slots)) ws.items) }
-    ensures slow { IfOk result (λ _. (slow.new.table ≡ table.now) × (slow.new.view.held ≡ [])) }
-{
-    let mut workers = Vec::new(alloc);
-    for core in 0..count {
-        let mut pass = guest(table, slow);
-        if let Ok(pin) = enter(table, &mut pass, id) {
-            let worker = Worker {
-                pass,
-                pin,
-                core,
-                made: 0,
-            };
-            workers.push(worker)?;
-        }
-    }
-    Ok(workers)
-}
-
-/// The passes are joined, and the number of entries that they made comes back.
-fn dismiss(table: &FlowTable<Record>, slow: &mut SlowPass<Record>, workers: Vec<Worker>) -> u64
-    requires { (slow.old.table ≡ table.now) × (slow.old.view.held ≡ []) }
-    requires { All (λ w. IsUser table.now w.pin w.pass × (w.pin.slot < table.now.slots)) workers.items }
-    ensures { (slow.new.table ≡ table.now) × (slow.new.view.held ≡ []) }
-{
-    let mut workers = workers;
-    let mut made = 0u64;
-    while let Some(worker) = workers.pop() {
-        let Worker {
-            mut pass,
-            pin,
-            core: _,
-            made: more,
-        } = worker;
-        leave(table, &mut pass, pin);
-        farewell(table, slow, pass);
-        made = made.saturating_add(more);
-    }
-    made
-}
-
-/// So many passes share one flow. It answers how many entries they made and how many the record has in the end.
-fn shared_by(rt: &HostRuntime, count: u32) -> Result<Option<(u64, usize)>, Fail>
-    requires { count ≤ 16 }
-{
-    let (table, mut slow) = start(rt.alloc())?;
-    let Some(next) = slow.next_flow() else {
-        return Ok(None);
-    };
-    let item = record_of(rt.alloc(), next)?;
-    let Some((id, _)) = open(&table, &mut slow, item) else {
-        return Ok(None);
-    };
-    let mut workers = hire(rt.alloc(), &table, &mut slow, id, count)?;
-    all_work(rt, &table, workers.as_mut_slice());
-    let made = dismiss(&table, &mut slow, workers);
-    let Ok(mut closed) = table.close(rt.alloc(), slow) else {
-        return Ok(None);
-    };
-    let Some(record) = closed.next() else {
-        return Ok(None);
-    };
-    Ok(Some((made, record.entries.len())))
-}
-
-#[test]
-fn two_passes_share_a_flow(rt: HostRuntime) -> Result<(), Fail> {
-    let found = shared_by(&rt, 2)?;
-    assert!(rt; found == Some((2000, 2001)));
-    Ok(())
-}
-
-#[test]
-fn four_passes_share_a_flow(rt: HostRuntime) -> Result<(), Fail> {
-    let found = shared_by(&rt, 4)?;
-    assert!(rt; found == Some((4000, 4001)));
     Ok(())
 }
