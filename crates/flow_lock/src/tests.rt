@@ -1,5 +1,5 @@
 //! Cores and applications share flows.
-ghost use Rattle.std.specs.Prelude.{true, ◌≡◌, ℕ, ◌+◌, ◌<◌, ◌≤◌, ◌∷◌, ◌++◌, [], length, IfOk, IfErr, IfSome};
+ghost use Rattle.std.specs.Prelude.{true, ◌≡◌, ℕ, ◌+◌, ◌<◌, ◌≤◌, ◌∷◌, ◌++◌, [], length, List, IfOk, IfErr, IfSome};
 ghost use Rattle.tas_model.specs.declared.entry.Entry.{Entry};
 ghost use Rattle.flow_lock.specs.Callers.{IsGuest, IsUser, IsHolder, IsKeeper, IsOwner};
 ghost use Rattle.flow_lock.specs.Answers.{next_in};
