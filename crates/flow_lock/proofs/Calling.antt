@@ -1,5 +1,5 @@
 -- What a caller may do after a call.
-use Rattle.std.proofs.Common.{◌≡◌, ℕ, zero, ◌+◌, ◌<◌, ◌≤◌, true, false, cond, eqb, eq-eqb, List, [], ◌∷◌, length, sym, refl, ap, ◌∙◌, subst, ⊎_elim, arith}
+use Rattle.std.proofs.Common.{◌≡◌, ℕ, true, false, cond, eq-eqb, List, [], ◌∷◌, sym, refl, ap, ◌∙◌, ⊎_elim}
 use mathlib.Core.Option as O
 use lib.ListN.{get_elem?}
 use Rattle.atomic_table.specs.Seated.{TableId}
@@ -17,9 +17,7 @@ use Rattle.flow_lock.specs.declared.pass.PinRefused.{PinRefused}
 use Rattle.flow_lock.specs.declared.pass.PinRefused.TheVariants.{Stale, Moved}
 use Rattle.flow_lock.specs.declared.word.Word.{Word}
 use Rattle.flow_lock.specs.declared.view.View.{View}
-use Rattle.flow_lock.specs.declared.view.Held.{Held}
 use Rattle.flow_lock.specs.declared.view.History.{History}
-use Rattle.flow_lock.specs.declared.view.Turn.{Turn}
 use Rattle.flow_lock.specs.declared.view.Deed.{Deed}
 use Rattle.flow_lock.specs.declared.view.Mark.{Mark}
 use Rattle.flow_lock.proofs.Sums.{at_below, at_index, at_get}

@@ -1,7 +1,4 @@
-use Rattle.std.proofs.Common.{◌≡◌, ◌++◌, List, [], ap, sym, ◌∙◌, refl, append-nil}
-use Rattle.tas_model.specs.declared.entry.Entry.{Entry}
-use Rattle.flow_lock.specs.Histories.{longer}
-use Rattle.flow_lock.specs.declared.view.History.{History}
+use Rattle.std.proofs.Common.{[], sym}
 use Rattle.flow_lock.proofs.Calling.{user_takes, holder_gives, holder_holds}
 use Rattle.flow_lock.proofs.Histories.{longer_nil}
 use Rattle.flow_lock.proofs.tests.found_beside.Goals as goal

@@ -1,4 +1,4 @@
-use Rattle.std.proofs.Common.{◌≡◌, [], ap}
+use Rattle.std.proofs.Common.{[], ap}
 use Rattle.flow_lock.specs.declared.view.View.{View}
 use Rattle.flow_lock.proofs.tests.guest.Goals as goal
 

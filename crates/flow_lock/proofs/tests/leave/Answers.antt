@@ -1,7 +1,3 @@
-use Rattle.std.proofs.Common.{◌≡◌, ◌++◌, List, [], ap, sym, ◌∙◌, refl, append-nil}
-use Rattle.tas_model.specs.declared.entry.Entry.{Entry}
-use Rattle.flow_lock.specs.Histories.{longer}
-use Rattle.flow_lock.specs.declared.view.History.{History}
 use Rattle.flow_lock.proofs.Calling.{user_leaves}
 use Rattle.flow_lock.proofs.tests.leave.Goals as goal
 
