@@ -10,7 +10,7 @@ use lib.ListN.{get_elem?}
 use Rattle.atomic_table.specs.Table.{State}
 use Rattle.atomic_table.proofs.Lists.{at_set, set_here, set_else}
 use Rattle.flow_lock.specs.Words.{flag, code, word_of, mark_of, Small, word_at}
-use Rattle.flow_lock.specs.Orders.{total, at_slot, once_below, pins_at, Ordered}
+use Rattle.flow_lock.specs.Orders.{total, at_slot, once_below, Ordered}
 use Rattle.flow_lock.specs.Steps.{IsAlone}
 use Rattle.flow_lock.specs.Claims.{flow_at, pins_on, holds_on, outs_on, Bears, Fits, Home, Lawful, Knows, in_span}
 use Rattle.flow_lock.specs.declared.word.Word.{Word}

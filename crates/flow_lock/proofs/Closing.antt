@@ -1,5 +1,5 @@
 -- What comes out of a closed table.
-use Rattle.std.proofs.Common.{◌≡◌, ◌≢◌, ℕ, zero, suc, ◌+◌, ◌<◌, ◌≤◌, Bool, true, false, eqb, cond, List, [], ◌∷◌, ◌++◌, length, take, sym, refl, ap, ◌∙◌, subst, arith, true≢false}
+use Rattle.std.proofs.Common.{◌≡◌, ℕ, zero, suc, ◌+◌, ◌<◌, Bool, true, false, eqb, cond, List, [], ◌∷◌, ◌++◌, length, take, sym, refl, ap, ◌∙◌, subst, arith}
 use Rattle.std.specs.Prelude.{Option, Some, None}
 use mathlib.Core.Option as O
 use mathlib.Core.Option.{some-injective, some-ne-none}
@@ -9,7 +9,7 @@ use Rattle.tas_model.specs.declared.entry.FlowId.{FlowId}
 use Rattle.flow_lock.specs.Words.{mark_of}
 use Rattle.flow_lock.specs.Histories.{Begins}
 use Rattle.flow_lock.specs.Orders.{total, at_slot, once_below}
-use Rattle.flow_lock.specs.Claims.{flow_at, holds_on, outs_on, in_span, Home, Lawful}
+use Rattle.flow_lock.specs.Claims.{flow_at, holds_on, in_span, Home, Lawful}
 use Rattle.flow_lock.specs.Last.{flows_from, IsLast}
 use Rattle.flow_lock.specs.declared.word.Word.{Word}
 use Rattle.flow_lock.specs.declared.view.View.{View}

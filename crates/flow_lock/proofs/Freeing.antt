@@ -1,6 +1,6 @@
 -- A slot is freed.
-use Rattle.std.proofs.Common.{◌≡◌, ◌≢◌, ℕ, ◌+◌, ◌<◌, ◌≤◌, Bool, true, false, eqb, eq-eqb, ne_eqb, cond, List, [], ◌∷◌, length, get_or, set, sym, refl, ap, ◌∙◌, subst, arith, true≢false, length-set}
-use Rattle.std.specs.Prelude.{Option, Some, None}
+use Rattle.std.proofs.Common.{◌≡◌, ◌≢◌, ℕ, ◌+◌, ◌<◌, Bool, true, false, eqb, eq-eqb, ne_eqb, cond, [], ◌∷◌, get_or, set, sym, refl, ap, ◌∙◌, subst, arith, true≢false, length-set}
+use Rattle.std.specs.Prelude.{Option, Some}
 use mathlib.Core.Option as O
 use mathlib.Core.Option.{some-injective}
 use mathlib.Core.Logic.{dite}
@@ -10,18 +10,17 @@ use prog.Atomic.{either}
 use Rattle.atomic_table.specs.Table.{State, Me, step, keeps, takes, Allows}
 use Rattle.atomic_table.proofs.Lists.{set_else, exchanged}
 use Rattle.tas_model.specs.declared.entry.FlowId.{FlowId}
-use Rattle.flow_lock.specs.Words.{flag, code, word_of, mark_of, dead_word, sole_word}
-use Rattle.flow_lock.specs.Orders.{total, at_slot}
-use Rattle.flow_lock.specs.Claims.{flow_at, pins_on, holds_on, outs_on, Bears, HasPin, Fits, Lawful}
-use Rattle.flow_lock.specs.Steps.{MayAct, IsAlone, counted, without, mark, unpinned, freed}
+use Rattle.flow_lock.specs.Words.{flag, code, word_of, dead_word, sole_word}
+use Rattle.flow_lock.specs.Orders.{total}
+use Rattle.flow_lock.specs.Claims.{pins_on, holds_on, outs_on, Bears, HasPin, Lawful}
+use Rattle.flow_lock.specs.Steps.{MayAct, counted, mark, unpinned, freed}
 use Rattle.flow_lock.specs.Plays.{inspects, frees}
 use Rattle.flow_lock.specs.declared.word.Word.{Word}
 use Rattle.flow_lock.specs.declared.view.View.{View}
-use Rattle.flow_lock.specs.declared.view.Held.{Held}
 use Rattle.flow_lock.specs.declared.view.History.{History}
 use Rattle.flow_lock.specs.declared.view.Mark.{Mark}
 use Rattle.flow_lock.proofs.Words.{reads_back}
-use Rattle.flow_lock.proofs.Sums.{total-set, term_le, terms_le, total_none, at_below}
+use Rattle.flow_lock.proofs.Sums.{total-set, terms_le, total_none, at_below}
 use Rattle.flow_lock.proofs.Ordering.{acts_order}
 use Rattle.flow_lock.proofs.Acting.{word_act}
 use Rattle.flow_lock.proofs.Changes.{hit_slot, miss_slot, bears_else, fits_after, changes, found_word, not_slow}

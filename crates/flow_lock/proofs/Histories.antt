@@ -1,5 +1,5 @@
 -- Histories that begin with others, and those that are known.
-use Rattle.std.proofs.Common.{◌≡◌, ◌≢◌, ◌⊎◌, ℕ, zero, suc, ◌+◌, ◌<◌, ◌≤◌, Bool, true, false, eqb, eq-eqb, ne_eqb, nat_lt, cond, ◌&&◌, ◌==◌, List, [], ◌∷◌, ◌++◌, length, drop, sym, refl, ap, ◌∙◌, subst, inl, inr, ⊎_elim, arith, true≢false, append_assoc, append-nil, length-append}
+use Rattle.std.proofs.Common.{◌≡◌, ◌≢◌, ◌⊎◌, ℕ, zero, suc, ◌+◌, ◌≤◌, Bool, true, false, eq-eqb, ne_eqb, nat_lt, cond, ◌&&◌, ◌==◌, List, [], ◌∷◌, ◌++◌, length, drop, sym, refl, ap, ◌∙◌, subst, inl, inr, ⊎_elim, arith, true≢false, append_assoc, append-nil}
 use Rattle.std.proofs.lemmas.Bool.{eqb-true}
 use Rattle.std.proofs.lemmas.Bool.Decides.{nat_tests}
 use mathlib.Core.Option as O
@@ -10,7 +10,7 @@ use lib.ListN.{get_elem?}
 use Rattle.tas_model.specs.declared.entry.Entry.{Entry}
 use Rattle.tas_model.specs.declared.entry.FlowId.{FlowId}
 use Rattle.flow_lock.specs.Histories.{longer, IsLonger, Begins}
-use Rattle.flow_lock.specs.Orders.{total, same_flow, at_slot, once_below, known_of}
+use Rattle.flow_lock.specs.Orders.{total, same_flow, once_below, known_of}
 use Rattle.flow_lock.specs.Claims.{in_span}
 use Rattle.flow_lock.specs.declared.view.History.{History}
 use Rattle.flow_lock.specs.declared.view.Held.{Held}

@@ -10,3 +10,4 @@ mod Opening
 mod Freeing
 mod Moving
 mod Closing
+mod Calling

@@ -1,5 +1,5 @@
 -- Passes are split and joined, and turns and the baton go from view to view.
-use Rattle.std.proofs.Common.{◌≡◌, ◌≢◌, ℕ, zero, suc, ◌+◌, ◌<◌, ◌≤◌, Bool, true, false, eqb, cond, List, [], ◌∷◌, ◌++◌, length, get_or, set, sym, refl, ap, ◌∙◌, subst, ⊎_elim, arith, true≢false}
+use Rattle.std.proofs.Common.{◌≡◌, ◌≢◌, ℕ, suc, ◌+◌, ◌<◌, ◌≤◌, true, false, eqb, cond, List, [], ◌∷◌, ◌++◌, length, get_or, set, sym, refl, ap, ◌∙◌, subst, ⊎_elim, arith, true≢false}
 use Rattle.std.specs.Prelude.{Option}
 use mathlib.Core.Option as O
 use mathlib.Core.Option.{some-injective, some-ne-none}
@@ -7,21 +7,20 @@ use lib.ListN.{get_elem?}
 use Rattle.atomic_table.specs.Table.{State, Me, step, keeps, Allows, Splits, Joins}
 use Rattle.atomic_table.proofs.Lists.{at_set, at_snoc}
 use Rattle.tas_model.specs.declared.entry.FlowId.{FlowId}
-use Rattle.flow_lock.specs.Words.{flag, mark_of}
+use Rattle.flow_lock.specs.Words.{flag}
 use Rattle.flow_lock.specs.Histories.{Begins}
 use Rattle.flow_lock.specs.Orders.{total, at_slot, once_below, named, won_on, lost_on, of, played, IsRun, Ordered}
 use Rattle.flow_lock.specs.Claims.{pins_on, holds_on, outs_on, Fits, Lawful, Knows, in_span}
 use Rattle.flow_lock.specs.Steps.{HasAll}
 use Rattle.flow_lock.specs.Plays.{tallies, learns}
 use Rattle.flow_lock.specs.Passes.{new_turn, left, right, both, lender, lent, peeled, peel, with_turns, without_baton, baton_of, with_baton, spent}
-use Rattle.flow_lock.specs.declared.word.Word.{Word}
 use Rattle.flow_lock.specs.declared.view.View.{View}
 use Rattle.flow_lock.specs.declared.view.Held.{Held}
 use Rattle.flow_lock.specs.declared.view.History.{History}
 use Rattle.flow_lock.specs.declared.view.Turn.{Turn}
 use Rattle.flow_lock.proofs.Sums.{total-set, term_le, total-append, total_one, in_both, one_only, set_same}
 use Rattle.flow_lock.proofs.Ordering.{one_more, no_baton, learnt_order, Fair, fair, reordered}
-use Rattle.flow_lock.proofs.Changes.{changes, found_word, not_slow, fits_same}
+use Rattle.flow_lock.proofs.Changes.{changes, found_word, fits_same}
 use Rattle.flow_lock.proofs.Pinning.{seen}
 
 module _ {R : Type 0} (flow : R → FlowId) (history : R → History) where

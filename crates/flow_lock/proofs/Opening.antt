@@ -1,6 +1,6 @@
 -- A table is made, a slot is opened and doomed.
-use Rattle.std.proofs.Common.{◌≡◌, ◌≢◌, ℕ, zero, suc, ◌+◌, ◌<◌, ◌≤◌, Bool, true, false, eqb, eq-eqb, ne_eqb, cond, List, [], ◌∷◌, ◌++◌, map, length, get_or, set, sym, refl, ap, ◌∙◌, subst, inl, inr, ⊎_elim, arith, true≢false, length-set}
-use Rattle.std.specs.Prelude.{Option, Some, None, replicate, bit_or, slice_set}
+use Rattle.std.proofs.Common.{◌≡◌, ◌≢◌, ℕ, zero, suc, ◌+◌, ◌<◌, ◌≤◌, Bool, true, false, eqb, eq-eqb, ne_eqb, cond, List, [], ◌∷◌, map, length, get_or, set, sym, refl, ap, ◌∙◌, subst, inl, inr, ⊎_elim, arith, true≢false, length-set}
+use Rattle.std.specs.Prelude.{Option, Some, None, replicate, bit_or}
 use mathlib.Core.Option as O
 use mathlib.Core.Option.{some-injective, some-ne-none}
 use mathlib.Core.Logic.{dite}
@@ -10,11 +10,11 @@ use Rattle.atomic_table.specs.Table.{State, Me, step, keeps, takes, gives, put_b
 use Rattle.atomic_table.proofs.Lists.{at_set, set_here, set_else}
 use Rattle.tas_model.specs.declared.entry.Entry.{Entry}
 use Rattle.tas_model.specs.declared.entry.FlowId.{FlowId}
-use Rattle.flow_lock.specs.Words.{flag, code, word_at, dead_word, live_word, mark_of, Small}
-use Rattle.flow_lock.specs.Histories.{longer, unborn, no_history, Begins}
-use Rattle.flow_lock.specs.Orders.{total, at_slot, once_below, known_of, played, IsRun, of}
-use Rattle.flow_lock.specs.Claims.{flow_at, pins_on, holds_on, outs_on, Bears, HasPin, Fits, Home, Lawful, Knows}
-use Rattle.flow_lock.specs.Steps.{MayAct, known_words, deeds_of, mark, mark_at, condemned, emptied, opened, restored}
+use Rattle.flow_lock.specs.Words.{flag, code, dead_word, live_word, mark_of, Small}
+use Rattle.flow_lock.specs.Histories.{unborn, no_history, Begins}
+use Rattle.flow_lock.specs.Orders.{total, at_slot, known_of, played, of}
+use Rattle.flow_lock.specs.Claims.{flow_at, pins_on, outs_on, Bears, HasPin, Fits, Lawful, Knows}
+use Rattle.flow_lock.specs.Steps.{MayAct, deeds_of, mark, mark_at, condemned, emptied, opened, restored}
 use Rattle.flow_lock.specs.Plays.{dooms, clears, opens, restores}
 use Rattle.flow_lock.specs.Passes.{new_turn, first}
 use Rattle.flow_lock.specs.declared.word.Word.{Word}

@@ -1,5 +1,5 @@
 -- Sums over lists, and what stands where in them.
-use Rattle.std.proofs.Common.{◌≡◌, ◌≢◌, ◌⊎◌, ℕ, zero, suc, ◌+◌, ◌<◌, ◌≤◌, List, [], ◌∷◌, ◌++◌, length, set, sym, refl, ap, ◌∙◌, subst, ⊎_elim, arith}
+use Rattle.std.proofs.Common.{◌≡◌, ◌≢◌, ℕ, zero, suc, ◌+◌, ◌<◌, ◌≤◌, List, [], ◌∷◌, ◌++◌, length, set, sym, refl, ap, subst, arith}
 use Rattle.std.specs.Prelude.{replicate, slice_index_or}
 use mathlib.Core.Option as O
 use mathlib.Core.Option.{some-injective, some-ne-none}

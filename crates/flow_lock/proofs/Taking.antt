@@ -1,5 +1,5 @@
 -- A record is taken and given back.
-use Rattle.std.proofs.Common.{◌≡◌, ◌≢◌, ℕ, zero, suc, ◌+◌, ◌*◌, ◌/◌, ◌%◌, ◌^◌, ◌<◌, ◌≤◌, Bool, true, false, cond, List, [], ◌∷◌, ◌++◌, map, length, drop, get_or, set, sym, refl, ap, ◌∙◌, subst, inl, inr, arith, true≢false, length-set, length-append}
+use Rattle.std.proofs.Common.{◌≡◌, ◌≢◌, ℕ, ◌+◌, ◌*◌, ◌/◌, ◌%◌, ◌^◌, ◌<◌, ◌≤◌, Bool, true, false, List, [], ◌∷◌, ◌++◌, map, length, drop, get_or, set, sym, refl, ap, ◌∙◌, subst, inl, inr, arith, true≢false, length-set, length-append}
 use Rattle.std.specs.Prelude.{Option, Some, None, bit_or, bit_and}
 use Rattle.std.specs.Int.Bits.{or_add_and}
 use Rattle.std.proofs.lemmas.Nat.{and-not, and_comm}
@@ -14,7 +14,7 @@ use Rattle.atomic_table.proofs.Lists.{set_here, set_else}
 use Rattle.tas_model.specs.declared.entry.Entry.{Entry}
 use Rattle.tas_model.specs.declared.entry.FlowId.{FlowId}
 use Rattle.flow_lock.specs.Words.{flag, code, word_of, word_at, Small}
-use Rattle.flow_lock.specs.Histories.{longer, IsLonger, Begins}
+use Rattle.flow_lock.specs.Histories.{IsLonger, Begins}
 use Rattle.flow_lock.specs.Orders.{total, at_slot, known_of, once_below, played, IsRun}
 use Rattle.flow_lock.specs.Claims.{flow_at, pins_on, holds_on, Bears, HasPin, Lawful, in_span}
 use Rattle.flow_lock.specs.Steps.{MayAct, IsAlone, known_words, counted, taken, gave, added, deeds_of, held_length}

@@ -12,7 +12,6 @@ use Rattle.flow_lock.specs.declared.view.View.{View}
 use Rattle.flow_lock.specs.declared.view.Held.{Held}
 use Rattle.flow_lock.specs.declared.view.History.{History}
 use Rattle.flow_lock.specs.declared.view.Span.{Span}
-use Rattle.flow_lock.specs.declared.view.Mark.{Mark}
 
 abbrev pub flow_at : ℕ → ℕ → FlowId
 flow_at i g = record { slot = i; generation = g }

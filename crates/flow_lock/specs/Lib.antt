@@ -7,3 +7,4 @@ pub mod Passes
 pub mod Plays
 pub mod Answers
 pub mod Last
+pub mod Callers

@@ -1,12 +1,12 @@
 -- What each step tells.
-use Rattle.std.specs.Prelude.{◌≡◌, ◌≢◌, ℕ, ◌+◌, ◌/◌, ◌%◌, ◌≤◌, true, false, List, [], ◌∷◌, Option, Some, None}
+use Rattle.std.specs.Prelude.{◌≡◌, ◌≢◌, ℕ, ◌+◌, ◌/◌, ◌%◌, ◌≤◌, true, false, [], ◌∷◌, Option, Some, None}
 use mathlib.Core.Option as O
 use lib.ListN.{get_elem?}
 use Rattle.atomic_table.specs.Table.{Me, Step, rest}
 use Rattle.tas_model.specs.declared.entry.FlowId.{FlowId}
 use Rattle.flow_lock.specs.Words.{flag, code, word_of, word_at, sole_word, mark_of}
 use Rattle.flow_lock.specs.Histories.{Begins}
-use Rattle.flow_lock.specs.Orders.{total, Order, of, IsRun, played, known_of, pins_at, won_on, lost_on}
+use Rattle.flow_lock.specs.Orders.{Order, of, IsRun, played, known_of, pins_at, won_on, lost_on}
 use Rattle.flow_lock.specs.Claims.{flow_at, HasPin, holds_on}
 use Rattle.flow_lock.specs.Steps.{IsAlone, mark, looked, counted, pinned, unpinned, taken, gave, condemned, emptied, opened, freed, restored}
 use Rattle.flow_lock.specs.declared.word.Word.{Word}

@@ -1,4 +1,5 @@
--- The word of a slot as a number: generation in bits 63 to 32, busy bit 18, doomed bit 17, live bit 16, pins in bits 15 to 0.
+-- The word of a slot as a number: generation in bits 63 to 32, busy bit 18, doomed bit 17, live bit 16, pins in bits
+-- 15 to 0.
 use Rattle.std.specs.Prelude.{ℕ, ◌+◌, ◌*◌, ◌/◌, ◌%◌, ◌<◌, Bool, true, false, ◌==◌, List, slice_index_or, slice_set}
 use Rattle.flow_lock.specs.declared.word.Word.{Word}
 use Rattle.flow_lock.specs.declared.view.Mark.{Mark}
@@ -22,6 +23,10 @@ word_of n = record {
 -- what fits into a word
 abbrev pub Small : Word → Type 0
 Small w = (w.generation < 4294967296) × (w.pins < 65536)
+
+-- a word that is neither doomed nor busy
+abbrev pub plain_word : ℕ → ℕ → Bool → Word
+plain_word g p l = record { generation = g; pins = p; live = l; doomed = false; busy = false }
 
 -- the word of a slot that no flow has, after so many generations
 abbrev pub dead_word : ℕ → Word

@@ -7,6 +7,8 @@ mod pass;
 mod plays;
 mod slow;
 mod table;
+#[cfg(test)]
+mod tests;
 mod view;
 mod word;
 

@@ -1,5 +1,5 @@
 //! Passes, as contracts see them: the table, and the view.
-ghost use Rattle.std.specs.Prelude.{◌≡◌, ℕ, ◌<◌, Option, [], position};
+ghost use Rattle.std.specs.Prelude.{◌≡◌, ℕ, ◌<◌, Option, [], IfSome, position};
 ghost use Rattle.flow_lock.specs.Passes.{Seen, Carries, IsOne, IsSlow};
 ghost use Rattle.flow_lock.specs.Answers.{is_free, next_in, is_open_in};
 ghost use Rattle.tas_model.specs.declared.entry.FlowId.{FlowId};
@@ -45,7 +45,8 @@ impl<R> SlowPass<R> {
     /// The id that the next `open_flow` gives: the lowest slot that no flow has, with its generation one more.
     /// `None` exactly where every slot has a flow.
     pub fn next_flow(&self) -> Option<FlowId>
-        ensures { result ≡ next_in self.now.view.marks }
+        ensures next { result ≡ next_in self.now.view.marks }
+        ensures slot { IfSome result (λ id. id.slot < self.now.table.slots) }
     {
         let slot = first_free(&self.marks)?;
         Some(FlowId {

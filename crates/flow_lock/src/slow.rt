@@ -29,6 +29,7 @@ impl<R: Recorded + Drop> FlowTable<R> {
         requires few { slow.old.view.opened < 4294967295 }
         ensures table { slow.new.table ≡ slow.old.table }
         ensures next { IfOk result (λ o. next_in slow.old.view.marks ≡ Some o.0) }
+        ensures slot { IfOk result (λ o. o.0.slot < self.now.slots) }
         ensures opened { IfOk result (λ o. (o.1 ≡ o.0) × (slow.new.view ≡ opened o.0 (history_of R.tuple R.params R.entries item) slow.old.view)) }
         ensures full { IfErr result (λ e. (next_in slow.old.view.marks ≡ None) × (e.1 ≡ item) × (slow.new ≡ slow.old)) }
     {

@@ -1,5 +1,5 @@
 ghost use Rattle.std.specs.Prelude.{◌≡◌};
-ghost use Rattle.flow_lock.specs.Words.{code, word_of};
+ghost use Rattle.flow_lock.specs.Words.{code, word_of, plain_word};
 
 /// The word of a slot. `generation` says how often the slot was opened, `pins` how many passes keep its flow from
 /// being freed. A `live` slot has a flow. A `doomed` one takes no new pins. A `busy` one's record is out with a pass.
@@ -36,7 +36,7 @@ pub(crate) fn read_word(n: u64) -> Word
 
 /// The number of a word with no bits but these: a flow that was just opened, or a slot that no flow has.
 pub(crate) fn write_word(generation: u32, pins: u16, live: bool) -> u64
-    ensures { result ≡ code (record { generation = generation; pins = pins; live = live; doomed = Rattle.std.specs.Prelude.false; busy = Rattle.std.specs.Prelude.false }) }
+    ensures { result ≡ code (plain_word generation pins live) }
 {
     let live = if live { LIVE } else { 0 };
     u64::from(generation) * GENERATION + live + u64::from(pins)

@@ -1,13 +1,12 @@
-use Rattle.std.proofs.Common.{◌≡◌, ◌≢◌, ℕ, zero, suc, ◌+◌, ◌<◌, ◌≤◌, Bool, true, false, cond, List, [], ◌∷◌, ◌++◌, map, length, take, get_or, set, ap, sym, ◌∙◌, refl, subst, arith, get_or-set_other, append-nil}
+use Rattle.std.proofs.Common.{◌≡◌, ◌≢◌, ℕ, zero, suc, ◌+◌, ◌<◌, Bool, false, cond, List, [], ◌∷◌, ◌++◌, map, length, take, get_or, set, ap, sym, ◌∙◌, refl, subst, arith, get_or-set_other, append-nil}
 use Rattle.std.proofs.lemmas.List.{map-append}
-use Rattle.std.specs.Prelude.{Option, Some, None, All, vec_len, vec_capacity, slice_index_or}
+use Rattle.std.specs.Prelude.{Option, All, vec_len, vec_capacity, slice_index_or}
 use mathlib.Core.Option as O
 use mathlib.Core.Logic.{dite}
 use native.Mathlib.Decide.{ℕ_discrete}
 use lib.ListN.{get_elem?}
-use Rattle.std.specs.Mem.Slots.{slots_items, slots_filled, slots_len}
+use Rattle.std.specs.Mem.Slots.{slots_items, slots_filled}
 use Rattle.atomic_table.specs.Seated.{TableId}
-use Rattle.tas_model.specs.declared.entry.FlowId.{FlowId}
 use Rattle.flow_lock.specs.Histories.{history_of}
 use Rattle.flow_lock.specs.Claims.{flow_at}
 use Rattle.flow_lock.specs.Last.{IsLast, flows_from}

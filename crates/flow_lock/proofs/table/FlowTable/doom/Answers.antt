@@ -1,4 +1,4 @@
-use Rattle.std.proofs.Common.{◌≡◌, ℕ, ◌<◌, length, ap, sym, ◌∙◌, subst, arith}
+use Rattle.std.proofs.Common.{ap, ◌∙◌, arith}
 use Rattle.tas_model.specs.declared.entry.FlowId.{FlowId}
 use Rattle.atomic_table.specs.Seated.{TableId}
 use Rattle.flow_lock.specs.Passes.{Seen}

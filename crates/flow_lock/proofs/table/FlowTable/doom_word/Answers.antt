@@ -1,4 +1,4 @@
-use Rattle.std.proofs.Common.{◌≡◌, ◌<◌, [], ap, sym, ◌∙◌, subst, refl, true, arith}
+use Rattle.std.proofs.Common.{◌≡◌, ◌<◌, [], ap, sym, ◌∙◌, subst, refl, arith}
 use Rattle.std.specs.Prelude.{Option}
 use Rattle.atomic_table.specs.Table.{Me}
 use Rattle.tas_model.specs.declared.entry.FlowId.{FlowId}

@@ -1,11 +1,11 @@
-use Rattle.std.proofs.Common.{◌≡◌, ℕ, ◌<◌, ◌≤◌, true, false, length, set, length-set, refl, ap, sym, ◌∙◌, subst, arith}
+use Rattle.std.proofs.Common.{◌≡◌, ◌≤◌, true, false, length, set, length-set, ap, sym, ◌∙◌, subst, arith}
 use Rattle.tas_model.specs.declared.entry.FlowId.{FlowId}
 use Rattle.atomic_table.specs.Seated.{TableId}
 use Rattle.std.specs.Prelude.{All}
 use Rattle.std.proofs.lemmas.List.Elements.{All-set, All-get_or}
 use mathlib.Core.Option as O
 use lib.ListN.{get_elem?}
-use Rattle.flow_lock.specs.Steps.{mark, freed, restored}
+use Rattle.flow_lock.specs.Steps.{mark}
 use Rattle.flow_lock.specs.Passes.{Seen}
 use Rattle.flow_lock.specs.declared.view.View.{View}
 use Rattle.flow_lock.specs.declared.view.Mark.{Mark}

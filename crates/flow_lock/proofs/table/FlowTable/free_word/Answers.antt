@@ -1,4 +1,4 @@
-use Rattle.std.proofs.Common.{◌≡◌, ◌≢◌, ℕ, [], ◌∷◌, ◌++◌, map, set, ◌<◌, ap, sym, ◌∙◌, subst, refl, true, false, inl, inr, arith}
+use Rattle.std.proofs.Common.{◌≡◌, ◌∷◌, set, ◌<◌, ap, sym, ◌∙◌, subst, refl, true, false, arith}
 use Rattle.std.specs.Prelude.{Option, Some, None}
 use Rattle.atomic_table.specs.Table.{Me, rest}
 use Rattle.atomic_table.proofs.Lists.{set_here}
@@ -12,9 +12,8 @@ use Rattle.flow_lock.specs.Claims.{HasPin, holds_on}
 use Rattle.flow_lock.specs.Steps.{MayAct, IsAlone, mark, freed, restored, counted}
 use Rattle.flow_lock.specs.Plays.{Left}
 use Rattle.atomic_table.specs.Seated.{TableId}
-use Rattle.flow_lock.specs.Passes.{Seen, Carries}
+use Rattle.flow_lock.specs.Passes.{Seen}
 use Rattle.flow_lock.specs.declared.view.View.{View}
-use Rattle.flow_lock.specs.declared.view.Held.{Held}
 use Rattle.flow_lock.specs.declared.word.Word.{Word}
 use Rattle.flow_lock.proofs.Sums.{at_below}
 use Rattle.flow_lock.proofs.Words.{reads_back}

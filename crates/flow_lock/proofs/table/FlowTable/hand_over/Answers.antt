@@ -1,9 +1,8 @@
-use Rattle.std.proofs.Common.{◌≡◌, [], ◌∷◌, ◌<◌, ap, sym, ◌∙◌, subst, refl, true, arith}
+use Rattle.std.proofs.Common.{ap, sym, ◌∙◌, arith}
 use Rattle.std.specs.Prelude.{Option}
 use Rattle.atomic_table.specs.Table.{Me}
-use Rattle.flow_lock.specs.Steps.{HasAll}
 use Rattle.atomic_table.specs.Seated.{TableId}
-use Rattle.flow_lock.specs.Passes.{Seen, new_turn, lender, lent, peel, baton_of}
+use Rattle.flow_lock.specs.Passes.{Seen}
 use Rattle.flow_lock.specs.declared.view.View.{View}
 use Rattle.flow_lock.proofs.Moving.{yields, accepts}
 use Rattle.flow_lock.proofs.table.FlowTable.hand_over.Goals as goal

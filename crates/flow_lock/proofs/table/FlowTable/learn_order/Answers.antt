@@ -1,9 +1,7 @@
-use Rattle.std.proofs.Common.{◌≡◌, [], ◌∷◌, ◌<◌, ap, sym, ◌∙◌, subst, refl, true, arith}
-use Rattle.std.specs.Prelude.{Option}
-use Rattle.atomic_table.specs.Table.{Me}
+use Rattle.std.proofs.Common.{ap, sym, ◌∙◌, subst, arith}
 use Rattle.flow_lock.specs.Steps.{HasAll}
 use Rattle.atomic_table.specs.Seated.{TableId}
-use Rattle.flow_lock.specs.Passes.{Seen, new_turn, lender, lent, peel, baton_of}
+use Rattle.flow_lock.specs.Passes.{Seen}
 use Rattle.flow_lock.specs.declared.view.View.{View}
 use Rattle.flow_lock.proofs.Moving.{learns_it}
 use Rattle.flow_lock.proofs.table.FlowTable.learn_order.Goals as goal

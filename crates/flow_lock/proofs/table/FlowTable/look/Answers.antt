@@ -1,6 +1,4 @@
-use Rattle.std.proofs.Common.{◌<◌, ap, sym, ◌∙◌, subst, arith}
-use Rattle.flow_lock.specs.Steps.{IsAlone}
-use Rattle.flow_lock.specs.Words.{word_at}
+use Rattle.std.proofs.Common.{◌<◌, ap, sym, ◌∙◌, arith}
 use Rattle.atomic_table.specs.Seated.{TableId}
 use Rattle.flow_lock.specs.Passes.{Seen}
 use Rattle.flow_lock.proofs.Pinning.{looks_at}

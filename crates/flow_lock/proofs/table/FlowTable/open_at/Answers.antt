@@ -1,14 +1,12 @@
-use Rattle.std.proofs.Common.{◌≡◌, ℕ, ◌+◌, ◌∷◌, ◌<◌, ap, sym, ◌∙◌, subst, false, true, arith}
+use Rattle.std.proofs.Common.{◌≡◌, ◌∷◌, ◌<◌, ap, sym, ◌∙◌, subst, arith}
 use Rattle.std.specs.Prelude.{Option, Some}
 use Rattle.atomic_table.specs.Table.{Me, rest}
 use lib.ListN.{get_elem?}
-use Rattle.flow_lock.specs.Words.{code, live_word}
 use Rattle.flow_lock.specs.Histories.{history_of}
-use Rattle.flow_lock.specs.Steps.{MayAct, mark, emptied}
+use Rattle.flow_lock.specs.Steps.{MayAct, emptied}
 use Rattle.atomic_table.specs.Seated.{TableId}
 use Rattle.flow_lock.specs.Passes.{Seen}
 use Rattle.flow_lock.specs.declared.view.View.{View}
-use Rattle.flow_lock.proofs.Words.{writes}
 use Rattle.flow_lock.proofs.Opening.{clears_it, opens_it}
 use Rattle.flow_lock.proofs.table.FlowTable.open_at.Goals as goal
 

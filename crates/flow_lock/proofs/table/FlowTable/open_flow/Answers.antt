@@ -1,10 +1,9 @@
-use Rattle.std.proofs.Common.{◌≡◌, ◌<◌, false, length, get_or, ap, sym, ◌∙◌, refl}
+use Rattle.std.proofs.Common.{ap, sym, ◌∙◌, refl}
 use Rattle.std.proofs.lemmas.Bool.{not-true}
 use Rattle.std.proofs.lemmas.List.Quantifiers.{position-Some}
 use mathlib.Core.Option as O
 use lib.ListN.{get_elem?}
 use Rattle.flow_lock.specs.Answers.{is_free}
-use Rattle.flow_lock.specs.declared.view.Mark.{Mark}
 use Rattle.flow_lock.proofs.Sums.{at_get}
 use Rattle.flow_lock.proofs.table.FlowTable.open_flow.Goals as goal
 

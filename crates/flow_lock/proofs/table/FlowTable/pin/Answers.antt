@@ -1,4 +1,4 @@
-use Rattle.std.proofs.Common.{◌≡◌, ◌≢◌, ℕ, ◌/◌, ◌<◌, ap, sym, ◌∙◌, subst, refl, true, false, not, inl, inr, arith}
+use Rattle.std.proofs.Common.{◌≡◌, ◌≢◌, ◌/◌, ◌<◌, ap, sym, ◌∙◌, subst, refl, true, inl, inr, arith}
 use Rattle.std.specs.Prelude.{IfOk, IfErr, Option}
 use Rattle.std.proofs.lemmas.Bool.{not-false, not-true}
 use Rattle.atomic_table.specs.Table.{Me}

@@ -1,9 +1,6 @@
-use Rattle.std.proofs.Common.{◌≡◌, [], ◌∷◌, ◌<◌, ap, sym, ◌∙◌, subst, refl, true, arith}
-use Rattle.std.specs.Prelude.{Option}
-use Rattle.atomic_table.specs.Table.{Me}
-use Rattle.flow_lock.specs.Steps.{HasAll}
+use Rattle.std.proofs.Common.{ap, sym, ◌∙◌, arith}
 use Rattle.atomic_table.specs.Seated.{TableId}
-use Rattle.flow_lock.specs.Passes.{Seen, new_turn, lender, lent, peel, baton_of}
+use Rattle.flow_lock.specs.Passes.{Seen}
 use Rattle.flow_lock.specs.declared.view.View.{View}
 use Rattle.flow_lock.proofs.Moving.{splits}
 use Rattle.flow_lock.proofs.table.FlowTable.split_view.Goals as goal

@@ -12,7 +12,6 @@ use Rattle.flow_lock.specs.Steps.{MayAct, IsAlone, counted, taken}
 use Rattle.atomic_table.specs.Seated.{TableId}
 use Rattle.flow_lock.specs.Passes.{Seen, IsOne}
 use Rattle.flow_lock.specs.declared.view.View.{View}
-use Rattle.flow_lock.specs.declared.view.Held.{Held}
 use Rattle.flow_lock.specs.declared.word.Word.{Word}
 use Rattle.flow_lock.proofs.Taking.{takes_it, came_out, carries_none, carries_one}
 use Rattle.flow_lock.proofs.table.FlowTable.take.Goals as goal
