@@ -6,6 +6,7 @@ mod fields;
 mod line;
 mod lists;
 mod options;
+mod printing;
 mod reading;
 mod roles;
 mod scenario;
@@ -16,5 +17,6 @@ mod tests;
 mod words;
 
 pub use lists::{AppList, HostList, KillList, MoveList, StepList};
+pub use printing::print_scenario;
 pub use reading::{ScenarioFault, read_scenario};
 pub use scenario::{AppLine, HostLine, KillLine, MoveLine, Scenario, Step};
