@@ -3,6 +3,7 @@
 
 mod draft;
 mod fields;
+mod hosts;
 mod line;
 mod lists;
 mod options;

@@ -14,7 +14,11 @@ pub fn print_scenario(alloc: Global, s: &Scenario) -> Result<Bytes, AllocError>
 {
     let hosts = s.hosts.as_slice();
     let mut out = Vec::new(alloc);
-    put_line(&mut out, b"limit", &[Buffer::new().format(s.limit).as_bytes()])?;
+    put_line(
+        &mut out,
+        b"limit",
+        &[Buffer::new().format(s.limit).as_bytes()],
+    )?;
     put_hosts(alloc, &mut out, hosts)?;
     put_apps(&mut out, s.apps.as_slice())?;
     put_acts(&mut out, hosts, &s.link)?;
@@ -93,7 +97,11 @@ fn put_drop(out: &mut Vec<u8>, hosts: &[HostLine], line: &DropEach) -> Result<()
     ensures { OnOk result (out.new.items ≡ out.old.items ++ texts.each_text hosts.now line.now) }
 {
     let name = name_at(hosts, line.host);
-    put_line(out, b"dropeach", &[name, Buffer::new().format(line.k).as_bytes()])
+    put_line(
+        out,
+        b"dropeach",
+        &[name, Buffer::new().format(line.k).as_bytes()],
+    )
 }
 
 fn put_moves(out: &mut Vec<u8>, moves: &[MoveLine]) -> Result<(), AllocError>
@@ -146,7 +154,12 @@ fn put_host(alloc: Global, out: &mut Vec<u8>, host: &HostLine) -> Result<(), All
     put_params(out, host.name.as_slice(), &addr, &host.params)
 }
 
-fn put_params(out: &mut Vec<u8>, name: &[u8], addr: &[u8], params: &HostParams) -> Result<(), AllocError>
+fn put_params(
+    out: &mut Vec<u8>,
+    name: &[u8],
+    addr: &[u8],
+    params: &HostParams,
+) -> Result<(), AllocError>
     ensures { OnOk result (out.new.items ≡ out.old.items ++ texts.line_of (codes "host") (name.now ∷ addr.now ∷ texts.params_words params.now)) }
 {
     let mut iss = Buffer::new();
@@ -179,12 +192,36 @@ fn put_step(out: &mut Vec<u8>, step: &Step) -> Result<(), AllocError>
 {
     let mut number = Buffer::new();
     match step {
-        Step::Listen(name, port) => put_line(out, b"listen", &[name.as_slice(), number.format(*port).as_bytes()]),
-        Step::Accept(name, listener) => put_line(out, b"accept", &[name.as_slice(), listener.as_slice()]),
-        Step::Connect(name, host, port) => put_line(out, b"connect", &[name.as_slice(), host.as_slice(), number.format(*port).as_bytes()]),
+        Step::Listen(name, port) => put_line(
+            out,
+            b"listen",
+            &[name.as_slice(), number.format(*port).as_bytes()],
+        ),
+        Step::Accept(name, listener) => put_line(
+            out,
+            b"accept",
+            &[name.as_slice(), listener.as_slice()],
+        ),
+        Step::Connect(name, host, port) => put_line(
+            out,
+            b"connect",
+            &[
+                name.as_slice(),
+                host.as_slice(),
+                number.format(*port).as_bytes(),
+            ],
+        ),
         Step::Send(name, text) => put_line(out, b"send", &[name.as_slice(), text.as_slice()]),
-        Step::Fill(name, count) => put_line(out, b"fill", &[name.as_slice(), number.format(*count).as_bytes()]),
-        Step::Recv(name, count) => put_line(out, b"recv", &[name.as_slice(), number.format(*count).as_bytes()]),
+        Step::Fill(name, count) => put_line(
+            out,
+            b"fill",
+            &[name.as_slice(), number.format(*count).as_bytes()],
+        ),
+        Step::Recv(name, count) => put_line(
+            out,
+            b"recv",
+            &[name.as_slice(), number.format(*count).as_bytes()],
+        ),
         Step::Drain(name) => put_line(out, b"drain", &[name.as_slice()]),
         Step::Shut(name) => put_line(out, b"shut", &[name.as_slice()]),
         Step::Close(name) => put_line(out, b"close", &[name.as_slice()]),
@@ -193,23 +230,48 @@ fn put_step(out: &mut Vec<u8>, step: &Step) -> Result<(), AllocError>
     }
 }
 
-fn put_act(out: &mut Vec<u8>, hosts: &[HostLine], target: &Target, act: LinkAct) -> Result<(), AllocError>
+fn put_act(
+    out: &mut Vec<u8>,
+    hosts: &[HostLine],
+    target: &Target,
+    act: LinkAct,
+) -> Result<(), AllocError>
     ensures { OnOk result (out.new.items ≡ out.old.items ++ texts.act_text hosts.now (target.now, act)) }
 {
     let mut flow = Buffer::new();
     let mut number = Buffer::new();
     let host = name_at(hosts, target.host);
-    put_act_line(out, host, flow.format(target.flow).as_bytes(), number.format(target.number).as_bytes(), act)
+    put_act_line(
+        out,
+        host,
+        flow.format(target.flow).as_bytes(),
+        number.format(target.number).as_bytes(),
+        act,
+    )
 }
 
-fn put_act_line<'x>(out: &mut Vec<u8>, host: &'x [u8], flow: &'x [u8], number: &'x [u8], act: LinkAct) -> Result<(), AllocError>
+fn put_act_line<'x>(
+    out: &mut Vec<u8>,
+    host: &'x [u8],
+    flow: &'x [u8],
+    number: &'x [u8],
+    act: LinkAct,
+) -> Result<(), AllocError>
     ensures { OnOk result (out.new.items ≡ out.old.items ++ texts.act_line host.now flow.now number.now act) }
 {
     match act {
         LinkAct::Drop => put_line(out, b"drop", &[host, flow, number]),
         LinkAct::Dup => put_line(out, b"dup", &[host, flow, number]),
-        LinkAct::Delay(ticks) => put_line(out, b"delay", &[host, flow, number, Buffer::new().format(ticks).as_bytes()]),
-        LinkAct::Corrupt(place) => put_line(out, b"corrupt", &[host, flow, number, Buffer::new().format(place).as_bytes()]),
+        LinkAct::Delay(ticks) => put_line(
+            out,
+            b"delay",
+            &[host, flow, number, Buffer::new().format(ticks).as_bytes()],
+        ),
+        LinkAct::Corrupt(place) => put_line(
+            out,
+            b"corrupt",
+            &[host, flow, number, Buffer::new().format(place).as_bytes()],
+        ),
     }
 }
 
@@ -235,7 +297,26 @@ fn put_kill(out: &mut Vec<u8>, line: &KillLine) -> Result<(), AllocError>
     let mut at = Buffer::new();
     let at = at.format(line.at).as_bytes();
     if line.holding {
-        return put_line(out, b"kill", &[line.host.as_slice(), line.app.as_slice(), b"at".as_slice(), at, b"holding".as_slice()]);
+        return put_line(
+            out,
+            b"kill",
+            &[
+                line.host.as_slice(),
+                line.app.as_slice(),
+                b"at".as_slice(),
+                at,
+                b"holding".as_slice(),
+            ],
+        );
     }
-    put_line(out, b"kill", &[line.host.as_slice(), line.app.as_slice(), b"at".as_slice(), at])
+    put_line(
+        out,
+        b"kill",
+        &[
+            line.host.as_slice(),
+            line.app.as_slice(),
+            b"at".as_slice(),
+            at,
+        ],
+    )
 }
