@@ -3,9 +3,11 @@
 
 mod draft;
 mod fields;
+mod hosts;
 mod line;
 mod lists;
 mod options;
+mod printing;
 mod reading;
 mod roles;
 mod scenario;
@@ -16,5 +18,6 @@ mod tests;
 mod words;
 
 pub use lists::{AppList, HostList, KillList, MoveList, StepList};
+pub use printing::print_scenario;
 pub use reading::{ScenarioFault, read_scenario};
 pub use scenario::{AppLine, HostLine, KillLine, MoveLine, Scenario, Step};

@@ -1,6 +1,3 @@
-ghost use Rattle.std.specs.Prelude.{◌≡◌, position, bytes_eq};
-ghost use Rattle.scenario_text.specs.declared.scenario.HostLine.{HostLine};
-
 use crate::lists::{AppList, HostList, KillList, MoveList, StepList};
 use link_script::LinkScript;
 use tas_model::{Bytes, HostParams};

@@ -76,10 +76,10 @@ fn long_lines_are_refused_without_their_ends(rt: HostRuntime) -> Result<(), Fail
 
 #[test]
 fn texts_cut_or_changed_at_each_byte_are_read_or_refused(rt: HostRuntime) -> Result<(), Fail> {
-    let mut scenarios = 0;
+    let mut scenarios = Vec::new(rt.alloc());
     for at in 0..TWO.len() {
         if refused(rt, &TWO[..at])? == (0, 0) {
-            scenarios += 1;
+            scenarios.push(at)?;
         }
         for byte in [b'0', b' ', b'\n', 255] {
             let mut text = Vec::from_slice(rt.alloc(), TWO)?;
@@ -89,6 +89,32 @@ fn texts_cut_or_changed_at_each_byte_are_read_or_refused(rt: HostRuntime) -> Res
         }
     }
     // The first line is whole from its address on, and most cuts behind it end in no line.
-    assert!(rt; scenarios > 13 && scenarios < TWO.len());
+    assert!(rt; scenarios.len() > 13 && scenarios.len() < TWO.len());
+    Ok(())
+}
+
+#[test]
+fn a_scenario_is_printed_with_all_its_options(rt: HostRuntime) -> Result<(), Fail> {
+    let texts: [(&[u8], &[u8]); 2] = [
+        (
+            b"host a 10.0.0.1",
+            b"limit 1000\nhost a 10.0.0.1 iss 0 ring 16384 mss 1460 rto 20 slots 1024 backlog 16\n",
+        ),
+        (
+            b"host a 1.2.3.4 rto 3\ndropeach a 7\ncorrupt a 1 0 2\napp a x\nwait 3\nmove a 1 2 at 3\nkill a x at 7 holding\n",
+            b"limit 1000\nhost a 1.2.3.4 iss 0 ring 16384 mss 1460 rto 3 slots 1024 backlog 16\napp a x\nwait 3\ncorrupt a 1 0 2\ndropeach a 7\nmove a 1 2 at 3\nkill a x at 7 holding\n",
+        ),
+    ];
+    for (text, printed) in texts {
+        match read_scenario(rt.alloc(), text) {
+            Ok(scenario) => {
+                assert_eq!(rt; scenario.host(b"a"), Some(0));
+                assert_eq!(rt; scenario.host(b"b"), None);
+                let text = print_scenario(rt.alloc(), &scenario)?;
+                assert!(rt; text.as_slice() == printed);
+            }
+            Err(_) => assert!(rt; false),
+        }
+    }
     Ok(())
 }
