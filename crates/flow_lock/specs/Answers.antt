@@ -1,5 +1,6 @@
 -- What the answers of the calls say.
-use Rattle.std.specs.Prelude.{◌≡◌, ◌≢◌, ℕ, ◌+◌, min, Bool, true, false, not, ◌==◌, ◌&&◌, ◌⊎◌, List, [], ◌∷◌, Option, Some, None, position}
+use Rattle.std.specs.Prelude.{◌≡◌, ◌≢◌, ℕ, ◌+◌, min, Bool, true, false, not, ◌==◌, ◌&&◌, ◌⊎◌, List, [], ◌∷◌, Option}
+use Rattle.std.specs.Prelude.{Some, None, position}
 use mathlib.Core.Option as O
 use lib.ListN.{get_elem?}
 use Rattle.tas_model.specs.declared.entry.FlowId.{FlowId}

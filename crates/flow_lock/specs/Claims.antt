@@ -1,5 +1,6 @@
 -- What holds of the table between any two steps.
-use Rattle.std.specs.Prelude.{◌≡◌, ℕ, ◌<◌, ◌≤◌, nat_lt, true, false, ◌==◌, cond, List, [], map, length, Option, Some, None}
+use Rattle.std.specs.Prelude.{◌≡◌, ℕ, ◌<◌, ◌≤◌, nat_lt, true, false, ◌==◌, cond, List, [], map, length, Option, Some}
+use Rattle.std.specs.Prelude.{None}
 use mathlib.Core.Option as O
 use lib.ListN.{get_elem?}
 use Rattle.atomic_table.specs.Table.{State}

@@ -8,7 +8,8 @@ use Rattle.flow_lock.specs.Words.{flag, code, word_of, word_at, sole_word, mark_
 use Rattle.flow_lock.specs.Histories.{Begins}
 use Rattle.flow_lock.specs.Orders.{Order, of, IsRun, played, known_of, pins_at, won_on, lost_on}
 use Rattle.flow_lock.specs.Claims.{flow_at, HasPin, holds_on}
-use Rattle.flow_lock.specs.Steps.{IsAlone, mark, looked, counted, pinned, unpinned, taken, gave, condemned, emptied, opened, freed, restored}
+use Rattle.flow_lock.specs.Steps.{IsAlone, mark, looked, counted, pinned, unpinned, taken, gave, condemned, emptied}
+use Rattle.flow_lock.specs.Steps.{opened, freed, restored}
 use Rattle.flow_lock.specs.declared.word.Word.{Word}
 use Rattle.flow_lock.specs.declared.view.View.{View}
 use Rattle.flow_lock.specs.declared.view.Held.{Held}

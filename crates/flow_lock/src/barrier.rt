@@ -2,7 +2,8 @@
 ghost use Rattle.std.specs.Prelude.{◌≡◌, ℕ, ◌<◌, ◌≤◌, [], true, false};
 ghost use Rattle.flow_lock.specs.Orders.{Order};
 ghost use Rattle.flow_lock.specs.Steps.{HasAll};
-ghost use Rattle.flow_lock.specs.Passes.{Seen, left, right, both, lender, lent, peeled, with_turns, without_baton, with_baton};
+ghost use Rattle.flow_lock.specs.Passes.{Seen, left, right, both, lender, lent, peeled, with_turns, without_baton};
+ghost use Rattle.flow_lock.specs.Passes.{with_baton};
 ghost use Rattle.flow_lock.specs.Plays.{IsOrdered, IsCounted};
 
 use crate::pass::{Pass, SlowPass};

@@ -1,5 +1,6 @@
 //! The table is closed, and its records come out.
-ghost use Rattle.std.specs.Prelude.{◌≡◌, ◌≢◌, ℕ, ◌+◌, ◌<◌, ◌≤◌, ◌∷◌, [], List, true, MatchOption, map, length, All, IfOk, IfErr, vec_capacity};
+ghost use Rattle.std.specs.Prelude.{◌≡◌, ◌≢◌, ℕ, ◌+◌, ◌<◌, ◌≤◌, ◌∷◌, [], List, true, MatchOption, map, length, All};
+ghost use Rattle.std.specs.Prelude.{IfOk, IfErr, vec_capacity};
 ghost use Rattle.std.specs.Vec.Iter.{into_iter_items};
 ghost use Rattle.flow_lock.specs.Histories.{history_of};
 ghost use Rattle.flow_lock.specs.Passes.{Seen};
