@@ -4,3 +4,4 @@ pub mod WorkedTalks
 pub mod WorkedEnds
 pub mod WorkedLinks
 pub mod WorkedHoles
+pub mod WorkedForms

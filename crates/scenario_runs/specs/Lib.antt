@@ -7,3 +7,4 @@ pub mod WorkedTalks
 pub mod WorkedEnds
 pub mod WorkedLinks
 pub mod WorkedHoles
+pub mod WorkedForms

@@ -1,4 +1,4 @@
-ghost use Rattle.std.specs.Prelude.{◌≡◌};
+ghost use Rattle.std.specs.Prelude.{◌≡◌, Err};
 ghost use Rattle.scenario_runs.specs.WorkedParts.{reported};
 ghost use Rattle.scenario_runs.specs.WorkedTalks.{hello, hello_report, lost, lost_report, doubled, doubled_report};
 ghost use Rattle.scenario_runs.specs.WorkedTalks.{damaged, damaged_report, wrapped, wrapped_report, nobody};
@@ -12,6 +12,13 @@ ghost use Rattle.scenario_runs.specs.WorkedEnds.{no_such_byte_report, all_steps,
 ghost use Rattle.scenario_runs.specs.WorkedLinks.{own_host, own_host_report, silent, silent_report, one_waits};
 ghost use Rattle.scenario_runs.specs.WorkedLinks.{one_waits_report};
 ghost use Rattle.scenario_runs.specs.WorkedHoles.{late_middle, late_middle_report, two_holes, two_holes_report};
+ghost use Rattle.scenario_text.specs.declared.reading.ScenarioFault.TheVariants.{Refused};
+ghost use Rattle.scenario_text.specs.Reads.{reads};
+ghost use Rattle.scenario_runs.specs.WorkedForms.{spaced_text, spaced_text_report, spaced_lines, spaced_lines_report};
+ghost use Rattle.scenario_runs.specs.WorkedForms.{between_steps, between_steps_report, blank_text, blank_text_report};
+ghost use Rattle.scenario_runs.specs.WorkedForms.{killed_at_once, killed_at_once_report};
+ghost use Rattle.scenario_runs.specs.WorkedForms.{strange_byte, bare_return, wrong_name, unknown_name, many_options};
+ghost use Rattle.scenario_runs.specs.WorkedForms.{unknown_option, half_option};
 
 /// Reports that another program wrote for scenarios whose frames are lost, doubled and damaged are those of the run
 /// in serial order.
@@ -47,4 +54,20 @@ pub fn worked_links()
     ensures two_holes { reported two_holes ≡ two_holes_report }
     ensures silent { reported silent ≡ silent_report }
     ensures one_waits { reported one_waits ≡ one_waits_report }
+{}
+
+/// The same of texts that try the forms of lines, and the first refused line of texts that are no scenarios, with its kind.
+pub fn worked_forms()
+    ensures spaced_text { reported spaced_text ≡ spaced_text_report }
+    ensures spaced_lines { reported spaced_lines ≡ spaced_lines_report }
+    ensures between_steps { reported between_steps ≡ between_steps_report }
+    ensures blank_text { reported blank_text ≡ blank_text_report }
+    ensures killed_at_once { reported killed_at_once ≡ killed_at_once_report }
+    ensures strange_byte { reads strange_byte ≡ Err (Refused 2 2) }
+    ensures bare_return { reads bare_return ≡ Err (Refused 1 2) }
+    ensures wrong_name { reads wrong_name ≡ Err (Refused 4 6) }
+    ensures unknown_name { reads unknown_name ≡ Err (Refused 3 6) }
+    ensures many_options { reads many_options ≡ Err (Refused 1 4) }
+    ensures unknown_option { reads unknown_option ≡ Err (Refused 2 6) }
+    ensures half_option { reads half_option ≡ Err (Refused 2 4) }
 {}
