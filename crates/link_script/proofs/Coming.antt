@@ -13,11 +13,11 @@ use Rattle.std.proofs.lemmas.List.Elements.{filter-append}
 use Rattle.std.proofs.lemmas.Map.Keys.{sorted_head, sorted_tail}
 use Rattle.tas_model.specs.declared.entry.FrameId.{FrameId}
 use Rattle.link_script.specs.LinkLines.{LinkLines, AreDelays, line_on}
-use Rattle.link_script.specs.DueFrames.{act_on, is_lost, is_due, delay_by, copies_under, inverted, coming_of, coming_after, due_cmp}
+use Rattle.link_script.specs.DueFrames.{act_on, is_lost, is_due, delay_by, copies_under, inverted, coming_of, coming_after, due_cmp, due}
 use Rattle.link_script.specs.declared.script.LinkAct.{LinkAct}
 use Rattle.link_script.specs.declared.script.LinkAct.TheVariants as acts
 use Rattle.link_script.specs.declared.frames.Sent.{Sent}
-use Rattle.link_script.proofs.DueOrder.{tied}
+use Rattle.link_script.proofs.DueOrder.{tied, same_order}
 
 -- ----- lists
 filter-flat_map : (p : Sent → Bool) (f : Sent → List Sent) (xs : List Sent) → filter p (flat_map f xs) ≡ flat_map (λ x. filter p (f x)) xs
@@ -179,3 +179,32 @@ module _ (lines : LinkLines) (sent : List Sent) (tick : ℕ) (x : Sent) where
       by_any : (b : Bool) → list_any (λ (d : ℕ). eqb (x.tick + 1 + d) tick) delays.keys ≡ b → cond b all_tied [] ≡ all_tied
       by_any true e = refl
       by_any false e = sym (none_comes delays h e)
+
+-- ----- two lists
+-- what ties with x of what comes, from the frames of its tick alone
+from_tick : (lines : LinkLines) (sent : List Sent) (t : ℕ) (x : Sent)
+    → filter (tied x) (flat_map (coming_of lines t) sent) ≡ all_tied lines sent t x
+from_tick lines sent t x =
+    filter-flat_map (tied x) (coming_of lines t) sent
+    ∙ only_tick x.tick (tied_of lines sent t x) sent (λ f e. coming_apart lines t x f e)
+
+-- What is due goes by the frames of each tick, but for ticks of which nothing comes.
+pub due_by_ticks : (lines : LinkLines) (xs ys : List Sent) (t low : ℕ)
+    → ((f : Sent) → f.tick < low → is_due lines t f ≡ false)
+    → ((k : ℕ) → low ≤ k → filter (λ (f : Sent). eqb f.tick k) xs ≡ filter (λ (f : Sent). eqb f.tick k) ys)
+    → due lines xs t ≡ due lines ys t
+due_by_ticks lines xs ys t low over same =
+    same_order (flat_map (coming_of lines t) xs) (flat_map (coming_of lines t) ys)
+    (λ z. from_tick lines xs t z ∙ (by_low z (ltb z.tick low) refl ∙ sym (from_tick lines ys t z)))
+  where
+    none : (z : Sent) (sent : List Sent) → z.tick < low → all_tied lines sent t z ≡ []
+    none z sent l =
+        none_of_tick z.tick (tied_of lines sent t z) sent (λ f e.
+        (let n : is_due lines t f ≡ false = over f (grind (arith, nat_tests, e, l)) in rw n refl))
+
+    by_low : (z : Sent) (b : Bool) → ltb z.tick low ≡ b → all_tied lines xs t z ≡ all_tied lines ys t z
+    by_low z true e =
+        let l : z.tick < low = grind (arith, nat_tests, e) in none z xs l ∙ sym (none z ys l)
+    by_low z false e =
+        let l : low ≤ z.tick = grind (arith, nat_tests, e) in
+        ap (flat_map (λ f. filter (tied z) (coming_of lines t f))) (same z.tick l)

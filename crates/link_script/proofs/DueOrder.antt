@@ -199,3 +199,9 @@ pub sorted_by_turn : {F : Type 0} {g : Mut F (Bor Sent × Unit {0}) Turn} {f : F
 sorted_by_turn {g = g} {f = f} fs gs after up stable h alike =
     let computes : ComputesKey g turn_in f = always_returns_same g (λ a r. r ≡ turn_in a.0.now) f h in
     due_order_is due_order fs gs after (up turn_in computes) (stable turn_in computes) alike
+
+-- The due order of two lists is one where the same frames tie in them with each frame.
+pub same_order : (fs gs : List Sent) → ((z : Sent) → filter (tied z) fs ≡ filter (tied z) gs) → in_due_order fs ≡ in_due_order gs
+same_order fs gs alike =
+    one_order due_order (in_due_order fs) (in_due_order gs) (ordered_due due_order fs) (ordered_due due_order gs)
+    (λ z. tied_due due_order z fs ∙ (alike z ∙ sym (tied_due due_order z gs)))

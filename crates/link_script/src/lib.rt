@@ -3,10 +3,12 @@
 
 mod due_frames;
 mod frames;
+mod laws;
 mod script;
 #[cfg(test)]
 mod tests;
 
 pub use due_frames::due;
 pub use frames::{DueList, Sent, SentList};
+pub use laws::due_goes_by_ticks;
 pub use script::{DropEach, LinkAct, LinkScript, Target};

@@ -1,0 +1,5 @@
+pub mod Numbered
+pub mod Ticks
+pub mod Starting
+pub mod Addresses
+pub mod Answering

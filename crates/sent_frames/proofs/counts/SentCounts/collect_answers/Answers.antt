@@ -1,0 +1,42 @@
+use Rattle.std.proofs.Common.{◌+◌, ◌++◌, length, take, drop, ap, ◌∙◌, arith, length-take, length-drop}
+use Rattle.std.proofs.lemmas.List.{take_rest}
+use Rattle.scenario_runs.specs.Worlds.{frames_of_log}
+use Rattle.sent_frames.specs.Sending.{of_tick, answers_in}
+use Rattle.sent_frames.proofs.Numbered.{answers_in-le}
+use Rattle.sent_frames.proofs.Answering.{answers_whole, number_whole}
+use Rattle.sent_frames.proofs.counts.SentCounts.collect_answers.Goals as goal
+
+pub collect_lines-requires-clause-few : goal.collect_lines-requires-clause-few
+collect_lines-requires-clause-few c =
+    let n = c.args.self.now.lines in
+    let log = c.args.log.now in
+    let new = take_rest c.lines.result.now n ∙ ap (drop n) c.lines.ensures in
+    omega (
+      arith,
+      ap length new,
+      length-drop n log,
+      c.requires.number,
+      answers_in-le (take n log),
+      length-take n log,
+      c.len-lines.ensures,
+      c.len-lines.type_inv,
+    )
+
+pub returns-clause-frames : goal.returns-clause-frames
+returns-clause-frames c =
+    λ world same.
+    let n = c.args.self.now.lines in
+    let h = c.args.sender.now.host in
+    let t = c.args.tick in
+    let new = take_rest c.lines.result.now n ∙ ap (drop n) c.lines.ensures in
+    c.in_ok-self.ensures.frames world same
+    ∙ (ap (λ ls. c.args.sent.now ++ of_tick t (frames_of_log world h c.args.self.now.answers ls)) new
+    ∙ ap (λ fs. c.args.sent.now ++ fs)
+    (answers_whole world h t n c.args.self.now.answers c.args.log.now c.requires.earlier c.requires.number))
+
+pub returns-clause-answers : goal.returns-clause-answers
+returns-clause-answers c =
+    let n = c.args.self.now.lines in
+    let new = take_rest c.lines.result.now n ∙ ap (drop n) c.lines.ensures in
+    number_whole n c.args.self.now.answers c.in_ok-self.field-0 c.args.log.now c.requires.number
+    (c.in_ok-self.ensures.number ∙ ap (λ ls. c.args.self.now.answers + answers_in ls) new)

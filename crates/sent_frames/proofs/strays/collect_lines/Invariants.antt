@@ -1,0 +1,12 @@
+use Rattle.std.proofs.Common.{◌≡◌, ◌+◌, ◌++◌, take}
+use Rattle.scenario_runs.specs.Worlds.{World, frames_of_log}
+use Rattle.sent_frames.specs.Sending.{addresses_of, of_tick, AreUpTo, answers_in}
+use Rattle.sent_frames.proofs.strays.collect_lines.Given as goal
+
+abbrev pub invariant-loop-line : goal.invariant-loop-line
+invariant-loop-line l = record {
+  number : l.number ≡ l.fn.number + answers_in (take l.line-index l.lines);
+  frames : (world : World) → l.sender.addresses.now ≡ addresses_of world
+      → l.sent ≡ l.fn.sent ++ of_tick l.tick (frames_of_log world l.sender.host l.fn.number (take l.line-index l.lines));
+  last : AreUpTo l.tick l.sent;
+}
