@@ -2,3 +2,8 @@ pub mod Cuts
 pub mod Others
 pub mod RoleMaps
 pub mod Readings
+pub mod WordedLines
+pub mod Decimals
+pub mod Appended
+pub mod MadeApps
+pub mod MadeTexts

@@ -1,6 +1,7 @@
 //! The text of scenarios: which texts are scenarios, the text of a scenario, and made scenarios.
 #![tactic(auto)]
 
+mod bulk;
 mod draft;
 mod fields;
 mod hosts;
@@ -17,6 +18,7 @@ mod taking;
 mod tests;
 mod words;
 
+pub use bulk::bulk_scenario;
 pub use lists::{AppList, HostList, KillList, MoveList, StepList};
 pub use printing::print_scenario;
 pub use reading::{ScenarioFault, read_scenario};

@@ -29,7 +29,7 @@ pub fn print_scenario(alloc: Global, s: &Scenario) -> Result<Bytes, AllocError>
 }
 
 /// Appends a line of words. The error is want of memory.
-fn put_line(out: &mut Vec<u8>, word: &[u8], words: &[&[u8]]) -> Result<(), AllocError>
+pub(crate) fn put_line(out: &mut Vec<u8>, word: &[u8], words: &[&[u8]]) -> Result<(), AllocError>
     ensures { OnOk result (out.new.items ≡ out.old.items ++ texts.line_of word.now (map (λ w. w.now) words.now)) }
 {
     out.extend_from_slice(word)?;

@@ -118,3 +118,31 @@ fn a_scenario_is_printed_with_all_its_options(rt: HostRuntime) -> Result<(), Fai
     }
     Ok(())
 }
+
+/// What `bulk 1` is, with all its options.
+const BULK_ONE: &str = "\
+limit 5000\n\
+host a 10.0.0.1 iss 0 ring 16384 mss 1460 rto 8 slots 1024 backlog 16\n\
+host b 10.0.0.2 iss 0 ring 16384 mss 1460 rto 8 slots 1024 backlog 16\n\
+app b s0\n\
+listen l 1000\n\
+accept s l\n\
+drain s\n\
+close s\n\
+app a c0\n\
+connect s b 1000\n\
+fill s 65536\n\
+close s\n\
+dropeach a 7\n\
+";
+
+#[test]
+fn a_made_scenario_has_a_server_for_each_client(rt: HostRuntime) -> Result<(), Fail> {
+    let one = bulk_scenario(rt.alloc(), 1)?;
+    let text = print_scenario(rt.alloc(), &one)?;
+    assert!(rt; text.as_slice() == BULK_ONE.as_bytes());
+    let three = bulk_scenario(rt.alloc(), 3)?;
+    assert_eq!(rt; three.apps.len(), 6);
+    assert!(rt; three.apps.item(5).name.as_slice() == b"c2".as_slice());
+    Ok(())
+}

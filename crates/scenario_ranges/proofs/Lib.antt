@@ -1,0 +1,5 @@
+pub mod Numbers
+pub mod HostOptions
+pub mod LineForms
+pub mod Readings
+pub mod Drafts
