@@ -1,12 +1,13 @@
 -- A host in the middle of a run, and how one call, one line of the log or one opening changes it.
 use Rattle.std.specs.Prelude.{ℕ, zero, suc, ◌+◌, ◌==◌, ◌&&◌, ◌||◌, not, Bool, true, false, List, [], ◌∷◌, ◌++◌, length}
-use Rattle.std.specs.Prelude.{count_by, nat_lt, Option, Some, None}
+use Rattle.std.specs.Prelude.{count_by, nat_lt, nat_le, slice_get, Option, Some, None}
 use Rattle.std.specs.List.{list_any}
 use Rattle.tas_model.specs.declared.entry.HostParams.{HostParams}
 use Rattle.tas_model.specs.declared.entry.FourTuple.{FourTuple}
 use Rattle.tas_model.specs.declared.entry.Entry.{Entry}
 use Rattle.tas_model.specs.declared.entry.Caller.{Caller}
 use Rattle.tas_model.specs.declared.entry.Call.{Call}
+use Rattle.tas_model.specs.declared.entry.Reply.{Reply}
 use Rattle.tas_model.specs.declared.entry.Reply.TheVariants as replies
 use Rattle.tas_model.specs.Endpoint.{Endpoint, is_closed}
 use Rattle.tas_model.specs.ApplicationCalls.{Opening, Running, column}
@@ -80,6 +81,15 @@ with_call l caller tick call offer =
 abbrev pub logged : Host → (tick : ℕ) → LogEvent → Host
 logged host tick event = record host { log = host.log ++ (record { tick = tick; event = event }) ∷ [] }
 
+abbrev pub last_reply : Reply → List Entry → Reply
+last_reply reply [] = reply
+last_reply reply (x ∷ xs) = last_reply x.reply xs
+
+-- what the last call of a flow was answered
+abbrev pub answer_of : (flow : ℕ) → Host → Reply
+answer_of n host =
+    elim (slice_get host.flows n) [ None ↦ replies.Nothing | Some l ↦ last_reply replies.Nothing l.flow.entries ]
+
 -- ----- the index
 abbrev pub same_tuple : FourTuple → FourTuple → Bool
 same_tuple a b = a.laddr == b.laddr && a.lport == b.lport && a.raddr == b.raddr && a.rport == b.rport
@@ -99,13 +109,21 @@ abbrev pub at_flow : (flow : ℕ) → (Live → Live) → Host → Host
 at_flow n f host = record host { flows = change_at n f host.flows }
 
 -- ----- listeners
+-- an application listens on the port
+abbrev pub is_listened : (port : ℕ) → Host → Bool
+is_listened port host = list_any (λ (l : Listener). l.port == port) host.listeners
+
 -- Every port of a replay's host listens; else an application does.
 abbrev pub is_listening : Host → (port : ℕ) → Bool
-is_listening host port = host.params.fixed || list_any (λ (l : Listener). l.port == port) host.listeners
+is_listening host port = host.params.fixed || is_listened port host
 
 -- The flow waits at this port: it is neither accepted nor closed.
 abbrev pub waits_at : (port : ℕ) → Live → Bool
 waits_at port l = l.flow.tuple.lport == port && is_waiting_by l.holder && not (is_over l)
+
+-- It waits at the port, and is past its opening: it may be accepted.
+abbrev pub is_ready : (port : ℕ) → Live → Bool
+is_ready port l = l.flow.tuple.lport == port && is_waiting_by l.holder && is_running l
 
 -- As many flows wait at the port as its listener takes; a replay's listeners take any number.
 abbrev pub is_full : Host → (port : ℕ) → Bool
@@ -129,6 +147,14 @@ lowest_free host = free_from host.params.slots 0 host.flows
 -- The next generation of a slot: one more than there were flows in it.
 abbrev pub next_generation : (slot : ℕ) → List Live → ℕ
 next_generation slot flows = 1 + count_by (λ (l : Live). l.flow.id.slot == slot) flows
+
+-- ----- ports
+-- Ports from 49,152 on are given to connects, each once; nobody listens there.
+abbrev pub first_port : ℕ
+first_port = 49152
+
+abbrev pub ports_given : Host → ℕ
+ports_given host = count_by (λ (l : Live). nat_le first_port l.flow.tuple.lport) host.flows
 
 -- ----- openings
 -- how many flows of this four-tuple were opened

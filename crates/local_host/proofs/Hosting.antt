@@ -1,6 +1,6 @@
 -- A host whose flow of a four-tuple changes, and one that opens a flow.
-use Rattle.std.proofs.Common.{◌≡◌, ℕ, suc, ◌+◌, ◌<◌, ◌++◌, ◌&&◌, ◌||◌, ◌==◌, not, count_by, Bool, true, false, cond}
-use Rattle.std.proofs.Common.{List, [], ◌∷◌, length, get_or, fold, map, drop, position, Option, Some, None, refl, sym}
+use Rattle.std.proofs.Common.{◌≡◌, ℕ, suc, ◌<◌, ◌++◌, ◌&&◌, not, Bool, true, false, cond}
+use Rattle.std.proofs.Common.{List, [], ◌∷◌, length, get_or, position, Option, Some, None, refl, sym}
 use Rattle.std.proofs.Common.{ap, ◌∙◌, true≢false, arith, tests, nat_lt}
 use Rattle.std.specs.List.{list_any, position_or_len}
 use Rattle.std.proofs.lemmas.List.Sums.{fails_before_first}
@@ -12,15 +12,11 @@ use Rattle.tas_model.specs.declared.entry.Seg.{Seg}
 use Rattle.tas_model.specs.declared.entry.Entry.{Entry}
 use Rattle.tas_model.specs.declared.entry.Call.TheVariants as calls
 use Rattle.tas_model.specs.declared.entry.Caller.TheVariants.{Slow, App}
-use Rattle.tas_model.specs.declared.entry.Reply.{Reply}
-use Rattle.tas_model.specs.declared.entry.Reply.TheVariants as replies
-use Rattle.slow_handshake.specs.Strays.{sent_head, stray_answer as stray_answer_of, listener_reply as listener_reply_of}
-use Rattle.host_rounds.specs.Lists.{change_first, change_at}
-use Rattle.host_rounds.specs.declared.log.LogEvent.TheVariants as events
-use Rattle.host_rounds.specs.Hosts.{Live, Host, Listener, Holder, Waiting, Application, changed, logged, is_known}
-use Rattle.host_rounds.specs.Hosts.{is_listening, is_full, waits_at, is_indexed_as, lowest_free, next_generation}
+use Rattle.host_rounds.specs.Lists.{change_at}
+use Rattle.host_rounds.specs.Hosts.{Live, Host, Holder, Waiting, Application, changed, is_known}
+use Rattle.host_rounds.specs.Hosts.{is_indexed_as, lowest_free, next_generation}
 use Rattle.host_rounds.specs.Hosts.{first_entry, opened_in, Numbers, next_number}
-use Rattle.host_rounds.specs.Deliveries.{answer_in, stray_answer, opens, opened_by_syn, met_no_flow}
+use Rattle.host_rounds.specs.Deliveries.{opened_by_syn}
 use Rattle.host_rounds.proofs.Loops.{none_found, known_found}
 use Rattle.tas_runs.specs.LocalScript.{connects, opened_by_connect, connected_where, connected}
 use Rattle.local_host.specs.Live.{opened_live, connected_by}
@@ -107,46 +103,6 @@ connect_opened host app slot n t tuple iss id flows free is number made =
     ∙ ap (λ (o : Option ℕ). connected_by app o n t host tuple) (sym free)
 
 -- ----- a segment of no flow
--- where every port listens
-always_listening : (host : Host) (port : ℕ) → host.params.fixed ≡ true → is_listening host port ≡ true
-always_listening host port fixed = ap (λ (b : Bool). b || list_any (λ (l : Listener). l.port == port) host.listeners)
-    fixed
-
-never_full : (host : Host) (port : ℕ) → host.params.fixed ≡ true → is_full host port ≡ false
-never_full host port fixed = ap (λ (b : Bool). not b && not
-    (nat_lt (count_by (waits_at port) host.flows) host.params.backlog)) fixed
-
-both_true : (a b : Bool) → a ≡ true → b ≡ true → (a && b) ≡ true
-both_true a b h g = ap (λ (c : Bool). c && b) h ∙ g
-
-pub met_listener : (n t : ℕ) (host : Host) (frame : FrameId) (tuple : FourTuple) (seg : Seg) → host.params.fixed ≡ true
-    → opens seg ≡ true
-    → opened_by_syn false (lowest_free host) n t host frame tuple seg
-    ≡ met_no_flow (is_listening host tuple.lport && opens seg)
-    (is_listening host tuple.lport) n t host frame tuple seg
-met_listener n t host frame tuple seg fixed opening =
-    ap (λ (b : Bool). opened_by_syn b (lowest_free host) n t host frame tuple seg)
-    (sym (never_full host tuple.lport fixed))
-    ∙ ap (λ (b : Bool). met_no_flow b (is_listening host tuple.lport) n t host frame tuple seg)
-    (sym (both_true (is_listening host tuple.lport) (opens seg) (always_listening host tuple.lport fixed) opening))
-
-pub met_stray : (n t : ℕ) (host : Host) (frame : FrameId) (tuple : FourTuple) (seg : Seg) → host.params.fixed ≡ true
-    → opens seg ≡ false
-    → logged host t (events.Stray frame tuple seg (stray_answer true seg))
-    ≡ met_no_flow (is_listening host tuple.lport && opens seg)
-    (is_listening host tuple.lport) n t host frame tuple seg
-met_stray n t host frame tuple seg fixed other =
-    ap (λ (b : Bool). met_no_flow b true n t host frame tuple seg) (sym other)
-    ∙ ap (λ (b : Bool). met_no_flow (b && opens seg) b n t host frame tuple seg)
-    (sym (always_listening host tuple.lport fixed))
-
--- a listener's answer
-pub listener_answers : (seg : Seg) → stray_answer_of seg true ≡ stray_answer true seg
-listener_answers seg = by_reply (listener_reply_of seg) where
-  by_reply : (r : Reply) → sent_head r ≡ answer_in r
-  by_reply (replies.Sent s) = refl
-  by_reply _ = refl
-
 -- ----- a connect
 same_connect : (o : Option ℕ) (n t : ℕ) (host : Host) (tuple : FourTuple)
     → connected_by 0 o n t host tuple ≡ opened_by_connect o n t host tuple

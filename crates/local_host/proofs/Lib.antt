@@ -11,3 +11,7 @@ pub mod Staging
 pub mod Serving
 pub mod Recording
 pub mod Timing
+pub mod Ports
+pub mod Holding
+pub mod Given
+pub mod Searching

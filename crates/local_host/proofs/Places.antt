@@ -1,6 +1,7 @@
 -- A flow at its place among the flows, and the slots that they stand in.
 use Rattle.std.proofs.Common.{◌≡◌, ℕ, zero, suc, ◌+◌, ◌-◌, ◌<◌, ◌≤◌, ◌||◌, take, Bool, true, false, List, [], ◌∷◌}
-use Rattle.std.proofs.Common.{length, set, get_or, slice_get, position, Some, None, Result, Ok, Err, OnOk, refl, sym}
+use Rattle.std.proofs.Common.{length, set, get_or, slice_get, position, Some, None, Result, Ok, Err, OnOk, IfOk}
+use Rattle.std.proofs.Common.{refl, sym}
 use Rattle.std.proofs.Common.{ap, subst, ◌∙◌, arith}
 use Rattle.std.specs.List.{list_any}
 use Rattle.std.proofs.lemmas.List.Quantifiers.{position-Some}
@@ -15,6 +16,10 @@ ok_by (Err e) f p = tt
 pub ok_both : {T E : Type 0} {P Q R : Type 0} (r : Result T E) → (P → Q → R) → OnOk r P → OnOk r Q → OnOk r R
 ok_both (Ok x) f p q = f p q
 ok_both (Err e) f p q = tt
+
+-- the same answer
+pub if_as : {T E : Type 0} (P : T → Type 0) (r s : Result T E) → s ≡ r → IfOk r P → IfOk s P
+if_as {T} {E} P r s is kept = subst (λ (q : Result T E). IfOk q P) (sym is) kept
 
 -- a write of what the element there becomes
 pub set_change : {X : Type 0} (f : X → X) (xs : List X) (i : ℕ) (d : X) → i < length xs

@@ -1,12 +1,12 @@
 -- The records of a batch: the frames that come of them, and what the script does for each.
-use Rattle.std.proofs.Common.{◌≡◌, ℕ, zero, suc, ◌+◌, ◌<◌, List, [], ◌∷◌, length, get_or, fold, map, drop, filter_map}
+use Rattle.std.proofs.Common.{◌≡◌, ℕ, ◌+◌, ◌<◌, List, ◌∷◌, length, get_or, fold, map, drop}
 use Rattle.std.proofs.Common.{Option, Some, None, refl, sym, ap, ◌∙◌}
 use Rattle.std.specs.List.{cons_option}
 use Rattle.std.proofs.lemmas.List.{drop_more}
 use Rattle.tas_model.specs.declared.entry.FrameId.{FrameId}
 use Rattle.tas_model.specs.declared.entry.FourTuple.{FourTuple}
 use Rattle.tas_model.specs.declared.entry.Seg.{Seg}
-use Rattle.host_rounds.specs.Hosts.{Host, Numbers, next_number, is_known}
+use Rattle.host_rounds.specs.Hosts.{Host, Numbers, is_known}
 use Rattle.host_rounds.specs.Scripts.{Site}
 use Rattle.host_rounds.specs.Rounds.{on_host}
 use Rattle.host_rounds.specs.Deliveries.{Packet, Damaged, Segment, Arrival, received_serially, arrived, delivered}

@@ -1,12 +1,12 @@
 -- A capture's script, stage by stage, of a flow among the flows of its host.
-use Rattle.std.proofs.Common.{◌≡◌, ℕ, zero, suc, ◌+◌, ◌<◌, ◌≤◌, ◌++◌, not, Bool, true, false, cond, List, [], ◌∷◌}
+use Rattle.std.proofs.Common.{◌≡◌, ℕ, zero, suc, ◌+◌, ◌<◌, ◌≤◌, ◌++◌, not, Bool, cond, List, [], ◌∷◌}
 use Rattle.std.proofs.Common.{length, get_or, set, slice_get, fold, position, nat_lt, Option, Some, None, refl, sym, ap}
-use Rattle.std.proofs.Common.{subst, ◌∙◌, arith}
+use Rattle.std.proofs.Common.{◌∙◌, arith}
 use Rattle.std.specs.List.{position_or_len}
 use Rattle.tas_model.specs.declared.entry.FourTuple.{FourTuple}
 use Rattle.tas_model.specs.declared.entry.Seg.{Seg}
 use Rattle.host_rounds.specs.Lists.{change_at}
-use Rattle.host_rounds.specs.Hosts.{Live, Host, same_tuple, is_indexed_as, at_flow}
+use Rattle.host_rounds.specs.Hosts.{Live, Host, is_indexed_as, at_flow}
 use Rattle.host_rounds.specs.Scripts.{Site}
 use Rattle.tas_runs.specs.Records.{Content, Local}
 use Rattle.tas_runs.specs.LocalScript.{Stage, Beginning, Accepting, Sending, Shutting, Aborting, Receiving, Leaving}
@@ -16,7 +16,7 @@ use Rattle.local_host.specs.Script.{Served, staged, later_stages, asked_all, ask
 use Rattle.local_host.specs.Script.{served_later}
 use Rattle.std.proofs.lemmas.List.Quantifiers.{position-Some}
 use Rattle.local_host.proofs.Places.{wrote_change}
-use Rattle.local_host.proofs.Indexing.{length_change, Kept, stage_kept}
+use Rattle.local_host.proofs.Indexing.{Kept, stage_kept}
 
 -- ----- one place of a list
 same_some : {X : Type 0} (x y : X) → Some x ≡ Some y → x ≡ y

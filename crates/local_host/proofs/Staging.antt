@@ -1,9 +1,9 @@
 -- The stages of a script, one after the other, of one flow; and what a Send took.
-use Rattle.std.proofs.Common.{◌≡◌, ℕ, ◌+◌, ◌-◌, ◌<◌, ◌≤◌, ◌++◌, ◌&&◌, not, Bool, true, false, List, [], ◌∷◌, length}
-use Rattle.std.proofs.Common.{take, drop, min, refl, sym, ap, ◌∙◌, arith, length-append, length-take}
-use Rattle.host_rounds.specs.Hosts.{Live, endpoint}
+use Rattle.std.proofs.Common.{◌≡◌, ℕ, ◌+◌, ◌-◌, ◌≤◌, ◌++◌, List, length}
+use Rattle.std.proofs.Common.{take, min, refl, ap, ◌∙◌, arith, length-append, length-take}
+use Rattle.host_rounds.specs.Hosts.{Live}
 use Rattle.tas_runs.specs.Records.{Content}
-use Rattle.tas_runs.specs.LocalScript.{Stage, Accepting, Sending, Shutting, Aborting, Receiving, Leaving, Shown}
+use Rattle.tas_runs.specs.LocalScript.{Accepting, Sending, Shutting, Aborting, Receiving, Leaving, Shown}
 use Rattle.tas_runs.specs.LocalScript.{at_stage, shown_after}
 use Rattle.local_host.specs.Script.{Served, staged, asked_all}
 

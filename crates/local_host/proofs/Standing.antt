@@ -31,6 +31,7 @@ use Rattle.local_host.specs.Index.{flows_in, IsKnown}
 use Rattle.local_host.specs.Script.{asked_live}
 use Rattle.local_host.proofs.Emitting.{all_is_sent}
 use Rattle.local_host.proofs.Places.{ok_by, wrote_change}
+use Rattle.local_host.proofs.Given.{one_given, given_push, given_map, given_change}
 use Rattle.local_host.proofs.Indexing.{length_change, all_kept, Keeps, swept_keeps, map_index, change_index}
 use Rattle.local_host.proofs.Indexing.{pushed_index}
 
@@ -122,6 +123,16 @@ rest_change f stays [] i stands at = tt
 rest_change f stays (l ∷ ls) zero stands at = (λ h. absurd (filed_apart l stands (sym (stays l) ∙ h)), at.1)
 rest_change f stays (l ∷ ls) (suc i) stands at = (at.0, rest_change f stays ls i stands at.1)
 
+-- the same of any flow, by what leaves those at rest so
+abbrev pub Calms : (Live → Live) → Type 0
+Calms f = (l : Live) → IsAtRest l → IsAtRest (f l)
+
+pub rest_calm : (f : Live → Live) → Calms f → Stays f → (ls : List Live) (i : ℕ) → AreAtRest ls
+    → AreAtRest (change_at i f ls)
+rest_calm f calms stays [] i at = tt
+rest_calm f calms stays (l ∷ ls) zero at = (λ h. calms l (at.0 (sym (stays l) ∙ h)), at.1)
+rest_calm f calms stays (l ∷ ls) (suc i) at = (at.0, rest_calm f calms stays ls i at.1)
+
 pub rest_push : (ls : List Live) (l : Live) → l.filed ≡ false → AreAtRest ls → AreAtRest (ls ++ l ∷ [])
 rest_push [] l fresh at = (λ h. absurd (true≢false (sym h ∙ fresh)), tt)
 rest_push (m ∷ ls) l fresh at = (at.0, rest_push ls l fresh at.1)
@@ -208,7 +219,7 @@ pub changed_more : (f : Live → Live) (places : List ℕ) (k d : ℕ) (ls : Lis
 changed_more f places k d ls low = ap (λ (ps : List ℕ). changed_all f ps ls) (drop_more places k d low)
 
 -- ----- those that were filed are left out
-filter_next : (test : ℕ → Bool) (ps : List ℕ) → filter test (map (λ (place : ℕ). suc place) ps)
+pub filter_next : (test : ℕ → Bool) (ps : List ℕ) → filter test (map (λ (place : ℕ). suc place) ps)
     ≡ map (λ (place : ℕ). suc place) (filter (λ (p : ℕ). test (suc p)) ps)
 filter_next test [] = refl
 filter_next test (p ∷ ps) = by_test (test (suc p)) refl (filter_next test ps) where
@@ -258,7 +269,8 @@ any_standing test never (l ∷ ls) = by_filed l.filed refl
     (any_next (passes_at test (l ∷ ls)) (standing_places ls) ∙ any_standing test never ls) where
       by_filed : (b : Bool) → l.filed ≡ b → list_any (passes_at test (l ∷ ls))
           (map (λ (place : ℕ). suc place) (standing_places ls)) ≡ list_any test ls
-          → list_any (passes_at test (l ∷ ls)) (with_first (not b) (map (λ (place : ℕ). suc place) (standing_places ls)))
+          → list_any (passes_at test (l ∷ ls))
+          (with_first (not b) (map (λ (place : ℕ). suc place) (standing_places ls)))
           ≡ (test l || list_any test ls)
       by_filed true is rest = rest ∙ ap (λ (b : Bool). b || list_any test ls) (sym (never l is))
       by_filed false is rest = ap (λ (b : Bool). test l || b) rest
@@ -359,36 +371,51 @@ in_few slot (l ∷ ls) =
     omega (arith, in_cons slot l ls, rest, one)
 
 -- ----- all that is known
-pub known_map : (known : FourTuple → Option Openings) (slots : ℕ → Option ℕ) (places : List ℕ) (f : Live → Live)
-    (ls : List Live) → Keeps f → Rests f → Stays f → IsKnown known slots places ls
-    → IsKnown known slots places (map f ls)
-known_map known slots places f ls keeps rests stays is = record {
+pub known_map : (known : FourTuple → Option Openings) (slots : ℕ → Option ℕ) (places : List ℕ) (given : ℕ)
+    (f : Live → Live) (ls : List Live) → Keeps f → Rests f → Stays f → IsKnown known slots places given ls
+    → IsKnown known slots places given (map f ls)
+known_map known slots places given f ls keeps rests stays is = record {
   index = map_index known f ls keeps is.index;
   counts = λ slot. is.counts slot ∙ sym (in_map slot f keeps ls);
   standing = is.standing ∙ sym (places_map f stays ls);
   filed = rest_map f rests stays ls is.filed;
+  ports = is.ports ∙ sym (given_map f keeps ls);
 }
 
-pub known_change : (known : FourTuple → Option Openings) (slots : ℕ → Option ℕ) (places : List ℕ) (f : Live → Live)
-    (ls : List Live) (i : ℕ) → Keeps f → Stays f → passes_at is_standing ls i ≡ true → IsKnown known slots places ls
-    → IsKnown known slots places (change_at i f ls)
-known_change known slots places f ls i keeps stays stands is = record {
+pub known_change : (known : FourTuple → Option Openings) (slots : ℕ → Option ℕ) (places : List ℕ) (given : ℕ)
+    (f : Live → Live) (ls : List Live) (i : ℕ) → Keeps f → Stays f → passes_at is_standing ls i ≡ true
+    → IsKnown known slots places given ls
+    → IsKnown known slots places given (change_at i f ls)
+known_change known slots places given f ls i keeps stays stands is = record {
   index = change_index known f ls i keeps is.index;
   counts = λ slot. is.counts slot ∙ sym (in_change slot f keeps ls i);
   standing = is.standing ∙ sym (places_change f stays ls i);
   filed = rest_change f stays ls i stands is.filed;
+  ports = is.ports ∙ sym (given_change f keeps ls i);
 }
 
-pub known_swept : {known : FourTuple → Option Openings} {slots : ℕ → Option ℕ} {places later : List ℕ}
-    {ls after : List Live} → IsKnown known slots places ls → after ≡ map swept ls
-    → later ≡ filter (passes_at is_standing after) places → IsKnown known slots later after
-known_swept {known} {slots} {places} {later} {ls} {after} is made left =
-    subst (IsKnown known slots later) (sym made) (record {
+pub known_calm : (known : FourTuple → Option Openings) (slots : ℕ → Option ℕ) (places : List ℕ) (given : ℕ)
+    (f : Live → Live) (ls : List Live) (i : ℕ) → Keeps f → Calms f → Stays f → IsKnown known slots places given ls
+    → IsKnown known slots places given (change_at i f ls)
+known_calm known slots places given f ls i keeps calms stays is = record {
+  index = change_index known f ls i keeps is.index;
+  counts = λ slot. is.counts slot ∙ sym (in_change slot f keeps ls i);
+  standing = is.standing ∙ sym (places_change f stays ls i);
+  filed = rest_calm f calms stays ls i is.filed;
+  ports = is.ports ∙ sym (given_change f keeps ls i);
+}
+
+pub known_swept : {known : FourTuple → Option Openings} {slots : ℕ → Option ℕ} {places later : List ℕ} {given : ℕ}
+    {ls after : List Live} → IsKnown known slots places given ls → after ≡ map swept ls
+    → later ≡ filter (passes_at is_standing after) places → IsKnown known slots later given after
+known_swept {known} {slots} {places} {later} {given} {ls} {after} is made left =
+    subst (IsKnown known slots later given) (sym made) (record {
       index = map_index known swept ls swept_keeps is.index;
       counts = λ slot. is.counts slot ∙ sym (in_map slot swept swept_keeps ls);
       standing = left ∙ (ap (λ (ms : List Live). filter (passes_at is_standing ms) places) made
           ∙ (ap (filter (passes_at is_standing (map swept ls))) is.standing ∙ places_swept ls));
       filed = rest_swept ls is.filed;
+      ports = is.ports ∙ sym (given_map swept swept_keeps ls);
     })
 
 -- ----- a loop over the places
@@ -430,14 +457,16 @@ leads_to_all {f} {places} {k} {ls} {old} rests leads is rest past =
 
 -- ----- one flow more
 pub known_push : (known later : FourTuple → Option Openings) (slots more : ℕ → Option ℕ) (places longer : List ℕ)
-    (tuple : FourTuple) (now : Openings) (ls : List Live) (l : Live)
+    (given more_ports : ℕ) (tuple : FourTuple) (now : Openings) (ls : List Live) (l : Live)
     → now.latest ≡ length ls → now.count ≡ 1 + opened_as tuple ls
     → ((q : FourTuple) → later q ≡ cond (equal_tuple tuple q) (Some now) (known q))
     → ((slot : ℕ) → number_of (more slot) ≡ number_of (slots slot) + cond (l.flow.id.slot == slot) 1 0)
-    → longer ≡ places ++ length ls ∷ []
-    → l.flow.tuple ≡ tuple → position (is_indexed_as tuple) ls ≡ None → l.filed ≡ false → IsKnown known slots places ls
-    → IsKnown later more longer (ls ++ l ∷ [])
-known_push known later slots more places longer tuple now ls l latest count noted counted grown own none fresh is =
+    → longer ≡ places ++ length ls ∷ [] → more_ports ≡ given + one_given l
+    → l.flow.tuple ≡ tuple → position (is_indexed_as tuple) ls ≡ None → l.filed ≡ false
+    → IsKnown known slots places given ls
+    → IsKnown later more longer more_ports (ls ++ l ∷ [])
+known_push known later slots more places longer given more_ports tuple now ls l latest count noted counted grown
+    counts_port own none fresh is =
     record {
       index =
           pushed_index known later tuple ls l now.latest (opened_as tuple ls) latest refl
@@ -447,6 +476,7 @@ known_push known later slots more places longer tuple now ls l latest count note
       counts = λ slot. counted slot ∙ (ap (λ (n : ℕ). n + one_in slot l) (is.counts slot) ∙ sym (in_push slot ls l));
       standing = grown ∙ (ap (λ (ps : List ℕ). ps ++ length ls ∷ []) is.standing ∙ sym (places_push ls l fresh));
       filed = rest_push ls l fresh is.filed;
+      ports = counts_port ∙ (ap (λ (n : ℕ). n + one_given l) is.ports ∙ sym (given_push ls l));
     }
 
 -- ----- a slice that was written whole
@@ -459,33 +489,57 @@ written_whole made old n all same =
 -- ----- what was done
 -- What is known is right after a change of all flows,
 pub sound_by_map : {T E : Type 0} (r : Result T E) {known : FourTuple → Option Openings} {slots : ℕ → Option ℕ}
-    {places : List ℕ} {f : Live → Live} {ls : List Live} (after : List Live) → Keeps f → Rests f → Stays f
-    → IsKnown known slots places ls → OnOk r (after ≡ map f ls)
-    → OnOk r (IsKnown known slots places after)
-sound_by_map r {known} {slots} {places} {f} {ls} after keeps rests stays sound = ok_by r
-    (λ made. subst (IsKnown known slots places) (sym made) (known_map known slots places f ls keeps rests stays sound))
+    {places : List ℕ} {given : ℕ} {f : Live → Live} {ls : List Live} (after : List Live) → Keeps f → Rests f → Stays f
+    → IsKnown known slots places given ls → OnOk r (after ≡ map f ls)
+    → OnOk r (IsKnown known slots places given after)
+sound_by_map r {known} {slots} {places} {given} {f} {ls} after keeps rests stays sound = ok_by r
+    (λ made. subst (IsKnown known slots places given) (sym made)
+    (known_map known slots places given f ls keeps rests stays sound))
 
 -- and of one that stands,
 pub sound_by_change : {T E : Type 0} (r : Result T E) {known : FourTuple → Option Openings} {slots : ℕ → Option ℕ}
-    {places : List ℕ} (f : Live → Live) (i : ℕ) {ls seen : List Live} (was made : Live) → Keeps f → Stays f
-    → IsKnown known slots places ls → ls ≡ seen → passes_at is_standing seen i ≡ true → was ≡ get_or ls i was
-    → OnOk r (made ≡ f was) → OnOk r (IsKnown known slots places (set ls i made))
-sound_by_change r {known} {slots} {places} f i {ls} {seen} was made keeps stays sound same stands read =
+    {places : List ℕ} {given : ℕ} (f : Live → Live) (i : ℕ) {ls seen : List Live} (was made : Live) → Keeps f → Stays f
+    → IsKnown known slots places given ls → ls ≡ seen → passes_at is_standing seen i ≡ true → was ≡ get_or ls i was
+    → OnOk r (made ≡ f was) → OnOk r (IsKnown known slots places given (set ls i made))
+sound_by_change r {known} {slots} {places} {given} f i {ls} {seen} was made keeps stays sound same stands read =
     ok_by r
-    (λ by. subst (IsKnown known slots places) (sym
+    (λ by. subst (IsKnown known slots places given) (sym
     (wrote_change f ls ls i was made refl (stands_below i same stands) read by))
-    (known_change known slots places f ls i keeps stays
+    (known_change known slots places given f ls i keeps stays
     (subst (λ (ms : List Live). passes_at is_standing ms i ≡ true) (sym same) stands) sound))
 
+-- or of any that stays at rest,
+pub sound_calm : {known : FourTuple → Option Openings} {slots : ℕ → Option ℕ} {places : List ℕ} {given : ℕ}
+    (f : Live → Live) (i : ℕ) {ls : List Live} (was made : Live) → Keeps f → Calms f → Stays f
+    → IsKnown known slots places given ls
+    → i < length ls → was ≡ get_or ls i was → made ≡ f was → IsKnown known slots places given (set ls i made)
+sound_calm {known} {slots} {places} {given} f i {ls} was made keeps calms stays sound low read by =
+    subst (IsKnown known slots places given) (sym (wrote_change f ls ls i was made refl low read by))
+    (known_calm known slots places given f ls i keeps calms stays sound)
+
+pub sound_if_calm : {T E : Type 0} (r : Result T E) {known : FourTuple → Option Openings} {slots : ℕ → Option ℕ}
+    {places : List ℕ} {given : ℕ} (f : Live → Live) (i : ℕ) {ls : List Live} (was made : Live) → Keeps f → Calms f
+    → Stays f → IsKnown known slots places given ls → i < length ls → was ≡ get_or ls i was → OnOk r (made ≡ f was)
+    → OnOk r (IsKnown known slots places given (set ls i made))
+sound_if_calm r f i was made keeps calms stays sound low read =
+    ok_by r (λ by. sound_calm f i was made keeps calms stays sound low read by)
+
 -- which is the change that was meant.
+pub done_by_calm : {T E : Type 0} (r s : Result T E) (f : Live → Live) (i : ℕ) {ls seen : List Live} (was made : Live)
+    (after : List Live) → ls ≡ seen → i < length seen → was ≡ get_or ls i was
+    → OnOk r (made ≡ f was) → s ≡ r → OnOk s (after ≡ set ls i made)
+    → OnOk s (after ≡ change_at i f seen)
+done_by_calm {T} {E} (Ok x) s f i {ls} {seen} was made after same low read by is kept = ok_by s
+    (λ left. left ∙ wrote_change f ls seen i was made same low read by) kept
+done_by_calm {T} {E} (Err e) s f i {ls} {seen} was made after same low read by is kept = subst
+    (λ (t : Result T E). OnOk t (after ≡ change_at i f seen)) (sym is) tt
+
 pub done_by_change : {T E : Type 0} (r s : Result T E) (f : Live → Live) (i : ℕ) {ls seen : List Live} (was made : Live)
     (after : List Live) → ls ≡ seen → passes_at is_standing seen i ≡ true → was ≡ get_or ls i was
     → OnOk r (made ≡ f was) → s ≡ r → OnOk s (after ≡ set ls i made)
     → OnOk s (after ≡ change_at i f seen)
-done_by_change {T} {E} (Ok x) s f i {ls} {seen} was made after same stands read by is kept = ok_by s
-    (λ left. left ∙ wrote_change f ls seen i was made same (passes_below is_standing seen i stands) read by) kept
-done_by_change {T} {E} (Err e) s f i {ls} {seen} was made after same stands read by is kept = subst
-    (λ (t : Result T E). OnOk t (after ≡ change_at i f seen)) (sym is) tt
+done_by_change r s f i {ls} {seen} was made after same stands read by is kept =
+    done_by_calm r s f i was made after same (passes_below is_standing seen i stands) read by is kept
 
 -- the same answer
 pub ok_as : {T E : Type 0} (P : Type 0) (r s : Result T E) → s ≡ r → OnOk r P → OnOk s P

@@ -1,5 +1,5 @@
 -- One tick of a flow.
-use Rattle.std.proofs.Common.{◌≡◌, ℕ, Bool, true, false, [], refl, sym, ap, ◌∙◌, true≢false}
+use Rattle.std.proofs.Common.{◌≡◌, ℕ, Bool, true, false, [], refl, ap, ◌∙◌, true≢false}
 use Rattle.tas_model.specs.declared.entry.Caller.TheVariants.{Slow}
 use Rattle.tas_model.specs.declared.entry.Call.TheVariants as calls
 use Rattle.host_rounds.specs.Logs.{Flow}

@@ -3,3 +3,4 @@ pub mod Inside
 pub mod Index
 pub mod Script
 pub mod Arriving
+pub mod Ports

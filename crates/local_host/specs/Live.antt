@@ -1,5 +1,5 @@
 -- How the host's parts of a flow are seen as one flow of a run.
-use Rattle.std.specs.Prelude.{◌≡◌, ℕ, ◌<◌, Bool, true, false, List, [], ◌∷◌, Option, Some, None}
+use Rattle.std.specs.Prelude.{◌≡◌, ℕ, ◌<◌, true, false, List, [], ◌∷◌, Option, Some, None}
 use Rattle.tas_model.specs.declared.entry.Caller.{Caller}
 use Rattle.tas_model.specs.declared.entry.Caller.TheVariants.{App}
 use Rattle.tas_model.specs.declared.entry.Call.{Call}
@@ -8,18 +8,14 @@ use Rattle.tas_model.specs.declared.entry.FlowId.{FlowId}
 use Rattle.tas_model.specs.declared.entry.FourTuple.{FourTuple}
 use Rattle.tas_model.specs.declared.entry.HostParams.{HostParams}
 use Rattle.tas_model.specs.declared.entry.Entry.{Entry}
-use Rattle.tas_model.specs.LegalHistory.{Legal, replay, extended_by}
+use Rattle.tas_model.specs.LegalHistory.{Legal, extended_by}
 use Rattle.tas_model.specs.Valid.{InRange}
 use Rattle.fast_tx.specs.Going.{left_in}
-use Rattle.flow_state.specs.declared.call.CallIn.{CallIn}
-use Rattle.flow_state.specs.declared.call.CallIn.TheVariants as ins
-use Rattle.flow_state.specs.App.{IsAppCall}
 use Rattle.flow_state.specs.declared.call.Answer.{Answer}
 use Rattle.flow_state.specs.declared.call.Answer.TheVariants as answers
-use Rattle.flow_state.specs.Calls.{call_of}
 use Rattle.flow_state.specs.Flow as records
 use Rattle.host_rounds.specs.Logs.{Flow}
-use Rattle.host_rounds.specs.Hosts.{Live, Host, Holder, Waiting, Application, GivenUp, endpoint, with_call, logged}
+use Rattle.host_rounds.specs.Hosts.{Live, Host, Holder, Waiting, Application, GivenUp, endpoint, logged}
 use Rattle.host_rounds.specs.Hosts.{first_entry, opened_in}
 use Rattle.host_rounds.specs.declared.log.LogEvent.TheVariants as events
 use Rattle.host_rounds.specs.Upkeep.{quieted}
@@ -38,10 +34,6 @@ IsLegal r = InRange r.params × Legal r.params r.entries
 abbrev pub called : Flow → Caller → (tick : ℕ) → Call → (offer : List ℕ) → Flow
 called f caller tick call offer = record f { entries = extended_by f.params f.entries caller tick call offer }
 
--- the bytes that its Sends took
-abbrev pub out_in : records.Flow → List ℕ
-out_in r = (replay r.params r.entries).tx.out
-
 -- how many bytes a Send with this answer took
 abbrev pub took : Answer → ℕ
 took (answers.Took len) = len
@@ -52,16 +44,6 @@ abbrev pub holder_in : code.Holder → Holder
 holder_in holders.Waiting = Waiting
 holder_in (holders.Application app) = Application app
 holder_in holders.GivenUp = GivenUp
-
--- the application makes the call
-abbrev pub asked_by : (app tick : ℕ) → CallIn → Live → Live
-asked_by app t call l = with_call l (App app) t (call_of call) []
-
--- the calls of an application but Accept and Send: each of them is a step in any phase
-abbrev pub IsLaterCall : CallIn → Type 0
-IsLaterCall ins.Accept = ⊥
-IsLaterCall (ins.Send bytes) = ⊥
-IsLaterCall call = IsAppCall call
 
 -- ----- emission
 -- What the flow has to send once this segment went leads to the same end, and is less.

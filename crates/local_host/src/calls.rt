@@ -1,11 +1,10 @@
-ghost use Rattle.std.specs.Prelude.{◌≡◌, ℕ, ◌<◌, ◌≤◌, ◌^◌, ◌++◌, length, take, OnOk, IfOk};
+ghost use Rattle.std.specs.Prelude.{◌≡◌, OnOk, IfOk};
 ghost use Rattle.flow_state.specs.Calls.{call_of, offer_of, answer_of, IsSmall, IsTimely};
 ghost use Rattle.flow_state.specs.Flow.{reply_to};
-ghost use Rattle.tas_model.specs.declared.entry.Call.TheVariants as calls;
 ghost use Rattle.tas_model.specs.LegalHistory.{Legal};
-ghost use Rattle.local_host.specs.Live.{flow_in, out_in, called, took};
+ghost use Rattle.local_host.specs.Live.{flow_in, called, took};
 
-use flow_state::{Answer, AppCalls, CallIn, Engine, FlowRecord};
+use flow_state::{Answer, CallIn, Engine, FlowRecord};
 use std::alloc::AllocError;
 use tas_model::Caller;
 
@@ -33,27 +32,8 @@ pub fn make<E: Engine>(
     }
 }
 
-/// The record offers the bytes, and tells how many of them were taken. The error is want of memory.
-pub fn offer(
-    flow: &mut FlowRecord,
-    caller: Caller,
-    tick: u32,
-    bytes: &[u8],
-) -> Result<usize, AllocError>
-    requires small { length bytes.now < 2 ^ 32 }
-    ensures made { OnOk result (flow_in flow.new ≡ called (flow_in flow.old) caller tick
-        (calls.Send (length bytes.now)) bytes.now) }
-    ensures few { IfOk result (λ n. n ≤ length bytes.now) }
-    ensures out { IfOk result (λ n. out_in flow.new ≡ out_in flow.old ++ take n bytes.now) }
-{
-    // Its history is legal, with parameters in their ranges.
-    let _parts = flow.parts();
-    let answer = make(flow, caller, tick, &CallIn::Send { bytes }, &AppCalls)?;
-    Ok(taken(answer))
-}
-
 /// How many bytes a Send with this answer took.
-fn taken(answer: Answer) -> usize
+pub fn taken(answer: Answer) -> usize
     ensures { result ≡ took answer }
 {
     match answer {

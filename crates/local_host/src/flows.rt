@@ -1,30 +1,37 @@
 ghost use Rattle.std.specs.Prelude.{true, false, ◌≡◌, ℕ, ◌<◌, ◌+◌, ◌^◌, ◌==◌, ◌++◌, ◌∷◌, [], length, map, position};
 ghost use Rattle.std.specs.Prelude.{get_or, nat_eq, ◌||◌, List, slice_get, Some, None, cond, IfOk, IfSome, OnErr, OnOk};
-ghost use Rattle.std.specs.Prelude.{is_some};
-ghost use Rattle.std.specs.List.{list_any, filter};
+ghost use Rattle.std.specs.Prelude.{is_some, nat_le, count_by};
+ghost use Rattle.std.specs.List.{list_any, list_all, filter};
 ghost use Rattle.std.specs.HashMap.{get};
 ghost use Rattle.capture_items.specs.Numbers.{equal_tuple};
 ghost use Rattle.tas_model.specs.declared.entry.Caller.TheVariants.{Slow};
-ghost use Rattle.flow_state.specs.Calls.{seg_of};
+ghost use Rattle.flow_state.specs.Calls.{seg_of, call_of, offer_of, answer_of, IsSmall};
+ghost use Rattle.flow_state.specs.App.{IsAppCall};
+ghost use Rattle.flow_state.specs.Flow.{reply_to};
 ghost use Rattle.host_rounds.specs.Lists.{Each, change_at};
 ghost use Rattle.host_rounds.specs.Hosts.{Live, is_indexed_as, is_in_slot, free_from, next_generation, opened_as};
-ghost use Rattle.host_rounds.specs.Hosts.{flows_of};
+ghost use Rattle.host_rounds.specs.Hosts.{flows_of, is_ready, is_over, waits_at, with_call, first_port};
 ghost use Rattle.host_rounds.specs.Upkeep.{swept, timed, quieted};
 ghost use Rattle.host_rounds.specs.Deliveries.{received_serially};
 ghost use Rattle.tas_runs.specs.Records.{Content, is_remote};
 ghost use Rattle.tas_runs.specs.LocalScript.{resets_here};
 ghost use Rattle.local_host.specs.Index.{IsSound, AreAtRest, is_standing, standing_places, passes_at, number_of};
+ghost use Rattle.local_host.specs.Index.{given_in};
+ghost use Rattle.local_host.specs.Ports.{MayAsk};
 ghost use Rattle.local_host.specs.Script.{asked_all, asked_live};
-ghost use Rattle.local_host.specs.Live.{flow_in, IsLegal};
+ghost use Rattle.local_host.specs.Live.{flow_in, holder_in, IsLegal};
 
-use crate::live::LiveFlow;
+use crate::live::{Holder, LiveFlow};
 use crate::script::Shown;
-use flow_state::FlowRecord;
+use flow_state::{Answer, CallIn, FlowRecord};
 use segment_fields::Segment;
 use std::alloc::{AllocError, Global};
 use std::collections::HashMap;
 use std::marker::Model;
-use tas_model::{FourTuple, FrameId};
+use tas_model::{Caller, FourTuple, FrameId};
+
+/// Ports from this one on are given to connects, each once.
+pub const FIRST_PORT: u16 = 49152;
 
 /// What is known of the flows of a four-tuple.
 #[derive(Clone, Copy)]
@@ -44,10 +51,12 @@ struct Table {
     openings: HashMap<FourTuple, Openings>,
     /// How many flows there were in a slot.
     generations: HashMap<u32, usize>,
+    /// How many flows have ports that connects are given.
+    given: usize,
 }
 
 /// The flows of a host, in the order of their opening, filed ones among them. A flow is found by its four-tuple without
-/// a walk over the others.
+/// a walk over the others. After want of memory none is left.
 #[derive(Drop)]
 pub struct Flows {
     table: Table,
@@ -77,6 +86,7 @@ impl Flows {
                 standing: Vec::new(alloc),
                 openings: HashMap::new(alloc),
                 generations: HashMap::new(alloc),
+                given: 0,
             },
         }
     }
@@ -122,6 +132,42 @@ impl Flows {
         }
     }
 
+    /// The place of the flow that waits at the port and may be accepted, of several the one that was opened first.
+    pub fn first_ready(&self, port: u16) -> Option<usize>
+        ensures { result ≡ position (is_ready port) self.now }
+    {
+        first_ready(&self.table.flows, &self.table.standing, port)
+    }
+
+    /// How many flows wait at the port.
+    pub fn waiting_at(&self, port: u16) -> usize
+        ensures { result ≡ count_by (waits_at port) self.now }
+    {
+        count_waiting(&self.table.flows, &self.table.standing, port)
+    }
+
+    /// How many flows have ports that connects are given.
+    pub fn given(&self) -> usize
+        ensures { result ≡ given_in self.now }
+    {
+        self.table.given
+    }
+
+    /// Whether all are closed.
+    pub fn are_over(&self) -> bool
+        ensures { result ≡ list_all is_over self.now }
+    {
+        are_over(&self.table.flows, &self.table.standing)
+    }
+
+    /// The places of those whose records are not filed, in order.
+    pub fn standing(&self) -> &[usize]
+        ensures places { result.now ≡ standing_places self.now }
+        ensures rest { AreAtRest self.now }
+    {
+        &self.table.standing
+    }
+
     /// How many flows of this four-tuple were opened.
     pub fn opened_as(&self, tuple: &FourTuple) -> usize
         ensures { result ≡ opened_as tuple.now self.now }
@@ -152,7 +198,8 @@ impl Flows {
         requires own { flow.flow.tuple ≡ tuple }
         requires fresh { position (is_indexed_as tuple) self.old ≡ None }
         requires standing { flow.filed ≡ false }
-        ensures { OnOk result (self.new ≡ self.old ++ flow ∷ []) }
+        ensures made { OnOk result (self.new ≡ self.old ++ flow ∷ []) }
+        ensures none { OnErr result (self.new ≡ []) }
     {
         let now = Openings {
             latest: self.table.flows.len(),
@@ -172,7 +219,8 @@ impl Flows {
 
     /// One tick passes for each flow that is not closed. The error is want of memory.
     pub fn pass_time(&mut self, tick: u32) -> Result<(), AllocError>
-        ensures { OnOk result (self.new ≡ map (timed Slow tick) self.old) }
+        ensures made { OnOk result (self.new ≡ map (timed Slow tick) self.old) }
+        ensures none { OnErr result (self.new ≡ []) }
     {
         let done = time_all(&mut self.table.flows, &self.table.standing, tick);
         self.table.settle(done)
@@ -180,7 +228,8 @@ impl Flows {
 
     /// Each flow sends all that may go. The error is want of memory.
     pub fn send_all(&mut self, tick: u32) -> Result<(), AllocError>
-        ensures { OnOk result (self.new ≡ map (quieted tick) self.old) }
+        ensures made { OnOk result (self.new ≡ map (quieted tick) self.old) }
+        ensures none { OnErr result (self.new ≡ []) }
     {
         let done = empty_all(&mut self.table.flows, &self.table.standing, tick);
         self.table.settle(done)
@@ -195,10 +244,42 @@ impl Flows {
         seg: &Segment<'_>,
     ) -> Result<(), AllocError>
         requires { passes_at is_standing self.old i ≡ true }
-        ensures { OnOk result (self.new ≡ change_at i (received_serially tick frame (seg_of seg.now)) self.old) }
+        ensures made { OnOk result (self.new ≡ change_at i (received_serially tick frame (seg_of seg.now)) self.old) }
+        ensures none { OnErr result (self.new ≡ []) }
     {
         let done = self.table.flows[i].receive(tick, frame, seg);
         self.table.settle(done)
+    }
+
+    /// The flow at place `i` makes a call, by an application or where one was killed by the slow path. The error is
+    /// want of memory.
+    pub fn ask(
+        &mut self,
+        i: usize,
+        caller: Caller,
+        tick: u32,
+        call: &CallIn<'_>,
+    ) -> Result<Answer, AllocError>
+        requires place { i < length self.old }
+        requires small { IsSmall call.now }
+        requires kind { IsAppCall call.now }
+        requires may { (l : Live) → slice_get self.old i ≡ Some l → MayAsk l call.now }
+        ensures made { OnOk result (self.new ≡ change_at i
+            (λ (l : Live). with_call l caller tick (call_of call.now) (offer_of call.now)) self.old) }
+        ensures answer { (l : Live) → slice_get self.old i ≡ Some l → IfOk result (λ answer. answer ≡ answer_of
+            (reply_to l.flow.params l.flow.entries tick (call_of call.now) (offer_of call.now))) }
+        ensures none { OnErr result (self.new ≡ []) }
+    {
+        let done = self.table.flows[i].ask(caller, tick, call);
+        self.table.settle(done)
+    }
+
+    /// The socket of the flow at place `i` changes hands.
+    pub fn hold(&mut self, i: usize, holder: Holder)
+        requires { i < length self.old }
+        ensures { self.new ≡ change_at i (λ (l : Live). record l { holder = holder_in holder }) self.old }
+    {
+        self.table.flows[i].hold(holder);
     }
 
     /// What a capture's script does for a segment of the flow at place `i`. The error is want of memory.
@@ -217,6 +298,7 @@ impl Flows {
         ensures shown { (content : Content) (l : Live) → is_remote content ≡ remote → resets_here content ≡ resets
             → slice_get self.old i ≡ Some l → OnOk result
             (shown.new ≡ (asked_all tick content (record { live = l; shown = shown.old })).shown) }
+        ensures none { OnErr result (self.new ≡ []) }
     {
         let done = shown.serve(&mut self.table.flows[i], tick, remote, resets);
         self.table.settle(done)
@@ -237,13 +319,14 @@ impl Table {
     {
         note_opening(&mut self.openings, tuple, now)?;
         note_slot(&mut self.generations, flow.id().slot)?;
+        self.given = self.given + count_given(tuple.lport);
         self.standing.push(self.flows.len())?;
         self.flows.push(flow)?;
         Ok(())
     }
 
     /// Gives back what was done. After want of memory, which may stop between two changes, no flow is kept.
-    fn settle(&mut self, done: Result<(), AllocError>) -> Result<(), AllocError>
+    fn settle<T>(&mut self, done: Result<T, AllocError>) -> Result<T, AllocError>
         requires { OnOk done (IsSound self.old) }
         ensures same { result ≡ done }
         ensures flows { OnOk result (self.new.flows.items ≡ self.old.flows.items) }
@@ -255,6 +338,7 @@ impl Table {
             self.standing.clear();
             self.openings.clear();
             self.generations.clear();
+            self.given = 0;
         }
         done
     }
@@ -284,6 +368,13 @@ fn note_slot(generations: &mut HashMap<u32, usize>, slot: u32) -> Result<(), All
     Ok(())
 }
 
+/// One for a port that connects are given, and none for a lower one.
+fn count_given(port: u16) -> usize
+    ensures { result ≡ cond (nat_le first_port port) 1 0 }
+{
+    if port >= FIRST_PORT { 1 } else { 0 }
+}
+
 /// The flows whose records were filed are taken out of those that stand.
 fn drop_filed(standing: &mut Vec<usize>, flows: &[LiveFlow])
     ensures { standing.new.items ≡ filter (passes_at is_standing flows.now) standing.old.items }
@@ -297,6 +388,66 @@ fn stands(flows: &[LiveFlow], place: usize) -> bool
 {
     match flows.get(place) {
         Some(flow) => flow.is_standing(),
+        None => false,
+    }
+}
+
+/// The place of the flow that waits at the port and may be accepted, of several the one that was opened first.
+fn first_ready(flows: &[LiveFlow], standing: &[usize], port: u16) -> Option<usize>
+    requires places { standing.now ≡ standing_places flows.now }
+    requires rest { AreAtRest flows.now }
+    ensures { result ≡ position (is_ready port) flows.now }
+{
+    standing
+        .iter()
+        .copied()
+        .find(|place| is_ready_at(flows, *place, port))
+}
+
+fn is_ready_at(flows: &[LiveFlow], place: usize, port: u16) -> bool
+    ensures { result ≡ passes_at (is_ready port) flows.now place }
+{
+    match flows.get(place) {
+        Some(flow) => flow.is_ready(port),
+        None => false,
+    }
+}
+
+/// How many flows wait at the port.
+fn count_waiting(flows: &[LiveFlow], standing: &[usize], port: u16) -> usize
+    requires places { standing.now ≡ standing_places flows.now }
+    requires rest { AreAtRest flows.now }
+    ensures { result ≡ count_by (waits_at port) flows.now }
+{
+    standing
+        .iter()
+        .filter(|place| waits_there(flows, **place, port))
+        .count()
+}
+
+fn waits_there(flows: &[LiveFlow], place: usize, port: u16) -> bool
+    ensures { result ≡ passes_at (waits_at port) flows.now place }
+{
+    match flows.get(place) {
+        Some(flow) => flow.waits_at(port),
+        None => false,
+    }
+}
+
+/// Whether all flows are closed.
+fn are_over(flows: &[LiveFlow], standing: &[usize]) -> bool
+    requires places { standing.now ≡ standing_places flows.now }
+    requires rest { AreAtRest flows.now }
+    ensures { result ≡ list_all is_over flows.now }
+{
+    standing.iter().all(|place| is_over_at(flows, *place))
+}
+
+fn is_over_at(flows: &[LiveFlow], place: usize) -> bool
+    ensures { result ≡ passes_at is_over flows.now place }
+{
+    match flows.get(place) {
+        Some(flow) => flow.is_over(),
         None => false,
     }
 }

@@ -1,12 +1,17 @@
 ghost use Rattle.std.specs.Prelude.{true, false, ◌≡◌, None, position, slice_get, ◌++◌, ◌∷◌, [], ◌<◌, ◌^◌, length, ◌&&◌};
-ghost use Rattle.std.specs.Prelude.{not, map, OnOk, IfOk, IfSome, Some};
+ghost use Rattle.std.specs.Prelude.{not, map, nat_lt, ◌==◌, ◌+◌, OnOk, IfOk, IfSome, Some};
+ghost use Rattle.std.specs.List.{list_any, list_all, filter};
 ghost use Rattle.tas_model.specs.Valid.{InRange};
 ghost use Rattle.tas_model.specs.declared.entry.Caller.TheVariants.{App};
-ghost use Rattle.flow_state.specs.Calls.{seg_of};
+ghost use Rattle.flow_state.specs.Calls.{seg_of, call_of, offer_of, IsSmall};
+ghost use Rattle.flow_state.specs.Calls as calls_of;
+ghost use Rattle.host_rounds.specs.Moves.{IsAppCall};
 ghost use Rattle.host_rounds.specs.declared.log.LogEvent.TheVariants as events;
 ghost use Rattle.host_rounds.specs.Lists.{Each};
 ghost use Rattle.host_rounds.specs.Hosts.{Host, Live, is_indexed_as, logged, is_known, is_listening, at_flow};
-ghost use Rattle.host_rounds.specs.Hosts.{lowest_free, next_generation, next_number, opened_in, flows_of};
+ghost use Rattle.host_rounds.specs.Hosts.{lowest_free, next_generation, next_number, opened_in, flows_of, with_call};
+ghost use Rattle.host_rounds.specs.Hosts.{is_listened, is_full, is_ready, is_over, answer_of, first_port, ports_given};
+ghost use Rattle.host_rounds.specs.Hosts.{Listener as ModelListener};
 ghost use Rattle.host_rounds.specs.Deliveries.{received_serially, stray_answer, met_no_flow};
 ghost use Rattle.host_rounds.specs.Deliveries.{opened_by_syn as model_opened_by_syn, opens as model_opens, arrived};
 ghost use Rattle.host_rounds.specs.Deliveries.{delivered};
@@ -14,43 +19,63 @@ ghost use Rattle.host_rounds.specs.SerialOrder.{slow_phase, emit_phase};
 ghost use Rattle.tas_runs.specs.Records.{Content, is_remote};
 ghost use Rattle.tas_runs.specs.LocalScript.{resets_here};
 ghost use Rattle.local_host.specs.Arriving.{arrival_in};
-ghost use Rattle.local_host.specs.Index.{is_standing, passes_at};
+ghost use Rattle.local_host.specs.Index.{is_standing, passes_at, standing_places, AreAtRest};
 ghost use Rattle.local_host.specs.Script.{asked_all, asked_live};
-ghost use Rattle.local_host.specs.Live.{flow_in, IsLegal, connected_by};
+ghost use Rattle.local_host.specs.Live.{flow_in, holder_in, IsLegal, connected_by};
+ghost use Rattle.local_host.specs.Ports.{IsConnecting, MayAsk};
 
 use crate::arrival::{Arrival, Packet};
-use crate::flows::Flows;
-use crate::live::LiveFlow;
+use crate::flows::{FIRST_PORT, Flows};
+use crate::live::{Holder, LiveFlow};
 use crate::numbers::NumberSource;
 use crate::script::Shown;
-use flow_state::FlowRecord;
+use flow_state::{Answer, CallIn, FlowRecord};
 use segment_fields::Segment;
 use slow_handshake::stray;
 use std::alloc::{AllocError, Global};
 use std::marker::Model;
 use tas_core::{HostLog, LogEvent, LogLine};
-use tas_model::{Bytes, FlowId, FourTuple, FrameId, Head, HostParams, Seg};
+use tas_model::{Bytes, Caller, FlowId, FourTuple, FrameId, Head, HostParams, Seg};
 use tas_num::Seq;
 
-/// A host on which every port listens, seen as that host in the middle of a run. Its ticks go in serial order.
+/// An application listens on a port.
+#[derive(Clone, Copy)]
+struct Listener {
+    port: u16,
+    /// The application's number.
+    app: u32,
+}
+
+/// A host, seen as that host in the middle of a run. Its ticks go in serial order.
 #[derive(Drop)]
 pub struct LocalHost {
     alloc: Global,
     params: HostParams,
+    listeners: Vec<Listener>,
     log: HostLog,
     flows: Flows,
 }
 
 impl Model for LocalHost {
-    ghost use Rattle.std.specs.Prelude.{◌≡◌, true, []};
-    ghost use Rattle.tas_model.specs.Valid.{InRange};
     ghost use Rattle.host_rounds.specs.Hosts.{Host};
+    ghost use Rattle.local_host.specs.Ports.{host_of, IsHost};
 
     ghost Value = { Host };
 
-    ghost view = { λ h. record { params = h.params; listeners = []; log = h.log; flows = h.flows } };
+    ghost view = { λ h. host_of h.params h.listeners.items h.log h.flows };
 
-    ghost invariant = { λ h. InRange h.params × (h.params.fixed ≡ true) };
+    ghost invariant = { λ h. IsHost h.params h.listeners.items h.flows };
+}
+
+/// What became of a connect.
+#[derive(Clone, Copy, Debug)]
+pub enum Connecting {
+    /// It opened the flow at this place.
+    Opened(usize),
+    /// No slot was free.
+    NoSlot,
+    /// All ports were given.
+    NoPort,
 }
 
 /// What a host leaves when its run is over.
@@ -63,16 +88,15 @@ pub struct HostEnd {
 }
 
 impl LocalHost {
-    /// A host of these parameters, without flows and with an empty log, on which every port listens. It takes no
-    /// memory.
+    /// A host of these parameters, without flows and listeners and with an empty log. It takes no memory.
     pub fn new(alloc: Global, params: HostParams) -> LocalHost
         requires ranges { InRange params }
-        requires listening { params.fixed ≡ true }
         ensures { result ≡ record { params = params; listeners = []; log = []; flows = [] } }
     {
         LocalHost {
             alloc,
             params,
+            listeners: Vec::new(alloc),
             log: HostLog::new(alloc),
             flows: Flows::new(alloc),
         }
@@ -121,15 +145,171 @@ impl LocalHost {
         })
     }
 
-    fn log_event(&mut self, tick: u32, event: LogEvent) -> Result<(), AllocError>
-        ensures { OnOk result (self.new ≡ logged self.old tick event) }
+    /// Its log.
+    pub fn log(&self) -> &HostLog
+        ensures { result.now ≡ self.now.log }
+    {
+        &self.log
+    }
+
+    /// Appends a line to its log. The error is want of memory.
+    pub fn note(&mut self, tick: u32, event: LogEvent) -> Result<(), AllocError>
+        ensures made { OnOk result (self.new ≡ logged self.old tick event) }
+        ensures params { self.new.params ≡ self.old.params }
     {
         self.log.add(LogLine { tick, event })
     }
 
+    /// Whether an application listens on the port.
+    pub fn is_listened(&self, port: u16) -> bool
+        ensures { result ≡ is_listened port self.now }
+    {
+        self.listeners.iter().any(|listener| listener.port == port)
+    }
+
+    /// Whether a listener takes a SYN at the port: one of a replay's host does, and else an application's.
+    fn is_listening(&self, port: u16) -> bool
+        ensures listening { result ≡ is_listening self.now port }
+        ensures low { result ≡ true → self.now.params.fixed ≡ false → port < first_port }
+    {
+        self.params.fixed || self.is_listened(port)
+    }
+
+    /// Whether as many flows wait at the port as its listener takes.
+    fn is_full(&self, port: u16) -> bool
+        ensures { result ≡ is_full self.now port }
+    {
+        !self.params.fixed && self.flows.waiting_at(port) >= self.params.backlog as usize
+    }
+
+    /// Whether this application listens on the port.
+    pub fn has_listener(&self, app: u32, port: u16) -> bool
+        ensures { result ≡ list_any (λ (l : ModelListener). l.app == app && l.port == port) self.now.listeners }
+    {
+        self.listeners
+            .iter()
+            .any(|listener| listener.app == app && listener.port == port)
+    }
+
+    /// The application listens on the port, which is none that connects are given. The error is want of memory.
+    pub fn listen(&mut self, port: u16, app: u32) -> Result<(), AllocError>
+        requires { port < first_port }
+        ensures { OnOk result (self.new ≡ record self.old {
+          listeners = self.old.listeners ++ (record { port = port; app = app }) ∷ [];
+        }) }
+    {
+        self.listeners.push(Listener { port, app })?;
+        Ok(())
+    }
+
+    /// All listeners of the application go.
+    pub fn forget(&mut self, app: u32)
+        ensures { self.new ≡ record self.old {
+          listeners = filter (λ (l : ModelListener). not (l.app == app)) self.old.listeners;
+        } }
+    {
+        self.listeners.retain(|listener| listener.app != app);
+    }
+
+    /// The place of the flow that waits at the port and may be accepted, of several the one that was opened first.
+    pub fn first_ready(&self, port: u16) -> Option<usize>
+        ensures { result ≡ position (is_ready port) self.now.flows }
+    {
+        self.flows.first_ready(port)
+    }
+
+    /// Whether all its flows are closed.
+    pub fn is_over(&self) -> bool
+        ensures { result ≡ list_all is_over self.now.flows }
+    {
+        self.flows.are_over()
+    }
+
+    /// The places of its flows that are not filed, in order. A filed flow is closed, and nothing that the host does by
+    /// itself changes it.
+    pub fn standing(&self) -> &[usize]
+        ensures places { result.now ≡ standing_places self.now.flows }
+        ensures rest { AreAtRest self.now.flows }
+    {
+        self.flows.standing()
+    }
+
+    /// An application connects to the port of a host: a flow is opened in the lowest free slot, from the next port. The
+    /// answer says so, or why not; then nothing changed. The error is want of memory.
+    pub fn connect_out<N: NumberSource>(
+        &mut self,
+        tick: u32,
+        app: u32,
+        raddr: u32,
+        rport: u16,
+        numbers: &N,
+    ) -> Result<Connecting, AllocError>
+        requires { self.old.params.fixed ≡ false }
+        ensures { IfOk result (λ answer.
+            IsConnecting (N.numbers numbers.now) tick app raddr rport self.old self.new answer) }
+    {
+        let Some(slot) = self.flows.lowest_free(self.alloc, self.params.slots)? else {
+            return Ok(Connecting::NoSlot);
+        };
+        let Some(lport) = self.next_port() else {
+            return Ok(Connecting::NoPort);
+        };
+        let tuple = FourTuple {
+            laddr: self.params.addr,
+            lport,
+            raddr,
+            rport,
+        };
+        let place = self.flows.len();
+        self.open_connected(tick, app, slot, tuple, numbers)?;
+        Ok(Connecting::Opened(place))
+    }
+
+    /// The port that the next connect is given, where one is left.
+    fn next_port(&self) -> Option<u16>
+        ensures some { IfSome result (λ port. port ≡ first_port + ports_given self.now) }
+        ensures none { result ≡ None → nat_lt (first_port + ports_given self.now) (2 ^ 16) ≡ false }
+    {
+        let given = self.flows.given();
+        if given < 0x1_0000 - FIRST_PORT as usize {
+            Some(FIRST_PORT + given as u16)
+        } else {
+            None
+        }
+    }
+
+    /// The flow at place `i` makes a call, by an application or where one was killed by the slow path. The error is
+    /// want of memory.
+    pub fn ask(
+        &mut self,
+        i: usize,
+        caller: Caller,
+        tick: u32,
+        call: &CallIn<'_>,
+    ) -> Result<Answer, AllocError>
+        requires place { i < length self.old.flows }
+        requires small { IsSmall call.now }
+        requires kind { IsAppCall caller (call_of call.now) }
+        requires may { (l : Live) → slice_get self.old.flows i ≡ Some l → MayAsk l call.now }
+        ensures made { OnOk result (self.new ≡ at_flow i
+            (λ (l : Live). with_call l caller tick (call_of call.now) (offer_of call.now)) self.old) }
+        ensures answer { IfOk result (λ answer. answer ≡ calls_of.answer_of (answer_of i self.new)) }
+    {
+        self.flows.ask(i, caller, tick, call)
+    }
+
+    /// The socket of the flow at place `i` changes hands.
+    pub fn hold(&mut self, i: usize, holder: Holder)
+        requires { i < length self.old.flows }
+        ensures { self.new ≡ at_flow i (λ (l : Live). record l { holder = holder_in holder }) self.old }
+    {
+        self.flows.hold(i, holder);
+    }
+
     /// The slow path: closed flows are given up, and time passes for the others. The error is want of memory.
     pub fn pass_time(&mut self, tick: u32) -> Result<(), AllocError>
-        ensures { OnOk result (self.new ≡ slow_phase tick self.old) }
+        ensures made { OnOk result (self.new ≡ slow_phase tick self.old) }
+        ensures params { self.new.params ≡ self.old.params }
     {
         self.flows.sweep();
         self.flows.pass_time(tick)
@@ -137,33 +317,37 @@ impl LocalHost {
 
     /// All that may go is sent. The error is want of memory.
     pub fn send_all(&mut self, tick: u32) -> Result<(), AllocError>
-        ensures { OnOk result (self.new ≡ emit_phase tick self.old) }
+        ensures made { OnOk result (self.new ≡ emit_phase tick self.old) }
+        ensures params { self.new.params ≡ self.old.params }
     {
         self.flows.send_all(tick)
     }
 
     /// A packet came that breaks the rule of reading with this number. The error is want of memory.
     fn refuse(&mut self, tick: u32, frame: FrameId, number: u8) -> Result<(), AllocError>
-        ensures { OnOk result (self.new ≡ logged self.old tick (events.Refused frame number)) }
+        ensures made { OnOk result (self.new ≡ logged self.old tick (events.Refused frame number)) }
+        ensures params { self.new.params ≡ self.old.params }
     {
-        self.log_event(tick, LogEvent::Refused { frame, number })
+        self.note(tick, LogEvent::Refused { frame, number })
     }
 
-    /// A segment came that is of no flow, at a port that listens, and opens none: its answer is a reset where it has
-    /// ACK and no RST. The error is want of memory.
+    /// A segment came that is of no flow, at a port where a listener is or none is, and opens none: its answer is a
+    /// reset where it wants one. The error is want of memory.
     fn note_stray(
         &mut self,
         tick: u32,
         frame: FrameId,
         tuple: FourTuple,
         seg: &Segment<'_>,
+        listening: bool,
     ) -> Result<(), AllocError>
-        ensures { OnOk result (self.new ≡ logged self.old tick
-            (events.Stray frame tuple (seg_of seg.now) (stray_answer true (seg_of seg.now)))) }
+        ensures made { OnOk result (self.new ≡ logged self.old tick
+            (events.Stray frame tuple (seg_of seg.now) (stray_answer listening (seg_of seg.now)))) }
+        ensures params { self.new.params ≡ self.old.params }
     {
-        let answer = stray(seg, true);
+        let answer = stray(seg, listening);
         let seg = owned(self.alloc, seg)?;
-        self.log_event(
+        self.note(
             tick,
             LogEvent::Stray {
                 frame,
@@ -196,7 +380,8 @@ impl LocalHost {
         numbers.first_number(tuple, self.flows.opened_as(&tuple), self.flows.len() as u32)
     }
 
-    /// A SYN opens a flow in the lowest free slot, and is dropped where none is free. The error is want of memory.
+    /// A SYN for a listener opens a flow in the lowest free slot, and is dropped where as many flows wait as the
+    /// listener takes, or no slot is free. The error is want of memory.
     fn open_by_syn<N: NumberSource>(
         &mut self,
         tick: u32,
@@ -205,13 +390,23 @@ impl LocalHost {
         seg: &Segment<'_>,
         numbers: &N,
     ) -> Result<(), AllocError>
+        requires port { self.old.params.fixed ≡ false → tuple.lport < first_port }
         requires fresh { position (is_indexed_as tuple) self.old.flows ≡ None }
-        ensures { OnOk result (self.new ≡ model_opened_by_syn false (lowest_free self.old)
+        ensures made { OnOk result (self.new ≡ model_opened_by_syn (is_full self.old tuple.lport) (lowest_free self.old)
             (next_number (N.numbers numbers.now) self.old tuple) tick self.old frame tuple (seg_of seg.now)) }
+        ensures params { self.new.params ≡ self.old.params }
     {
-        let free = self.flows.lowest_free(self.alloc, self.params.slots)?;
-        match free {
-            None => self.log_event(
+        if self.is_full(tuple.lport) {
+            return self.note(
+                tick,
+                LogEvent::Dropped {
+                    frame,
+                    backlog: true,
+                },
+            );
+        }
+        match self.flows.lowest_free(self.alloc, self.params.slots)? {
+            None => self.note(
                 tick,
                 LogEvent::Dropped {
                     frame,
@@ -245,13 +440,14 @@ impl LocalHost {
         tuple: FourTuple,
         numbers: &N,
     ) -> Result<(), AllocError>
+        requires fixed { self.old.params.fixed ≡ true }
         requires fresh { position (is_indexed_as tuple) self.old.flows ≡ None }
-        ensures { OnOk result (self.new ≡ connected_by app (lowest_free self.old)
+        ensures made { OnOk result (self.new ≡ connected_by app (lowest_free self.old)
             (next_number (N.numbers numbers.now) self.old tuple) tick self.old tuple) }
+        ensures params { self.new.params ≡ self.old.params }
     {
-        let free = self.flows.lowest_free(self.alloc, self.params.slots)?;
-        match free {
-            None => self.log_event(
+        match self.flows.lowest_free(self.alloc, self.params.slots)? {
+            None => self.note(
                 tick,
                 LogEvent::ConnectRefused {
                     app,
@@ -260,24 +456,32 @@ impl LocalHost {
                     no_port: false,
                 },
             ),
-            Some(slot) => {
-                let id = self.next_id(slot)?;
-                let iss = self.next_number(tuple, numbers);
-                let flow = LiveFlow::connected(
-                    self.alloc,
-                    id,
-                    tuple,
-                    &self.params,
-                    iss,
-                    app,
-                    tick,
-                )?;
-                self.flows.push(tuple, flow)
-            }
+            Some(slot) => self.open_connected(tick, app, slot, tuple, numbers),
         }
     }
 
-    /// A segment comes that is of no flow, at a port that listens. The error is want of memory.
+    /// A connect opens a flow in this slot. The error is want of memory.
+    fn open_connected<N: NumberSource>(
+        &mut self,
+        tick: u32,
+        app: u32,
+        slot: u32,
+        tuple: FourTuple,
+        numbers: &N,
+    ) -> Result<(), AllocError>
+        requires port { self.old.params.fixed ≡ false → tuple.lport ≡ first_port + ports_given self.old }
+        requires fresh { position (is_indexed_as tuple) self.old.flows ≡ None }
+        ensures made { OnOk result (self.new ≡ connected_by app (Some slot)
+            (next_number (N.numbers numbers.now) self.old tuple) tick self.old tuple) }
+        ensures params { self.new.params ≡ self.old.params }
+    {
+        let id = self.next_id(slot)?;
+        let iss = self.next_number(tuple, numbers);
+        let flow = LiveFlow::connected(self.alloc, id, tuple, &self.params, iss, app, tick)?;
+        self.flows.push(tuple, flow)
+    }
+
+    /// A segment comes that is of no flow. The error is want of memory.
     fn meet_no_flow<N: NumberSource>(
         &mut self,
         tick: u32,
@@ -287,16 +491,16 @@ impl LocalHost {
         numbers: &N,
     ) -> Result<(), AllocError>
         requires fresh { position (is_indexed_as tuple) self.old.flows ≡ None }
-        ensures { OnOk result (self.new ≡ met_no_flow
+        ensures made { OnOk result (self.new ≡ met_no_flow
             (is_listening self.old tuple.lport && model_opens (seg_of seg.now)) (is_listening self.old tuple.lport)
             (next_number (N.numbers numbers.now) self.old tuple) tick self.old frame tuple (seg_of seg.now)) }
+        ensures params { self.new.params ≡ self.old.params }
     {
-        // Every port listens.
-        let _params = &self.params;
-        if opens(seg) {
+        let listening = self.is_listening(tuple.lport);
+        if listening && opens(seg) {
             self.open_by_syn(tick, frame, tuple, seg, numbers)
         } else {
-            self.note_stray(tick, frame, tuple, seg)
+            self.note_stray(tick, frame, tuple, seg, listening)
         }
     }
 
@@ -309,9 +513,10 @@ impl LocalHost {
         seg: &Segment<'_>,
         numbers: &N,
     ) -> Result<(), AllocError>
-        ensures { OnOk result (self.new ≡ arrived (is_known self.old tuple)
+        ensures made { OnOk result (self.new ≡ arrived (is_known self.old tuple)
             (received_serially tick frame (seg_of seg.now))
             (next_number (N.numbers numbers.now) self.old tuple) tick self.old frame tuple (seg_of seg.now)) }
+        ensures params { self.new.params ≡ self.old.params }
     {
         match self.flows.find(&tuple) {
             Some(i) => self.flows.receive(i, tick, frame, seg),
@@ -326,8 +531,9 @@ impl LocalHost {
         arrival: &Arrival<'_>,
         numbers: &N,
     ) -> Result<(), AllocError>
-        ensures { OnOk result (self.new ≡ delivered received_serially (N.numbers numbers.now) tick self.old
+        ensures made { OnOk result (self.new ≡ delivered received_serially (N.numbers numbers.now) tick self.old
             (arrival_in arrival.now)) }
+        ensures params { self.new.params ≡ self.old.params }
     {
         match arrival.packet {
             Packet::Damaged(rule) => self.refuse(tick, arrival.frame, rule),
@@ -354,6 +560,7 @@ impl LocalHost {
         ensures shown { (content : Content) (l : Live) → is_remote content ≡ remote → resets_here content ≡ resets
             → slice_get self.old.flows i ≡ Some l
             → OnOk result (shown.new ≡ (asked_all tick content (record { live = l; shown = shown.old })).shown) }
+        ensures params { self.new.params ≡ self.old.params }
     {
         self.flows.serve(i, shown, tick, remote, resets)
     }

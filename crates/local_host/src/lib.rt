@@ -14,7 +14,7 @@ mod replay;
 mod script;
 
 pub use arrival::{Arrival, Packet};
-pub use host::{HostEnd, LocalHost};
+pub use host::{Connecting, HostEnd, LocalHost};
 pub use live::{Holder, LiveFlow};
 pub use numbers::NumberSource;
 pub use replay::LocalReplay;

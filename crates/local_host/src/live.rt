@@ -4,19 +4,20 @@ ghost use Rattle.tas_model.specs.declared.entry.Call.TheVariants as calls;
 ghost use Rattle.tas_model.specs.declared.entry.Caller.TheVariants.{Slow, Core, App};
 ghost use Rattle.tas_model.specs.Valid.{InRange};
 ghost use Rattle.tas_model.specs.NextSegment.{going};
-ghost use Rattle.flow_state.specs.Calls.{seg_of, answer_of, call_of};
-ghost use Rattle.flow_state.specs.App.{column_of};
+ghost use Rattle.flow_state.specs.Calls.{seg_of, answer_of, call_of, offer_of, IsSmall};
+ghost use Rattle.flow_state.specs.App.{column_of, IsAppCall};
 ghost use Rattle.flow_state.specs.Flow.{reply_to};
 ghost use Rattle.tas_model.specs.ApplicationCalls.{column};
 ghost use Rattle.host_rounds.specs.Hosts.{same_tuple, is_indexed_as, is_in_slot, endpoint, with_call, is_over};
-ghost use Rattle.host_rounds.specs.Hosts.{is_running, is_held, first_entry};
+ghost use Rattle.host_rounds.specs.Hosts.{is_running, is_held, first_entry, is_ready, waits_at, is_waiting_by};
 ghost use Rattle.host_rounds.specs.Upkeep.{swept, timed, controlled, quieted};
 ghost use Rattle.host_rounds.specs.Deliveries.{received_serially};
 ghost use Rattle.local_host.specs.Index.{is_standing};
 ghost use Rattle.local_host.specs.declared.live.Holder.TheVariants as Holder;
-ghost use Rattle.local_host.specs.Live.{flow_in, holder_in, asked_by, IsLaterCall, IsLegal, opened_live, IsNext};
+ghost use Rattle.local_host.specs.Live.{flow_in, holder_in, IsLegal, opened_live, IsNext};
+ghost use Rattle.local_host.specs.Ports.{MayAsk};
 
-use crate::calls::{make, offer};
+use crate::calls::{make, taken};
 use crate::reading::{
     first_number, is_closed, is_control_tick, is_fast, may_send, sent_count, stage_of,
 };
@@ -149,6 +150,13 @@ impl LiveFlow {
         !self.filed
     }
 
+    /// Who has its socket.
+    pub fn holder(&self) -> Holder
+        ensures { holder_in result ≡ self.now.holder }
+    {
+        self.holder
+    }
+
     /// Whether an application has its socket.
     pub fn is_held(&self) -> bool
         ensures { result ≡ is_held self.now }
@@ -161,6 +169,27 @@ impl LiveFlow {
         ensures { result ≡ is_over self.now }
     {
         is_closed(&self.history)
+    }
+
+    /// Whether it has this port, and nobody has its socket yet.
+    fn is_unclaimed_at(&self, port: u16) -> bool
+        ensures { result ≡ (self.now.flow.tuple.lport == port && is_waiting_by self.now.holder) }
+    {
+        self.history.tuple().lport == port && matches!(self.holder, Holder::Waiting)
+    }
+
+    /// Whether it waits at the port: it is neither accepted nor closed.
+    pub fn waits_at(&self, port: u16) -> bool
+        ensures { result ≡ waits_at port self.now }
+    {
+        self.is_unclaimed_at(port) && !self.is_over()
+    }
+
+    /// Whether it waits at the port and is past its opening: it may be accepted.
+    pub fn is_ready(&self, port: u16) -> bool
+        ensures { result ≡ is_ready port self.now }
+    {
+        self.is_unclaimed_at(port) && matches!(self.stage(), Stage::Running)
     }
 
     /// Where it stands in the table of calls.
@@ -255,20 +284,9 @@ impl LiveFlow {
         ensures { OnOk result (self.new ≡ record (with_call self.old (App app) tick calls.Accept [])
             { holder = holder_in (Holder.Application app) }) }
     {
-        match stage_of(&self.history) {
-            Stage::Running => {
-                make(
-                    &mut self.history,
-                    Caller::App(app),
-                    tick,
-                    &CallIn::Accept,
-                    &AppCalls,
-                )?;
-                self.holder = Holder::Application(app);
-                Ok(())
-            }
-            _ => unreachable!(),
-        }
+        self.ask(Caller::App(app), tick, &CallIn::Accept)?;
+        self.holder = Holder::Application(app);
+        Ok(())
     }
 
     /// An application offers bytes, and is told how many of them were taken. The error is want of memory.
@@ -279,17 +297,30 @@ impl LiveFlow {
         ensures few { IfOk result (λ n. n ≤ length bytes.now) }
         ensures out { IfOk result (λ n. (endpoint self.new).tx.out ≡ (endpoint self.old).tx.out ++ take n bytes.now) }
     {
-        offer(&mut self.history, Caller::App(app), tick, bytes)
+        // Its history is legal, with parameters in their ranges, before the call and after it.
+        let _before = self.record();
+        let answer = self.ask(Caller::App(app), tick, &CallIn::Send { bytes })?;
+        let _after = self.record();
+        Ok(taken(answer))
     }
 
-    /// An application makes a call of another kind. The error is want of memory.
-    pub fn ask(&mut self, app: u32, tick: u32, call: &CallIn<'_>) -> Result<Answer, AllocError>
-        requires kind { IsLaterCall call.now }
-        ensures made { OnOk result (self.new ≡ asked_by app tick call.now self.old) }
+    /// It makes a call, by an application or where one was killed by the slow path. The error is want of memory.
+    pub fn ask(
+        &mut self,
+        caller: Caller,
+        tick: u32,
+        call: &CallIn<'_>,
+    ) -> Result<Answer, AllocError>
+        requires small { IsSmall call.now }
+        requires kind { IsAppCall call.now }
+        requires may { MayAsk self.old call.now }
+        ensures made { OnOk result (self.new ≡ with_call self.old caller tick (call_of call.now) (offer_of call.now)) }
         ensures answer { IfOk result (λ a. a ≡ answer_of
-            (reply_to self.old.flow.params self.old.flow.entries tick (call_of call.now) [])) }
+            (reply_to self.old.flow.params self.old.flow.entries tick (call_of call.now) (offer_of call.now))) }
     {
-        make(&mut self.history, Caller::App(app), tick, call, &AppCalls)
+        // Whether an Accept is a step is told by the column of the table of calls.
+        let _stage = stage_of(&self.history);
+        make(&mut self.history, caller, tick, call, &AppCalls)
     }
 
     /// Its socket changes hands.
@@ -335,6 +366,16 @@ impl LiveFlow {
         } else {
             unreachable!()
         }
+    }
+
+    /// Its record.
+    pub fn record(&self) -> &FlowRecord
+        ensures flow { flow_in result.now ≡ self.now.flow }
+        ensures legal { IsLegal result.now }
+    {
+        // Its history is legal, with parameters in their ranges.
+        let _parts = self.history.parts();
+        &self.history
     }
 
     /// Its record, which is all that it leaves.

@@ -39,13 +39,15 @@ pub struct LocalReplay {
 }
 
 impl Model for LocalReplay {
-    ghost use Rattle.std.specs.Prelude.{List};
+    ghost use Rattle.std.specs.Prelude.{◌≡◌, true, List};
     ghost use Rattle.host_rounds.specs.Scripts.{Site};
     ghost use Rattle.tas_runs.specs.LocalScript.{Shown};
 
     ghost Value = { Site (List Shown) };
 
     ghost view = { λ r. record { host = r.host; scripts = r.shown.items } };
+
+    ghost invariant = { λ r. r.host.params.fixed ≡ true };
 }
 
 impl LocalReplay {
@@ -145,7 +147,8 @@ impl LocalReplay {
         numbers: &FirstNumbers,
     ) -> Result<(), AllocError>
         ensures { (items : List model.Item) → AreNumbersOf items numbers.now
-            → OnOk result (self.new ≡ ask_phase (capture_scripts items) tick self.old (asks_in (map item_in batch.now))) }
+            → OnOk result (self.new ≡ ask_phase (capture_scripts items) tick self.old
+            (asks_in (map item_in batch.now))) }
     {
         for item in batch {
             self.serve(tick, item, numbers)?;

@@ -16,6 +16,7 @@ use flow_state::{CallIn, Stage};
 use segment_fields::Segment;
 use std::alloc::{AllocError, Global};
 use std::marker::Model;
+use tas_model::Caller;
 use tas_num::Seq;
 
 /// The one application of a replay's host.
@@ -89,7 +90,7 @@ impl Shown {
             (self.new ≡ shown_after Shutting tick content flow.old self.old) }
     {
         if is_served(flow) && self.ends && self.pending.len() == 0 && !self.shut {
-            flow.ask(THE_APP, tick, &CallIn::Shut)?;
+            flow.ask(Caller::App(THE_APP), tick, &CallIn::Shut)?;
             self.shut = true;
         }
         Ok(())
@@ -143,7 +144,7 @@ fn abort(flow: &mut LiveFlow, tick: u32, resets: bool) -> Result<(), AllocError>
         → OnOk result (flow.new ≡ at_stage Aborting tick content s flow.old) }
 {
     if resets && (flow.is_held() || matches!(flow.stage(), Stage::Opening)) {
-        flow.ask(THE_APP, tick, &CallIn::Abort)?;
+        flow.ask(Caller::App(THE_APP), tick, &CallIn::Abort)?;
     }
     Ok(())
 }
@@ -154,7 +155,7 @@ fn read(flow: &mut LiveFlow, tick: u32, remote: bool) -> Result<(), AllocError>
         → OnOk result (flow.new ≡ at_stage Receiving tick content s flow.old) }
 {
     if remote && is_served(flow) {
-        flow.ask(THE_APP, tick, &CallIn::Recv { most: 65535 })?;
+        flow.ask(Caller::App(THE_APP), tick, &CallIn::Recv { most: 65535 })?;
     }
     Ok(())
 }

@@ -15,6 +15,7 @@ use Rattle.host_rounds.specs.declared.log.LogEvent.TheVariants as events
 use Rattle.host_rounds.specs.Lists.{change_at}
 use Rattle.host_rounds.specs.Hosts.{Live, Host, Holder, Application, Waiting, GivenUp, Listener, Numbers, endpoint}
 use Rattle.host_rounds.specs.Hosts.{is_over, is_running, is_waiting_by, with_call, at_flow, is_known, lowest_free}
+use Rattle.host_rounds.specs.Hosts.{is_listened, is_ready, first_port, ports_given, answer_of}
 use Rattle.host_rounds.specs.Scripts.{Site}
 use Rattle.host_rounds.specs.Moves.{Move, Calls, Opens, Notes, Holds, Listens, MayCall, MayMove, moved, AreMoves}
 use Rattle.host_rounds.specs.Moves.{AreByMoves}
@@ -25,8 +26,8 @@ use Rattle.scenario_text.specs.declared.scenario.Scenario.{Scenario}
 use Rattle.scenario_text.specs.declared.scenario.Step.{Step}
 use Rattle.scenario_text.specs.declared.scenario.Step.TheVariants as steps
 use Rattle.scenario_runs.specs.Applications.{Script, Turn, on_script, stepped, called, holds, listens_where, listens}
-use Rattle.scenario_runs.specs.Applications.{is_listened, is_ready, accepts_one, accepts, ports_given, first_port}
-use Rattle.scenario_runs.specs.Applications.{refused, opens, opens_where, connects, waits_for, is_not_yet, answer_of}
+use Rattle.scenario_runs.specs.Applications.{accepts_one, accepts}
+use Rattle.scenario_runs.specs.Applications.{refused, opens, opens_where, connects, waits_for, is_not_yet}
 use Rattle.scenario_runs.specs.Applications.{sends, receives, asks_for, most, once, ends, on_flow, on_socket}
 use Rattle.scenario_runs.specs.Applications.{connects_on, step_of, is_concerned, let_go, aborted_where, killed}
 use Rattle.scenario_runs.specs.Applications.{is_killed_at, goes_on, turn_where, turn, bound_in, flow_of, port_of}

@@ -12,8 +12,8 @@ use Rattle.tas_model.specs.declared.entry.Reply.{Reply}
 use Rattle.tas_model.specs.declared.entry.Reply.TheVariants as replies
 use Rattle.host_rounds.specs.declared.log.LogEvent.TheVariants as events
 use Rattle.host_rounds.specs.Hosts.{Live, Host, Holder, Waiting, Application, GivenUp, Listener, Numbers, next_number}
-use Rattle.host_rounds.specs.Hosts.{is_over, is_running, is_waiting_by, with_call, logged, at_flow, lowest_free}
-use Rattle.host_rounds.specs.Hosts.{first_entry, opened_in}
+use Rattle.host_rounds.specs.Hosts.{is_over, with_call, logged, at_flow, lowest_free}
+use Rattle.host_rounds.specs.Hosts.{first_entry, opened_in, is_listened, is_ready, first_port, ports_given, answer_of}
 use Rattle.scenario_text.specs.declared.scenario.Step.{Step}
 use Rattle.scenario_text.specs.declared.scenario.Step.TheVariants as steps
 
@@ -66,15 +66,6 @@ stepped s = record s { left = drop 1 s.left; done = 0; begun = false }
 abbrev pub done_or : (over : Bool) → (done : ℕ) → Script → Script
 done_or over done s = if over then stepped s else record s { done = done }
 
-abbrev pub last_reply : Reply → List Entry → Reply
-last_reply reply [] = reply
-last_reply reply (x ∷ xs) = last_reply x.reply xs
-
--- what the last call of a flow was answered
-abbrev pub answer_of : (flow : ℕ) → Host → Reply
-answer_of n host =
-    elim (slice_get host.flows n) [ None ↦ replies.Nothing | Some l ↦ last_reply replies.Nothing l.flow.entries ]
-
 -- the application makes this call on the flow
 abbrev pub called : (flow : ℕ) → (tick : ℕ) → Call → (offer : List ℕ) → Turn → Turn
 called n t call offer x =
@@ -88,9 +79,6 @@ abbrev pub on_script : (Script → Script) → Turn → Turn
 on_script f x = record x { script = f x.script }
 
 -- ----- listen, accept
-abbrev pub is_listened : (port : ℕ) → Host → Bool
-is_listened port host = list_any (λ (l : Listener). l.port == port) host.listeners
-
 abbrev pub listens_where : (taken : Bool) → (tick : ℕ) → (name : List ℕ) → (port : ℕ) → Turn → Turn
 listens_where true t name port x =
     on_script stepped (record x { host = logged x.host t (events.Listen x.script.number port false) })
@@ -105,10 +93,6 @@ listens_where false t name port x =
 abbrev pub listens : (tick : ℕ) → (name : List ℕ) → (port : ℕ) → Turn → Turn
 listens t name port x = listens_where (is_listened port x.host) t name port x
 
--- a connection that waits at the port and is past its opening
-abbrev pub is_ready : (port : ℕ) → Live → Bool
-is_ready port l = l.flow.tuple.lport == port && is_waiting_by l.holder && is_running l
-
 abbrev pub accepts_one : (ready : Option ℕ) → (tick : ℕ) → (socket : List ℕ) → (port : ℕ) → Turn → Turn
 accepts_one None t socket port x = record x { host = logged x.host t (events.AcceptNotYet x.script.number port) }
 accepts_one (Some n) t socket port x =
@@ -121,13 +105,6 @@ accepts None t socket x = on_script stepped x
 accepts (Some port) t socket x = accepts_one (position (is_ready port) x.host.flows) t socket port x
 
 -- ----- connect
--- Ports from 49,152 on are given to connects, each once; nobody listens there.
-abbrev pub first_port : ℕ
-first_port = 49152
-
-abbrev pub ports_given : Host → ℕ
-ports_given host = count_by (λ (l : Live). nat_le first_port l.flow.tuple.lport) host.flows
-
 abbrev pub refused : (no_port : Bool) → (tick raddr rport : ℕ) → Turn → Turn
 refused no_port t raddr rport x =
     on_script stepped (record x { host = logged x.host t (events.ConnectRefused x.script.number raddr rport no_port) })

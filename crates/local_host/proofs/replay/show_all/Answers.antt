@@ -1,4 +1,4 @@
-use Rattle.std.proofs.Common.{rules, ◌≡◌, ◌<◌, ◌≤◌, ◌++◌, ◌∷◌, [], List, length, sym, ap, ◌∙◌, arith}
+use Rattle.std.proofs.Common.{rules, ◌≡◌, ◌<◌, ◌≤◌, ◌++◌, ◌∷◌, [], length, sym, ap, ◌∙◌, arith}
 use Rattle.tas_runs.specs.LocalScript.{Shown, nothing_shown, all_shown}
 use Rattle.local_host.proofs.Serving.{all_enough, shown_more}
 use Rattle.local_host.proofs.replay.show_all.Goals as goal

@@ -15,8 +15,8 @@ settle-requires c =
     (received_stays c.args.tick c.args.frame (seg_of c.args.seg.now)) c.self.invariant c.self.view_is c.requires
     c.index_mut.ensures.value c.receive-done.ensures
 
-pub returns : goal.returns
-returns c =
+pub returns-clause-made : goal.returns-clause-made
+returns-clause-made c =
     done_by_change c.receive-done.result c.settle.result
     (received_serially c.args.tick c.args.frame (seg_of c.args.seg.now)) c.args.i c.index_mut.result.now
     c.receive-done.new.self c.settle.new.self.flows.items c.self.view_is c.requires c.index_mut.ensures.value

@@ -1,10 +1,10 @@
-use Rattle.std.proofs.Common.{◌≡◌, ℕ, List, Some, get_or, slice_get, OnOk, sym, subst, ◌∙◌, arith}
+use Rattle.std.proofs.Common.{◌≡◌, OnOk, subst, arith}
 use Rattle.host_rounds.specs.Hosts.{Live}
 use Rattle.tas_runs.specs.Records.{Content}
 use Rattle.local_host.specs.Script.{asked_all, asked_live}
 use Rattle.local_host.proofs.Indexing.{asked_keeps, some_content, content_remote, content_resets}
 use Rattle.local_host.proofs.Standing.{asked_stays, stands_below, sound_by_change, done_by_change, ok_as}
-use Rattle.local_host.proofs.Places.{ok_by, read_is}
+use Rattle.local_host.proofs.Places.{read_is}
 use Rattle.local_host.proofs.flows.Flows.serve.Goals as goal
 
 pub index_mut-requires : goal.index_mut-requires

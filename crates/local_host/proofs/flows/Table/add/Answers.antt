@@ -1,7 +1,9 @@
-use Rattle.std.proofs.Common.{◌≡◌, ◌+◌, ◌==◌, ◌++◌, ◌∷◌, [], ℕ, List, length, cond, nat_eq, ap, rules, subst, sym, ◌∙◌}
+use Rattle.std.proofs.Common.{◌≡◌, ◌+◌, ◌==◌, ◌++◌, ◌∷◌, [], ℕ, List, length, cond, nat_eq}
+use Rattle.std.proofs.Common.{ap, rules, nat_le, subst, sym, ◌∙◌}
 use Rattle.std.specs.HashMap.{get}
 use Rattle.tas_model.specs.declared.entry.FlowId.{FlowId}
-use Rattle.host_rounds.specs.Hosts.{Live}
+use Rattle.tas_model.specs.declared.entry.FourTuple.{FourTuple}
+use Rattle.host_rounds.specs.Hosts.{Live, first_port}
 use Rattle.capture_items.specs.Numbers.{equal_tuple}
 use Rattle.local_host.specs.Index.{IsKnown, number_of}
 use Rattle.local_host.proofs.Standing.{known_push}
@@ -13,11 +15,16 @@ returns-clause-sound c =
     let places : c.push.new.self.items ≡ c.args.self.now.standing.items ++ length ls ∷ [] = c.in_ok-push.ensures.items
     ∙ ap (λ (n : ℕ). c.args.self.now.standing.items ++ n ∷ []) (search rules) in
     subst (IsKnown (get equal_tuple c.note_opening.new.openings)
-    (get nat_eq c.note_slot.new.generations) c.push.new.self.items) (sym c.in_ok-push-2.ensures.items)
+    (get nat_eq c.note_slot.new.generations) c.push.new.self.items
+    (c.args.self.now.given + c.count_given.result)) (sym c.in_ok-push-2.ensures.items)
     (known_push (get equal_tuple c.args.self.now.openings) (get equal_tuple c.note_opening.new.openings)
     (get nat_eq c.args.self.now.generations) (get nat_eq c.note_slot.new.generations) c.args.self.now.standing.items
-    c.push.new.self.items c.args.tuple c.args.now ls c.args.flow
+    c.push.new.self.items c.args.self.now.given (c.args.self.now.given + c.count_given.result) c.args.tuple
+    c.args.now ls c.args.flow
     c.requires.latest c.requires.count c.in_ok-note_opening.ensures.ok
     (λ slot. c.in_ok-note_slot.ensures slot ∙ ap (λ (id : FlowId). number_of
     (get nat_eq c.args.self.now.generations slot) + cond (id.slot == slot) 1 0) c.id.ensures)
-    places c.requires.own c.requires.fresh c.requires.standing c.requires.sound)
+    places
+    (ap (λ (n : ℕ). c.args.self.now.given + n)
+    (c.count_given.ensures ∙ ap (λ (t : FourTuple). cond (nat_le first_port t.lport) 1 0) (sym c.requires.own)))
+    c.requires.own c.requires.fresh c.requires.standing c.requires.sound)

@@ -1,21 +1,27 @@
-use Rattle.std.proofs.Common.{◌≡◌, ℕ, Bool, [], true, false, sym, ap, subst, ◌∙◌}
+use Rattle.std.proofs.Common.{◌≡◌, ℕ, Bool, false, sym, ap, subst, ◌∙◌}
 use Rattle.tas_model.specs.declared.entry.Seg.{Seg}
 use Rattle.flow_state.specs.Calls.{seg_of}
+use Rattle.host_rounds.specs.Lists.{change_at}
 use Rattle.host_rounds.specs.Hosts.{Live, Host, is_known, next_number}
 use Rattle.host_rounds.specs.Deliveries.{received_serially, arrived}
+use Rattle.local_host.specs.Ports.{host_of}
 use Rattle.local_host.proofs.Places.{ok_by}
 use Rattle.local_host.proofs.Hosting.{changed_found, known_is, unknown_is}
+use Rattle.local_host.proofs.Indexing.{received_keeps}
+use Rattle.local_host.proofs.Ports.{host_change, host_done}
 use Rattle.local_host.proofs.host.LocalHost.receive.Goals as goal
 
-pub returns-in-Some : goal.returns-in-Some
-returns-in-Some g c =
-    let host : Host = record {
-      params = c.self.inside.params;
-      listeners = [];
-      log = c.self.inside.log;
-      flows =
-          c.self.inside.flows;
-    } in
+pub invariant_of-self : goal.invariant_of-self
+invariant_of-self g c =
+    let f : Live → Live = received_serially c.args.tick c.args.frame (seg_of c.args.seg.now) in
+    host_done c.receive.result (change_at c.in-Some.i f c.self.inside.flows) c.receive.new.self c.self.invariant
+    (host_change f c.in-Some.i (received_keeps c.args.tick c.args.frame (seg_of c.args.seg.now)) c.self.invariant)
+    c.receive.ensures.made c.receive.ensures.none
+
+pub returns-in-Some-clause-made : goal.returns-in-Some-clause-made
+returns-in-Some-clause-made g c =
+    let host : Host = host_of c.self.inside.params c.self.inside.listeners.items c.self.inside.log
+    c.self.inside.flows in
     let seg : Seg = seg_of c.args.seg.now in
     let f : Live → Live = received_serially c.args.tick c.args.frame seg in
     let found = sym c.find.ensures.place ∙ c.in-Some.is in
@@ -32,17 +38,12 @@ returns-in-Some g c =
     ∙ ap (λ (b : Bool). arrived b f (next_number numbers host c.args.tuple) c.args.tick host c.args.frame c.args.tuple
     seg)
     (sym (known_is c.args.tuple host c.in-Some.i found))))
-    c.receive.ensures
+    c.receive.ensures.made
 
-pub returns-in-None : goal.returns-in-None
-returns-in-None g c =
-    let host : Host = record {
-      params = c.self.inside.params;
-      listeners = [];
-      log = c.self.inside.log;
-      flows =
-          c.self.inside.flows;
-    } in
+pub returns-in-None-clause-made : goal.returns-in-None-clause-made
+returns-in-None-clause-made g c =
+    let host : Host = host_of c.self.inside.params c.self.inside.listeners.items c.self.inside.log
+    c.self.inside.flows in
     let seg : Seg = seg_of c.args.seg.now in
     let f : Live → Live = received_serially c.args.tick c.args.frame seg in
     let number : ℕ = next_number (g.N.NumberSource.numbers c.args.numbers.now) c.args.self.now c.args.tuple in
@@ -52,4 +53,4 @@ returns-in-None g c =
     ok_by c.meet_no_flow.result
     (λ made. made ∙ ap (λ (b : Bool). arrived b f number c.args.tick c.args.self.now c.args.frame c.args.tuple seg)
     (sym none))
-    c.meet_no_flow.ensures
+    c.meet_no_flow.ensures.made

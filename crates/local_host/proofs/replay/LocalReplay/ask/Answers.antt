@@ -1,4 +1,4 @@
-use Rattle.std.proofs.Common.{◌≡◌, ℕ, List, Option, Some, None, position, sym, subst, ◌∙◌}
+use Rattle.std.proofs.Common.{◌≡◌, List, Some, None, position, sym, subst, ◌∙◌}
 use Rattle.host_rounds.specs.Hosts.{is_indexed_as}
 use Rattle.host_rounds.specs.Scripts.{Site}
 use Rattle.tas_runs.specs.LocalScript.{Shown}

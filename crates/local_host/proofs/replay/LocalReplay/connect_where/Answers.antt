@@ -6,7 +6,7 @@ use Rattle.host_rounds.specs.Rounds.{on_host}
 use Rattle.tas_runs.specs.LocalScript.{Shown, connected}
 use Rattle.capture_items.specs.Numbers.{kept_numbers}
 use Rattle.local_host.proofs.Places.{ok_by}
-use Rattle.local_host.proofs.Hosting.{connects_none, connects_one, connects_not}
+use Rattle.local_host.proofs.Hosting.{connects_none, connects_one}
 use Rattle.local_host.proofs.replay.LocalReplay.connect_where.Goals as goal
 
 pub returns-in-Some : goal.returns-in-Some
@@ -34,4 +34,4 @@ returns-in-None c =
     (made
     ∙ connects_one (kept_numbers c.args.numbers.now) c.args.tick c.args.tuple (seg_of c.args.seg.now) c.self.inside.host
     (sym c.find.ensures.place ∙ c.in-None.is) (sym c.connects.ensures ∙ c.if-not-connects.false))))
-    c.connect.ensures
+    c.connect.ensures.made

@@ -1,4 +1,4 @@
-use Rattle.std.proofs.Common.{◌≡◌, map, ◌∙◌}
+use Rattle.std.proofs.Common.{map, ◌∙◌}
 use Rattle.tas_runs.specs.FirstNumbers.{first_number}
 use Rattle.capture_items.specs.Items.{item_in}
 use Rattle.capture_items.specs.Numbers.{kept_numbers}

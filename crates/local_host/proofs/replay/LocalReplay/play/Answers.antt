@@ -1,4 +1,4 @@
-use Rattle.std.proofs.Common.{◌≡◌, List, map, sym, ap, subst, ◌∙◌}
+use Rattle.std.proofs.Common.{◌≡◌, List, map, subst, ◌∙◌}
 use Rattle.host_rounds.specs.Scripts.{Site}
 use Rattle.host_rounds.specs.SerialOrder.{serial_tick}
 use Rattle.tas_runs.specs.LocalScript.{Shown, capture_scripts, due_in}
@@ -20,6 +20,6 @@ returns c = λ items are.
     c.self.view_is
     (played items c.args.tick (map item_in c.args.batch.now) site c.pass_time.new.self c.deliver_all.new.self asked
     c.send_all.new.self
-    c.in_ok-pass_time.ensures (c.in_ok-deliver_all.ensures items are)
+    c.in_ok-pass_time.ensures.made (c.in_ok-deliver_all.ensures items are)
     (c.self-2.view_is ∙ c.in_ok-serve_all.ensures items are) made))
-    c.send_all.ensures
+    c.send_all.ensures.made

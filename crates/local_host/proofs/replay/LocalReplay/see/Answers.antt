@@ -1,4 +1,4 @@
-use Rattle.std.proofs.Common.{◌≡◌, List, Some, set, sym, ap, subst, arith}
+use Rattle.std.proofs.Common.{◌≡◌, List, Some, set, sym, subst}
 use Rattle.flow_state.specs.Calls.{seg_of}
 use Rattle.host_rounds.specs.Scripts.{Site}
 use Rattle.tas_runs.specs.Records.{Local}

@@ -1,4 +1,4 @@
-use Rattle.std.proofs.Common.{◌≡◌, refl, sym, ap, ◌∙◌}
+use Rattle.std.proofs.Common.{refl, sym, ap, ◌∙◌}
 use Rattle.flow_state.specs.Calls.{seg_of}
 use Rattle.host_rounds.specs.Hosts.{Numbers}
 use Rattle.tas_runs.specs.Records.{Remote, Local}

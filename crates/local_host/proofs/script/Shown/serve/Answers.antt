@@ -1,6 +1,4 @@
-use Rattle.std.proofs.Common.{◌≡◌, ℕ, ap}
-use Rattle.host_rounds.specs.Hosts.{Live}
-use Rattle.tas_runs.specs.LocalScript.{Shown}
+use Rattle.std.proofs.Common.{ap}
 use Rattle.local_host.specs.Script.{Served}
 use Rattle.local_host.proofs.Staging.{six_stages}
 use Rattle.local_host.proofs.script.Shown.serve.Goals as goal
