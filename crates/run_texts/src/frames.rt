@@ -214,7 +214,7 @@ fn add_segment<'a>(
 }
 
 /// The segment of a reply: the one that is sent, or the update of a Recv.
-fn segment_in<'a>(reply: ReplyView<'a>) -> Option<SegView<'a>>
+pub fn segment_in<'a>(reply: ReplyView<'a>) -> Option<SegView<'a>>
     ensures { segments_of result ≡ segments_in (seen_reply reply.entry) }
 {
     match reply {
@@ -228,7 +228,7 @@ fn segment_in<'a>(reply: ReplyView<'a>) -> Option<SegView<'a>>
 }
 
 /// An answer as a segment.
-fn answer_in(answer: Option<Head>) -> Option<SegView<'static>>
+pub fn answer_in(answer: Option<Head>) -> Option<SegView<'static>>
     ensures { segments_of result ≡ map bare_of (option_to_list answer) }
 {
     match answer {

@@ -17,7 +17,9 @@ mod whole;
 mod writer;
 
 pub use flows::write_flow;
-pub use frames::{Frame, HostFrames, SentFrames, write_capture_header, write_frames};
+pub use frames::{
+    Frame, HostFrames, SentFrames, answer_in, segment_in, write_capture_header, write_frames,
+};
 pub use laws::segments_have_room;
 pub use logs::write_log;
 pub use whole::{Counts, write_counts, write_end, write_host, write_title};

@@ -8,7 +8,7 @@ use Rattle.tas_num.specs.declared.outside.IoFault.{IoFault}
 use Rattle.tas_num.specs.Streams.{SinkState}
 use Rattle.host_rounds.specs.Logs.{Flow}
 use Rattle.tas_runs.specs.Report.{flow_lines, flows_text, host_text, hosts_text, names_of}
-use Rattle.tas_round.specs.declared.run.HostRun as code
+use Rattle.tas_round.specs.declared.logs.HostRun as code
 use Rattle.tas_round.specs.Runs.{host_in}
 use Rattle.run_texts.specs.Writes.{Writes}
 use Rattle.run_texts.proofs.Lists.{taken_more}

@@ -14,7 +14,7 @@ use Rattle.run_texts.specs.Frames.{history_of, seen_host, all_frames, AreShort, 
 use Rattle.run_texts.proofs.Lists.{taken_more}
 use Rattle.run_texts.proofs.Unnamed.{unnamed, ticks_unnamed}
 use Rattle.local_host.specs.Live.{IsLegal}
-use Rattle.tas_round.specs.declared.run.HostRun as code
+use Rattle.tas_round.specs.declared.logs.HostRun as code
 use Rattle.tas_round.specs.Runs.{host_in, unnamed_in, AreLegal, AreSentBy}
 
 -- one host more

@@ -1,3 +1,4 @@
 pub mod Lending
 pub mod Flowing
 pub mod Playing
+pub mod HostEnds

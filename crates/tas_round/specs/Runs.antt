@@ -13,8 +13,8 @@ use Rattle.tas_runs.specs.Batches.{batches_of}
 use Rattle.tas_runs.specs.LocalScript.{capture_scripts, due_in}
 use Rattle.tas_runs.specs.Replays.{at_start}
 use Rattle.host_rounds.specs.SerialOrder.{serial_ticks}
-use Rattle.tas_round.specs.declared.run.HostRun as code_host
-use Rattle.tas_round.specs.declared.run.RunLog as code
+use Rattle.tas_round.specs.declared.logs.HostRun as code_host
+use Rattle.tas_round.specs.declared.logs.RunLog as code
 use Rattle.tas_round.specs.declared.replaying.Ending.{Ending}
 use Rattle.tas_round.specs.declared.replaying.Mode.{Mode}
 use Rattle.tas_round.specs.declared.replaying.Mode.TheVariants as modes

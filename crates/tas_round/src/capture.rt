@@ -8,7 +8,7 @@ ghost use Rattle.local_host.specs.Live.{IsLegal};
 ghost use Rattle.tas_round.specs.Runs.{host_in, log_in, unnamed_in, AreLegal, AreSentBy};
 ghost use Rattle.tas_round.specs.Written.{WroteText};
 
-use crate::run::{HostRun, HostRuns, RunLog};
+use crate::logs::{HostRun, HostRuns, RunLog};
 use run_texts::{
     HostFrames, SentFrames, Writer, segments_have_room, write_capture_header, write_frames,
 };

@@ -1,12 +1,14 @@
-//! Whole runs: a capture replayed tick by tick, and the report and the capture that show a run.
+//! Whole runs: a capture replayed or a scenario run, tick by tick, and the report and the capture that show a run.
 #![tactic(auto)]
 
 mod capture;
+mod logs;
 mod replaying;
 mod report;
-mod run;
+mod running;
 
 pub use capture::write_capture;
+pub use logs::{FlowList, HostRun, HostRuns, RunLog};
 pub use replaying::{Mode, ReplayFault, replay, replay_serially};
 pub use report::write_report;
-pub use run::{FlowList, HostRun, HostRuns, RunLog};
+pub use running::{run, run_serially};

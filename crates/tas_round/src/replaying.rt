@@ -11,7 +11,7 @@ ghost use Rattle.capture_items.specs.Numbers.{AreNumbersOf};
 ghost use Rattle.tas_round.specs.Runs.{host_in, log_in, AreCores, Ended, Refuses};
 ghost use Rattle.tas_round.specs.declared.replaying.Mode.{Mode};
 
-use crate::run::{FlowList, HostRun, HostRuns, RunLog};
+use crate::logs::{FlowList, HostRun, HostRuns, RunLog};
 use capture_items::{FirstNumbers, Found, InputFault, Item, find_items, next_batch};
 use local_host::LocalReplay;
 use pcap_frames::PcapRefused;

@@ -7,7 +7,7 @@ ghost use Rattle.run_texts.specs.Writes.{Writes};
 ghost use Rattle.tas_round.specs.Runs.{host_in, log_in};
 ghost use Rattle.tas_round.specs.Written.{WroteText};
 
-use crate::run::{FlowList, HostRun, HostRuns, RunLog};
+use crate::logs::{FlowList, HostRun, HostRuns, RunLog};
 use flow_state::FlowRecord;
 use run_texts::{
     Counts, Writer, write_counts, write_end, write_flow, write_host, write_log, write_title,

@@ -1,0 +1,13 @@
+pub mod Naming
+pub mod Lasting
+pub mod Fit
+pub mod Replies
+pub mod Going
+pub mod Walking
+pub mod Starting
+pub mod Answering
+pub mod Offers
+pub mod Sockets
+pub mod Stepping
+pub mod Aborting
+pub mod Playing

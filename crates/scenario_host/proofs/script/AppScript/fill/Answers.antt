@@ -1,0 +1,51 @@
+use Rattle.std.proofs.Common.{◌≡◌, ◌+◌, ◌≤◌, ◌-◌, ℕ, length, take, drop, sym, ap, ◌∙◌, arith, length-take}
+use Rattle.std.proofs.Common.{length-drop}
+use Rattle.scenario_runs.specs.Applications.{sends, filling, most}
+use Rattle.scenario_host.specs.Turns.{turn_of}
+use Rattle.local_host.proofs.Places.{ok_by}
+use Rattle.scenario_host.proofs.Offers.{length-filling}
+use Rattle.scenario_host.proofs.Sockets.{socket_below, on_found}
+use Rattle.scenario_host.proofs.script.AppScript.fill.Goals.{After-rest}
+use Rattle.scenario_host.proofs.script.AppScript.fill.Goals as goal
+
+-- what is offered
+offered : (c : After-rest) → c.rest.result.now ≡ take most (drop c.args.self.now.done (filling c.args.count))
+offered c = c.rest.ensures ∙ ap (λ (n : ℕ). take most (drop n (filling c.args.count))) c.done.ensures
+
+-- and how much that is
+count : (c : After-rest)
+    → (length c.rest.result.now ≤ most) × (c.args.self.now.done + length c.rest.result.now ≤ c.args.count)
+count c =
+    let rest = drop c.args.self.now.done (filling c.args.count) in
+    let len = ap length (offered c) in (
+      omega (arith, len, length-take most rest),
+      omega (
+        arith,
+        len,
+        length-take most rest,
+        length-drop c.args.self.now.done (filling c.args.count),
+        length-filling c.args.count,
+        c.requires.part,
+      ),
+    )
+
+pub offer-requires-clause-place : goal.offer-requires-clause-place
+offer-requires-clause-place c =
+    socket_below (length c.args.host.now.flows) c.args.self.now.names c.args.socket.now c.in-Some.place c.requires.names
+    (sym c.flow_of.ensures ∙ c.in-Some.is)
+
+pub offer-requires-clause-few : goal.offer-requires-clause-few
+offer-requires-clause-few c = (count c).0
+
+pub offer-requires-clause-part : goal.offer-requires-clause-part
+offer-requires-clause-part c = (count c).1
+
+pub returns : goal.returns
+returns c =
+    ok_by c.offer.result
+    (λ made.
+    made
+    ∙ on_found c.args.socket.now (λ (n : ℕ). sends n c.args.tick (filling c.args.count))
+    (turn_of c.args.host.now c.args.self.now) c.in-Some.place (sym c.flow_of.ensures ∙ c.in-Some.is))
+    (c.offer.ensures (filling c.args.count) (length-filling c.args.count)
+    (c.rest.ensures ∙ ap (λ (n : ℕ). take most (drop n (filling c.args.count))) c.done.ensures))

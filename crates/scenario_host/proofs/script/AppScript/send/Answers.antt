@@ -1,0 +1,32 @@
+use Rattle.std.proofs.Common.{◌≡◌, ◌-◌, ◌≤◌, ℕ, List, length, take, drop, refl, sym, ap, ◌∙◌, arith, length-drop}
+use Rattle.std.proofs.lemmas.List.{take_all}
+use Rattle.scenario_runs.specs.Applications.{sends, most}
+use Rattle.scenario_host.specs.Turns.{turn_of}
+use Rattle.local_host.proofs.Places.{ok_by}
+use Rattle.scenario_host.proofs.Sockets.{socket_below, on_found}
+use Rattle.scenario_host.proofs.script.AppScript.send.Goals as goal
+
+-- the rest of a text is offered whole
+rest_offered : (text : List ℕ) (done : ℕ) → length text ≤ 4096
+    → take (length text - done) (drop done text) ≡ take most (drop done text)
+rest_offered text done few =
+    let len = length-drop done text in
+    let all : length (drop done text) ≤ length text - done = omega (arith, len) in
+    let enough : length (drop done text) ≤ most = omega (arith, len, few) in
+    take_all (length text - done) (drop done text) all ∙ sym (take_all most (drop done text) enough)
+
+pub offer-requires-clause-place : goal.offer-requires-clause-place
+offer-requires-clause-place c =
+    socket_below (length c.args.host.now.flows) c.args.self.now.names c.args.socket.now c.in-Some.place c.requires.names
+    (sym c.flow_of.ensures ∙ c.in-Some.is)
+
+pub returns : goal.returns
+returns c =
+    ok_by c.offer.result
+    (λ made.
+    made
+    ∙ on_found c.args.socket.now (λ (n : ℕ). sends n c.args.tick c.args.text.now)
+    (turn_of c.args.host.now c.args.self.now) c.in-Some.place (sym c.flow_of.ensures ∙ c.in-Some.is))
+    (c.offer.ensures c.args.text.now refl
+    (rest_offered c.args.text.now c.done.result c.requires.few
+    ∙ ap (λ (n : ℕ). take most (drop n c.args.text.now)) c.done.ensures))

@@ -1,0 +1,196 @@
+ghost use Rattle.std.specs.Prelude.{◌≡◌, ◌≤◌, ◌++◌, ℕ, false, [], map, fold, length, IfOk, OnOk};
+ghost use Rattle.std.specs.List.{list_all};
+ghost use Rattle.host_rounds.specs.Lists.{Each};
+ghost use Rattle.host_rounds.specs.Hosts.{flows_of};
+ghost use Rattle.host_rounds.specs.Deliveries.{received_serially, delivered};
+ghost use Rattle.host_rounds.specs.SerialOrder.{ask_phase, serial_tick};
+ghost use Rattle.local_host.specs.Arriving.{arrival_in};
+ghost use Rattle.local_host.specs.Live.{flow_in, IsLegal};
+ghost use Rattle.scenario_ranges.specs.Ranges.{IsInRange, IsHostInRange};
+ghost use Rattle.scenario_runs.specs.Applications.{Script, has_ended};
+ghost use Rattle.scenario_runs.specs.Worlds.{site_of, scripts_of, numbers_of};
+ghost use Rattle.scenario_host.specs.Sound.{IsSound};
+ghost use Rattle.scenario_host.specs.Turns.{site_with};
+
+use crate::filling::FillBytes;
+use crate::numbers::HostNumbers;
+use crate::script::AppScript;
+use crate::start::scripts_on;
+use local_host::{Arrival, HostEnd, LocalHost};
+use scenario_text::{HostLine, Scenario};
+use std::alloc::{AllocError, Global};
+use std::marker::Model;
+
+/// A host of a scenario and its applications, seen as both in the middle of a run.
+#[derive(Drop)]
+pub struct ScenarioHost<'a> {
+    alloc: Global,
+    host: LocalHost,
+    numbers: HostNumbers,
+    filling: FillBytes,
+    scripts: Vec<AppScript<'a>>,
+}
+
+impl<'a> Model for ScenarioHost<'a> {
+    ghost use Rattle.std.specs.Prelude.{List};
+    ghost use Rattle.host_rounds.specs.Scripts.{Site};
+    ghost use Rattle.scenario_runs.specs.Applications.{Script};
+    ghost use Rattle.scenario_host.specs.Sound.{IsHosting};
+    ghost use Rattle.scenario_host.specs.Turns.{site_with};
+
+    ghost Value = { Site (List Script) };
+
+    ghost view = { λ h. site_with h.host h.scripts.items };
+
+    ghost invariant = { λ h. IsHosting h.numbers.params (site_with h.host h.scripts.items) };
+}
+
+impl<'a> ScenarioHost<'a> {
+    /// The host of a line of a scenario, with its applications at their first steps. The error is want of memory.
+    pub fn at_start(
+        alloc: Global,
+        s: &'a Scenario,
+        line: &'a HostLine,
+    ) -> Result<ScenarioHost<'a>, AllocError>
+        requires ranges { IsInRange s.now }
+        requires host { IsHostInRange line.now }
+        ensures { IfOk result (λ h. h ≡ site_of s.now line.now) }
+    {
+        let filling = FillBytes::new(alloc)?;
+        let scripts = scripts_on(alloc, s, line.name.as_slice())?;
+        Ok(ScenarioHost {
+            alloc,
+            host: LocalHost::new(alloc, line.params),
+            numbers: HostNumbers {
+                params: line.params,
+            },
+            filling,
+            scripts,
+        })
+    }
+
+    /// One tick, in serial order: the slow path, the frames that come, the call of each application, and what may go.
+    /// The error is want of memory, and leaves a host without flows and applications.
+    pub fn play(
+        &mut self,
+        tick: u32,
+        arrivals: &[Arrival<'_>],
+        s: &Scenario,
+    ) -> Result<(), AllocError>
+        ensures { OnOk result (self.new ≡ serial_tick (scripts_of s.now self.old.host.params) tick self.old
+            (record { frames = map arrival_in arrivals.now; asks = map (λ (x : Script). x.number) self.old.scripts })) }
+    {
+        match play_tick(
+            &mut self.host,
+            &mut self.scripts,
+            tick,
+            arrivals,
+            s,
+            &self.numbers,
+            &self.filling,
+        ) {
+            Ok(()) => Ok(()),
+            Err(error) => {
+                self.host = LocalHost::new(self.alloc, self.numbers.params);
+                self.scripts.clear();
+                Err(error)
+            }
+        }
+    }
+
+    /// Whether all scripts have ended.
+    pub fn have_ended(&self) -> bool
+        ensures { result ≡ list_all has_ended self.now.scripts }
+    {
+        have_ended(self.scripts.as_slice())
+    }
+
+    /// The host alone.
+    pub fn host(&self) -> &LocalHost
+        ensures { result.now ≡ self.now.host }
+    {
+        &self.host
+    }
+
+    /// What the host leaves after its last tick. The error is want of memory.
+    pub fn finish(self) -> Result<HostEnd, AllocError>
+        ensures log { IfOk result (λ end. end.log ≡ self.entry.host.log) }
+        ensures flows { IfOk result (λ end. map flow_in end.flows.items ≡ flows_of self.entry.host.flows) }
+        ensures legal { IfOk result (λ end. Each IsLegal end.flows.items) }
+    {
+        self.host.finish()
+    }
+}
+
+fn have_ended(scripts: &[AppScript<'_>]) -> bool
+    ensures { result ≡ list_all has_ended scripts.now }
+{
+    for script in scripts {
+        if !script.has_ended() {
+            return false;
+        }
+    }
+    true
+}
+
+/// A tick of a host and its scripts. The error is want of memory.
+fn play_tick(
+    host: &mut LocalHost,
+    scripts: &mut Vec<AppScript<'_>>,
+    tick: u32,
+    arrivals: &[Arrival<'_>],
+    s: &Scenario,
+    numbers: &HostNumbers,
+    filling: &FillBytes,
+) -> Result<(), AllocError>
+    requires params { numbers.now.params ≡ host.old.params }
+    requires sound { IsSound (site_with host.old scripts.old.items) }
+    ensures made { OnOk result (site_with host.new scripts.new.items
+        ≡ serial_tick (scripts_of s.now numbers.now.params) tick (site_with host.old scripts.old.items)
+        (record { frames = map arrival_in arrivals.now; asks = map (λ (x : Script). x.number) scripts.old.items })) }
+    ensures params { OnOk result (host.new.params ≡ host.old.params) }
+    ensures sound { OnOk result (IsSound (site_with host.new scripts.new.items)) }
+{
+    host.pass_time(tick)?;
+    deliver_all(host, tick, arrivals, numbers)?;
+    ask_all(host, scripts, tick, s, numbers, filling)?;
+    host.send_all(tick)
+}
+
+/// All frames that come to the host in a tick. The error is want of memory.
+fn deliver_all(
+    host: &mut LocalHost,
+    tick: u32,
+    arrivals: &[Arrival<'_>],
+    numbers: &HostNumbers,
+) -> Result<(), AllocError>
+    ensures { OnOk result (host.new ≡ fold (delivered received_serially (numbers_of numbers.now.params) tick)
+        host.old (map arrival_in arrivals.now)) }
+{
+    for arrival in arrivals {
+        host.deliver(tick, arrival, numbers)?;
+    }
+    Ok(())
+}
+
+/// The turns of all applications, in their order. The error is want of memory.
+fn ask_all(
+    host: &mut LocalHost,
+    scripts: &mut Vec<AppScript<'_>>,
+    tick: u32,
+    s: &Scenario,
+    numbers: &HostNumbers,
+    filling: &FillBytes,
+) -> Result<(), AllocError>
+    requires sound { IsSound (site_with host.old scripts.old.items) }
+    ensures made { OnOk result (site_with host.new scripts.new.items
+        ≡ ask_phase (scripts_of s.now numbers.now.params) tick (site_with host.old scripts.old.items)
+        (map (λ (x : Script). x.number) scripts.old.items)) }
+    ensures params { OnOk result (host.new.params ≡ host.old.params) }
+    ensures sound { OnOk result (IsSound (site_with host.new scripts.new.items)) }
+{
+    for script in scripts.iter_mut() {
+        script.take_turn(host, tick, s.hosts.as_slice(), numbers, filling)?;
+    }
+    Ok(())
+}

@@ -1,0 +1,14 @@
+//! The host of a scenario, with the applications that run on it: in a tick each of them makes the call of its step.
+#![tactic(auto)]
+
+mod calls;
+mod filling;
+mod host;
+mod kill;
+mod numbers;
+mod script;
+mod start;
+mod steps;
+mod streams;
+
+pub use host::ScenarioHost;

@@ -1,0 +1,291 @@
+ghost use Rattle.std.specs.Prelude.{◌≡◌, ◌<◌, ◌≤◌, ◌+◌, ◌==◌, false, [], length, OnOk};
+ghost use Rattle.flow_state.specs.Calls.{call_of};
+ghost use Rattle.host_rounds.specs.Hosts.{first_port};
+ghost use Rattle.scenario_ranges.specs.Ranges.{IsStepInRange};
+ghost use Rattle.scenario_runs.specs.Applications.{bound_in, port_of, listens, accepts, refused, connects_on};
+ghost use Rattle.scenario_runs.specs.Applications.{done_or, on_socket, once, ends, waits_for, step_of, turn};
+ghost use Rattle.scenario_runs.specs.Worlds.{numbers_of, address_in};
+ghost use Rattle.tas_model.specs.declared.entry.Call.TheVariants as calls;
+ghost use Rattle.scenario_host.specs.Sound.{IsPart, AreNamesOf, IsFit};
+ghost use Rattle.scenario_host.specs.Turns.{turn_of};
+ghost use Rattle.scenario_host.specs.Answers.{IsEndCall};
+
+use crate::calls::call_plainly;
+use crate::filling::FillBytes;
+use crate::numbers::HostNumbers;
+use crate::script::{AppScript, Bound};
+use flow_state::CallIn;
+use local_host::{Connecting, Holder, LocalHost};
+use scenario_text::{HostLine, Step};
+use std::alloc::AllocError;
+use tas_core::LogEvent;
+use tas_model::Caller;
+
+impl<'a> AppScript<'a> {
+    /// What the application asks in a tick: it is killed, or makes the call of its step; one that has ended asks
+    /// nothing. The error is want of memory.
+    pub fn take_turn(
+        &mut self,
+        host: &mut LocalHost,
+        tick: u32,
+        hosts: &[HostLine],
+        numbers: &HostNumbers,
+        filling: &FillBytes,
+    ) -> Result<(), AllocError>
+        requires listens { host.old.params.fixed ≡ false }
+        requires fit { IsFit (length host.old.flows) self.old }
+        ensures { OnOk result (turn_of host.new self.new
+            ≡ turn (numbers_of numbers.now.params) (address_in hosts.now) tick (turn_of host.old self.old)) }
+    {
+        if self.is_killed_at(tick) {
+            return self.be_killed(host, tick);
+        }
+        match self.left() {
+            [] => Ok(()),
+            [step, ..] => self.take_step(host, tick, step, hosts, numbers, filling),
+        }
+    }
+
+    /// The call of a step. The error is want of memory.
+    fn take_step(
+        &mut self,
+        host: &mut LocalHost,
+        tick: u32,
+        step: &'a Step,
+        hosts: &[HostLine],
+        numbers: &HostNumbers,
+        filling: &FillBytes,
+    ) -> Result<(), AllocError>
+        requires listens { host.old.params.fixed ≡ false }
+        requires range { IsStepInRange step.now }
+        requires part { IsPart step.now self.old.done }
+        requires names { AreNamesOf (length host.old.flows) self.old.names }
+        ensures { OnOk result (turn_of host.new self.new ≡ step_of (numbers_of numbers.now.params)
+            (address_in hosts.now) tick step.now (turn_of host.old self.old)) }
+    {
+        match step {
+            Step::Listen(name, port) => self.listen(host, tick, name.as_slice(), *port as u16),
+            Step::Accept(socket, listener) => {
+                self.accept(host, tick, socket.as_slice(), listener.as_slice())
+            }
+            Step::Connect(socket, name, port) => {
+                let raddr = address_of(hosts, name.as_slice());
+                self.connect(host, tick, socket.as_slice(), raddr, *port as u16, numbers)
+            }
+            Step::Send(socket, text) => self.send(host, tick, socket.as_slice(), text.as_slice()),
+            Step::Fill(socket, count) => self.fill(host, tick, socket.as_slice(), *count, filling),
+            Step::Recv(socket, count) => {
+                self.receive(host, tick, socket.as_slice(), Some(*count))
+            }
+            Step::Drain(socket) => self.receive(host, tick, socket.as_slice(), None),
+            Step::Shut(socket) => self.shut(host, tick, socket.as_slice()),
+            Step::Close(socket) => self.give_up(host, tick, socket.as_slice(), &CallIn::Close),
+            Step::Abort(socket) => self.give_up(host, tick, socket.as_slice(), &CallIn::Abort),
+            Step::Wait(ticks) => {
+                self.wait(*ticks);
+                Ok(())
+            }
+        }
+    }
+
+    /// It listens on the port, which is refused where another listener has it. The error is want of memory.
+    fn listen(
+        &mut self,
+        host: &mut LocalHost,
+        tick: u32,
+        name: &'a [u8],
+        port: u16,
+    ) -> Result<(), AllocError>
+        requires { port < first_port }
+        ensures { OnOk result (turn_of host.new self.new
+            ≡ listens tick name.now port (turn_of host.old self.old)) }
+    {
+        let app = self.number();
+        if host.is_listened(port) {
+            host.note(
+                tick,
+                LogEvent::Listen {
+                    app,
+                    port,
+                    ok: false,
+                },
+            )?;
+            self.step_over();
+            return Ok(());
+        }
+        host.note(
+            tick,
+            LogEvent::Listen {
+                app,
+                port,
+                ok: true,
+            },
+        )?;
+        host.listen(port, app)?;
+        self.bind(name, Bound::Listener(port))?;
+        self.step_over();
+        Ok(())
+    }
+
+    /// It accepts the connection of the listener that was opened first. The error is want of memory.
+    fn accept(
+        &mut self,
+        host: &mut LocalHost,
+        tick: u32,
+        socket: &'a [u8],
+        listener: &[u8],
+    ) -> Result<(), AllocError>
+        ensures { OnOk result (turn_of host.new self.new
+            ≡ accepts (port_of (bound_in self.old.names listener.now)) tick socket.now (turn_of host.old self.old)) }
+    {
+        let app = self.number();
+        let Some(port) = self.port_of(listener) else {
+            self.step_over();
+            return Ok(());
+        };
+        let Some(place) = host.first_ready(port) else {
+            return host.note(tick, LogEvent::AcceptNotYet { app, port });
+        };
+        host.ask(place, Caller::App(app), tick, &CallIn::Accept)?;
+        host.hold(place, Holder::Application(app));
+        self.bind(socket, Bound::Socket(place))?;
+        self.step_over();
+        Ok(())
+    }
+
+    /// It connects to the port of the host with this address, and from the next tick on asks whether the connection
+    /// stands. The error is want of memory.
+    fn connect(
+        &mut self,
+        host: &mut LocalHost,
+        tick: u32,
+        socket: &'a [u8],
+        raddr: u32,
+        rport: u16,
+        numbers: &HostNumbers,
+    ) -> Result<(), AllocError>
+        requires listens { host.old.params.fixed ≡ false }
+        requires names { AreNamesOf (length host.old.flows) self.old.names }
+        ensures { OnOk result (turn_of host.new self.new ≡ connects_on (numbers_of numbers.now.params) self.old.begun
+            tick socket.now raddr rport (turn_of host.old self.old)) }
+    {
+        if self.has_begun() {
+            return self.ask_ready(host, tick, socket);
+        }
+        match host.connect_out(tick, self.number(), raddr, rport, numbers)? {
+            Connecting::Opened(place) => {
+                self.bind(socket, Bound::Socket(place))?;
+                self.begin();
+                Ok(())
+            }
+            Connecting::NoSlot => self.be_refused(host, tick, raddr, rport, false),
+            Connecting::NoPort => self.be_refused(host, tick, raddr, rport, true),
+        }
+    }
+
+    /// Its connect is refused for want of a port, or else of a slot. The error is want of memory.
+    fn be_refused(
+        &mut self,
+        host: &mut LocalHost,
+        tick: u32,
+        raddr: u32,
+        rport: u16,
+        no_port: bool,
+    ) -> Result<(), AllocError>
+        ensures { OnOk result (turn_of host.new self.new
+            ≡ refused no_port tick raddr rport (turn_of host.old self.old)) }
+    {
+        let app = self.number();
+        host.note(
+            tick,
+            LogEvent::ConnectRefused {
+                app,
+                raddr,
+                rport,
+                no_port,
+            },
+        )?;
+        self.step_over();
+        Ok(())
+    }
+
+    /// It asks whether the connection stands. The error is want of memory.
+    fn ask_ready(
+        &mut self,
+        host: &mut LocalHost,
+        tick: u32,
+        socket: &[u8],
+    ) -> Result<(), AllocError>
+        requires names { AreNamesOf (length host.old.flows) self.old.names }
+        ensures { OnOk result (turn_of host.new self.new
+            ≡ on_socket socket.now (λ n. waits_for n tick calls.Ready) (turn_of host.old self.old)) }
+    {
+        let Some(place) = self.flow_of(socket) else {
+            self.step_over();
+            return Ok(());
+        };
+        let answer = call_plainly(host, self.number(), place, tick, &CallIn::Ready)?;
+        self.waited(answer);
+        Ok(())
+    }
+
+    /// It ends its stream. The error is want of memory.
+    fn shut(&mut self, host: &mut LocalHost, tick: u32, socket: &[u8]) -> Result<(), AllocError>
+        requires names { AreNamesOf (length host.old.flows) self.old.names }
+        ensures { OnOk result (turn_of host.new self.new
+            ≡ on_socket socket.now (λ n. once n tick calls.Shut) (turn_of host.old self.old)) }
+    {
+        let Some(place) = self.flow_of(socket) else {
+            self.step_over();
+            return Ok(());
+        };
+        call_plainly(host, self.number(), place, tick, &CallIn::Shut)?;
+        self.step_over();
+        Ok(())
+    }
+
+    /// It closes or aborts the connection, and gives the socket up. The error is want of memory.
+    fn give_up(
+        &mut self,
+        host: &mut LocalHost,
+        tick: u32,
+        socket: &[u8],
+        call: &CallIn<'_>,
+    ) -> Result<(), AllocError>
+        requires kind { IsEndCall call.now }
+        requires names { AreNamesOf (length host.old.flows) self.old.names }
+        ensures { OnOk result (turn_of host.new self.new
+            ≡ on_socket socket.now (λ n. ends n tick (call_of call.now) socket.now) (turn_of host.old self.old)) }
+    {
+        let Some(place) = self.flow_of(socket) else {
+            self.step_over();
+            return Ok(());
+        };
+        call_plainly(host, self.number(), place, tick, call)?;
+        host.hold(place, Holder::GivenUp);
+        self.unbind(socket);
+        self.step_over();
+        Ok(())
+    }
+
+    /// It lets a tick pass.
+    fn wait(&mut self, ticks: u32)
+        requires { self.old.done < ticks }
+        ensures { self.new ≡ done_or (self.old.done + 1 == ticks) (self.old.done + 1) self.old }
+    {
+        let done = self.done() + 1;
+        self.go_on(done == ticks, done);
+    }
+}
+
+/// The address of the host with this name; 0 where there is none.
+fn address_of(hosts: &[HostLine], name: &[u8]) -> u32
+    ensures { result ≡ address_in hosts.now name.now }
+{
+    for host in hosts {
+        if host.name.as_slice() == name {
+            return host.params.addr;
+        }
+    }
+    0
+}

@@ -1,0 +1,11 @@
+pub mod Lists
+pub mod Kept
+pub mod Grown
+pub mod ByTick
+pub mod WorldTicks
+pub mod Counted
+pub mod Ended
+pub mod Starts
+pub mod NextTick
+pub mod Played
+pub mod Finishing

@@ -1,0 +1,118 @@
+-- A tick of a world leads to the world before the next one.
+use Rattle.std.proofs.Common.{◌≡◌, ℕ, ◌+◌, ◌<◌, ◌≤◌, ◌||◌, Bool, nat_lt, eqb, List, [], ◌∷◌, ◌++◌, map, length, filter}
+use Rattle.std.proofs.Common.{refl, sym, ap, ◌∙◌, subst, arith}
+use Rattle.std.specs.List.{list_any}
+use Rattle.std.proofs.lemmas.List.{length-map}
+use Rattle.std.proofs.lemmas.List.Elements.{filter-append}
+use Rattle.tas_model.specs.declared.entry.HostParams.{HostParams}
+use Rattle.host_rounds.specs.Lists.{Each}
+use Rattle.host_rounds.specs.Scripts.{Site}
+use Rattle.link_script.specs.declared.frames.Sent.{Sent}
+use Rattle.link_script.specs.DueFrames.{due}
+use Rattle.link_script.proofs.Coming.{due_by_ticks}
+use Rattle.scenario_text.specs.declared.scenario.Scenario.{Scenario}
+use Rattle.scenario_text.specs.declared.scenario.HostLine.{HostLine}
+use Rattle.scenario_runs.specs.Applications.{Script}
+use Rattle.scenario_runs.specs.Worlds.{World, frames_of_hosts, sent_in, is_under_way}
+use Rattle.scenario_runs.specs.Runs.{serial_sites, serial_world}
+use Rattle.sent_frames.specs.declared.counts.SentCounts.{SentCounts}
+use Rattle.sent_frames.specs.Sending.{addresses_of, of_tick, AreUpTo}
+use Rattle.scenario_world.specs.declared.playing.Playing.{Playing}
+use Rattle.scenario_world.specs.Playing.{FramesBefore, AreCounted, AreCountedBefore, AreEarly, params_of, line_params, AreKept, IsWorld}
+use Rattle.scenario_world.proofs.ByTick.{SameBut, same_next, any_next, tick_frames}
+use Rattle.scenario_world.proofs.WorldTicks.{AreTicked, world_ticked, next_are_early, same_addresses, sent_but, sent_none}
+use Rattle.scenario_world.proofs.Counted.{before_ticked}
+
+-- ----- before the tick
+-- What is due goes by what is kept.
+pub due_as_kept : (s : Scenario) (t : ℕ) (world : World) (kept : List Sent) (last : ℕ) → AreKept s t world kept last
+    → due s.link kept t ≡ due s.link (sent_in world) t
+due_as_kept s t world kept last k =
+    due_by_ticks s.link kept (sent_in world) t k.low (λ f l. k.over f t l (omega arith)) k.same
+
+pub hosts_len : (s : Scenario) (t : ℕ) (p : Playing) → IsWorld s t p → length p.hosts.items ≡ length s.hosts
+hosts_len s t p w =
+    sym (length-map p.hosts.items (λ (site : Site (List Script)). site.host.params))
+    ∙ (ap length w.params ∙ length-map s.hosts (λ (h : HostLine). h.params))
+
+-- Each host played its part of the world's tick.
+pub played_world : (s : Scenario) (t : ℕ) (p : Playing) (came : List Sent) (lent hosts : World) → IsWorld s t p
+    → came ≡ due s.link p.sent t → lent ≡ p.hosts.items
+    → ((whole : World) → came ≡ due s.link (sent_in whole) t → hosts ≡ serial_sites s whole t 0 lent)
+    → hosts ≡ serial_world s t p.hosts.items
+unfolding serial_world
+played_world s t p came lent hosts w is same played =
+    played p.hosts.items (is ∙ due_as_kept s t p.hosts.items p.sent p.last w.kept)
+    ∙ ap (serial_sites s p.hosts.items t 0) same
+
+pub to_count : (s : Scenario) (t : ℕ) (p : Playing) (hosts : World) → IsWorld s t p
+    → hosts ≡ serial_world s t p.hosts.items → AreCountedBefore t hosts p.counts.items
+to_count s t p hosts w played =
+    subst (λ az. AreCountedBefore t az p.counts.items) (sym played)
+    (before_ticked t p.hosts.items (serial_world s t p.hosts.items) p.counts.items w.early w.counted
+    (world_ticked s t p.hosts.items w.early))
+
+up_to : (t : ℕ) (fs : List Sent) → FramesBefore t fs → AreUpTo t fs
+up_to t [] before = tt
+up_to t (f ∷ fs) before = ((let here : f.tick < t = before.0 in omega arith), up_to t fs before.1)
+
+pub kept_up_to : (s : Scenario) (t : ℕ) (p : Playing) → IsWorld s t p → AreUpTo t p.sent
+kept_up_to s t p w = up_to t p.sent w.kept.early
+
+-- ----- after it
+before_next : (t : ℕ) (fs : List Sent) → AreUpTo t fs → FramesBefore (t + 1) fs
+before_next t [] up = tt
+before_next t (f ∷ fs) up = ((let here : f.tick ≤ t = up.0 in omega arith), before_next t fs up.1)
+
+same_params : (t : ℕ) (before after : World) → AreTicked t before after → params_of after ≡ params_of before
+same_params t [] [] ticked = refl
+same_params t [] (a ∷ az) ticked = absurd ticked
+same_params t (b ∷ bs) [] ticked = absurd ticked
+same_params t (b ∷ bs) (a ∷ az) ticked =
+    ap (λ (q : HostParams). q ∷ params_of az) (ticked.0).kept.params
+    ∙ ap (λ (qs : List HostParams). b.host.params ∷ qs) (same_params t bs az ticked.1)
+
+next_kept : (s : Scenario) (t : ℕ) (before after : World) (kept next : List Sent) (last end : ℕ)
+    → AreKept s t before kept last → of_tick t (sent_in before) ≡ [] → SameBut t (sent_in before) (sent_in after)
+    → next ≡ kept ++ of_tick t (sent_in after) → AreUpTo t next
+    → ((n : ℕ) → nat_lt n end ≡ (nat_lt n last || list_any (is_under_way s.link n) (of_tick t next)))
+    → AreKept s (t + 1) after next end
+next_kept s t before after kept next last end k none but is up coming =
+    record {
+      early = before_next t next up;
+      low = k.low;
+      over = λ f u l le. k.over f u l (omega (arith, le));
+      same = λ n le.
+          ap (of_tick n) is ∙ same_next t k.low kept (sent_in before) (sent_in after) k.early k.same but n le;
+      coming = λ n.
+          let p : Sent → Bool = is_under_way s.link n in
+          any_next t p (sent_in before) (sent_in after) none but
+          ∙ (ap (λ b. b || list_any p (of_tick t (sent_in after))) (k.coming n)
+          ∙ sym (coming n
+          ∙ ap (λ fs. nat_lt n last || list_any p fs) (ap (of_tick t) is ∙ tick_frames t kept (sent_in after) k.early)));
+    }
+
+-- The world before the next tick.
+pub next_world : (s : Scenario) (t : ℕ) (p q : Playing) (after : World) (counts : List SentCounts) → IsWorld s t p
+    → q.hosts.items ≡ after → q.counts.items ≡ counts → q.addresses.items ≡ p.addresses.items
+    → after ≡ serial_world s t p.hosts.items → AreCounted after counts
+    → ((world : World) → p.addresses.items ≡ addresses_of world
+    → q.sent ≡ p.sent ++ of_tick t (frames_of_hosts world 0 after))
+    → AreUpTo t q.sent
+    → ((n : ℕ) → nat_lt n q.last ≡ (nat_lt n p.last || list_any (is_under_way s.link n) (of_tick t q.sent)))
+    → IsWorld s (t + 1) q
+next_world s t p q after counts w is_after is_counts addresses played counted sent up coming =
+    let before : World = p.hosts.items in
+    let ticked : AreTicked t before after =
+    subst (λ az. AreTicked t before az) (sym played) (world_ticked s t before w.early) in
+    let same : p.addresses.items ≡ addresses_of after = w.addresses ∙ sym (same_addresses t before after ticked) in
+    record {
+      params = ap params_of is_after ∙ (same_params t before after ticked ∙ w.params);
+      early = subst (λ az. AreEarly (t + 1) az) (sym is_after) (next_are_early t before after w.early ticked);
+      addresses = addresses ∙ (same ∙ ap addresses_of (sym is_after));
+      counted = subst (λ az. AreCounted az q.counts.items) (sym is_after)
+          (subst (λ cs. AreCounted after cs) (sym is_counts) counted);
+      kept = subst (λ az. AreKept s (t + 1) az q.sent q.last) (sym is_after)
+          (next_kept s t before after p.sent q.sent p.last q.last w.kept (sent_none t before w.early)
+          (sent_but t before after ticked) (sent after same) up coming);
+    }

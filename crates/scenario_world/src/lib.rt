@@ -1,0 +1,10 @@
+//! The run of a scenario in serial order: its hosts, their applications, and the link between them.
+#![tactic(auto)]
+
+mod arriving;
+mod collecting;
+mod playing;
+mod resting;
+mod world;
+
+pub use world::{WorldEnd, play_scenario};

@@ -1,0 +1,101 @@
+ghost use Rattle.std.specs.Prelude.{◌≡◌, ℕ, ◌+◌, ◌<◌, ◌^◌, length, IfOk, OnOk};
+ghost use Rattle.link_script.specs.DueFrames as frames;
+ghost use Rattle.scenario_text.specs.declared.scenario.Scenario.{Scenario};
+ghost use Rattle.scenario_ranges.specs.Ranges.{IsInRange};
+ghost use Rattle.scenario_runs.specs.Worlds.{World, at_start as model_start, sent_in, is_at_rest as model_rest};
+ghost use Rattle.scenario_runs.specs.Runs.{serial_sites, serial_world};
+ghost use Rattle.scenario_world.specs.Playing.{IsWorld};
+
+use crate::arriving::arrivals_at;
+use crate::collecting::collect_all;
+use crate::resting::{are_closed, have_ended, last_coming};
+use link_script::{DueList, SentList, due};
+use scenario_host::ScenarioHost;
+use scenario_text::Scenario;
+use sent_frames::SentCounts;
+use std::alloc::{AllocError, Global};
+
+/// The hosts of a scenario between two ticks, and what is kept of the frames that they sent.
+#[derive(Drop)]
+pub struct Playing<'a> {
+    pub hosts: Vec<ScenarioHost<'a>>,
+    pub addresses: Vec<u32>,
+    pub counts: Vec<SentCounts>,
+    pub sent: SentList,
+    /// The tick in which the last of all frames comes that were sent and not lost; 0 where there is none.
+    pub last: u64,
+}
+
+/// The hosts of a scenario before the first tick. The error is want of memory.
+pub fn at_start<'a>(alloc: Global, s: &'a Scenario) -> Result<Playing<'a>, AllocError>
+    requires { IsInRange s.now }
+    ensures hosts { IfOk result (λ p. p.hosts.items ≡ model_start s.now) }
+    ensures world { IfOk result (λ p. IsWorld s.now 0 p) }
+{
+    let mut hosts = Vec::new(alloc);
+    let mut addresses = Vec::new(alloc);
+    let mut counts = Vec::new(alloc);
+    for line in s.hosts.as_slice() {
+        hosts.push(ScenarioHost::at_start(alloc, s, line)?)?;
+        addresses.push(line.params.addr)?;
+        counts.push(SentCounts::new(alloc))?;
+    }
+    Ok(Playing {
+        hosts,
+        addresses,
+        counts,
+        sent: SentList::new(alloc),
+        last: 0,
+    })
+}
+
+/// Plays a tick of all hosts. The error is want of memory.
+pub fn play_tick(
+    alloc: Global,
+    s: &Scenario,
+    tick: u32,
+    p: &mut Playing<'_>,
+) -> Result<(), AllocError>
+    requires ranges { IsInRange s.now }
+    requires world { IsWorld s.now tick p.old }
+    ensures hosts { OnOk result (p.new.hosts.items ≡ serial_world s.now tick p.old.hosts.items) }
+    ensures world { OnOk result (IsWorld s.now (tick + 1) p.new) }
+{
+    let due = due(alloc, &s.link, &p.sent, tick)?;
+    play_hosts(alloc, s, tick, &due, &mut p.hosts)?;
+    collect_all(
+        alloc,
+        tick,
+        &p.hosts,
+        &p.addresses,
+        &mut p.counts,
+        &mut p.sent,
+    )?;
+    p.last = last_coming(&s.link, p.sent.sent_in(tick), p.last);
+    Ok(())
+}
+
+/// Each host plays a tick, in which these frames are due. The error is want of memory.
+fn play_hosts(
+    alloc: Global,
+    s: &Scenario,
+    tick: u32,
+    due: &DueList,
+    hosts: &mut [ScenarioHost<'_>],
+) -> Result<(), AllocError>
+    ensures { (whole : World) → due.now ≡ frames.due s.now.link (sent_in whole) tick
+        → OnOk result (hosts.new ≡ serial_sites s.now whole tick 0 hosts.old) }
+{
+    for (number, host) in hosts.iter_mut().enumerate() {
+        let arrivals = arrivals_at(alloc, due, number)?;
+        host.play(tick, &arrivals, s)?;
+    }
+    Ok(())
+}
+
+/// Whether all is at rest after a tick: all scripts have ended, all flows are closed, and no frame is on the link.
+pub fn is_at_rest(tick: u32, p: &Playing<'_>) -> bool
+    ensures { (s : Scenario) → IsWorld s (tick + 1) p.now → result ≡ model_rest s tick p.now.hosts.items }
+{
+    have_ended(&p.hosts) && are_closed(&p.hosts) && p.last <= u64::from(tick)
+}
