@@ -1,5 +1,6 @@
 pub mod Words
 pub mod Requests
+pub mod Runs
 pub mod Stops
 pub mod Outputs
 pub mod Telling

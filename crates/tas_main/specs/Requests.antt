@@ -1,12 +1,14 @@
 -- What the code's words, options and requests are.
 use Rattle.std.specs.Prelude.{option_map}
-use Rattle.tas_main.specs.Words.{Options, Progress, Refused, Reads, WantsCores, WantsAddress, Form, Unknown, Scenario}
-use Rattle.tas_main.specs.Words.{Replay, Request}
+use Rattle.tas_main.specs.Words.{Options, Progress, Refused, Reads, WantsCores, WantsAddress, Form, Unknown, Run, Bulk}
+use Rattle.tas_main.specs.Words.{Replay, Input, Scenario, Capture, Request}
 use Rattle.tas_main.specs.declared.words.Options as code_options
 use Rattle.tas_main.specs.declared.words.Progress as code_progress
 use Rattle.tas_main.specs.declared.words.Progress.TheVariants as progress
 use Rattle.tas_main.specs.declared.words.Form as code_form
 use Rattle.tas_main.specs.declared.words.Form.TheVariants as form
+use Rattle.tas_main.specs.declared.words.Input as code_input
+use Rattle.tas_main.specs.declared.words.Input.TheVariants as input
 use Rattle.tas_main.specs.declared.words.Request as code_request
 
 abbrev pub options_in : code_options.Options → Options
@@ -27,8 +29,13 @@ progress_in (progress.WantsAddress o) = WantsAddress (options_in o)
 
 abbrev pub form_in : code_form.Form → Form
 form_in form.Unknown = Unknown
-form_in form.Scenario = Scenario
+form_in (form.Run cores pcap) = Run cores pcap
+form_in form.Bulk = Bulk
 form_in (form.Replay local cores pcap loose) = Replay local.now cores pcap loose
 
+abbrev pub input_in : code_input.Input → Input
+input_in input.Scenario = Scenario
+input_in (input.Capture local loose) = Capture local loose
+
 abbrev pub request_in : code_request.Request → Request
-request_in r = record { local = r.local; loose = r.loose; pcap = r.pcap }
+request_in r = record { input = input_in r.input; pcap = r.pcap }

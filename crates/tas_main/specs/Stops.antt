@@ -1,64 +1,64 @@
--- Why a run of the program stops before all was written, and what became of its streams.
-use Rattle.std.specs.Prelude.{◌≡◌, ◌⊎◌, ℕ, ◌+◌, ◌<◌, ◌≤◌, List, [], length, Option, Err, IfSome, Bool, true, false, not}
-use Rattle.std.specs.Prelude.{⊤}
+-- Why a run of the program ends with another status than 0, and what became of its streams.
+use Rattle.std.specs.Prelude.{◌≡◌, ◌⊎◌, ℕ, ◌+◌, ◌<◌, ◌≤◌, List, [], length, Option, Some, Err, IfSome, Bool}
+use Rattle.std.specs.Prelude.{true, false, not, ⊤}
 use Rattle.std.specs.Io.KnownBytes.{Consumes, IsAtEnd}
 use Rattle.tas_num.specs.Causes.{Rose}
 use Rattle.tas_num.specs.Captures.{Fault, capture_of, record_of}
 use Rattle.tas_num.specs.Streams.{SourceState, SinkState, Wrote}
 use Rattle.tas_num.specs.declared.outside.IoFault.TheVariants.{Failed, OutOfMemory}
-use Rattle.tas_main.specs.Words.{form_of, IsForm, is_built, IsAsked}
+use Rattle.scenario_text.specs.Reads.{reads}
+use Rattle.scenario_text.specs.declared.reading.ScenarioFault.TheVariants as faults
+use Rattle.tas_main.specs.Words.{form_of, IsForm, is_built, IsAsked, Input, Scenario, Capture, Request, Asks}
+use Rattle.tas_main.specs.Words.{most_bytes}
+use Rattle.tas_main.specs.Runs.{Given, Ran}
 use Rattle.tas_main.specs.declared.stop.Stop.{Stop}
-use Rattle.tas_main.specs.declared.stop.Stop.TheVariants.{Words, Input, Read, Write, Memory, TooLong, NotBuilt}
+use Rattle.tas_main.specs.declared.stop.Stop.TheVariants.{Stalled, Words, Line, Record, Read, Write, Memory, TooLong}
+use Rattle.tas_main.specs.declared.stop.Stop.TheVariants.{NotBuilt}
 
 -- the status that the program ends with
 abbrev pub status_of : Stop → ℕ
+status_of Stalled = 1
 status_of Words = 2
-status_of (Input number) = 3
+status_of (Line number) = 3
+status_of (Record number) = 3
 status_of Read = 4
 status_of Write = 5
 status_of Memory = 6
 status_of TooLong = 7
 status_of NotBuilt = 8
 
--- the most bytes that a capture may have
-abbrev pub most_bytes : ℕ
-most_bytes = 67108864
-
--- What a call was given, and what became of its source and its sink.
-pub record Given : Type 0 where
-  pub words : List (List ℕ)
-  pub source : SourceState  -- before the call
-  pub read : SourceState  -- after it
-  pub sink : SinkState
-  pub written : SinkState
-
-abbrev pub given : (words : List (List ℕ)) → (source read : SourceState) → (sink written : SinkState) → Given
-given words source read sink written =
-    record { words = words; source = source; read = read; sink = sink; written = written }
-
--- the bytes are no capture, and this record is at fault, or the file header where it is 0
-abbrev pub IsNoCapture : List ℕ → (number : ℕ) → Type 0
-IsNoCapture b number = (fault : Fault) × (capture_of b ≡ Err fault) × (record_of fault ≡ number)
-
--- why the words are not those of a replay on one thread: they are of no form of the program, or of one that is not
--- built
+-- why the words ask for no run on one thread: they are of no form of the program, or of one that is not built
 abbrev pub Unasked : (words : List (List ℕ)) → Stop → Type 0
 Unasked words Words = ¬ IsForm (form_of words)
 Unasked words NotBuilt = IsForm (form_of words) × (is_built (form_of words) ≡ false)
 Unasked words _ = ⊥
 
--- why it stops so
+-- why the input is none of its kind, where its bytes are told: they are no scenario, and this is the first line that is
+-- refused; or no capture, and this record is at fault, or the file header where it is 0
+abbrev pub IsNoInput : Stop → Input → Option (List ℕ) → Type 0
+IsNoInput (Line number) Scenario input = IfSome input (λ b. (kind : ℕ) × (reads b ≡ Err (faults.Refused number kind)))
+IsNoInput (Record number) (Capture local loose) input =
+    IfSome input (λ b. (fault : Fault) × (capture_of b ≡ Err fault) × (record_of fault ≡ number))
+IsNoInput _ _ input = ⊥
+
+-- the input is none of the kind that the words ask for
+abbrev pub Misfits : Given → Stop → Type 0
+Misfits g stop = (r : Request) × Asks (form_of g.words) r × IsNoInput stop r.input g.source.left
+
+-- why it ends so
 abbrev pub Cause : Given → Stop → Type 0
+Cause g Stalled = Ran g (λ r log. log.stalled ≡ true)
 Cause g Words = Unasked g.words Words
-Cause g (Input number) = IfSome g.source.left (λ b. IsNoCapture b number)
+Cause g (Line number) = Misfits g (Line number)
+Cause g (Record number) = Misfits g (Record number)
 Cause g Read = Rose g.source.faults g.read.faults
 Cause g Write = Rose g.sink.faults g.written.faults
 Cause g Memory = ⊤
-Cause g TooLong = IfSome g.source.left (λ b. most_bytes < length b)
+Cause g TooLong = IfSome g.source.left (λ b. most_bytes g.words < length b)
 Cause g NotBuilt = Unasked g.words NotBuilt
 
 -- ----- the order
--- the words are looked at first: any other stop is one of words that are a replay's
+-- the words are looked at first: any other stop is one of words that ask for a run
 abbrev pub WordsFirst : (words : List (List ℕ)) → Stop → Type 0
 WordsFirst words Words = ⊤
 WordsFirst words NotBuilt = ⊤
@@ -80,12 +80,13 @@ pub record ReadsAll (limit : ℕ) (before after : SourceState) : Type 0 where
 abbrev pub ReadsPast : (limit : ℕ) → (before after : SourceState) → Type 0
 ReadsPast limit before after = (taken : List ℕ) × (length taken ≡ limit + 1) × Consumes before.left after.left taken
 
--- what was read before it stopped so
-abbrev pub ReadBefore : (before after : SourceState) → Stop → Type 0
-ReadBefore before after (Input number) = ReadsAll most_bytes before after
-ReadBefore before after Write = ReadsAll most_bytes before after
-ReadBefore before after TooLong = ReadsPast most_bytes before after
-ReadBefore before after _ = ⊤
+-- what was read before it stopped so, of an input that may have so much
+abbrev pub ReadBefore : (limit : ℕ) → (before after : SourceState) → Stop → Type 0
+ReadBefore limit before after (Line number) = ReadsAll limit before after
+ReadBefore limit before after (Record number) = ReadsAll limit before after
+ReadBefore limit before after Write = ReadsAll limit before after
+ReadBefore limit before after TooLong = ReadsPast limit before after
+ReadBefore limit before after _ = ⊤
 
 -- why not all of the input was read, of which there may be so much
 abbrev pub Unread : (before after : SourceState) → (limit : ℕ) → Stop → Type 0
@@ -118,11 +119,10 @@ Unwrites before after Write = ⊤
 Unwrites before after Memory = ⊤
 Unwrites before after _ = after ≡ before
 
--- why a capture was not replayed
-abbrev pub Unreplayed : List ℕ → Stop → Type 0
-Unreplayed b (Input number) = IsNoCapture b number
-Unreplayed b Memory = ⊤
-Unreplayed b _ = ⊥
+-- why there is no run of these bytes
+abbrev pub Unrun : Input → List ℕ → Stop → Type 0
+Unrun input b Memory = ⊤
+Unrun input b stop = IsNoInput stop input (Some b)
 
 -- why not all of a text was written: the write failed; or there was no memory, before the first write or in it
 abbrev pub Unwritten : (before after : SinkState) → (text : List ℕ) → Stop → Type 0

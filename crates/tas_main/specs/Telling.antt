@@ -3,15 +3,18 @@ use Rattle.std.specs.Prelude.{ℕ, List, [], ◌++◌, codes, decimal, Result}
 use Rattle.tas_num.specs.declared.outside.IoFault.{IoFault}
 use Rattle.tas_num.specs.Streams.{SinkState, Wrote}
 use Rattle.tas_main.specs.declared.stop.Stop.{Stop}
-use Rattle.tas_main.specs.declared.stop.Stop.TheVariants.{Words, Input, Read, Write, Memory, TooLong, NotBuilt}
+use Rattle.tas_main.specs.declared.stop.Stop.TheVariants.{Stalled, Words, Line, Record, Read, Write, Memory, TooLong}
+use Rattle.tas_main.specs.declared.stop.Stop.TheVariants.{NotBuilt}
 
 -- the number, and the end of the line
 abbrev pub numbered : (number : ℕ) → List ℕ
 numbered number = decimal number ++ codes "\n"
 
 abbrev pub fault_line : Stop → List ℕ
+fault_line Stalled = codes "tas: stalled\n"
 fault_line Words = codes "tas: words\n"
-fault_line (Input number) = codes "tas: input record " ++ numbered number
+fault_line (Line number) = codes "tas: input line " ++ numbered number
+fault_line (Record number) = codes "tas: input record " ++ numbered number
 fault_line Read = codes "tas: read\n"
 fault_line Write = codes "tas: write\n"
 fault_line Memory = codes "tas: memory\n"

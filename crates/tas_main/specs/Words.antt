@@ -84,7 +84,8 @@ options_of words = fold after_word (Reads no_options) words
 -- What the words are.
 pub data Form : Type 0 where
   Unknown : Form  -- of no form
-  Scenario : Form  -- `run`, or `bulk` with its number
+  Run : (cores : Option ℕ) → (pcap : Bool) → Form  -- `run`
+  Bulk : Form  -- `bulk` with its number
   Replay : (local : List ℕ) → (cores : Option ℕ) → (pcap loose : Bool) → Form  -- `replay`, with the text of `--local`
 
 -- a scenario has neither address nor checksums, and is serial or on cores
@@ -92,12 +93,12 @@ abbrev pub takes_scenario : Options → Bool
 takes_scenario o = not (is_some o.local) && not o.loose && not (o.serial && is_some o.cores)
 
 abbrev pub run_form : Progress → Form
-run_form (Reads o) = if takes_scenario o then Scenario else Unknown
+run_form (Reads o) = if takes_scenario o then Run o.cores o.pcap else Unknown
 run_form _ = Unknown
 
 -- a made one is not shown as a capture
 abbrev pub bulk_form : (number : Option ℕ) → Progress → Form
-bulk_form (Some n) (Reads o) = if takes_scenario o && not o.pcap then Scenario else Unknown
+bulk_form (Some n) (Reads o) = if takes_scenario o && not o.pcap then Bulk else Unknown
 bulk_form _ _ = Unknown
 
 -- a replay has an address, and cores where it is not serial
@@ -126,26 +127,42 @@ form_of (command ∷ words) =
 -- The words are of a form: an address of a replay is one.
 abbrev pub IsForm : Form → Type 0
 IsForm Unknown = ⊥
-IsForm Scenario = ⊤
+IsForm (Run cores pcap) = ⊤
+IsForm Bulk = ⊤
 IsForm (Replay text cores pcap loose) = (local : Ipv4Addr) × IsIpv4Text text local
 
--- The form is built: a replay on one thread.
+-- The form is built: a given scenario or a replay, on one thread.
 abbrev pub is_built : Form → Bool
+is_built (Run None pcap) = true
 is_built (Replay text None pcap loose) = true
 is_built _ = false
 
--- What the words ask for.
+-- What the input is: a scenario, or a capture of what the host with this address saw, with `loose` no checksum of which
+-- is looked at.
+pub data Input : Type 0 where
+  Scenario : Input
+  Capture : (local : Ipv4Addr) → (loose : Bool) → Input
+
+-- What is asked for: a run of this input, which is shown by its report, or by the frames that it sent.
 pub record Request : Type 0 where
-  pub local : Ipv4Addr
-  pub loose : Bool
+  pub input : Input
   pub pcap : Bool
 
--- The words are a replay's on one thread, and ask for this.
-pub record IsReplay (words : List (List ℕ)) (r : Request) : Type 0 where
-  pub text : List ℕ
-  pub form : form_of words ≡ Replay text None r.pcap r.loose
-  pub address : IsIpv4Text text r.local
+-- Words of this form ask for this, on one thread.
+abbrev pub Asks : Form → Request → Type 0
+Asks (Run None pcap) r = r ≡ record { input = Scenario; pcap = pcap }
+Asks (Replay text None pcap loose) r =
+    (local : Ipv4Addr) × IsIpv4Text text local × (r ≡ record { input = Capture local loose; pcap = pcap })
+Asks _ r = ⊥
 
--- The words are a replay's on one thread.
+-- The words ask for a run on one thread.
 abbrev pub IsAsked : (words : List (List ℕ)) → Type 0
-IsAsked words = (r : Request) × IsReplay words r
+IsAsked words = (r : Request) × Asks (form_of words) r
+
+-- the most bytes that the input may have: 1 MiB for a scenario, and 64 MiB for a capture
+abbrev pub most_in : Form → ℕ
+most_in (Run cores pcap) = 1048576
+most_in _ = 67108864
+
+abbrev pub most_bytes : (words : List (List ℕ)) → ℕ
+most_bytes words = most_in (form_of words)

@@ -4,6 +4,7 @@
 mod input;
 #[cfg(test)]
 mod rows;
+mod runs;
 mod stop;
 mod streams;
 mod telling;

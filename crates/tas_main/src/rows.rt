@@ -1,10 +1,11 @@
-//! Worked replays: from words and input to status, output and fault line.
+//! Worked runs: from words and input to status, output and fault line.
 
 mod batches;
 mod captures;
 mod closings;
 mod long_captures;
 mod openings;
+mod scenarios;
 mod transfers;
 mod written_captures;
 

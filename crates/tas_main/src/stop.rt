@@ -1,20 +1,24 @@
 ghost use Rattle.std.specs.Prelude.{◌≡◌};
 ghost use Rattle.tas_main.specs.Stops.{status_of};
 
-/// Why the program stopped before all was written.
+/// Why the program ends with another status than 0.
 #[derive(Clone, Copy, PartialEq, Eq, Debug)]
 pub enum Stop {
+    /// All was written, and a script of the scenario has not ended after its last tick.
+    Stalled,
     /// The words are of none of the program's forms.
     Words,
+    /// The input is no scenario; the first line that is refused, counted from 1.
+    Line { number: u64 },
     /// The input is no capture; the record at fault, or 0 for the file header.
-    Input { number: u32 },
+    Record { number: u32 },
     /// The source failed.
     Read,
     /// The sink failed.
     Write,
     /// There was no memory.
     Memory,
-    /// The source gave more than a capture may have.
+    /// The source gave more than an input of its kind may have.
     TooLong,
     /// The words are of a form that is not built.
     NotBuilt,
@@ -26,8 +30,9 @@ impl Stop {
         ensures { result ≡ status_of self }
     {
         match self {
+            Stop::Stalled => 1,
             Stop::Words => 2,
-            Stop::Input { .. } => 3,
+            Stop::Line { .. } | Stop::Record { .. } => 3,
             Stop::Read => 4,
             Stop::Write => 5,
             Stop::Memory => 6,

@@ -1,4 +1,4 @@
-ghost use Rattle.std.specs.Prelude.{◌++◌, [], codes};
+ghost use Rattle.std.specs.Prelude.{◌++◌, []};
 ghost use Rattle.tas_num.specs.Streams.{Wrote};
 ghost use Rattle.tas_main.specs.Telling.{fault_line, numbered, IsTold};
 
@@ -19,8 +19,10 @@ fn put_line<F: Sink>(faults: &mut F, stop: Stop) -> Result<(), IoFault>
     ensures { Wrote (F.state faults.old) result (F.state faults.new) (fault_line stop) [] }
 {
     match stop {
+        Stop::Stalled => put(faults, "tas: stalled\n"),
         Stop::Words => put(faults, "tas: words\n"),
-        Stop::Input { number } => put_numbered(faults, number),
+        Stop::Line { number } => put_numbered(faults, "tas: input line ", number),
+        Stop::Record { number } => put_numbered(faults, "tas: input record ", u64::from(number)),
         Stop::Read => put(faults, "tas: read\n"),
         Stop::Write => put(faults, "tas: write\n"),
         Stop::Memory => put(faults, "tas: memory\n"),
@@ -29,17 +31,16 @@ fn put_line<F: Sink>(faults: &mut F, stop: Stop) -> Result<(), IoFault>
     }
 }
 
-/// Writes the fault line of an input with this record at fault.
-fn put_numbered<F: Sink>(faults: &mut F, number: u32) -> Result<(), IoFault>
-    ensures { Wrote (F.state faults.old) result (F.state faults.new)
-        (codes "tas: input record " ++ numbered number) [] }
+/// Writes the fault line that names a part of the input by its number.
+fn put_numbered<F: Sink>(faults: &mut F, part: &str, number: u64) -> Result<(), IoFault>
+    ensures { Wrote (F.state faults.old) result (F.state faults.new) (part.now ++ numbered number) [] }
 {
-    put(faults, "tas: input record ")?;
+    put(faults, part)?;
     put_end(faults, number)
 }
 
 /// Writes a number and the end of the line.
-fn put_end<F: Sink>(faults: &mut F, number: u32) -> Result<(), IoFault>
+fn put_end<F: Sink>(faults: &mut F, number: u64) -> Result<(), IoFault>
     ensures { Wrote (F.state faults.old) result (F.state faults.new) (numbered number) [] }
 {
     let mut digits = Buffer::new();

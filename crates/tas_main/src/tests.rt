@@ -45,7 +45,8 @@ records 3 frames 3 passed 0 refused 0\n\
 end 3 ticks\n\
 ";
 
-fn words(alloc: Global, line: &str) -> Result<Vec<String>, Fail> {
+/// The words of a line.
+pub fn words(alloc: Global, line: &str) -> Result<Vec<String>, Fail> {
     let mut words = Vec::new(alloc);
     for word in line.split_whitespace() {
         words.push(String::from_str(alloc, word)?)?;
@@ -128,10 +129,8 @@ fn words_of_no_form_are_refused(rt: HostRuntime) -> Result<(), Fail> {
 }
 
 #[test]
-fn scenarios_and_cores_are_not_built(rt: HostRuntime) -> Result<(), Fail> {
+fn made_scenarios_and_cores_are_not_built(rt: HostRuntime) -> Result<(), Fail> {
     let lines = [
-        "run",
-        "run --serial",
         "run --cores 4 --pcap",
         "run --pcap --cores=16",
         "bulk 1",

@@ -1,19 +1,19 @@
-ghost use Rattle.std.specs.Prelude.{◌≡◌, ◌⊎◌, ◌≤◌, [], length, map, string_bytes, true, false, Ok, IfOk, IfErr, OnOk};
-ghost use Rattle.std.specs.Prelude.{OnErr};
+ghost use Rattle.std.specs.Prelude.{◌≡◌, ◌≢◌, ◌⊎◌, [], map, string_bytes, true, false, if◌then◌else◌, Ok, Err, IfOk};
+ghost use Rattle.std.specs.Prelude.{IfErr, OnOk, OnErr};
 ghost use Rattle.std.specs.Io.KnownBytes.{Keeps};
-ghost use Rattle.std.specs.Net.Addr.{ipv4_bits};
 ghost use Rattle.tas_num.specs.Streams.{Wrote};
-ghost use Rattle.tas_runs.specs.SerialOrder.{serial_replay};
 ghost use Rattle.tas_round.specs.Runs.{log_in};
-ghost use Rattle.tas_main.specs.Stops.{given, most_bytes, Cause, status_of, writes_nothing, Unreplayed, Unwritten, Unwrites};
-ghost use Rattle.tas_main.specs.Stops.{WordsFirst, Untouched, ReadsAll, ReadsPast, ReadBefore, SourceCalm, SinkCalm};
+ghost use Rattle.tas_main.specs.Runs.{given};
+ghost use Rattle.tas_main.specs.Stops.{Cause, status_of, writes_nothing, Unwritten, Unwrites, WordsFirst, Untouched};
+ghost use Rattle.tas_main.specs.Stops.{ReadsAll, ReadsPast, ReadBefore, SourceCalm, SinkCalm};
 ghost use Rattle.tas_main.specs.Telling.{IsTold};
 ghost use Rattle.tas_main.specs.Outputs.{output, WritesAll, WritesFront, IsWhole};
 ghost use Rattle.tas_main.specs.Requests.{request_in};
-ghost use Rattle.tas_main.specs.Words.{IsAsked};
+ghost use Rattle.tas_main.specs.Words.{IsAsked, most_bytes};
 ghost use Rattle.tas_main.specs.declared.stop.Stop.{Stop};
 
 use crate::input::read_all;
+use crate::runs::run_of;
 use crate::stop::Stop;
 use crate::telling::tell;
 use crate::words::{Request, read_words};
@@ -21,10 +21,7 @@ use std::alloc::Global;
 use std::sync::Wait;
 use std::thread::Threads;
 use tas_num::{Gate, IoFault, Sink, Source};
-use tas_round::{ReplayFault, RunLog, replay_serially, write_capture, write_report};
-
-/// The most bytes that a capture may have.
-const MOST: u32 = 67_108_864;
+use tas_round::{RunLog, write_capture, write_report};
 
 /// Runs what the words ask for, and answers the status that the program ends with. The output goes to `sink`. Where the
 /// status is not 0, a fault line goes to `faults`; if that fails, the status stays. What one thread does waits for
@@ -38,24 +35,26 @@ pub fn tas<R: Threads + Wait + Sync, S: Source, K: Sink, F: Sink, G: Gate>(
     faults: &mut F,
     _gate: &G,
 ) -> u8
-    // At status 0 the sink grew by exactly the text of the run that was asked for.
-    ensures headline { result ≡ 0
+    // At status 0 and 1 the sink grew by exactly the text of the run that was asked for, and 1 says that it is stalled.
+    ensures headline { (result ≡ 0) ⊎ (result ≡ 1)
         → WritesAll (given (map string_bytes words.now) (S.state source.old) (S.state source.new)
-        (K.state sink.old) (K.state sink.new)) }
-    // Every other status has its cause, and the fault line tells of it.
+        (K.state sink.old) (K.state sink.new)) result }
+    // Every status but 0 has its cause, and the fault line tells of it.
     ensures cause { (result ≡ 0) ⊎ ((stop : Stop) × (result ≡ status_of stop)
         × Cause (given (map string_bytes words.now) (S.state source.old) (S.state source.new)
         (K.state sink.old) (K.state sink.new)) stop
         × IsTold stop (F.state faults.old) (F.state faults.new)) }
     // At status 0 nothing is told.
     ensures silent { result ≡ 0 → F.state faults.new ≡ F.state faults.old }
-    // The words are looked at first: every status but 2 and 8 is one of a replay's words, and at those nothing is read.
+    // The words are looked at first: every status but 2 and 8 is one of words that ask for a run, and at those nothing
+    // is read.
     ensures order { (result ≡ 2) ⊎ ((result ≡ 8) ⊎ IsAsked (map string_bytes words.now)) }
     ensures unread { (result ≡ 2) ⊎ (result ≡ 8) → S.state source.new ≡ S.state source.old }
-    // Then all of the input is read, which is within its length at 0, 3 and 5; at 7 one byte past that was taken.
-    ensures read { (result ≡ 0) ⊎ ((result ≡ 3) ⊎ (result ≡ 5))
-        → ReadsAll most_bytes (S.state source.old) (S.state source.new) }
-    ensures past { result ≡ 7 → ReadsPast most_bytes (S.state source.old) (S.state source.new) }
+    // Then all of the input is read, which is within its length at 0, 1, 3 and 5; at 7 one byte past that was taken.
+    ensures read { (result ≡ 0) ⊎ ((result ≡ 1) ⊎ ((result ≡ 3) ⊎ (result ≡ 5)))
+        → ReadsAll (most_bytes (map string_bytes words.now)) (S.state source.old) (S.state source.new) }
+    ensures past { result ≡ 7
+        → ReadsPast (most_bytes (map string_bytes words.now)) (S.state source.old) (S.state source.new) }
     // A fault of a stream is told as its own status.
     ensures reading { (result ≡ 4) ⊎ ((S.state source.new).faults ≡ (S.state source.old).faults) }
     ensures writing { (result ≡ 5) ⊎ ((K.state sink.new).faults ≡ (K.state sink.old).faults) }
@@ -69,30 +68,39 @@ pub fn tas<R: Threads + Wait + Sync, S: Source, K: Sink, F: Sink, G: Gate>(
     // At every other status it is as it was.
     ensures nothing { (result ≡ 2) ⊎ ((result ≡ 3) ⊎ ((result ≡ 4) ⊎ ((result ≡ 7) ⊎ (result ≡ 8))))
         → K.state sink.new ≡ K.state sink.old }
-    // Words of a replay on one thread and a capture within its length give status 0, or want of memory, where no stream
-    // fails.
+    // Words of a run on one thread and a scenario or a capture within its length give status 0 or 1, or want of memory,
+    // where no stream fails.
     ensures complete { IsWhole (given (map string_bytes words.now) (S.state source.old) (S.state source.new)
         (K.state sink.old) (K.state sink.new))
-        → (result ≡ 0) ⊎ (result ≡ 6) }
+        → (result ≡ 0) ⊎ ((result ≡ 1) ⊎ (result ≡ 6)) }
 {
     match serve(alloc, words, source, sink) {
-        Ok(()) => 0,
-        Err(stop) => {
-            tell(faults, stop);
-            stop.status()
-        }
+        Ok(false) => 0,
+        Ok(true) => told(faults, Stop::Stalled),
+        Err(stop) => told(faults, stop),
     }
 }
 
-/// Replays the capture that the source has, and writes what was asked for.
+/// Tells of a stop, and answers its status.
+fn told<F: Sink>(faults: &mut F, stop: Stop) -> u8
+    ensures status { result ≡ status_of stop }
+    ensures told { IsTold stop (F.state faults.old) (F.state faults.new) }
+{
+    tell(faults, stop);
+    stop.status()
+}
+
+/// Runs the input that the source has, and writes what was asked for. Answers whether the run is stalled.
 fn serve<S: Source, K: Sink>(
     alloc: Global,
     words: &[String],
     source: &mut S,
     sink: &mut K,
-) -> Result<(), Stop>
-    ensures done { OnOk result (WritesAll (given (map string_bytes words.now) (S.state source.old) (S.state source.new)
-        (K.state sink.old) (K.state sink.new))) }
+) -> Result<bool, Stop>
+    ensures done { IfOk result (λ stalled. WritesAll
+        (given (map string_bytes words.now) (S.state source.old) (S.state source.new)
+        (K.state sink.old) (K.state sink.new)) (if stalled then 1 else 0)) }
+    ensures unstalled { result ≢ Err Stop.Stalled }
     ensures cause { IfErr result (Cause (given (map string_bytes words.now) (S.state source.old) (S.state source.new)
         (K.state sink.old) (K.state sink.new))) }
     ensures front { OnErr result
@@ -104,33 +112,20 @@ fn serve<S: Source, K: Sink>(
     ensures first { IfErr result (WordsFirst (map string_bytes words.now)) }
     ensures asked { OnOk result (IsAsked (map string_bytes words.now)) }
     ensures untouched { IfErr result (Untouched (S.state source.old) (S.state source.new)) }
-    ensures read { OnOk result (ReadsAll most_bytes (S.state source.old) (S.state source.new)) }
-    ensures before { IfErr result (ReadBefore (S.state source.old) (S.state source.new)) }
+    ensures read { OnOk result
+        (ReadsAll (most_bytes (map string_bytes words.now)) (S.state source.old) (S.state source.new)) }
+    ensures before { IfErr result
+        (ReadBefore (most_bytes (map string_bytes words.now)) (S.state source.old) (S.state source.new)) }
     ensures reads_calmly { OnOk result ((S.state source.new).faults ≡ (S.state source.old).faults) }
     ensures source_calm { IfErr result (SourceCalm (S.state source.old) (S.state source.new)) }
     ensures writes_calmly { OnOk result ((K.state sink.new).faults ≡ (K.state sink.old).faults) }
     ensures sink_calm { IfErr result (SinkCalm (K.state sink.old) (K.state sink.new)) }
 {
     let asked = read_words(words)?;
-    let bytes = read_all(alloc, MOST, source)?;
-    let log = replay_of(alloc, &asked, &bytes)?;
-    write_log(alloc, &asked, &log, sink)
-}
-
-/// The run that the words ask for, of the capture that these bytes are.
-fn replay_of(alloc: Global, asked: &Request, bytes: &[u8]) -> Result<RunLog, Stop>
-    requires { length bytes.now ≤ most_bytes }
-    ensures ok { IfOk result (λ log.
-        serial_replay (ipv4_bits asked.now.local) bytes.now asked.now.loose ≡ Ok (log_in log)) }
-    ensures refused { IfErr result (Unreplayed bytes.now) }
-{
-    match replay_serially(alloc, asked.local.to_bits(), bytes, asked.loose) {
-        Ok(log) => Ok(log),
-        Err(ReplayFault::OutOfMemory) => Err(Stop::Memory),
-        Err(ReplayFault::Pcap(fault)) => Err(Stop::Input {
-            number: fault.record(),
-        }),
-    }
+    let bytes = read_all(alloc, asked.most_bytes(), source)?;
+    let log = run_of(alloc, asked.input, &bytes)?;
+    write_log(alloc, &asked, &log, sink)?;
+    Ok(log.stalled)
 }
 
 /// Writes the text of the run that was asked for: its report, or the capture of the frames that it sent.

@@ -16,15 +16,34 @@ const MOST_CORES: u32 = 16;
 /// The most that `bulk` may be asked for.
 const MOST_BULK: u32 = 1000;
 
-/// What the words of a replay on one thread ask for.
+/// What the input is.
+#[derive(Clone, Copy, Debug)]
+pub enum Input {
+    /// A scenario.
+    Scenario,
+    /// A capture of what the host with this address saw. With `loose` no checksum of a frame is looked at.
+    Capture { local: Ipv4Addr, loose: bool },
+}
+
+/// What the words of a run on one thread ask for.
 #[derive(Clone, Copy, Debug)]
 pub struct Request {
-    /// The address of the host that is replayed.
-    pub local: Ipv4Addr,
-    /// Whether checksums are left alone.
-    pub loose: bool,
+    pub input: Input,
     /// Whether the frames sent are written as a capture, in place of the report.
     pub pcap: bool,
+}
+
+impl Request {
+    /// The most bytes that its input may have: 1 MiB for a scenario, and 64 MiB for a capture.
+    pub fn most_bytes(&self) -> u32
+        ensures limit { (form : forms.Form) → forms.Asks form (request_in self.now) → result ≡ forms.most_in form }
+        ensures any { result ≤ 67108864 }
+    {
+        match self.input {
+            Input::Scenario => 1_048_576,
+            Input::Capture { .. } => 67_108_864,
+        }
+    }
 }
 
 /// What the words are.
@@ -32,8 +51,13 @@ pub struct Request {
 pub enum Form<'a> {
     /// They are of no form.
     Unknown,
-    /// A scenario, given or made.
-    Scenario,
+    /// A given scenario.
+    Run {
+        cores: Option<u32>,
+        pcap: bool,
+    },
+    /// A made scenario.
+    Bulk,
     /// A replay, with the text of its address.
     Replay {
         local: &'a str,
@@ -66,17 +90,21 @@ pub enum Progress<'a> {
     WantsAddress(Options<'a>),
 }
 
-/// What the words ask for: `replay`, and then `--local ADDRESS` or `--local=ADDRESS`, and `--pcap` and `--loose-sums`
-/// where they are wanted, in any order and each at
-/// most once. The error is `Words` where they are of no form of the program, and `NotBuilt` where they are of another
-/// one: of a scenario, or of a replay on cores.
+/// What the words ask for: `run`, with `--serial` and `--pcap` where they are wanted; or `replay`, and then `--local
+/// ADDRESS` or `--local=ADDRESS`, and `--pcap` and `--loose-sums` where they are wanted; in any order and each at most
+/// once. The error is `Words` where they are of no form of the program, and `NotBuilt` where they are of another one: of
+/// a made scenario, or of a run on cores.
 pub fn read_words(words: &[String]) -> Result<Request, Stop>
-    ensures ok { IfOk result (λ r. forms.IsReplay (map string_bytes words.now) (request_in r)) }
+    ensures ok { IfOk result (λ r. forms.Asks (forms.form_of (map string_bytes words.now)) (request_in r)) }
     ensures err { IfErr result (Unasked (map string_bytes words.now)) }
 {
     match form_of(words) {
         Form::Unknown => Err(Stop::Words),
-        Form::Scenario => Err(Stop::NotBuilt),
+        Form::Bulk | Form::Run { cores: Some(_), .. } => Err(Stop::NotBuilt),
+        Form::Run { cores: None, pcap } => Ok(Request {
+            input: Input::Scenario,
+            pcap,
+        }),
         Form::Replay {
             local,
             cores,
@@ -89,7 +117,10 @@ pub fn read_words(words: &[String]) -> Result<Request, Stop>
             if cores.is_some() {
                 return Err(Stop::NotBuilt);
             }
-            Ok(Request { local, loose, pcap })
+            Ok(Request {
+                input: Input::Capture { local, loose },
+                pcap,
+            })
         }
     }
 }
@@ -187,7 +218,10 @@ impl<'a> Progress<'a> {
         ensures { form_in result ≡ forms.run_form (progress_in self.entry) }
     {
         match self {
-            Progress::Reads(options) if options.takes_scenario() => Form::Scenario,
+            Progress::Reads(options) if options.takes_scenario() => Form::Run {
+                cores: options.cores,
+                pcap: options.pcap,
+            },
             _ => Form::Unknown,
         }
     }
@@ -198,7 +232,7 @@ impl<'a> Progress<'a> {
     {
         match (number, self) {
             (Some(_), Progress::Reads(options)) if options.takes_scenario() && !options.pcap => {
-                Form::Scenario
+                Form::Bulk
             }
             _ => Form::Unknown,
         }

@@ -1,13 +1,10 @@
-use Rattle.std.proofs.Common.{rules, refl, ◌≡◌, IfSome, Ok, List, ℕ, map, string_bytes}
-use Rattle.std.specs.Net.Addr.{ipv4_bits}
-use Rattle.tas_runs.specs.SerialOrder.{serial_replay}
+use Rattle.std.proofs.Common.{rules, ◌≡◌, IfSome, List, ℕ, map, string_bytes}
 use Rattle.tas_round.specs.Runs.{log_in}
-use Rattle.tas_main.specs.Stops.{given, most_bytes, Cause, ReadsAll, ReadBefore, Unreplayed}
-use Rattle.tas_main.specs.Outputs.{output}
+use Rattle.tas_main.specs.Words.{most_bytes, form_of}
+use Rattle.tas_main.specs.Runs.{given, IsSerialRun}
+use Rattle.tas_main.specs.Stops.{Cause, ReadsAll, ReadBefore, Unrun}
 use Rattle.tas_main.specs.Requests.{request_in}
-use Rattle.tas_main.proofs.Causes.{writes_all, writes_front, writes_none, unwritten_kept, unwritten_read, reads_all}
-use Rattle.tas_main.proofs.Causes.{unreplayed_why, unreplayed_read, kept_same, at_err, after_ok, on_ok, on_err, if_err}
-use Rattle.tas_main.proofs.Causes.{whichever}
+use Rattle.tas_main.proofs.Causes.{writes_all, writes_front, reads_all, unrun_why, unrun_read, at_err, whichever}
 use Rattle.tas_main.proofs.top.serve.Goals as goal
 
 pub returns-clause-done : goal.returns-clause-done
@@ -15,101 +12,55 @@ returns-clause-done g c =
     let r = request_in c.in_ok-asked.asked in
     let bytes = c.in_ok-bytes.bytes.items in
     let log = log_in c.in_ok-log.log in
-    let words = map string_bytes c.args.words.now in
     let before = g.S.Source.state c.args.source.now in
     let after = g.S.Source.state c.read_all.new.source in
     let all : IfSome before.left (λ (b : List ℕ). bytes ≡ b) = search rules in
-    let serial : serial_replay (ipv4_bits r.local) bytes r.loose ≡ Ok log = search rules in
-    let call = given words before after (g.K.Sink.state c.args.sink.now) (g.K.Sink.state c.write_log.new.sink) in
-    let asked = c.in_ok-asked.ensures.ok in
-    on_ok c.write_log.result c.write_log.ensures.ok (λ wrote. writes_all call bytes r log all asked serial wrote)
+    let serial : IsSerialRun r.input bytes log = search rules in
+    let call = given (map string_bytes c.args.words.now) before after (g.K.Sink.state c.args.sink.now)
+    (g.K.Sink.state c.write_log.new.sink) in
+    writes_all call bytes r log all c.in_ok-asked.ensures.ok serial c.in_ok-write_log.ensures.ok
 
-pub returns-clause-front : goal.returns-clause-front
-returns-clause-front g c =
+pub returns-in_err-write_log-clause-front : goal.returns-in_err-write_log-clause-front
+returns-in_err-write_log-clause-front g c =
     let r = request_in c.in_ok-asked.asked in
     let bytes = c.in_ok-bytes.bytes.items in
     let log = log_in c.in_ok-log.log in
-    let words = map string_bytes c.args.words.now in
     let before = g.S.Source.state c.args.source.now in
     let after = g.S.Source.state c.read_all.new.source in
     let all : IfSome before.left (λ (b : List ℕ). bytes ≡ b) = search rules in
-    let serial : serial_replay (ipv4_bits r.local) bytes r.loose ≡ Ok log = search rules in
-    let call = given words before after (g.K.Sink.state c.args.sink.now) (g.K.Sink.state c.write_log.new.sink) in
-    let asked = c.in_ok-asked.ensures.ok in
-    on_err c.write_log.result c.write_log.ensures.err
-    (λ stop why. writes_front call bytes r log stop all asked serial why)
-
-pub returns-clause-kept : goal.returns-clause-kept
-returns-clause-kept g c =
-    let text = output (request_in c.in_ok-asked.asked) (log_in c.in_ok-log.log) in
-    let before = g.K.Sink.state c.args.sink.now in
-    let after = g.K.Sink.state c.write_log.new.sink in
-    if_err c.write_log.result c.write_log.ensures.err (λ stop why. unwritten_kept before after text stop why)
-
-pub returns-clause-read : goal.returns-clause-read
-returns-clause-read g c =
-    let before = g.S.Source.state c.args.source.now in
-    let after = g.S.Source.state c.read_all.new.source in
-    let bytes = c.in_ok-bytes.bytes.items in
-    after_ok c.write_log.result (reads_all before after bytes (search rules) (search rules) (search rules))
-
-pub returns-clause-before : goal.returns-clause-before
-returns-clause-before g c =
-    let before = g.S.Source.state c.args.source.now in
-    let after = g.S.Source.state c.read_all.new.source in
-    let bytes = c.in_ok-bytes.bytes.items in
-    let all : ReadsAll most_bytes before after = reads_all before after bytes (search rules) (search rules)
-    (search rules) in
-    let text = output (request_in c.in_ok-asked.asked) (log_in c.in_ok-log.log) in
-    let sink = g.K.Sink.state c.args.sink.now in
-    let written = g.K.Sink.state c.write_log.new.sink in
-    if_err c.write_log.result c.write_log.ensures.err
-    (λ stop why. unwritten_read before after sink written text stop all why)
-
-pub returns-in_err-bytes-clause-front : goal.returns-in_err-bytes-clause-front
-returns-in_err-bytes-clause-front g c =
-    let words = map string_bytes c.args.words.now in
-    let before = g.S.Source.state c.args.source.now in
-    let after = g.S.Source.state c.read_all.new.source in
-    let sink = g.K.Sink.state c.args.sink.now in
-    whichever _ (writes_none (given words before after sink sink) refl)
-
-pub returns-in_err-bytes-clause-kept : goal.returns-in_err-bytes-clause-kept
-returns-in_err-bytes-clause-kept g c = kept_same (g.K.Sink.state c.args.sink.now) _
+    let serial : IsSerialRun r.input bytes log = search rules in
+    let call = given (map string_bytes c.args.words.now) before after (g.K.Sink.state c.args.sink.now)
+    (g.K.Sink.state c.write_log.new.sink) in
+    whichever c.from_residual-in_err-write_log.result
+    (writes_front call bytes r log c.in_err-write_log.field-0.0 all c.in_ok-asked.ensures.ok serial
+    (search rules))
 
 pub returns-in_err-log-clause-cause : goal.returns-in_err-log-clause-cause
 returns-in_err-log-clause-cause g c =
-    let words = map string_bytes c.args.words.now in
-    let before = g.S.Source.state c.args.source.now in
-    let after = g.S.Source.state c.read_all.new.source in
-    let sink = g.K.Sink.state c.args.sink.now in
-    let call = given words before after sink sink in
+    let r = request_in c.in_ok-asked.asked in
     let bytes = c.in_ok-bytes.bytes.items in
-    let all : IfSome before.left (λ (b : List ℕ). bytes ≡ b) = search rules in
-    let why : Unreplayed bytes c.in_err-log.field-0.0 = search rules in
-    let stop = c.in_err-log.field-0.0 in
-    let result = c.from_residual-in_err-log.result in
-    at_err (Cause call) result stop (search rules) (unreplayed_why call bytes stop all why)
-
-pub returns-in_err-log-clause-front : goal.returns-in_err-log-clause-front
-returns-in_err-log-clause-front g c =
-    let words = map string_bytes c.args.words.now in
     let before = g.S.Source.state c.args.source.now in
-    let after = g.S.Source.state c.read_all.new.source in
     let sink = g.K.Sink.state c.args.sink.now in
-    whichever _ (writes_none (given words before after sink sink) refl)
-
-pub returns-in_err-log-clause-kept : goal.returns-in_err-log-clause-kept
-returns-in_err-log-clause-kept g c = kept_same (g.K.Sink.state c.args.sink.now) _
+    let all : IfSome before.left (λ (b : List ℕ). bytes ≡ b) = search rules in
+    let stop = c.in_err-log.field-0.0 in
+    let why : Unrun r.input bytes stop = search rules in
+    let call = given (map string_bytes c.args.words.now) before (g.S.Source.state c.read_all.new.source) sink sink in
+    at_err (Cause call) c.from_residual-in_err-log.result stop (search rules)
+    (unrun_why call bytes r stop all c.in_ok-asked.ensures.ok why)
 
 pub returns-in_err-log-clause-before : goal.returns-in_err-log-clause-before
 returns-in_err-log-clause-before g c =
+    let r = request_in c.in_ok-asked.asked in
+    let bytes = c.in_ok-bytes.bytes.items in
     let before = g.S.Source.state c.args.source.now in
     let after = g.S.Source.state c.read_all.new.source in
-    let bytes = c.in_ok-bytes.bytes.items in
-    let all : ReadsAll most_bytes before after = reads_all before after bytes (search rules) (search rules)
-    (search rules) in
-    let why : Unreplayed bytes c.in_err-log.field-0.0 = search rules in
+    let most = most_bytes (map string_bytes c.args.words.now) in
+    let all : IfSome before.left (λ (b : List ℕ). bytes ≡ b) = search rules in
+    let limit : c.most_bytes.result ≡ most = c.most_bytes.ensures.limit (form_of (map string_bytes c.args.words.now))
+    c.in_ok-asked.ensures.ok in
+    let whole : ReadsAll most before after = reads_all c.most_bytes.result most before after bytes limit all
+    (search rules) (search rules) in
     let stop = c.in_err-log.field-0.0 in
-    let result = c.from_residual-in_err-log.result in
-    at_err (ReadBefore before after) result stop (search rules) (unreplayed_read before after bytes stop all why)
+    let why : Unrun r.input bytes stop = search rules in
+    at_err (ReadBefore most before after) c.from_residual-in_err-log.result stop (search rules)
+    (unrun_read most before after r.input bytes stop whole why)
