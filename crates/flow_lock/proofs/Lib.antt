@@ -1,13 +1,13 @@
 mod Words
-mod Sums
+pub mod Sums
 mod Histories
 mod Ordering
 mod Acting
 mod Changes
-mod Pinning
+pub mod Pinning
 mod Taking
 mod Opening
 mod Freeing
 mod Moving
 mod Closing
-mod Calling
+pub mod Calling

@@ -1,0 +1,42 @@
+-- One call on a flow, step by step.
+use Rattle.std.proofs.Common.{◌≡◌, ap, sym, ◌∙◌, refl, subst, ℕ}
+use Rattle.std.specs.Prelude.{Option, Result, Ok, Err, IfOk, IfErr}
+use Rattle.tas_model.specs.declared.entry.Caller.{Caller}
+use Rattle.tas_model.specs.declared.entry.FlowId.{FlowId}
+use Rattle.flow_state.specs.declared.call.CallIn.{CallIn}
+use Rattle.flow_state.specs.declared.call.Answer.{Answer}
+use Rattle.flow_state.specs.declared.parts.Parts.{Parts}
+use Rattle.flow_state.specs.Flow.{Flow}
+use Rattle.flow_lock.specs.Answers.{IsTaken, Holds}
+use Rattle.flow_lock.specs.Histories.{IsLonger}
+use Rattle.flow_lock.specs.Steps.{gave}
+use Rattle.flow_lock.specs.declared.view.History.{History}
+use Rattle.flow_lock.specs.declared.view.View.{View}
+use Rattle.app_reaper.specs.declared.one_call.CallFault.{CallFault}
+use Rattle.app_reaper.specs.declared.one_call.CallFault.TheVariants.{OutOfMemory}
+use Rattle.app_reaper.specs.OneCall.{history, IsOwn, IsUse, IsMade, IsCall, IsCallRefused}
+
+-- what was taken may be given back with more behind it
+pub taken_holds : (id : FlowId) (r : Flow) (after : History) (v u : View) → IsTaken id (history r) v u
+    → IsLonger (history r) after → Holds u id after
+taken_holds id r after v u t more =
+    (record { flow = id; history = history r }, ap (λ (x : View). x.held) t.3, refl, more)
+
+pub used : (id : FlowId) (r : Flow) (after : History) (v u w : View) → IsTaken id (history r) v u → w ≡ gave id after u
+    → IsUse id r after v w
+used id r after v u w t e = (t.0, t.1, t.2, e ∙ ap (gave id after) t.3)
+
+pub call_made : (id : FlowId) (caller : Caller) (tick : ℕ) (call : CallIn) (serves : Parts → CallIn → Type 0)
+    (r : Flow) (after : History) (v w : View) (x : Result (Option Answer) CallFault)
+    → IsOwn id v r → IsUse id r after v w → IfOk x (IsMade caller tick call serves r after)
+    → IfOk x (IsCall id caller tick call serves v w)
+call_made id caller tick call serves r after v w (Ok a) own given m =
+    record { flow = r; own = own; after = after; made = m; given = given }
+call_made id caller tick call serves r after v w (Err e) own given m = tt
+
+pub call_refused : (id : FlowId) (r : Flow) (after : History) (v w : View) (x : Result (Option Answer) CallFault)
+    → IsOwn id v r → IsUse id r after v w → IfErr x (λ e. (e ≡ OutOfMemory) × (after ≡ history r))
+    → IfErr x (IsCallRefused id v w)
+call_refused id r after v w (Ok a) own given m = tt
+call_refused id r after v w (Err e) own given m =
+    subst (IsCallRefused id v w) (sym m.0) (r, own, subst (λ h. IsUse id r h v w) m.1 given)

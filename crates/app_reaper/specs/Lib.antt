@@ -1,0 +1,4 @@
+pub mod Lists
+pub mod OneCall
+pub mod Reaping
+pub mod Sweeping
