@@ -16,5 +16,3 @@ pub use item::{Content, Item, is_same_tuple, read_item};
 pub use laws::{no_items_have_no_batch, what_is_found_is_replayed};
 pub use numbers::FirstNumbers;
 
-#[cfg(test)]
-mod tests;

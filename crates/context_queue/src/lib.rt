@@ -5,8 +5,6 @@ mod delivery;
 mod laws;
 mod note;
 mod queue;
-#[cfg(test)]
-mod tests;
 
 pub use laws::taken_and_waiting_is_posted;
 pub use note::Note;

@@ -10,5 +10,3 @@ mod receiving;
 pub use fast::{FastAnswer, FastRx, Why, fast_rx};
 pub use receiving::receive;
 
-#[cfg(test)]
-mod tests;

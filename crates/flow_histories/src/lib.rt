@@ -2,4 +2,14 @@
 #![tactic(auto)]
 
 #[cfg(test)]
-mod tests;
+mod calling;
+#[cfg(test)]
+mod lives;
+#[cfg(test)]
+mod opening;
+#[cfg(test)]
+mod receiving;
+#[cfg(test)]
+mod sending;
+#[cfg(test)]
+mod timing;

@@ -5,8 +5,6 @@ mod change;
 mod index;
 mod order;
 mod store;
-#[cfg(test)]
-mod tests;
 
 pub use change::{Change, Found};
 pub use index::{IndexReader, IndexWriter};

@@ -7,8 +7,6 @@ mod pass;
 mod plays;
 mod slow;
 mod table;
-#[cfg(test)]
-mod tests;
 mod view;
 mod word;
 

@@ -29,5 +29,3 @@ pub use stretch::QuietRun;
 pub use stretches::{StretchView, Stretches};
 pub use view::{CallView, EntryView, ReplyView, SegView};
 
-#[cfg(test)]
-mod tests;

@@ -5,8 +5,6 @@ mod due_frames;
 mod frames;
 mod laws;
 mod script;
-#[cfg(test)]
-mod tests;
 
 pub use due_frames::due;
 pub use frames::{DueList, Sent, SentList};

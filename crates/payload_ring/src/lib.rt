@@ -8,5 +8,3 @@ mod ring;
 pub use filling::fill_with_zeros;
 pub use ring::Ring;
 
-#[cfg(test)]
-mod tests;

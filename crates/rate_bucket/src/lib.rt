@@ -7,5 +7,3 @@ mod control;
 pub use bucket::Bucket;
 pub use control::{Counters, interval};
 
-#[cfg(test)]
-mod tests;

@@ -25,7 +25,3 @@ pub use logs::write_log;
 pub use whole::{Counts, write_counts, write_end, write_host, write_title};
 pub use writer::Writer;
 
-#[cfg(test)]
-mod buffer_tests;
-#[cfg(test)]
-mod tests;

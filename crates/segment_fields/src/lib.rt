@@ -12,5 +12,3 @@ pub use reading::read;
 pub use segment::{Flags, Refused, Segment};
 pub use writing::{NoRoom, write};
 
-#[cfg(test)]
-mod tests;

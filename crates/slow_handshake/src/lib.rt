@@ -12,5 +12,3 @@ pub use rx::SlowRx;
 pub use slow_path::SlowPath;
 pub use strays::stray;
 
-#[cfg(test)]
-mod tests;

@@ -7,5 +7,3 @@ mod timer;
 
 pub use engine::TimerWork;
 
-#[cfg(test)]
-mod tests;

@@ -4,8 +4,6 @@
 mod laws;
 mod order;
 mod steering;
-#[cfg(test)]
-mod tests;
 mod words;
 
 pub use laws::{an_assign_moves_one_group, groups_start_on_their_numbers};

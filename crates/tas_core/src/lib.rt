@@ -2,8 +2,6 @@
 #![tactic(auto)]
 
 mod log;
-#[cfg(test)]
-mod tests;
 
 pub use host_rounds::{LogEvent, LogLine};
 pub use log::HostLog;

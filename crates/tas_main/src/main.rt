@@ -2,8 +2,6 @@
 #![tactic(auto)]
 
 mod input;
-#[cfg(test)]
-mod rows;
 mod runs;
 mod stop;
 mod streams;

@@ -9,7 +9,7 @@ use std::thread::Threads;
 use tas_num::{IoFault, MemSink, MemSource, NoGate, Sink, Source, SureSink, SureSource, write_all};
 
 /// A capture of raw IP, least significant byte first: a SYN, an ACK and a segment with the bytes `hi`.
-pub const FIRST_CAPTURE: [u8; 194] = [
+const FIRST_CAPTURE: [u8; 194] = [
     0xd4, 0xc3, 0xb2, 0xa1, 0x02, 0x00, 0x04, 0x00, 0x00, 0x00, 0x00, 0x00, 0x00, 0x00, 0x00, 0x00,
     0xff, 0xff, 0x00, 0x00, 0x65, 0x00, 0x00, 0x00, 0x00, 0x00, 0x00, 0x00, 0x00, 0x00, 0x00, 0x00,
     0x28, 0x00, 0x00, 0x00, 0x28, 0x00, 0x00, 0x00, 0x45, 0x00, 0x00, 0x28, 0x00, 0x00, 0x40, 0x00,
@@ -25,28 +25,8 @@ pub const FIRST_CAPTURE: [u8; 194] = [
     0x68, 0x69,
 ];
 
-/// The report of that capture.
-pub const FIRST_REPORT: &str = "\
-tas replay\n\
-host local 10.0.0.2\n\
-flow 0 slot 0.1 10.0.0.2:80 10.0.0.1:40000\n\
-0 s.0 passive r:1 iss 0 S seq 100 ack 0 win 65535 = ok\n\
-0 c0.0 emit = AS seq 0 ack 101 win 65535 mss 1460\n\
-1 s.1 tick = quiet\n\
-1 s.2 rx r:2 A seq 101 ack 1 win 65535 = none\n\
-1 p0.0 accept = ok\n\
-1 p0.1 recv 65535 = notyet\n\
-2 s.3 tick = quiet\n\
-2 c0.1 rx r:3 AP seq 101 ack 1 win 65535 data 6869 = A seq 1 ack 103 win 65533\n\
-2 p0.2 recv 65535 = got 6869\n\
-state ESTABLISHED\n\
-read 2 6869\n\
-records 3 frames 3 passed 0 refused 0\n\
-end 3 ticks\n\
-";
-
 /// The words of a line.
-pub fn words(alloc: Global, line: &str) -> Result<Vec<String>, Fail> {
+fn words(alloc: Global, line: &str) -> Result<Vec<String>, Fail> {
     let mut words = Vec::new(alloc);
     for word in line.split_whitespace() {
         words.push(String::from_str(alloc, word)?)?;
@@ -54,8 +34,21 @@ pub fn words(alloc: Global, line: &str) -> Result<Vec<String>, Fail> {
     Ok(words)
 }
 
+/// The status of a run of these words over these streams.
+fn run_on<R: Threads + Wait + Sync, S: Source, K: Sink, F: Sink>(
+    rt: &R,
+    alloc: Global,
+    line: &str,
+    source: &mut S,
+    sink: &mut K,
+    faults: &mut F,
+) -> Result<u8, Fail> {
+    let words = words(alloc, line)?;
+    Ok(tas(rt, alloc, &words, source, sink, faults, &NoGate))
+}
+
 /// The status, the output and the fault line of a run on these bytes.
-pub fn run<R: Threads + Wait + Sync>(
+fn run<R: Threads + Wait + Sync>(
     rt: &R,
     alloc: Global,
     line: &str,
@@ -63,16 +56,7 @@ pub fn run<R: Threads + Wait + Sync>(
 ) -> Result<(u8, SureSink, SureSink), Fail> {
     let mut source = SureSource::new(alloc, bytes)?;
     let (mut sink, mut faults) = (SureSink::new(alloc), SureSink::new(alloc));
-    let words = words(alloc, line)?;
-    let status = tas(
-        rt,
-        alloc,
-        &words,
-        &mut source,
-        &mut sink,
-        &mut faults,
-        &NoGate,
-    );
+    let status = run_on(rt, alloc, line, &mut source, &mut sink, &mut faults)?;
     Ok((status, sink, faults))
 }
 
@@ -142,59 +126,69 @@ fn made_scenarios_and_cores_are_not_built(rt: HostRuntime) -> Result<(), Fail> {
     all_end_with(&rt, rt.alloc(), &lines, 8, "tas: not built\n")
 }
 
-#[test]
-fn a_capture_cut_short_names_its_record(rt: HostRuntime) -> Result<(), Fail> {
-    let (status, sink, faults) = run(
-        &rt,
-        rt.alloc(),
-        "replay --local 10.0.0.2",
-        &FIRST_CAPTURE[..193],
-    )?;
-    assert_eq!(rt; status, 3);
-    assert_eq!(rt; sink.written(), b"".as_slice());
-    assert_eq!(rt; faults.written(), b"tas: input record 3\n".as_slice());
-    Ok(())
+/// The status of a run whose source fails at this read, and how many bytes it wrote.
+fn fails_at<R: Threads + Wait + Sync + Abort>(
+    rt: &R,
+    alloc: Global,
+    line: &str,
+    bytes: &[u8],
+    read: u64,
+) -> Result<(u8, usize), Fail> {
+    let mut source = MemSource::new(alloc, bytes, &[read])?;
+    let (mut sink, mut faults) = (SureSink::new(alloc), SureSink::new(alloc));
+    let status = run_on(rt, alloc, line, &mut source, &mut sink, &mut faults)?;
+    let told: &[u8] = if status == 4 { b"tas: read\n" } else { b"" };
+    assert_eq!(rt; faults.written(), told, "{line}");
+    Ok((status, sink.written().len()))
 }
 
+/// The first read gives the bytes, the second finds the end, and there is no third.
 #[test]
 fn a_source_that_fails_gives_no_output(rt: HostRuntime) -> Result<(), Fail> {
     let alloc = rt.alloc();
-    let mut source = MemSource::new(alloc, &FIRST_CAPTURE, &[0])?;
-    let (mut sink, mut faults) = (SureSink::new(alloc), SureSink::new(alloc));
-    let words = words(alloc, "replay --local 10.0.0.2")?;
-    let status = tas(
-        &rt,
-        alloc,
-        &words,
-        &mut source,
-        &mut sink,
-        &mut faults,
-        &NoGate,
-    );
-    assert_eq!(rt; status, 4);
-    assert_eq!(rt; sink.written(), b"".as_slice());
-    assert_eq!(rt; faults.written(), b"tas: read\n".as_slice());
+    let inputs = [
+        ("replay --local 10.0.0.2", FIRST_CAPTURE.as_slice(), 497),
+        ("run --serial", b"host a 10.0.0.1\n".as_slice(), 36),
+    ];
+    for (line, bytes, whole) in inputs {
+        assert_eq!(rt; fails_at(&rt, alloc, line, bytes, 0)?, (4, 0));
+        assert_eq!(rt; fails_at(&rt, alloc, line, bytes, 1)?, (4, 0));
+        assert_eq!(rt; fails_at(&rt, alloc, line, bytes, 2)?, (0, whole));
+    }
+    Ok(())
+}
+
+/// Whatever it has room for, a sink holds the front of the capture, which has 140 bytes.
+#[test]
+fn a_sink_of_any_size_holds_the_front_of_the_output(rt: HostRuntime) -> Result<(), Fail> {
+    let alloc = rt.alloc();
+    let line = "replay --local 10.0.0.2 --pcap";
+    let (_, whole, _) = run(&rt, alloc, line, &FIRST_CAPTURE)?;
+    assert_eq!(rt; whole.written().len(), 140);
+    for room in 0..=140_u32 {
+        let mut source = SureSource::new(alloc, &FIRST_CAPTURE)?;
+        let (mut sink, mut faults) = (MemSink::new(alloc, u64::from(room))?, SureSink::new(alloc));
+        let status = run_on(&rt, alloc, line, &mut source, &mut sink, &mut faults)?;
+        let told: &[u8] = if room < 140 { b"tas: write\n" } else { b"" };
+        assert_eq!(rt; status, if room < 140 { 5 } else { 0 }, "{room}");
+        assert!(rt;
+            whole.written().get(..room as usize) == Some(sink.written()),
+            "{room}"
+        );
+        assert_eq!(rt; faults.written(), told, "{room}");
+    }
     Ok(())
 }
 
 #[test]
-fn a_small_sink_holds_the_front_of_the_report(rt: HostRuntime) -> Result<(), Fail> {
+fn a_small_fault_sink_leaves_the_status(rt: HostRuntime) -> Result<(), Fail> {
     let alloc = rt.alloc();
-    let mut source = SureSource::new(alloc, &FIRST_CAPTURE)?;
-    let (mut sink, mut faults) = (MemSink::new(alloc, 10)?, SureSink::new(alloc));
-    let words = words(alloc, "replay --local 10.0.0.2")?;
-    let status = tas(
-        &rt,
-        alloc,
-        &words,
-        &mut source,
-        &mut sink,
-        &mut faults,
-        &NoGate,
-    );
-    assert_eq!(rt; status, 5);
-    assert_eq!(rt; sink.written(), b"tas replay".as_slice());
-    assert_eq!(rt; faults.written(), b"tas: write\n".as_slice());
+    let mut source = SureSource::new(alloc, b"")?;
+    let (mut sink, mut faults) = (SureSink::new(alloc), MemSink::new(alloc, 3)?);
+    let status = run_on(&rt, alloc, "run", &mut source, &mut sink, &mut faults)?;
+    assert_eq!(rt; status, 3);
+    assert_eq!(rt; sink.written(), b"".as_slice());
+    assert_eq!(rt; faults.written(), b"tas".as_slice());
     Ok(())
 }
 

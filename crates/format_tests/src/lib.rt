@@ -1,0 +1,23 @@
+//! Tests of what is read and written: numbers, packets, captures, links and texts. This crate has tests alone.
+#![tactic(auto)]
+
+#[cfg(test)]
+mod buckets;
+#[cfg(test)]
+mod captures;
+#[cfg(test)]
+mod digits;
+#[cfg(test)]
+mod host_logs;
+#[cfg(test)]
+mod items;
+#[cfg(test)]
+mod links;
+#[cfg(test)]
+mod numbers;
+#[cfg(test)]
+mod packets;
+#[cfg(test)]
+mod rings;
+#[cfg(test)]
+mod texts;
