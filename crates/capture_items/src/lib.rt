@@ -15,4 +15,3 @@ pub use found::{Found, InputFault, find_items};
 pub use item::{Content, Item, is_same_tuple, read_item};
 pub use laws::{no_items_have_no_batch, what_is_found_is_replayed};
 pub use numbers::FirstNumbers;
-

@@ -9,4 +9,3 @@ mod receiving;
 
 pub use fast::{FastAnswer, FastRx, Why, fast_rx};
 pub use receiving::receive;
-

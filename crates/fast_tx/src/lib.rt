@@ -8,4 +8,3 @@ mod piece;
 pub use emission::{Out, emission_ends, emit, left_to_send, next_out};
 pub use engine::FastTx;
 pub use piece::{Piece, piece_is_next_segment};
-

@@ -28,4 +28,3 @@ pub use stage::Stage;
 pub use stretch::QuietRun;
 pub use stretches::{StretchView, Stretches};
 pub use view::{CallView, EntryView, ReplyView, SegView};
-

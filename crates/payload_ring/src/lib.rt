@@ -7,4 +7,3 @@ mod ring;
 
 pub use filling::fill_with_zeros;
 pub use ring::Ring;
-

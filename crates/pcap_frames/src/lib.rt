@@ -13,4 +13,3 @@ pub use laws::{
 };
 pub use reading::{next_record, packet, read_header};
 pub use writing::{write_header, write_record_head};
-

@@ -6,4 +6,3 @@ mod control;
 
 pub use bucket::Bucket;
 pub use control::{Counters, interval};
-

@@ -24,4 +24,3 @@ pub use laws::segments_have_room;
 pub use logs::write_log;
 pub use whole::{Counts, write_counts, write_end, write_host, write_title};
 pub use writer::Writer;
-

@@ -11,4 +11,3 @@ pub use laws::{texts_spell_fields, what_is_written_is_read};
 pub use reading::read;
 pub use segment::{Flags, Refused, Segment};
 pub use writing::{NoRoom, write};
-

@@ -11,4 +11,3 @@ pub use openings::{ListenRefused, Listener, NoPort, PassiveFlow, SynAnswer};
 pub use rx::SlowRx;
 pub use slow_path::SlowPath;
 pub use strays::stray;
-

@@ -6,4 +6,3 @@ mod engine;
 mod timer;
 
 pub use engine::TimerWork;
-
