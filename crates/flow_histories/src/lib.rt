@@ -2,14 +2,6 @@
 #![tactic(auto)]
 
 #[cfg(test)]
-mod calling;
-#[cfg(test)]
 mod lives;
 #[cfg(test)]
 mod opening;
-#[cfg(test)]
-mod receiving;
-#[cfg(test)]
-mod sending;
-#[cfg(test)]
-mod timing;

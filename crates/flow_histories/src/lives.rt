@@ -107,21 +107,6 @@ fn a_late_middle_waits_for_the_bytes_before_it(rt: HostRuntime) -> Result<(), Fa
 }
 
 #[test]
-fn a_second_hole_is_not_kept(rt: HostRuntime) -> Result<(), Fail> {
-    let mut record = established(rt.alloc())?;
-    let bytes = [7; 64];
-    let second = rx(&mut record, 4, segment(16, 1065, 5001, &bytes))?;
-    assert_eq!(rt; second, acks(1001, 16384));
-    let fourth = rx(&mut record, 4, segment(24, 1193, 5001, &bytes))?;
-    assert_eq!(rt; fourth, acks(1001, 16384));
-    let first = rx(&mut record, 13, segment(16, 1001, 5001, &bytes))?;
-    assert_eq!(rt; first, acks(1129, 16256));
-    let third = rx(&mut record, 13, segment(16, 1129, 5001, &bytes))?;
-    assert_eq!(rt; third, acks(1193, 16192));
-    Ok(())
-}
-
-#[test]
 fn only_the_next_number_resets(rt: HostRuntime) -> Result<(), Fail> {
     let mut record = established(rt.alloc())?;
     let challenged = rx(&mut record, 3, segment(4, 1002, 0, &[]))?;
@@ -146,28 +131,6 @@ fn finished(alloc: Global) -> Result<FlowRecord, AllocError> {
     let _shut = record.act(Caller::App(0), 5, &CallIn::Shut, &AppCalls)?;
     let _fin = record.act(Caller::Core(0), 5, &CallIn::Emit, &FastTx)?;
     Ok(record)
-}
-
-#[test]
-fn time_wait_lasts_four_timeouts(rt: HostRuntime) -> Result<(), Fail> {
-    let mut record = finished(rt.alloc())?;
-    let _ack = rx(&mut record, 7, segment(17, 1001, 5002, &[]))?;
-    assert!(rt; matches!(record.parts().phase, Phase::TimeWait));
-    let mut quiet = 0;
-    let mut over = Vec::new(rt.alloc());
-    for tick in 8..30 {
-        if record.parts().is_closed() {
-            continue;
-        }
-        match record.act(Caller::Slow, tick, &CallIn::Tick, &TimerWork)? {
-            Some(Answer::Quiet) => quiet = tick,
-            Some(Answer::Expired) => over.push(tick)?,
-            _ => {}
-        }
-    }
-    assert_eq!(rt; quiet, 18);
-    assert!(rt; over.as_slice() == [19].as_slice());
-    Ok(())
 }
 
 #[test]

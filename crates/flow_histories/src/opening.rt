@@ -1,8 +1,7 @@
-use flow_state::{Answer, CallIn, FlowRecord};
 use segment_fields::{Flags, Segment};
-use slow_handshake::*;
+use slow_handshake::{ListenRefused, SlowPath, SynAnswer};
 use std::test::*;
-use tas_model::{Caller, FlowId, FourTuple, FrameId, Head, HostParams};
+use tas_model::{FlowId, HostParams};
 use tas_num::Seq;
 
 const PARAMS: HostParams = HostParams {
@@ -68,79 +67,5 @@ fn a_full_backlog_has_room_again(rt: HostRuntime) -> Result<(), Fail> {
     assert!(rt; path.ready(80).is_none());
     path.forget(5);
     assert!(rt; !path.listening(80));
-    Ok(())
-}
-
-#[test]
-fn strays_are_reset(rt: HostRuntime) -> Result<(), Fail> {
-    let reset = Head {
-        flags: 4,
-        seq: Seq(7),
-        ack: Seq(0),
-        window: 0,
-        mss: None,
-    };
-    let answer = Head {
-        flags: 20,
-        seq: Seq(0),
-        ack: Seq(3),
-        window: 0,
-        mss: None,
-    };
-    assert!(rt; stray(&segment(4), false).is_none());
-    assert_eq!(rt; stray(&segment(16), false), Some(reset));
-    assert_eq!(rt; stray(&segment(16), true), Some(reset));
-    assert_eq!(rt; stray(&segment(3), false), Some(answer));
-    assert!(rt; stray(&segment(3), true).is_none());
-    Ok(())
-}
-
-#[test]
-fn a_connection_is_not_refused_before_its_syn(rt: HostRuntime) -> Result<(), Fail> {
-    let id = FlowId {
-        slot: 0,
-        generation: 1,
-    };
-    let tuple = FourTuple {
-        laddr: 167772162,
-        lport: 49152,
-        raddr: 167772161,
-        rport: 80,
-    };
-    let frame = FrameId {
-        host: 0,
-        flow: 4294967295,
-        number: 0,
-        copy: 0,
-    };
-    let mut record = FlowRecord::connect(
-        rt.alloc(),
-        id,
-        tuple,
-        &PARAMS,
-        Seq(6),
-        Caller::App(0),
-        0,
-    )?;
-    let reset = CallIn::Rx {
-        frame,
-        seg: segment(20),
-    };
-    let answer = record.act(Caller::Slow, 1, &reset, &SlowRx)?;
-    assert!(rt; matches!(answer, Some(Answer::Nothing)));
-    assert!(rt;
-        record
-            .act(Caller::Slow, 1, &CallIn::Ready, &SlowRx)?
-            .is_none()
-    );
-    let stale = CallIn::Rx {
-        frame,
-        seg: segment(18),
-    };
-    let answer = record.act(Caller::Slow, 1, &stale, &SlowRx)?;
-    assert!(rt;
-        matches!(answer, Some(Answer::Sent { head, len: 0 }) if head.flags == 4 && head.seq == Seq(7))
-    );
-    assert!(rt; record.parts().reason.is_none());
     Ok(())
 }

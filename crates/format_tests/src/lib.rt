@@ -1,4 +1,4 @@
-//! Tests of what is read and written: numbers, packets, captures, links and texts. This crate has tests alone.
+//! Tests of what is read and written: numbers, packets, captures, links and digits. This crate has tests alone.
 #![tactic(auto)]
 
 #[cfg(test)]
@@ -10,8 +10,6 @@ mod digits;
 #[cfg(test)]
 mod host_logs;
 #[cfg(test)]
-mod items;
-#[cfg(test)]
 mod links;
 #[cfg(test)]
 mod numbers;
@@ -19,5 +17,3 @@ mod numbers;
 mod packets;
 #[cfg(test)]
 mod rings;
-#[cfg(test)]
-mod texts;
