@@ -132,8 +132,8 @@ fn write_bytes_read<K: Sink>(
     }
 }
 
-/// How many bytes were read: the place of the first unread byte.
-fn count_read(flow: &FlowRecord) -> u128
+/// How many bytes were read in a flow: the place of the first unread byte.
+pub fn count_read(flow: &FlowRecord) -> u128
     ensures { result ≡ length (bytes_read flow.now.entries) }
 {
     flow.parts().rx.base()

@@ -11,16 +11,18 @@ mod laws;
 mod line_texts;
 mod logs;
 mod stretches;
+mod summary;
 mod text;
 mod texts;
 mod whole;
 mod writer;
 
-pub use flows::write_flow;
+pub use flows::{count_read, write_flow};
 pub use frames::{
     Frame, HostFrames, SentFrames, answer_in, segment_in, write_capture_header, write_frames,
 };
 pub use laws::segments_have_room;
 pub use logs::write_log;
+pub use summary::{Summary, write_summary_lines};
 pub use whole::{Counts, write_counts, write_end, write_host, write_title};
 pub use writer::Writer;

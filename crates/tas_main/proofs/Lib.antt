@@ -1,3 +1,4 @@
 pub mod Causes
+pub mod Clients
 pub mod Puts
 pub mod Spelling

@@ -1,7 +1,7 @@
 -- What the code's words, options and requests are.
 use Rattle.std.specs.Prelude.{option_map}
 use Rattle.tas_main.specs.Words.{Options, Progress, Refused, Reads, WantsCores, WantsAddress, Form, Unknown, Run, Bulk}
-use Rattle.tas_main.specs.Words.{Replay, Input, Scenario, Capture, Request}
+use Rattle.tas_main.specs.Words.{Replay, Input, Scenario, Made, Capture, Request}
 use Rattle.tas_main.specs.declared.words.Options as code_options
 use Rattle.tas_main.specs.declared.words.Progress as code_progress
 use Rattle.tas_main.specs.declared.words.Progress.TheVariants as progress
@@ -30,11 +30,12 @@ progress_in (progress.WantsAddress o) = WantsAddress (options_in o)
 abbrev pub form_in : code_form.Form → Form
 form_in form.Unknown = Unknown
 form_in (form.Run cores pcap) = Run cores pcap
-form_in form.Bulk = Bulk
+form_in (form.Bulk clients cores) = Bulk clients cores
 form_in (form.Replay local cores pcap loose) = Replay local.now cores pcap loose
 
 abbrev pub input_in : code_input.Input → Input
 input_in input.Scenario = Scenario
+input_in (input.Made clients) = Made clients
 input_in (input.Capture local loose) = Capture local loose
 
 abbrev pub request_in : code_request.Request → Request

@@ -8,9 +8,9 @@ use Rattle.tas_num.specs.Streams.{SourceState, SinkState, Wrote}
 use Rattle.tas_num.specs.declared.outside.IoFault.TheVariants.{Failed, OutOfMemory}
 use Rattle.scenario_text.specs.Reads.{reads}
 use Rattle.scenario_text.specs.declared.reading.ScenarioFault.TheVariants as faults
-use Rattle.tas_main.specs.Words.{form_of, IsForm, is_built, IsAsked, Input, Scenario, Capture, Request, Asks}
-use Rattle.tas_main.specs.Words.{most_bytes}
-use Rattle.tas_main.specs.Runs.{Given, Ran}
+use Rattle.tas_main.specs.Words.{Form, Bulk, form_of, IsForm, is_built, IsAsked, Input, Scenario, Made, Capture}
+use Rattle.tas_main.specs.Words.{Request, Asks, most_in, most_bytes}
+use Rattle.tas_main.specs.Runs.{Given, Ran, bytes_of}
 use Rattle.tas_main.specs.declared.stop.Stop.{Stop}
 use Rattle.tas_main.specs.declared.stop.Stop.TheVariants.{Stalled, Words, Line, Record, Read, Write, Memory, TooLong}
 use Rattle.tas_main.specs.declared.stop.Stop.TheVariants.{NotBuilt}
@@ -45,6 +45,12 @@ IsNoInput _ _ input = ⊥
 abbrev pub Misfits : Given → Stop → Type 0
 Misfits g stop = (r : Request) × Asks (form_of g.words) r × IsNoInput stop r.input g.source.left
 
+-- the source has more bytes than an input of the kind that the words ask for may have
+abbrev pub IsTooLong : Given → Type 0
+IsTooLong g =
+    (r : Request) × Asks (form_of g.words) r
+    × IfSome (bytes_of r.input g.source.left) (λ b. most_bytes g.words < length b)
+
 -- why it ends so
 abbrev pub Cause : Given → Stop → Type 0
 Cause g Stalled = Ran g (λ r log. log.stalled ≡ true)
@@ -54,7 +60,7 @@ Cause g (Record number) = Misfits g (Record number)
 Cause g Read = Rose g.source.faults g.read.faults
 Cause g Write = Rose g.sink.faults g.written.faults
 Cause g Memory = ⊤
-Cause g TooLong = IfSome g.source.left (λ b. most_bytes g.words < length b)
+Cause g TooLong = IsTooLong g
 Cause g NotBuilt = Unasked g.words NotBuilt
 
 -- ----- the order
@@ -76,24 +82,42 @@ pub record ReadsAll (limit : ℕ) (before after : SourceState) : Type 0 where
   pub fits : IfSome before.left (λ b. length b ≤ limit)
   pub end : IsAtEnd after.left
 
+-- all that words of this form want was read: nothing for a made scenario, and else all that the source has
+abbrev pub ReadsFor : Form → (before after : SourceState) → Type 0
+ReadsFor (Bulk clients cores) before after = after ≡ before
+ReadsFor form before after = ReadsAll (most_in form) before after
+
+-- so far the source was read for this input
+abbrev pub IsReadFor : Input → (before after : SourceState) → Type 0
+IsReadFor (Made clients) before after = after ≡ before
+IsReadFor _ before after = IsAtEnd after.left
+
 -- exactly one byte more than the limit was taken
 abbrev pub ReadsPast : (limit : ℕ) → (before after : SourceState) → Type 0
 ReadsPast limit before after = (taken : List ℕ) × (length taken ≡ limit + 1) × Consumes before.left after.left taken
 
--- what was read before it stopped so, of an input that may have so much
-abbrev pub ReadBefore : (limit : ℕ) → (before after : SourceState) → Stop → Type 0
-ReadBefore limit before after (Line number) = ReadsAll limit before after
-ReadBefore limit before after (Record number) = ReadsAll limit before after
-ReadBefore limit before after Write = ReadsAll limit before after
-ReadBefore limit before after TooLong = ReadsPast limit before after
-ReadBefore limit before after _ = ⊤
+-- what was read for words of this form before it stopped so
+abbrev pub ReadBefore : Form → (before after : SourceState) → Stop → Type 0
+ReadBefore form before after (Line number) = ReadsFor form before after
+ReadBefore form before after (Record number) = ReadsFor form before after
+ReadBefore form before after Write = ReadsFor form before after
+ReadBefore form before after TooLong = ReadsPast (most_in form) before after
+ReadBefore form before after _ = ⊤
 
--- why not all of the input was read, of which there may be so much
-abbrev pub Unread : (before after : SourceState) → (limit : ℕ) → Stop → Type 0
-Unread before after limit Read = Rose before.faults after.faults
-Unread before after limit Memory = ⊤
-Unread before after limit TooLong = IfSome before.left (λ b. limit < length b)
-Unread before after limit _ = ⊥
+-- why not all of the input was read, which has these bytes where they are told, and may have so many
+abbrev pub Unread : (bytes : Option (List ℕ)) → (before after : SourceState) → (limit : ℕ) → Stop → Type 0
+Unread bytes before after limit Read = Rose before.faults after.faults
+Unread bytes before after limit Memory = ⊤
+Unread bytes before after limit TooLong = IfSome bytes (λ b. limit < length b)
+Unread bytes before after limit _ = ⊥
+
+-- a made scenario has no input that could be at fault
+abbrev pub IsOfMade : Stop → Type 0
+IsOfMade (Line number) = ⊥
+IsOfMade (Record number) = ⊥
+IsOfMade Read = ⊥
+IsOfMade TooLong = ⊥
+IsOfMade _ = ⊤
 
 -- ----- faults
 -- no stop but that of the source tells of a fault of the source

@@ -1,6 +1,6 @@
 -- The words of the command line, after the program's name: a command, the number of `bulk`, and then options in any
 -- order, each at most once.
-use Rattle.std.specs.Prelude.{◌≡◌, ℕ, zero, suc, ◌&&◌, not, Bool, true, false, List, [], ◌∷◌, codes, decimal, drop}
+use Rattle.std.specs.Prelude.{◌≡◌, ◌≤◌, ℕ, zero, suc, ◌&&◌, not, Bool, true, false, List, [], ◌∷◌, codes, decimal, drop}
 use Rattle.std.specs.Prelude.{take, length, fold, is_some, Option, Some, None, if◌then◌else◌, bytes_eq, ⊤}
 use Rattle.std.specs.Net.Grammar.{IsIpv4Text}
 use Rattle.std.specs.declared.net.ipv4_addr.Ipv4Addr.{Ipv4Addr}
@@ -85,7 +85,7 @@ options_of words = fold after_word (Reads no_options) words
 pub data Form : Type 0 where
   Unknown : Form  -- of no form
   Run : (cores : Option ℕ) → (pcap : Bool) → Form  -- `run`
-  Bulk : Form  -- `bulk` with its number
+  Bulk : (clients : ℕ) → (cores : Option ℕ) → Form  -- `bulk` with its number
   Replay : (local : List ℕ) → (cores : Option ℕ) → (pcap loose : Bool) → Form  -- `replay`, with the text of `--local`
 
 -- a scenario has neither address nor checksums, and is serial or on cores
@@ -98,7 +98,7 @@ run_form _ = Unknown
 
 -- a made one is not shown as a capture
 abbrev pub bulk_form : (number : Option ℕ) → Progress → Form
-bulk_form (Some n) (Reads o) = if takes_scenario o && not o.pcap then Bulk else Unknown
+bulk_form (Some n) (Reads o) = if takes_scenario o && not o.pcap then Bulk n o.cores else Unknown
 bulk_form _ _ = Unknown
 
 -- a replay has an address, and cores where it is not serial
@@ -128,22 +128,25 @@ form_of (command ∷ words) =
 abbrev pub IsForm : Form → Type 0
 IsForm Unknown = ⊥
 IsForm (Run cores pcap) = ⊤
-IsForm Bulk = ⊤
+IsForm (Bulk clients cores) = ⊤
 IsForm (Replay text cores pcap loose) = (local : Ipv4Addr) × IsIpv4Text text local
 
--- The form is built: a given scenario or a replay, on one thread.
+-- The form is built: on one thread.
 abbrev pub is_built : Form → Bool
 is_built (Run None pcap) = true
+is_built (Bulk clients None) = true
 is_built (Replay text None pcap loose) = true
 is_built _ = false
 
--- What the input is: a scenario, or a capture of what the host with this address saw, with `loose` no checksum of which
--- is looked at.
+-- What the input is: a scenario, or the one that is made for so many clients, of which nothing is read; or a capture of
+-- what the host with this address saw, with `loose` no checksum of which is looked at.
 pub data Input : Type 0 where
   Scenario : Input
+  Made : (clients : ℕ) → Input
   Capture : (local : Ipv4Addr) → (loose : Bool) → Input
 
--- What is asked for: a run of this input, which is shown by its report, or by the frames that it sent.
+-- What is asked for: a run of this input, which is shown by its report, or that of a made scenario by its summary; or
+-- by the frames that it sent.
 pub record Request : Type 0 where
   pub input : Input
   pub pcap : Bool
@@ -151,6 +154,7 @@ pub record Request : Type 0 where
 -- Words of this form ask for this, on one thread.
 abbrev pub Asks : Form → Request → Type 0
 Asks (Run None pcap) r = r ≡ record { input = Scenario; pcap = pcap }
+Asks (Bulk clients None) r = r ≡ record { input = Made clients; pcap = false }
 Asks (Replay text None pcap loose) r =
     (local : Ipv4Addr) × IsIpv4Text text local × (r ≡ record { input = Capture local loose; pcap = pcap })
 Asks _ r = ⊥
@@ -159,9 +163,20 @@ Asks _ r = ⊥
 abbrev pub IsAsked : (words : List (List ℕ)) → Type 0
 IsAsked words = (r : Request) × Asks (form_of words) r
 
--- the most bytes that the input may have: 1 MiB for a scenario, and 64 MiB for a capture
+-- of how many clients a made scenario is, where it is one
+abbrev pub HasClients : Input → Type 0
+HasClients (Made clients) = (1 ≤ clients) × (clients ≤ 1000)
+HasClients _ = ⊤
+
+-- The words ask for a made scenario, on one thread or on cores.
+abbrev pub IsMade : Form → Type 0
+IsMade (Bulk clients cores) = ⊤
+IsMade _ = ⊥
+
+-- the most bytes that the input may have: 1 MiB for a scenario, none for one that is made, and 64 MiB for a capture
 abbrev pub most_in : Form → ℕ
 most_in (Run cores pcap) = 1048576
+most_in (Bulk clients cores) = 0
 most_in _ = 67108864
 
 abbrev pub most_bytes : (words : List (List ℕ)) → ℕ

@@ -1,21 +1,51 @@
-ghost use Rattle.std.specs.Prelude.{◌≡◌, ◌≤◌, ◌++◌, length, IfOk, IfErr, IfSome, OnOk, Err};
+ghost use Rattle.std.specs.Prelude.{◌≡◌, ℕ, ◌≤◌, ◌++◌, length, IsOk, IfOk, IfErr, IfSome, OnOk, Err};
 ghost use Rattle.std.specs.Io.KnownBytes.{IsAtEnd};
-ghost use Rattle.tas_main.specs.Stops.{ReadsPast, SourceCalm, Unread};
+ghost use Rattle.tas_main.specs.Words as asked;
+ghost use Rattle.tas_main.specs.Requests.{input_in};
+ghost use Rattle.tas_main.specs.Runs.{bytes_of};
+ghost use Rattle.tas_main.specs.Stops.{IsReadFor, ReadsPast, SourceCalm, Unread};
 ghost use Rattle.tas_main.specs.declared.stop.Stop.{Stop};
 
 use crate::stop::Stop;
+use crate::words::Input;
 use std::alloc::{AllocError, Global};
 use tas_num::{IoFault, Source};
 
 /// The most bytes that one call of a source is asked for.
 pub const PIECE: usize = 4096;
 
+/// The bytes of the input: nothing for a made scenario, and else all that the source has left, at most `limit` bytes.
+pub fn read_input<S: Source>(
+    alloc: Global,
+    input: Input,
+    limit: u32,
+    source: &mut S,
+) -> Result<Vec<u8>, Stop>
+    ensures all { IfOk result
+        (λ v. IfSome (bytes_of (input_in input) (S.state source.old).left) (λ bytes. v.items ≡ bytes)) }
+    ensures short { IfOk result (λ v. length v.items ≤ limit) }
+    ensures read { OnOk result (IsReadFor (input_in input) (S.state source.old) (S.state source.new)) }
+    ensures cause { IfErr result (Unread (bytes_of (input_in input) (S.state source.old).left)
+        (S.state source.old) (S.state source.new) limit) }
+    ensures past { result ≡ Err Stop.TooLong → ReadsPast limit (S.state source.old) (S.state source.new) }
+    // For a made scenario it can't fail.
+    ensures made { (clients : ℕ) → input_in input ≡ asked.Made clients → IsOk result }
+    ensures calm { OnOk result ((S.state source.new).faults ≡ (S.state source.old).faults) }
+    ensures failed { IfErr result (SourceCalm (S.state source.old) (S.state source.new)) }
+{
+    match input {
+        Input::Made { .. } => Ok(Vec::new(alloc)),
+        Input::Scenario | Input::Capture { .. } => read_all(alloc, limit, source),
+    }
+}
+
 /// All that the source has left, at most `limit` bytes. Reading stops one byte past the limit.
 pub fn read_all<S: Source>(alloc: Global, limit: u32, source: &mut S) -> Result<Vec<u8>, Stop>
     ensures all { IfOk result (λ v. IfSome (S.state source.old).left (λ bytes. v.items ≡ bytes)) }
     ensures short { IfOk result (λ v. length v.items ≤ limit) }
     ensures end { OnOk result (IsAtEnd (S.state source.new).left) }
-    ensures cause { IfErr result (Unread (S.state source.old) (S.state source.new) limit) }
+    ensures cause { IfErr result
+        (Unread (S.state source.old).left (S.state source.old) (S.state source.new) limit) }
     ensures past { result ≡ Err Stop.TooLong → ReadsPast limit (S.state source.old) (S.state source.new) }
     // A fault of the source is never told as another stop.
     ensures calm { OnOk result ((S.state source.new).faults ≡ (S.state source.old).faults) }

@@ -1,4 +1,4 @@
-ghost use Rattle.std.specs.Prelude.{◌≡◌, ◌≤◌, length, Ok, IfOk, IfErr};
+ghost use Rattle.std.specs.Prelude.{◌≡◌, ◌≤◌, [], length, Ok, IfOk, IfErr};
 ghost use Rattle.std.specs.Net.Addr.{ipv4_bits};
 ghost use Rattle.scenario_text.specs.Reads.{reads};
 ghost use Rattle.scenario_runs.specs.Runs.{serial_run};
@@ -8,23 +8,27 @@ ghost use Rattle.tas_main.specs.Words as asked;
 ghost use Rattle.tas_main.specs.Requests.{input_in};
 ghost use Rattle.tas_main.specs.Runs.{IsSerialRun};
 ghost use Rattle.tas_main.specs.Stops.{Unrun};
+ghost use Rattle.tas_main.specs.declared.stop.Stop.{Stop};
 
 use crate::stop::Stop;
 use crate::words::Input;
 use scenario_ranges::what_is_read_is_in_range;
-use scenario_text::{Scenario, ScenarioFault, read_scenario};
+use scenario_text::{Scenario, ScenarioFault, bulk_scenario, read_scenario};
 use std::alloc::Global;
 use std::net::Ipv4Addr;
 use tas_round::{ReplayFault, RunLog, replay_serially, run_serially};
 
-/// The log of the run of the input that these bytes are. The error is that they are none of its kind, or want of memory.
+/// The log of the run of the input that these bytes are; for a made scenario they are not looked at. The error is that
+/// they are none of its kind, or want of memory.
 pub fn run_of(alloc: Global, input: Input, bytes: &[u8]) -> Result<RunLog, Stop>
-    requires { length bytes.now ≤ 67108864 }
+    requires short { length bytes.now ≤ 67108864 }
+    requires clients { asked.HasClients (input_in input) }
     ensures ok { IfOk result (λ log. IsSerialRun (input_in input) bytes.now (log_in log)) }
     ensures refused { IfErr result (Unrun (input_in input) bytes.now) }
 {
     match input {
         Input::Scenario => scenario_run(alloc, bytes),
+        Input::Made { clients } => made_run(alloc, clients),
         Input::Capture { local, loose } => capture_replay(alloc, local, loose, bytes),
     }
 }
@@ -35,6 +39,23 @@ fn scenario_run(alloc: Global, bytes: &[u8]) -> Result<RunLog, Stop>
     ensures refused { IfErr result (Unrun asked.Scenario bytes.now) }
 {
     let scenario = scenario_of(alloc, bytes)?;
+    // Why it may be run.
+    what_is_read_is_in_range();
+    match run_serially(alloc, &scenario) {
+        Ok(log) => Ok(log),
+        Err(_) => Err(Stop::Memory),
+    }
+}
+
+/// The log of the run of the scenario that is made for so many clients. The error is want of memory.
+fn made_run(alloc: Global, clients: u32) -> Result<RunLog, Stop>
+    requires { asked.HasClients (asked.Made clients) }
+    ensures ok { IfOk result (λ log. IsSerialRun (asked.Made clients) [] (log_in log)) }
+    ensures memory { IfErr result (λ stop. stop ≡ Stop.Memory) }
+{
+    let Ok(scenario) = bulk_scenario(alloc, clients) else {
+        return Err(Stop::Memory);
+    };
     // Why it may be run.
     what_is_read_is_in_range();
     match run_serially(alloc, &scenario) {

@@ -113,12 +113,10 @@ fn words_of_no_form_are_refused(rt: HostRuntime) -> Result<(), Fail> {
 }
 
 #[test]
-fn made_scenarios_and_cores_are_not_built(rt: HostRuntime) -> Result<(), Fail> {
+fn cores_are_not_built(rt: HostRuntime) -> Result<(), Fail> {
     let lines = [
         "run --cores 4 --pcap",
         "run --pcap --cores=16",
-        "bulk 1",
-        "bulk 1000 --serial",
         "bulk 1 --cores 16",
         "replay --local 10.0.0.2 --cores 2",
         "replay --cores=1 --loose-sums --pcap --local=10.0.0.2",

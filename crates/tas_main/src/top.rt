@@ -3,25 +3,26 @@ ghost use Rattle.std.specs.Prelude.{IfErr, OnOk, OnErr};
 ghost use Rattle.std.specs.Io.KnownBytes.{Keeps};
 ghost use Rattle.tas_num.specs.Streams.{Wrote};
 ghost use Rattle.tas_round.specs.Runs.{log_in};
+ghost use Rattle.tas_round.specs.Written.{WroteText};
 ghost use Rattle.tas_main.specs.Runs.{given};
 ghost use Rattle.tas_main.specs.Stops.{Cause, status_of, writes_nothing, Unwritten, Unwrites, WordsFirst, Untouched};
-ghost use Rattle.tas_main.specs.Stops.{ReadsAll, ReadsPast, ReadBefore, SourceCalm, SinkCalm};
+ghost use Rattle.tas_main.specs.Stops.{ReadsFor, ReadsPast, ReadBefore, IsOfMade, SourceCalm, SinkCalm};
 ghost use Rattle.tas_main.specs.Telling.{IsTold};
-ghost use Rattle.tas_main.specs.Outputs.{output, WritesAll, WritesFront, IsWhole};
-ghost use Rattle.tas_main.specs.Requests.{request_in};
-ghost use Rattle.tas_main.specs.Words.{IsAsked, most_bytes};
+ghost use Rattle.tas_main.specs.Outputs.{output, text_of, WritesAll, WritesFront, IsWhole};
+ghost use Rattle.tas_main.specs.Requests.{input_in, request_in};
+ghost use Rattle.tas_main.specs.Words.{form_of, IsAsked, IsMade, most_bytes};
 ghost use Rattle.tas_main.specs.declared.stop.Stop.{Stop};
 
-use crate::input::read_all;
+use crate::input::read_input;
 use crate::runs::run_of;
 use crate::stop::Stop;
 use crate::telling::tell;
-use crate::words::{Request, read_words};
+use crate::words::{Input, Request, read_words};
 use std::alloc::Global;
 use std::sync::Wait;
 use std::thread::Threads;
 use tas_num::{Gate, IoFault, Sink, Source};
-use tas_round::{RunLog, write_capture, write_report};
+use tas_round::{RunLog, write_capture, write_report, write_summary};
 
 /// Runs what the words ask for, and answers the status that the program ends with. The output goes to `sink`. Where the
 /// status is not 0, a fault line goes to `faults`; if that fails, the status stays. What one thread does waits for
@@ -52,9 +53,13 @@ pub fn tas<R: Threads + Wait + Sync, S: Source, K: Sink, F: Sink, G: Gate>(
     ensures unread { (result ≡ 2) ⊎ (result ≡ 8) → S.state source.new ≡ S.state source.old }
     // Then all of the input is read, which is within its length at 0, 1, 3 and 5; at 7 one byte past that was taken.
     ensures read { (result ≡ 0) ⊎ ((result ≡ 1) ⊎ ((result ≡ 3) ⊎ (result ≡ 5)))
-        → ReadsAll (most_bytes (map string_bytes words.now)) (S.state source.old) (S.state source.new) }
+        → ReadsFor (form_of (map string_bytes words.now)) (S.state source.old) (S.state source.new) }
     ensures past { result ≡ 7
         → ReadsPast (most_bytes (map string_bytes words.now)) (S.state source.old) (S.state source.new) }
+    // For a made scenario nothing is read, whatever the status, so that 3, 4 and 7 do not come.
+    ensures made { IsMade (form_of (map string_bytes words.now)) → S.state source.new ≡ S.state source.old }
+    ensures sure { IsMade (form_of (map string_bytes words.now))
+        → (result ≢ 3) × ((result ≢ 4) × (result ≢ 7)) }
     // A fault of a stream is told as its own status.
     ensures reading { (result ≡ 4) ⊎ ((S.state source.new).faults ≡ (S.state source.old).faults) }
     ensures writing { (result ≡ 5) ⊎ ((K.state sink.new).faults ≡ (K.state sink.old).faults) }
@@ -68,8 +73,8 @@ pub fn tas<R: Threads + Wait + Sync, S: Source, K: Sink, F: Sink, G: Gate>(
     // At every other status it is as it was.
     ensures nothing { (result ≡ 2) ⊎ ((result ≡ 3) ⊎ ((result ≡ 4) ⊎ ((result ≡ 7) ⊎ (result ≡ 8))))
         → K.state sink.new ≡ K.state sink.old }
-    // Words of a run on one thread and a scenario or a capture within its length give status 0 or 1, or want of memory,
-    // where no stream fails.
+    // Words of a run on one thread, and a scenario or a capture within its length where one is wanted, give status 0 or
+    // 1, or want of memory, where no stream fails.
     ensures complete { IsWhole (given (map string_bytes words.now) (S.state source.old) (S.state source.new)
         (K.state sink.old) (K.state sink.new))
         → (result ≡ 0) ⊎ ((result ≡ 1) ⊎ (result ≡ 6)) }
@@ -113,22 +118,24 @@ fn serve<S: Source, K: Sink>(
     ensures asked { OnOk result (IsAsked (map string_bytes words.now)) }
     ensures untouched { IfErr result (Untouched (S.state source.old) (S.state source.new)) }
     ensures read { OnOk result
-        (ReadsAll (most_bytes (map string_bytes words.now)) (S.state source.old) (S.state source.new)) }
+        (ReadsFor (form_of (map string_bytes words.now)) (S.state source.old) (S.state source.new)) }
     ensures before { IfErr result
-        (ReadBefore (most_bytes (map string_bytes words.now)) (S.state source.old) (S.state source.new)) }
+        (ReadBefore (form_of (map string_bytes words.now)) (S.state source.old) (S.state source.new)) }
+    ensures made { IsMade (form_of (map string_bytes words.now)) → S.state source.new ≡ S.state source.old }
+    ensures sure { IsMade (form_of (map string_bytes words.now)) → IfErr result IsOfMade }
     ensures reads_calmly { OnOk result ((S.state source.new).faults ≡ (S.state source.old).faults) }
     ensures source_calm { IfErr result (SourceCalm (S.state source.old) (S.state source.new)) }
     ensures writes_calmly { OnOk result ((K.state sink.new).faults ≡ (K.state sink.old).faults) }
     ensures sink_calm { IfErr result (SinkCalm (K.state sink.old) (K.state sink.new)) }
 {
     let asked = read_words(words)?;
-    let bytes = read_all(alloc, asked.most_bytes(), source)?;
+    let bytes = read_input(alloc, asked.input, asked.most_bytes(), source)?;
     let log = run_of(alloc, asked.input, &bytes)?;
     write_log(alloc, &asked, &log, sink)?;
     Ok(log.stalled)
 }
 
-/// Writes the text of the run that was asked for: its report, or the capture of the frames that it sent.
+/// Writes what was asked for of its run: its text, or the capture of the frames that it sent.
 fn write_log<K: Sink>(
     alloc: Global,
     asked: &Request,
@@ -143,11 +150,26 @@ fn write_log<K: Sink>(
     let written = if asked.pcap {
         write_capture(alloc, log, sink)
     } else {
-        write_report(alloc, log, sink)
+        write_text(alloc, asked.input, log, sink)
     };
     match written {
         Ok(()) => Ok(()),
         Err(IoFault::Failed) => Err(Stop::Write),
         Err(IoFault::OutOfMemory) => Err(Stop::Memory),
+    }
+}
+
+/// Writes the text of the run of this input: of a made scenario its summary, and else its report.
+fn write_text<K: Sink>(
+    alloc: Global,
+    input: Input,
+    log: &RunLog,
+    sink: &mut K,
+) -> Result<(), IoFault>
+    ensures { WroteText (K.state sink.old) result (K.state sink.new) (text_of (input_in input) (log_in log.now)) }
+{
+    match input {
+        Input::Made { clients } => write_summary(alloc, clients, log, sink),
+        Input::Scenario | Input::Capture { .. } => write_report(alloc, log, sink),
     }
 }

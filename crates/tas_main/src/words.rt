@@ -21,6 +21,8 @@ const MOST_BULK: u32 = 1000;
 pub enum Input {
     /// A scenario.
     Scenario,
+    /// The scenario that is made for so many clients. Nothing is read.
+    Made { clients: u32 },
     /// A capture of what the host with this address saw. With `loose` no checksum of a frame is looked at.
     Capture { local: Ipv4Addr, loose: bool },
 }
@@ -34,13 +36,15 @@ pub struct Request {
 }
 
 impl Request {
-    /// The most bytes that its input may have: 1 MiB for a scenario, and 64 MiB for a capture.
+    /// The most bytes that its input may have: 1 MiB for a scenario, none for one that is made, and 64 MiB for a
+    /// capture.
     pub fn most_bytes(&self) -> u32
         ensures limit { (form : forms.Form) → forms.Asks form (request_in self.now) → result ≡ forms.most_in form }
         ensures any { result ≤ 67108864 }
     {
         match self.input {
             Input::Scenario => 1_048_576,
+            Input::Made { .. } => 0,
             Input::Capture { .. } => 67_108_864,
         }
     }
@@ -57,7 +61,10 @@ pub enum Form<'a> {
         pcap: bool,
     },
     /// A made scenario.
-    Bulk,
+    Bulk {
+        clients: u32,
+        cores: Option<u32>,
+    },
     /// A replay, with the text of its address.
     Replay {
         local: &'a str,
@@ -90,17 +97,24 @@ pub enum Progress<'a> {
     WantsAddress(Options<'a>),
 }
 
-/// What the words ask for: `run`, with `--serial` and `--pcap` where they are wanted; or `replay`, and then `--local
-/// ADDRESS` or `--local=ADDRESS`, and `--pcap` and `--loose-sums` where they are wanted; in any order and each at most
-/// once. The error is `Words` where they are of no form of the program, and `NotBuilt` where they are of another one: of
-/// a made scenario, or of a run on cores.
+/// What the words ask for: `run`, with `--serial` and `--pcap` where they are wanted; `bulk N` for N clients, from 1 to
+/// 1,000, with `--serial` where it is wanted; or `replay`, with `--local ADDRESS` or `--local=ADDRESS`, and with
+/// `--pcap` and `--loose-sums` where they are wanted. Options stand in any order and each at most once. The error is
+/// `Words` where they are of no form of the program, and `NotBuilt` where they are of another one: of a run on cores.
 pub fn read_words(words: &[String]) -> Result<Request, Stop>
     ensures ok { IfOk result (λ r. forms.Asks (forms.form_of (map string_bytes words.now)) (request_in r)) }
     ensures err { IfErr result (Unasked (map string_bytes words.now)) }
 {
     match form_of(words) {
         Form::Unknown => Err(Stop::Words),
-        Form::Bulk | Form::Run { cores: Some(_), .. } => Err(Stop::NotBuilt),
+        Form::Bulk { cores: Some(_), .. } | Form::Run { cores: Some(_), .. } => Err(Stop::NotBuilt),
+        Form::Bulk {
+            clients,
+            cores: None,
+        } => Ok(Request {
+            input: Input::Made { clients },
+            pcap: false,
+        }),
         Form::Run { cores: None, pcap } => Ok(Request {
             input: Input::Scenario,
             pcap,
@@ -231,8 +245,12 @@ impl<'a> Progress<'a> {
         ensures { form_in result ≡ forms.bulk_form number (progress_in self.entry) }
     {
         match (number, self) {
-            (Some(_), Progress::Reads(options)) if options.takes_scenario() && !options.pcap => {
-                Form::Bulk
+            (Some(clients), Progress::Reads(options))
+                if options.takes_scenario() && !options.pcap => {
+                Form::Bulk {
+                    clients,
+                    cores: options.cores,
+                }
             }
             _ => Form::Unknown,
         }

@@ -1,4 +1,5 @@
 pub mod Lending
 pub mod Flowing
 pub mod Playing
+pub mod Summing
 pub mod HostEnds

@@ -6,6 +6,7 @@ pub mod Replays
 pub mod SerialOrder
 pub mod Asking
 pub mod Report
+pub mod Summary
 pub mod SentFrames
 pub mod WorkedTexts
 pub mod WorkedReplays

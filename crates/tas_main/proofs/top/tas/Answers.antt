@@ -2,10 +2,10 @@ use Rattle.std.proofs.Common.{◌≡◌, ◌≢◌, ◌⊎◌, inr, ℕ, Bool, E
 use Rattle.std.proofs.Common.{if◌then◌else◌}
 use Rattle.tas_main.specs.Runs.{given}
 use Rattle.tas_main.specs.Outputs.{WritesAll}
-use Rattle.tas_main.specs.Words.{most_bytes}
+use Rattle.tas_main.specs.Words.{form_of}
 use Rattle.tas_main.specs.declared.stop.Stop.{Stop}
 use Rattle.tas_main.specs.declared.stop.Stop.TheVariants.{Stalled}
-use Rattle.tas_main.proofs.Causes.{never_whole, read_at, stalled_why, whole_ends_well}
+use Rattle.tas_main.proofs.Causes.{never_whole, read_at, made_status, stalled_why, whole_ends_well}
 use Rattle.tas_main.proofs.top.tas.Goals as goal
 
 pub returns-in-Ok-true-clause-cause : goal.returns-in-Ok-true-clause-cause
@@ -27,10 +27,15 @@ returns-in-Err-clause-headline g c whole =
 pub returns-in-Err-clause-read : goal.returns-in-Err-clause-read
 returns-in-Err-clause-read g c at =
     let other : c.in-Err.stop ≢ Stalled = λ e. c.serve.ensures.unstalled (c.in-Err.is ∙ ap (λ (s : Stop). Err s) e) in
-    read_at (most_bytes (map string_bytes c.args.words.now)) _ _ c.in-Err.stop other c.in-Err.ensures.before
+    read_at (form_of (map string_bytes c.args.words.now)) _ _ c.in-Err.stop other c.in-Err.ensures.before
     (subst (λ (n : ℕ). (n ≡ 0) ⊎ ((n ≡ 1) ⊎ ((n ≡ 3) ⊎ (n ≡ 5)))) c.told-in-Err.ensures.status at)
 
 pub returns-in-Err-clause-complete : goal.returns-in-Err-clause-complete
 returns-in-Err-clause-complete g c w =
     subst (λ (n : ℕ). (n ≡ 0) ⊎ ((n ≡ 1) ⊎ (n ≡ 6))) (sym c.told-in-Err.ensures.status)
     (whole_ends_well _ c.in-Err.stop c.in-Err.ensures.cause w)
+
+pub returns-in-Err-clause-sure : goal.returns-in-Err-clause-sure
+returns-in-Err-clause-sure g c made =
+    subst (λ (n : ℕ). (n ≢ 3) × ((n ≢ 4) × (n ≢ 7))) (sym c.told-in-Err.ensures.status)
+    (made_status c.in-Err.stop (c.in-Err.ensures.sure made))
