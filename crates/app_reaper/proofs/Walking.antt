@@ -29,7 +29,7 @@ abbrev some_or : FlowId → Option FlowId → FlowId
 some_or d None = d
 some_or d (Some x) = x
 
-none_some : (x : FlowId) → ◌≡◌ {A = Option FlowId} None (Some x) → ⊥
+pub none_some : (x : FlowId) → ◌≡◌ {A = Option FlowId} None (Some x) → ⊥
 none_some x q = absurd (cc)
 
 pub same_pin : (x y : FlowId) → ◌≡◌ {A = Option FlowId} (Some x) (Some y) → x ≡ y
@@ -44,10 +44,10 @@ pub front : (l : List FlowId) (f : FlowId) → slice_get l 0 ≡ Some f → l �
 front [] f e = absurd (none_some f e)
 front (x ∷ xs) f e = ap (λ y. y ∷ xs) (same_pin x f e)
 
-on_itself : (f : FlowId) → at_slot f.slot f ≡ 1
+pub on_itself : (f : FlowId) → at_slot f.slot f ≡ 1
 on_itself f = ap (λ b. cond {A = ℕ} b 1 0) (eq-eqb f.slot f.slot refl)
 
-on_other : (i : ℕ) (f : FlowId) → f.slot ≢ i → at_slot i f ≡ 0
+pub on_other : (i : ℕ) (f : FlowId) → f.slot ≢ i → at_slot i f ≡ 0
 on_other i f ne = ap (λ b. cond {A = ℕ} b 1 0) (ne_eqb f.slot i ne)
 
 -- a list with no pin on any slot is empty
@@ -56,7 +56,7 @@ none_left [] all = refl
 none_left (f ∷ fs) all = absurd (let a = all f.slot in let one = on_itself f in omega arith)
 
 -- the pins on other slots stay
-kept : (i : ℕ) (l : List FlowId) (k : ℕ) (g : FlowId) → g.slot ≢ i → get_elem? l k ≡ O.some g
+pub kept : (i : ℕ) (l : List FlowId) (k : ℕ) (g : FlowId) → g.slot ≢ i → get_elem? l k ≡ O.some g
     → (j : ℕ) × (get_elem? (without i l) j ≡ O.some g)
 kept i [] k g ne e = absurd (some-ne-none g (sym e))
 kept i (f ∷ fs) zero g ne e =

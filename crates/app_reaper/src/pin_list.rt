@@ -1,5 +1,6 @@
 ghost use Rattle.std.specs.Prelude.{◌≡◌, ℕ, ◌<◌, ◌++◌, ◌∷◌, [], length, remove, slice_get, Some, OnOk, IsOk, vec_len};
-ghost use Rattle.std.specs.Prelude.{vec_capacity};
+ghost use Rattle.std.specs.Prelude.{vec_capacity, position};
+ghost use Rattle.app_reaper.specs.Lists.{is_on};
 
 use flow_lock::Pin;
 use std::alloc::{AllocError, Global};
@@ -61,6 +62,13 @@ impl PinList {
         ensures { slice_get self.now.list i ≡ Some result.now }
     {
         &self.pins[i]
+    }
+
+    /// The place of the first pin on this slot, counted from 0; `None` exactly where there is none.
+    pub fn place_of(&self, slot: u32) -> Option<usize>
+        ensures { result ≡ position (is_on slot) self.now.list }
+    {
+        self.pins.iter().position(|pin| pin.id().slot == slot)
     }
 
     /// Takes the pin at a place out, counted from 0.

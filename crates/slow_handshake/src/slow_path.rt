@@ -62,6 +62,13 @@ impl SlowPath {
         })
     }
 
+    /// The host's parameters.
+    pub fn params(&self) -> &HostParams
+        ensures { result.now ≡ self.now.params }
+    {
+        &self.params
+    }
+
     /// The application listens on the port (RFC 9293, section 3.10.1, a passive OPEN). `PortInUse`: a listener has it.
     pub fn listen(&mut self, app: u32, port: u16) -> Result<(), ListenRefused>
         ensures used { result ≡ Err ListenRefused.PortInUse ↔ is_taken self.old port ≡ true }
