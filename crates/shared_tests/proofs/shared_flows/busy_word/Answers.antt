@@ -1,6 +1,6 @@
 use Rattle.std.proofs.Common.{[], sym}
 use Rattle.flow_lock.proofs.Calling.{user_takes, holder_gives, holder_holds}
-use Rattle.flow_lock.proofs.Histories.{longer_nil}
+use Rattle.shared_tests.proofs.Growing.{longer_nil}
 use Rattle.shared_tests.proofs.shared_flows.busy_word.Goals as goal
 
 pub give-requires-clause-held : goal.give-requires-clause-held
