@@ -16,7 +16,7 @@ own =
     (search rules)
 
 -- ----- the number that is written
-all_digits : (n : ℕ) → n < 2 ^ 64 → list_all is_digit (decimal n) ≡ true
+pub all_digits : (n : ℕ) → n < 2 ^ 64 → list_all is_digit (decimal n) ≡ true
 all_digits n h = digits_decimal own n h
 
 numeral_by : (word : List ℕ) → 48 < get_or word 0 0 → list_all is_digit word ≡ true → is_numeral word ≡ true

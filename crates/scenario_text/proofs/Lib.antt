@@ -1,6 +1,7 @@
 pub mod Cuts
 pub mod Others
 pub mod RoleMaps
+pub mod NameSets
 pub mod Readings
 pub mod WordedLines
 pub mod Decimals

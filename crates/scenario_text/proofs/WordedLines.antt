@@ -114,7 +114,7 @@ no_return (c ∷ cs) e =
     rw other refl
 
 -- ----- a line of words
-says : (word : List ℕ) (words : List (List ℕ)) → list_all is_word (word ∷ words) ≡ true
+pub says : (word : List ℕ) (words : List (List ℕ)) → list_all is_word (word ∷ words) ≡ true
     → length (word ++ spaced words) ≤ 4096
     → reading (word ++ spaced words) ≡ by_words (word ++ spaced words) (word ∷ words)
 unfolding reading
@@ -122,12 +122,21 @@ says word words e short =
     let within : nat_lt 4096 (length (word ++ spaced words)) ≡ false = grind (arith, nat_tests, short) in
     rw (within, printable_line word words e, words_there word words e) refl
 
-parted : (word front rest : List ℕ) → (word ++ (front ++ 10 ∷ [])) ++ rest ≡ (word ++ front) ++ 10 ∷ rest
+pub parted : (word front rest : List ℕ) → (word ++ (front ++ 10 ∷ [])) ++ rest ≡ (word ++ front) ++ 10 ∷ rest
 parted word front rest = search (rules, append_assoc)
 
 -- A draft and a text lead to a result, whatever the number of the next line.
 abbrev pub Leads : Draft → (text : List ℕ) → Result Scenario ScenarioFault → Type 0
 Leads d text all = (line : ℕ) → read_from line d (lines text) ≡ all
+
+-- a line that is taken at the front of a text
+pub line_leads : (d next : Draft) (text rest : List ℕ) → list_all is_printable text ≡ true → taken d text ≡ Ok next
+    → (all : Result Scenario ScenarioFault) → Leads next rest all → Leads d (text ++ 10 ∷ rest) all
+line_leads d next text rest clean taken_here all h line =
+    let cut : slice_split (λ (c : ℕ). eqb c 10) (text ++ 10 ∷ rest) ≡ text ∷ slice_split (λ (c : ℕ). eqb c 10) rest =
+    slice_split_at (λ (c : ℕ). eqb c 10) text 10 rest (no_end text clean) refl in
+    sym (line_taken line d next (text ++ 10 ∷ rest) text rest text cut (no_return text clean) taken_here _ refl)
+    ∙ h (line + 1)
 
 -- a line of words that is taken at the front of a text
 pub worded : (d next : Draft) (word : List ℕ) (words : List (List ℕ)) (rest : List ℕ)
@@ -136,10 +145,6 @@ pub worded : (d next : Draft) (word : List ℕ) (words : List (List ℕ)) (rest 
     → (all : Result Scenario ScenarioFault) → Leads next rest all → Leads d (line_of word words ++ rest) all
 worded d next word words rest e short t all h line =
     let text : List ℕ = word ++ spaced words in
-    let clean : list_all is_printable text ≡ true = printable_line word words e in
-    let cut : slice_split (λ (c : ℕ). eqb c 10) (text ++ 10 ∷ rest) ≡ text ∷ slice_split (λ (c : ℕ). eqb c 10) rest =
-    slice_split_at (λ (c : ℕ). eqb c 10) text 10 rest (no_end text clean) refl in
     let taken_here : taken d text ≡ Ok next = ap (taken_by d) (says word words e short) ∙ t in
     ap (λ (zs : List ℕ). read_from line d (lines zs)) (parted word (spaced words) rest)
-    ∙ (sym (line_taken line d next (text ++ 10 ∷ rest) text rest text cut (no_return text clean) taken_here _ refl)
-    ∙ h (line + 1))
+    ∙ line_leads d next text rest (printable_line word words e) taken_here all h line

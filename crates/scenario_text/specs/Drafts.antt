@@ -1,9 +1,11 @@
 -- A scenario as far as its lines were read: the kinds of refusal from 6 to 8, and what a line adds.
 use Rattle.std.specs.Prelude.{◌≡◌, ℕ, ◌+◌, Bool, true, false, not, ◌&&◌, ◌||◌, ◌==◌, nat_le, List, [], ◌∷◌, ◌++◌, length, Option, Some, None, is_some, is_none, unwrap_or, bytes_eq, position, if◌then◌else◌}
 use Rattle.std.specs.List.{list_any}
-use Rattle.std.specs.Ordering.{nat_cmp}
+use Rattle.std.specs.declared.cmp.Ordering.{Ordering}
+use Rattle.std.specs.Ordering.{nat_cmp, ordering_then}
 use Rattle.std.specs.Cmp.Lexicographic.{slice_cmp}
 use Rattle.std.specs.BTreeMap.{BTreeMap, get_by}
+use Rattle.std.specs.BTreeSet.{BTreeSet, contains}
 use Rattle.std.specs.declared.vec.Vec.{Vec}
 use Rattle.std.specs.declared.alloc.Global.{Global}
 use Rattle.tas_model.specs.declared.entry.HostParams.{HostParams}
@@ -15,6 +17,7 @@ use Rattle.scenario_text.specs.declared.scenario.KillLine.{KillLine}
 use Rattle.scenario_text.specs.declared.scenario.Step.{Step}
 use Rattle.scenario_text.specs.declared.scenario.Step.TheVariants as steps
 use Rattle.scenario_text.specs.declared.draft.Draft.{Draft}
+use Rattle.scenario_text.specs.declared.names.Names.{Names}
 use Rattle.scenario_text.specs.declared.statement.Given.{Given}
 use Rattle.scenario_text.specs.declared.statement.Role.{Role}
 use Rattle.scenario_text.specs.declared.statement.Role.TheVariants.{Listener, Socket}
@@ -177,7 +180,21 @@ with_line d (says.DropEach host k) = record d { link = with_drop_each d.link (un
 with_line d (says.Move line worded) = record d { moves = d.moves ++ line ∷ [] }
 with_line d (says.Kill line worded) = record d { kills = d.kills ++ line ∷ [] }
 
--- ----- the map of an application's names
--- The map has what each name is.
+-- ----- how names are found
+-- The map has what each name of an application is.
 abbrev pub AreRoles : BTreeMap (Vec ℕ Global) Role → List Step → Type 0
 AreRoles roles before = (name : List ℕ) → get_by (λ k. slice_cmp nat_cmp name k.items) roles ≡ role_of before name
+
+-- the order of the names of applications: by their hosts' names
+abbrev pub name_cmp : Vec ℕ Global × Vec ℕ Global → Vec ℕ Global × Vec ℕ Global → Ordering
+name_cmp a b = ordering_then (slice_cmp nat_cmp a.0.items b.0.items) (slice_cmp nat_cmp a.1.items b.1.items)
+
+-- The set has the names of applications that pass a test, and no others.
+abbrev pub HaveNames : BTreeSet (Vec ℕ Global × Vec ℕ Global) → ((host name : List ℕ) → Bool) → Type 0
+HaveNames names test = (q : Vec ℕ Global × Vec ℕ Global) → contains name_cmp names q ≡ test q.0.items q.1.items
+
+-- The names are those that were read.
+pub record AreNames (names : Names) (d : Draft) : Type 0 where
+  pub roles : AreRoles names.roles (last_steps d.apps)
+  pub apps : HaveNames names.apps (has_app d.apps)
+  pub kills : HaveNames names.kills (has_kill d.kills)

@@ -1,10 +1,11 @@
-ghost use Rattle.std.specs.Prelude.{◌≡◌, ◌<◌, ◌≤◌, ◌++◌, ◌∷◌, [], List, length, bytes_eq, IfOk, IfSome, OnOk, None, Some, unwrap_or, false};
+ghost use Rattle.std.specs.Prelude.{◌≡◌, ◌<◌, ◌≤◌, ◌||◌, ℕ, Bool, not, List, length, IfOk, IfSome};
 ghost use Rattle.scenario_text.specs.Drafts as drafts;
 ghost use Rattle.scenario_text.specs.declared.scenario.Step.{Step};
 
 use crate::lists::{AppList, HostList, KillList, MoveList};
+use crate::names::{Names, has_name};
 use crate::roles::{Roles, brings_again, is_listener, is_socket};
-use crate::scenario::{AppLine, HostLine, KillLine, Step};
+use crate::scenario::{HostLine, KillLine, Step};
 use crate::statement::Statement;
 use link_script::{LinkScript, Target};
 use std::alloc::{AllocError, Global};
@@ -48,21 +49,10 @@ fn has_address(hosts: &[HostLine], addr: u32) -> bool
     hosts.iter().any(|host| host.params.addr == addr)
 }
 
-fn has_app(apps: &[AppLine], host: &[u8], name: &[u8]) -> bool
-    ensures { result ≡ drafts.has_app apps.now host.now name.now }
-{
-    apps.iter().any(|app| app.host.as_slice() == host && app.name.as_slice() == name)
-}
-
-fn has_kill(kills: &[KillLine], host: &[u8], app: &[u8]) -> bool
-    ensures { result ≡ drafts.has_kill kills.now host.now app.now }
-{
-    kills.iter().any(|kill| kill.host.as_slice() == host && kill.app.as_slice() == app)
-}
-
 /// Whether a step names a listener, a host or a socket that does not stand.
 fn is_lost_step(hosts: &[HostLine], roles: &Roles, step: &Step) -> bool
-    ensures { (before : List Step) → drafts.AreRoles roles.now before → result ≡ drafts.is_lost_step hosts.now before step.now }
+    ensures { (before : List Step) → drafts.AreRoles roles.now before
+        → result ≡ drafts.is_lost_step hosts.now before step.now }
 {
     match step {
         Step::Listen(_, _) | Step::Wait(_) => false,
@@ -77,6 +67,29 @@ fn is_lost_step(hosts: &[HostLine], roles: &Roles, step: &Step) -> bool
             name.as_slice(),
         ),
     }
+}
+
+/// Whether a line kills an application that does not stand, or has another word than its form. The error is want of
+/// memory.
+fn kills_unknown(
+    alloc: Global,
+    names: &Names,
+    line: &KillLine,
+    worded: bool,
+) -> Result<bool, AllocError>
+    ensures { IfOk result (λ b. (test : List ℕ → List ℕ → Bool) → drafts.HaveNames names.now.apps test
+        → b ≡ (not worded || not (test line.now.host line.now.app))) }
+{
+    if !worded {
+        return Ok(true);
+    }
+    let found = has_name(
+        alloc,
+        &names.apps,
+        line.host.as_slice(),
+        line.app.as_slice(),
+    )?;
+    Ok(!found)
 }
 
 impl Draft {
@@ -94,78 +107,93 @@ impl Draft {
         })
     }
 
-    /// The refusal of a line that is of a form, of the lowest kind.
-    pub(crate) fn judged(&self, roles: &Roles, statement: &Statement) -> Option<u8>
-        ensures { drafts.AreRoles roles.now (drafts.last_steps self.now.apps) → length self.now.hosts ≤ 8 → result ≡ drafts.judged self.now statement.now }
+    /// The refusal of a line that is of a form, of the lowest kind. The error is want of memory.
+    pub(crate) fn judged(
+        &self,
+        alloc: Global,
+        names: &Names,
+        statement: &Statement,
+    ) -> Result<Option<u8>, AllocError>
+        ensures { IfOk result (λ kind. drafts.AreNames names.now self.now → length self.now.hosts ≤ 8
+            → kind ≡ drafts.judged self.now statement.now) }
     {
-        if self.is_unknown(roles, statement) {
-            return Some(6);
+        if self.is_unknown(alloc, names, statement)? {
+            return Ok(Some(6));
         }
-        if self.repeats(roles, statement) {
-            return Some(7);
+        if self.repeats(alloc, names, statement)? {
+            return Ok(Some(7));
         }
         if self.is_full(statement) {
-            return Some(8);
+            return Ok(Some(8));
         }
-        None
+        Ok(None)
     }
 
-    /// Whether a line has an unknown name, another word than its form, or is a step before any application.
-    fn is_unknown(&self, roles: &Roles, statement: &Statement) -> bool
-        ensures { drafts.AreRoles roles.now (drafts.last_steps self.now.apps) → result ≡ drafts.is_unknown self.now statement.now }
+    /// Whether a line has an unknown name, another word than its form, or is a step before any application. The error
+    /// is want of memory.
+    fn is_unknown(
+        &self,
+        alloc: Global,
+        names: &Names,
+        statement: &Statement,
+    ) -> Result<bool, AllocError>
+        ensures { IfOk result (λ b. drafts.AreNames names.now self.now → b ≡ drafts.is_unknown self.now statement.now) }
     {
         let hosts = self.hosts.as_slice();
         match statement {
-            Statement::Limit(_) => false,
-            Statement::Host(_, _, given) => given.unknown,
-            Statement::App(host, _) => !has_host(hosts, host.as_slice()),
-            Statement::Do(step) => self.apps.is_nil() || is_lost_step(hosts, roles, step),
-            Statement::OnFrame(host, _, _, _) => !has_host(hosts, host.as_slice()),
-            Statement::DropEach(host, _) => !has_host(hosts, host.as_slice()),
-            Statement::Move(line, worded) => !*worded || !has_host(hosts, line.host.as_slice()),
-            Statement::Kill(line, worded) => !*worded
-                || !has_app(
-                    self.apps.as_slice(),
+            Statement::Limit(_) => Ok(false),
+            Statement::Host(_, _, given) => Ok(given.unknown),
+            Statement::App(host, _) => Ok(!has_host(hosts, host.as_slice())),
+            Statement::Do(step) => Ok(
+                self.apps.is_nil() || is_lost_step(hosts, &names.roles, step),
+            ),
+            Statement::OnFrame(host, _, _, _) => Ok(!has_host(hosts, host.as_slice())),
+            Statement::DropEach(host, _) => Ok(!has_host(hosts, host.as_slice())),
+            Statement::Move(line, worded) => Ok(!*worded || !has_host(hosts, line.host.as_slice())),
+            Statement::Kill(line, worded) => kills_unknown(alloc, names, line, *worded),
+        }
+    }
+
+    /// Whether a line is a repetition. The error is want of memory.
+    fn repeats(
+        &self,
+        alloc: Global,
+        names: &Names,
+        statement: &Statement,
+    ) -> Result<bool, AllocError>
+        ensures { IfOk result (λ b. drafts.AreNames names.now self.now → length self.now.hosts ≤ 8
+            → b ≡ drafts.repeats self.now statement.now) }
+    {
+        let hosts = self.hosts.as_slice();
+        match statement {
+            Statement::Limit(_) => Ok(self.limit.is_some()),
+            Statement::Host(name, addr, given) => {
+                Ok(given.repeated || has_host(hosts, name.as_slice()) || has_address(hosts, *addr))
+            }
+            Statement::App(host, name) => {
+                has_name(alloc, &names.apps, host.as_slice(), name.as_slice())
+            }
+            Statement::Do(step) => Ok(brings_again(&names.roles, step)),
+            Statement::OnFrame(host, flow, number, _) => {
+                Ok(self.is_second(host.as_slice(), *flow, *number))
+            }
+            Statement::DropEach(host, _) => Ok(self.is_second_each(host.as_slice())),
+            Statement::Move(_, _) => Ok(false),
+            Statement::Kill(line, _) => {
+                has_name(
+                    alloc,
+                    &names.kills,
                     line.host.as_slice(),
                     line.app.as_slice(),
-                ),
-        }
-    }
-
-    /// Whether a line is a repetition.
-    fn repeats(&self, roles: &Roles, statement: &Statement) -> bool
-        ensures { drafts.AreRoles roles.now (drafts.last_steps self.now.apps) → length self.now.hosts ≤ 8 → result ≡ drafts.repeats self.now statement.now }
-    {
-        let hosts = self.hosts.as_slice();
-        match statement {
-            Statement::Limit(_) => self.limit.is_some(),
-            Statement::Host(name, addr, given) => given.repeated
-                || has_host(hosts, name.as_slice())
-                || has_address(hosts, *addr),
-            Statement::App(host, name) => has_app(
-                self.apps.as_slice(),
-                host.as_slice(),
-                name.as_slice(),
-            ),
-            Statement::Do(step) => brings_again(roles, step),
-            Statement::OnFrame(host, flow, number, _) => self.is_second(
-                host.as_slice(),
-                *flow,
-                *number,
-            ),
-            Statement::DropEach(host, _) => self.is_second_each(host.as_slice()),
-            Statement::Move(_, _) => false,
-            Statement::Kill(line, _) => has_kill(
-                self.kills.as_slice(),
-                line.host.as_slice(),
-                line.app.as_slice(),
-            ),
+                )
+            }
         }
     }
 
     /// Whether a frame of a host has a line.
     fn is_second(&self, host: &[u8], flow: u32, number: u32) -> bool
-        ensures { length self.now.hosts ≤ 8 → result ≡ drafts.is_second self.now.link (drafts.host_of self.now.hosts host.now) flow number }
+        ensures { length self.now.hosts ≤ 8
+            → result ≡ drafts.is_second self.now.link (drafts.host_of self.now.hosts host.now) flow number }
     {
         match self.number_of(host) {
             Some(host) => self.link.line_on(&Target { host, flow, number }).is_some(),
@@ -175,7 +203,8 @@ impl Draft {
 
     /// Whether a host has a `dropeach` line.
     fn is_second_each(&self, host: &[u8]) -> bool
-        ensures { length self.now.hosts ≤ 8 → result ≡ drafts.is_second_each self.now.link (drafts.host_of self.now.hosts host.now) }
+        ensures { length self.now.hosts ≤ 8
+            → result ≡ drafts.is_second_each self.now.link (drafts.host_of self.now.hosts host.now) }
     {
         match self.number_of(host) {
             Some(host) => self.link.drop_each_of(host).is_some(),

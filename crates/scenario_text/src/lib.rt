@@ -7,6 +7,7 @@ mod fields;
 mod hosts;
 mod line;
 mod lists;
+mod names;
 mod options;
 mod printing;
 mod reading;

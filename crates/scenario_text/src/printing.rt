@@ -8,7 +8,8 @@ use link_script::{DropEach, LinkAct, LinkScript, Target};
 use std::alloc::{AllocError, Global};
 use tas_model::{Bytes, HostParams};
 
-/// The canonical text of a scenario: all options and defaults, each line in the order of its kind. The error is want of memory.
+/// The canonical text of a scenario: all options and defaults, each line in the order of its kind. The error is want of
+/// memory.
 pub fn print_scenario(alloc: Global, s: &Scenario) -> Result<Bytes, AllocError>
     ensures { IfOk result (λ text. text ≡ texts.canonical s.now) }
 {
@@ -41,6 +42,59 @@ pub(crate) fn put_line(out: &mut Vec<u8>, word: &[u8], words: &[&[u8]]) -> Resul
     Ok(())
 }
 
+/// Appends a line of two words. The error is want of memory.
+fn put_two(out: &mut Vec<u8>, word: &[u8], a: &[u8]) -> Result<(), AllocError>
+    ensures { OnOk result (out.new.items ≡ out.old.items ++ texts.line_of word.now (a.now ∷ [])) }
+{
+    put_line(out, word, &[a])
+}
+
+/// Appends a line of three words. The error is want of memory.
+fn put_three<'x>(out: &mut Vec<u8>, word: &[u8], a: &'x [u8], b: &'x [u8]) -> Result<(), AllocError>
+    ensures { OnOk result (out.new.items ≡ out.old.items ++ texts.line_of word.now (a.now ∷ b.now ∷ [])) }
+{
+    put_line(out, word, &[a, b])
+}
+
+/// Appends a line of four words. The error is want of memory.
+fn put_four<'x>(
+    out: &mut Vec<u8>,
+    word: &[u8],
+    a: &'x [u8],
+    b: &'x [u8],
+    c: &'x [u8],
+) -> Result<(), AllocError>
+    ensures { OnOk result (out.new.items ≡ out.old.items ++ texts.line_of word.now (a.now ∷ b.now ∷ c.now ∷ [])) }
+{
+    put_line(out, word, &[a, b, c])
+}
+
+/// Appends a line of a word, a name and a number. The error is want of memory.
+fn put_number(out: &mut Vec<u8>, word: &[u8], name: &[u8], number: u32) -> Result<(), AllocError>
+    ensures { OnOk result (out.new.items ≡ out.old.items ++ texts.line_of word.now (name.now ∷ decimal number ∷ [])) }
+{
+    put_three(out, word, name, Buffer::new().format(number).as_bytes())
+}
+
+/// Appends a line of a word, a frame and a number. The error is want of memory.
+fn put_frame_number<'x>(
+    out: &mut Vec<u8>,
+    word: &[u8],
+    host: &'x [u8],
+    flow: &'x [u8],
+    number: &'x [u8],
+    more: u32,
+) -> Result<(), AllocError>
+    ensures { OnOk result (out.new.items
+        ≡ out.old.items ++ texts.line_of word.now (host.now ∷ flow.now ∷ number.now ∷ decimal more ∷ [])) }
+{
+    put_line(
+        out,
+        word,
+        &[host, flow, number, Buffer::new().format(more).as_bytes()],
+    )
+}
+
 fn put_hosts(alloc: Global, out: &mut Vec<u8>, hosts: &[HostLine]) -> Result<(), AllocError>
     ensures { OnOk result (out.new.items ≡ out.old.items ++ flat_map texts.host_text hosts.now) }
 {
@@ -62,7 +116,7 @@ fn put_apps(out: &mut Vec<u8>, apps: &[AppLine]) -> Result<(), AllocError>
 fn put_app(out: &mut Vec<u8>, app: &AppLine) -> Result<(), AllocError>
     ensures { OnOk result (out.new.items ≡ out.old.items ++ texts.app_text app.now) }
 {
-    put_line(out, b"app", &[app.host.as_slice(), app.name.as_slice()])?;
+    put_three(out, b"app", app.host.as_slice(), app.name.as_slice())?;
     put_steps(out, app.steps.as_slice())
 }
 
@@ -96,12 +150,7 @@ fn put_drops(out: &mut Vec<u8>, hosts: &[HostLine], drops: &[DropEach]) -> Resul
 fn put_drop(out: &mut Vec<u8>, hosts: &[HostLine], line: &DropEach) -> Result<(), AllocError>
     ensures { OnOk result (out.new.items ≡ out.old.items ++ texts.each_text hosts.now line.now) }
 {
-    let name = name_at(hosts, line.host);
-    put_line(
-        out,
-        b"dropeach",
-        &[name, Buffer::new().format(line.k).as_bytes()],
-    )
+    put_number(out, b"dropeach", name_at(hosts, line.host), line.k)
 }
 
 fn put_moves(out: &mut Vec<u8>, moves: &[MoveLine]) -> Result<(), AllocError>
@@ -160,7 +209,8 @@ fn put_params(
     addr: &[u8],
     params: &HostParams,
 ) -> Result<(), AllocError>
-    ensures { OnOk result (out.new.items ≡ out.old.items ++ texts.line_of (codes "host") (name.now ∷ addr.now ∷ texts.params_words params.now)) }
+    ensures { OnOk result (out.new.items
+        ≡ out.old.items ++ texts.line_of (codes "host") (name.now ∷ addr.now ∷ texts.params_words params.now)) }
 {
     let mut iss = Buffer::new();
     let mut ring = Buffer::new();
@@ -190,44 +240,41 @@ fn put_params(
 fn put_step(out: &mut Vec<u8>, step: &Step) -> Result<(), AllocError>
     ensures { OnOk result (out.new.items ≡ out.old.items ++ texts.step_text step.now) }
 {
-    let mut number = Buffer::new();
     match step {
-        Step::Listen(name, port) => put_line(
-            out,
-            b"listen",
-            &[name.as_slice(), number.format(*port).as_bytes()],
-        ),
-        Step::Accept(name, listener) => put_line(
-            out,
-            b"accept",
-            &[name.as_slice(), listener.as_slice()],
-        ),
-        Step::Connect(name, host, port) => put_line(
-            out,
-            b"connect",
-            &[
-                name.as_slice(),
-                host.as_slice(),
-                number.format(*port).as_bytes(),
-            ],
-        ),
-        Step::Send(name, text) => put_line(out, b"send", &[name.as_slice(), text.as_slice()]),
-        Step::Fill(name, count) => put_line(
-            out,
-            b"fill",
-            &[name.as_slice(), number.format(*count).as_bytes()],
-        ),
-        Step::Recv(name, count) => put_line(
-            out,
-            b"recv",
-            &[name.as_slice(), number.format(*count).as_bytes()],
-        ),
-        Step::Drain(name) => put_line(out, b"drain", &[name.as_slice()]),
-        Step::Shut(name) => put_line(out, b"shut", &[name.as_slice()]),
-        Step::Close(name) => put_line(out, b"close", &[name.as_slice()]),
-        Step::Abort(name) => put_line(out, b"abort", &[name.as_slice()]),
-        Step::Wait(ticks) => put_line(out, b"wait", &[number.format(*ticks).as_bytes()]),
+        Step::Listen(name, port) => put_number(out, b"listen", name.as_slice(), *port),
+        Step::Accept(name, listener) => {
+            put_three(out, b"accept", name.as_slice(), listener.as_slice())
+        }
+        Step::Connect(name, host, port) => {
+            put_connect(out, name.as_slice(), host.as_slice(), *port)
+        }
+        Step::Send(name, text) => put_three(out, b"send", name.as_slice(), text.as_slice()),
+        Step::Fill(name, count) => put_number(out, b"fill", name.as_slice(), *count),
+        Step::Recv(name, count) => put_number(out, b"recv", name.as_slice(), *count),
+        Step::Drain(name) => put_two(out, b"drain", name.as_slice()),
+        Step::Shut(name) => put_two(out, b"shut", name.as_slice()),
+        Step::Close(name) => put_two(out, b"close", name.as_slice()),
+        Step::Abort(name) => put_two(out, b"abort", name.as_slice()),
+        Step::Wait(ticks) => put_two(out, b"wait", Buffer::new().format(*ticks).as_bytes()),
     }
+}
+
+fn put_connect<'x>(
+    out: &mut Vec<u8>,
+    name: &'x [u8],
+    host: &'x [u8],
+    port: u32,
+) -> Result<(), AllocError>
+    ensures { OnOk result (out.new.items
+        ≡ out.old.items ++ texts.line_of (codes "connect") (name.now ∷ host.now ∷ decimal port ∷ [])) }
+{
+    put_four(
+        out,
+        b"connect",
+        name,
+        host,
+        Buffer::new().format(port).as_bytes(),
+    )
 }
 
 fn put_act(
@@ -260,18 +307,10 @@ fn put_act_line<'x>(
     ensures { OnOk result (out.new.items ≡ out.old.items ++ texts.act_line host.now flow.now number.now act) }
 {
     match act {
-        LinkAct::Drop => put_line(out, b"drop", &[host, flow, number]),
-        LinkAct::Dup => put_line(out, b"dup", &[host, flow, number]),
-        LinkAct::Delay(ticks) => put_line(
-            out,
-            b"delay",
-            &[host, flow, number, Buffer::new().format(ticks).as_bytes()],
-        ),
-        LinkAct::Corrupt(place) => put_line(
-            out,
-            b"corrupt",
-            &[host, flow, number, Buffer::new().format(place).as_bytes()],
-        ),
+        LinkAct::Drop => put_four(out, b"drop", host, flow, number),
+        LinkAct::Dup => put_four(out, b"dup", host, flow, number),
+        LinkAct::Delay(ticks) => put_frame_number(out, b"delay", host, flow, number, ticks),
+        LinkAct::Corrupt(place) => put_frame_number(out, b"corrupt", host, flow, number, place),
     }
 }
 

@@ -5,27 +5,28 @@ ghost use Rattle.scenario_text.specs.Reads as rules;
 
 use crate::draft::Draft;
 use crate::line::read_line;
-use crate::roles::Roles;
+use crate::names::Names;
 use crate::scenario::Scenario;
 use crate::statement::Reading;
 use crate::words::cut;
 use std::alloc::{AllocError, Global};
-use std::collections::BTreeMap;
 
 /// Why a text is no scenario.
 #[derive(Clone, Copy, PartialEq, Eq, Debug)]
 pub enum ScenarioFault {
     OutOfMemory,
-    /// The first line that is refused, counted from 1, and the kind of the refusal: 1 a line above 4,096 bytes, 2 a byte outside 32 to 126, 3 an unknown first word, 4 another number of words,
-    /// 5 a number, name or address not of its form or range, 6 an unknown name, another word in the place of an option's name, `at` or `holding`, or a step before any `app`, 7 a repetition,
-    /// 8 above a limit, 9 no host, at the line after the last.
+    /// The first line that is refused, counted from 1, and the kind of the refusal: 1 a line above 4,096 bytes, 2 a byte
+    /// outside 32 to 126, 3 an unknown first word, 4 another number of words, 5 a number, name or address not of its
+    /// form or range, 6 an unknown name, another word in the place of an option's name, `at` or `holding`, or a step
+    /// before any `app`, 7 a repetition, 8 above a limit, 9 no host, at the line after the last.
     Refused { line: u64, kind: u8 },
 }
 
 /// More bytes than any memory holds.
 const LONGEST_TEXT: usize = 1 << 62;
 
-/// The scenario that a text is. A text that is none is refused, at its first refused line and by its lowest kind; want of memory is told where it comes first.
+/// The scenario that a text is. A text that is none is refused, at its first refused line and by its lowest kind; want
+/// of memory is told where it comes first.
 #[tactic(auto, unfolding(crate::specs::Reads::reads))]
 pub fn read_scenario(alloc: Global, text: &[u8]) -> Result<Scenario, ScenarioFault>
     ensures read { IfOk result (λ s. rules.reads text.now ≡ Ok s) }
@@ -37,11 +38,11 @@ pub fn read_scenario(alloc: Global, text: &[u8]) -> Result<Scenario, ScenarioFau
     let Ok(mut draft) = Draft::new(alloc) else {
         return Err(ScenarioFault::OutOfMemory);
     };
-    let mut roles = BTreeMap::new(alloc);
+    let mut names = Names::new(alloc);
     let mut line: u64 = 1;
     let mut rest = text;
     while let Some((front, behind)) = cut(rest, b'\n') {
-        match draft.take_line(alloc, &mut roles, without_return(front)) {
+        match draft.take_line(alloc, &mut names, without_return(front)) {
             Ok(None) => {}
             Ok(Some(kind)) => return Err(ScenarioFault::Refused { line, kind }),
             Err(_) => return Err(ScenarioFault::OutOfMemory),
@@ -50,7 +51,7 @@ pub fn read_scenario(alloc: Global, text: &[u8]) -> Result<Scenario, ScenarioFau
         rest = behind;
     }
     if !rest.is_empty() {
-        match draft.take_line(alloc, &mut roles, rest) {
+        match draft.take_line(alloc, &mut names, rest) {
             Ok(None) => {}
             Ok(Some(kind)) => return Err(ScenarioFault::Refused { line, kind }),
             Err(_) => return Err(ScenarioFault::OutOfMemory),
@@ -71,27 +72,29 @@ fn without_return(line: &[u8]) -> &[u8]
 }
 
 impl Draft {
-    /// Reads a line, and gives the kind of its refusal where it is refused; then nothing more is to be read. The error is want of memory.
+    /// Reads a line, and gives the kind of its refusal where it is refused; then nothing more is to be read. The error
+    /// is want of memory.
     fn take_line(
         &mut self,
         alloc: Global,
-        roles: &mut Roles,
+        names: &mut Names,
         line: &[u8],
     ) -> Result<Option<u8>, AllocError>
-        requires roles { drafts.AreRoles roles.old (drafts.last_steps self.old.apps) }
+        requires names { drafts.AreNames names.old self.old }
         requires few { length self.old.hosts ≤ 8 }
-        ensures line { IfOk result (λ kind. MatchOption kind (rules.taken self.old line.now ≡ Ok self.new) (λ k. rules.taken self.old line.now ≡ Err k)) }
-        ensures roles { IfOk result (λ kind. kind ≡ None → drafts.AreRoles roles.new (drafts.last_steps self.new.apps)) }
+        ensures line { IfOk result (λ kind. MatchOption kind (rules.taken self.old line.now ≡ Ok self.new)
+            (λ k. rules.taken self.old line.now ≡ Err k)) }
+        ensures names { IfOk result (λ kind. kind ≡ None → drafts.AreNames names.new self.new) }
         ensures few { IfOk result (λ kind. kind ≡ None → length self.new.hosts ≤ 8) }
     {
         match read_line(alloc, line)? {
             Reading::Nothing => Ok(None),
             Reading::Wrong(kind) => Ok(Some(kind)),
             Reading::Says(statement) => {
-                match self.judged(roles, &statement) {
+                match self.judged(alloc, names, &statement)? {
                     Some(kind) => Ok(Some(kind)),
                     None => {
-                        self.take(alloc, roles, statement)?;
+                        self.take(alloc, names, statement)?;
                         Ok(None)
                     }
                 }

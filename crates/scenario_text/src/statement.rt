@@ -3,7 +3,7 @@ use link_script::LinkAct;
 use tas_model::Bytes;
 
 /// The first words of lines.
-#[derive(Clone, Copy, PartialEq, Eq, Debug)]
+#[derive(Clone, Copy)]
 pub enum Keyword {
     Limit,
     Host,
@@ -29,7 +29,7 @@ pub enum Keyword {
 }
 
 /// The options of a host's line.
-#[derive(Clone, Copy, PartialEq, Eq, Debug)]
+#[derive(Clone, Copy)]
 pub enum OptionName {
     Iss,
     Ring,
@@ -40,7 +40,7 @@ pub enum OptionName {
 }
 
 /// The options that a host's line gives, as far as it was read: whether a value was out of its range, a word was no option's name, or an option came twice.
-#[derive(Clone, Copy, PartialEq, Eq, Debug)]
+#[derive(Clone, Copy)]
 pub struct Given {
     pub iss: Option<u32>,
     pub ring: Option<u32>,
@@ -82,7 +82,7 @@ pub enum Reading {
 }
 
 /// What a name of an application's is.
-#[derive(Clone, Copy, PartialEq, Eq, Debug)]
+#[derive(Clone, Copy)]
 pub enum Role {
     Listener,
     Socket,

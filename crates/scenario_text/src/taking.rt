@@ -1,11 +1,11 @@
-ghost use Rattle.std.specs.Prelude.{◌≡◌, ◌≤◌, ◌++◌, ◌∷◌, [], List, length, true, false, OnOk, None, unwrap_or};
+ghost use Rattle.std.specs.Prelude.{◌≡◌, ◌≤◌, ◌++◌, ◌∷◌, [], length, true, false, OnOk, None};
 ghost use Rattle.scenario_text.specs.Drafts as drafts;
-ghost use Rattle.link_script.specs.LinkLines as links;
 
 use crate::draft::Draft;
 use crate::lists::StepList;
-use crate::roles::{Roles, take_role};
-use crate::scenario::{AppLine, HostLine, Step};
+use crate::names::{Names, take_name};
+use crate::roles::take_role;
+use crate::scenario::{AppLine, HostLine, KillLine, Step};
 use crate::statement::{Given, Statement};
 use link_script::LinkAct;
 use std::alloc::{AllocError, Global};
@@ -35,13 +35,13 @@ impl Draft {
     pub(crate) fn take(
         &mut self,
         alloc: Global,
-        roles: &mut Roles,
+        names: &mut Names,
         statement: Statement,
     ) -> Result<(), AllocError>
-        requires roles { drafts.AreRoles roles.old (drafts.last_steps self.old.apps) }
+        requires names { drafts.AreNames names.old self.old }
         requires few { length self.old.hosts ≤ 8 }
         requires right { drafts.judged self.old statement ≡ None }
-        ensures roles { OnOk result (drafts.AreRoles roles.new (drafts.last_steps self.new.apps)) }
+        ensures names { OnOk result (drafts.AreNames names.new self.new) }
         ensures few { OnOk result (length self.new.hosts ≤ 8) }
         ensures line { OnOk result (self.new ≡ drafts.with_line self.old statement) }
     {
@@ -51,12 +51,12 @@ impl Draft {
                 Ok(())
             }
             Statement::Host(name, addr, given) => self.hosts.push(host_with(name, addr, given)),
-            Statement::App(host, name) => self.take_app(alloc, roles, host, name),
-            Statement::Do(step) => self.take_step(alloc, roles, step),
+            Statement::App(host, name) => self.take_app(alloc, names, host, name),
+            Statement::Do(step) => self.take_step(alloc, names, step),
             Statement::OnFrame(host, flow, number, act) => self.take_act(&host, flow, number, act),
             Statement::DropEach(host, k) => self.take_drop_each(&host, k),
             Statement::Move(line, _) => self.moves.push(line),
-            Statement::Kill(line, _) => self.kills.push(line),
+            Statement::Kill(line, _) => self.take_kill(alloc, names, line),
         }
     }
 
@@ -64,14 +64,16 @@ impl Draft {
     fn take_app(
         &mut self,
         alloc: Global,
-        roles: &mut Roles,
+        names: &mut Names,
         host: Bytes,
         name: Bytes,
     ) -> Result<(), AllocError>
-        ensures apps { OnOk result (self.new ≡ record self.old { apps = self.old.apps ++ (record { host = host; name = name; steps = [] }) ∷ [] }) }
-        ensures roles { OnOk result (drafts.AreRoles roles.new (drafts.last_steps (self.old.apps ++ (record { host = host; name = name; steps = [] }) ∷ []))) }
+        ensures apps { OnOk result (self.new ≡ drafts.with_line self.old (Statement.App host name)) }
+        ensures names { OnOk result (drafts.AreNames names.old self.old
+            → drafts.AreNames names.new (drafts.with_line self.old (Statement.App host name))) }
     {
-        roles.clear();
+        names.roles.clear();
+        take_name(alloc, &mut names.apps, host.as_slice(), name.as_slice())?;
         self.apps.push(AppLine {
             host,
             name,
@@ -80,15 +82,35 @@ impl Draft {
     }
 
     /// Takes a step of the last application up. The error is want of memory.
-    fn take_step(&mut self, alloc: Global, roles: &mut Roles, step: Step) -> Result<(), AllocError>
+    fn take_step(&mut self, alloc: Global, names: &mut Names, step: Step) -> Result<(), AllocError>
         requires some { drafts.is_nil self.old.apps ≡ false }
-        requires roles { drafts.AreRoles roles.old (drafts.last_steps self.old.apps) }
         requires fresh { drafts.brings_again (drafts.last_steps self.old.apps) (drafts.brings step) ≡ false }
         ensures apps { OnOk result (self.new ≡ record self.old { apps = drafts.with_step self.old.apps step }) }
-        ensures roles { OnOk result (drafts.AreRoles roles.new (drafts.last_steps (drafts.with_step self.old.apps step))) }
+        ensures names { OnOk result (drafts.AreNames names.old self.old
+            → drafts.AreNames names.new (record self.old { apps = drafts.with_step self.old.apps step })) }
     {
-        take_role(alloc, roles, &step)?;
+        take_role(alloc, &mut names.roles, &step)?;
         self.apps.push_step(step)
+    }
+
+    /// Takes a kill up. The error is want of memory.
+    fn take_kill(
+        &mut self,
+        alloc: Global,
+        names: &mut Names,
+        line: KillLine,
+    ) -> Result<(), AllocError>
+        ensures kills { OnOk result (self.new ≡ record self.old { kills = self.old.kills ++ line ∷ [] }) }
+        ensures names { OnOk result (drafts.AreNames names.old self.old
+            → drafts.AreNames names.new (record self.old { kills = self.old.kills ++ line ∷ [] })) }
+    {
+        take_name(
+            alloc,
+            &mut names.kills,
+            line.host.as_slice(),
+            line.app.as_slice(),
+        )?;
+        self.kills.push(line)
     }
 
     /// Takes a line on a frame up, which is the first one on it. The error is want of memory.
@@ -102,7 +124,7 @@ impl Draft {
         requires few { length self.old.hosts ≤ 8 }
         requires first { drafts.is_second self.old.link (drafts.host_of self.old.hosts host.now) flow number ≡ false }
         requires known { drafts.has_host self.old.hosts host.now ≡ true }
-        ensures { OnOk result (self.new ≡ record self.old { link = links.with_act self.old.link (record { host = unwrap_or (drafts.host_of self.old.hosts host.now) 0; flow = flow; number = number }) act }) }
+        ensures { OnOk result (self.new ≡ drafts.with_line self.old (Statement.OnFrame host.now flow number act)) }
     {
         match self.number_of(host.as_slice()) {
             Some(host) => self.link.add(host, flow, number, act),
@@ -115,7 +137,7 @@ impl Draft {
         requires few { length self.old.hosts ≤ 8 }
         requires first { drafts.is_second_each self.old.link (drafts.host_of self.old.hosts host.now) ≡ false }
         requires known { drafts.has_host self.old.hosts host.now ≡ true }
-        ensures { OnOk result (self.new ≡ record self.old { link = links.with_drop_each self.old.link (unwrap_or (drafts.host_of self.old.hosts host.now) 0) k }) }
+        ensures { OnOk result (self.new ≡ drafts.with_line self.old (Statement.DropEach host.now k)) }
     {
         match self.number_of(host.as_slice()) {
             Some(host) => self.link.drop_each(host, k),

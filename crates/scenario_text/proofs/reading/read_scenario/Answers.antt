@@ -7,7 +7,7 @@ pub loop-front-preserved : goal.loop-front-preserved
 loop-front-preserved c =
     let read = rw c.in-Ok-None.field-0-is at c.in-Ok-None.ensures.line in
     record {
-      roles = c.in-Ok-None.ensures.roles c.in-Ok-None.field-0-is;
+      names = c.in-Ok-None.ensures.names c.in-Ok-None.field-0-is;
       few = c.in-Ok-None.ensures.few c.in-Ok-None.field-0-is;
       line = omega (arith, c.in-Some.ensures.shorter, c.loop-front.invariant.line);
       reads = line_taken c.loop-front.line c.loop-front.draft c.take_line.new.self c.loop-front.rest.now c.in-Some.front.now c.in-Some.behind.now c.without_return.result.now c.in-Some.ensures.parts c.without_return.ensures read _ c.loop-front.invariant.reads;

@@ -1,5 +1,11 @@
-use Rattle.scenario_text.proofs.RoleMaps.{no_roles, on_ok}
+use Rattle.scenario_text.proofs.RoleMaps.{on_ok}
+use Rattle.scenario_text.proofs.NameSets.{app_named, takes_so}
 use Rattle.scenario_text.proofs.draft.Draft.take_app.Goals as goal
 
-pub returns-clause-roles : goal.returns-clause-roles
-returns-clause-roles c = on_ok _ _ (no_roles c.clear.new.self c.args.self.now.apps c.args.host c.args.name c.clear.ensures.empty)
+pub returns-clause-names : goal.returns-clause-names
+returns-clause-names c =
+    on_ok _ _
+    (app_named c.args.names.now c.args.self.now c.clear.new.self c.take_name.new.names c.args.host c.args.name
+    c.clear.ensures.empty
+    (takes_so c.args.names.now.apps c.take_name.new.names c.as_slice.result.now c.as_slice-2.result.now c.args.host
+    c.args.name c.as_slice.ensures c.as_slice-2.ensures c.in_ok-take_name.ensures))

@@ -1,0 +1,10 @@
+pub mod WordForms
+pub mod Addresses
+pub mod SentTexts
+pub mod HostOptions
+pub mod LineForms
+pub mod Readings
+pub mod Order
+pub mod Taken
+pub mod Drafts
+pub mod Back
