@@ -15,8 +15,6 @@ mod roles;
 mod scenario;
 mod statement;
 mod taking;
-#[cfg(test)]
-mod tests;
 mod words;
 
 pub use bulk::bulk_scenario;

@@ -1,4 +1,4 @@
-use super::*;
+use scenario_text::{ScenarioFault, bulk_scenario, print_scenario, read_scenario};
 use std::test::*;
 
 /// Two hosts, a server and a client.
