@@ -19,15 +19,23 @@ use Rattle.tas_round.specs.Runs.{host_in}
 
 -- ----- the host with a name
 -- it is none of those that were passed over
-pub passed_over : (name : List ℕ) (hs : List code.HostRun) (i : ℕ) (h : code.HostRun) → slice_get hs i ≡ Some h
+passed_by : (name : List ℕ) (hs : List code.HostRun) (i : ℕ) (h : code.HostRun) → slice_get hs i ≡ Some h
     → bytes_eq h.name name ≡ false
-    → flows_on name (map host_in (drop (i + 1) hs)) ≡ flows_on name (map host_in (drop i hs))
-passed_over name [] i h here other = absurd (cc (here))
-passed_over name (x ∷ xs) zero h here other =
+    → flows_on name (map host_in (drop (suc i) hs)) ≡ flows_on name (map host_in (drop i hs))
+passed_by name [] i h here other = absurd (cc (here))
+passed_by name (x ∷ xs) zero h here other =
     let same : x ≡ h = cc (here) in
     let not_it : bytes_eq x.name name ≡ false = ap (λ (r : code.HostRun). bytes_eq r.name name) same ∙ other in
     sym (ap (λ (b : Bool). cond b (host_in x).flows (flows_on name (map host_in xs))) not_it)
-passed_over name (x ∷ xs) (suc i) h here other = passed_over name xs i h here other
+passed_by name (x ∷ xs) (suc i) h here other = passed_by name xs i h here other
+
+pub passed_over : (name : List ℕ) (hs : List code.HostRun) (i : ℕ) (h : code.HostRun) → slice_get hs i ≡ Some h
+    → bytes_eq h.name name ≡ false
+    → flows_on name (map host_in (drop (i + 1) hs)) ≡ flows_on name (map host_in (drop i hs))
+passed_over name hs i h here other =
+    let next : suc i ≡ i + 1 = omega arith in
+    subst (λ (n : ℕ). flows_on name (map host_in (drop n hs)) ≡ flows_on name (map host_in (drop i hs))) next
+    (passed_by name hs i h here other)
 
 -- it is this one
 pub found_there : (name : List ℕ) (hs : List code.HostRun) (i : ℕ) (h : code.HostRun) → slice_get hs i ≡ Some h

@@ -99,7 +99,6 @@ fn add_read(count: u128, flow: &FlowRecord) -> Result<u128, AllocError>
 }
 
 /// How many of these flows were closed by both of their ends.
-#[tactic(auto, using(crate::proofs::Summing::count_mapped))]
 fn count_done(flows: &[FlowRecord]) -> usize
     ensures { result ≡ count_by texts.is_done (map history_of flows.now) }
 {

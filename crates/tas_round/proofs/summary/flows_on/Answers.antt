@@ -5,13 +5,13 @@ use Rattle.tas_round.proofs.summary.flows_on.Goals as goal
 
 pub loop-i-preserved : goal.loop-i-preserved
 loop-i-preserved c =
-    passed_over c.args.name.now c.args.hosts.now c.loop-i.i c.item.result.now c.item.ensures
+    passed_over c.args.name.now c.args.hosts.now c.loop-i.i c.item-host.result.now c.item-host.ensures
     (sym c.is_named.ensures ∙ c.if-is_named.false) ∙ c.loop-i.invariant
 
 pub returns-then-is_named : goal.returns-then-is_named
 returns-then-is_named c =
     ap (map history_of) c.as_slice.ensures.records
-    ∙ (found_there c.args.name.now c.args.hosts.now c.loop-i.i c.item.result.now c.item.ensures
+    ∙ (found_there c.args.name.now c.args.hosts.now c.loop-i.i c.item-host.result.now c.item-host.ensures
     (sym c.is_named.ensures ∙ c.if-is_named.true) ∙ c.loop-i.invariant)
 
 pub returns : goal.returns

@@ -9,4 +9,4 @@ pub returns : goal.returns
 returns c =
     summary_is c.args.clients _ _ _ (log_in c.args.log.now) refl
     (c.in_ok-read.ensures ∙ ap (λ (flows : List Flow). length (all_read flows)) c.flows_on.ensures)
-    (c.count_done.ensures ∙ ap (count_by is_done) c.flows_on-2.ensures)
+    (c.count_done-closed.ensures ∙ ap (count_by is_done) c.flows_on-2.ensures)
