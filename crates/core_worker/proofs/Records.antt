@@ -1,5 +1,5 @@
 -- A segment at a flow, step by step.
-use Rattle.std.proofs.Common.{◌≡◌, ◌≢◌, ap, sym, ◌∙◌, refl, subst, ℕ, Bool, true, false}
+use Rattle.std.proofs.Common.{◌≡◌, subst, ℕ, Bool, true, false}
 use Rattle.std.specs.Prelude.{Option, Some, None, Result, Ok, Err, IfOk, OnErr, if◌then◌else◌}
 use Rattle.segment_fields.specs.declared.segment.Segment.{Segment}
 use Rattle.tas_model.specs.declared.entry.FlowId.{FlowId}
@@ -17,7 +17,6 @@ use Rattle.core_worker.specs.Frames.{tuple_of, answer_by, answer_at, history_by}
 use Rattle.core_worker.specs.Receiving.{IsOffered, IsTried}
 use Rattle.core_worker.specs.declared.frames.Handled.{Handled}
 use Rattle.core_worker.specs.declared.frames.Handled.TheVariants as handled
-use Rattle.core_worker.specs.declared.frames.Passed.{Passed}
 use Rattle.core_worker.specs.declared.frames.Passed.TheVariants as passed
 
 -- ----- answers at a record are no answers of the words
