@@ -1,0 +1,26 @@
+-- What a pass sees and does where a core receives a segment for a flow that it has pinned.
+use Rattle.std.specs.Prelude.{◌≡◌, ℕ}
+use Rattle.segment_fields.specs.declared.segment.Segment.{Segment}
+use Rattle.tas_model.specs.declared.entry.FlowId.{FlowId}
+use Rattle.tas_model.specs.declared.entry.FrameId.{FrameId}
+use Rattle.flow_state.specs.Flow.{Flow}
+use Rattle.flow_lock.specs.declared.view.View.{View}
+use Rattle.app_reaper.specs.OneCall.{IsOwn, IsUse, IsCallRefused}
+use Rattle.app_reaper.specs.declared.one_call.CallFault.TheVariants.{Busy}
+use Rattle.core_worker.specs.Frames.{answer_at, history_by}
+use Rattle.core_worker.specs.declared.frames.Handled.{Handled}
+use Rattle.core_worker.specs.declared.frames.Handled.TheVariants as handled
+use Rattle.core_worker.specs.declared.frames.Passed.TheVariants as passed
+
+-- the record was taken, and given back as the segment leaves it, with this answer
+pub record IsOffered (core tick : ℕ) (frame : FrameId) (seg : Segment) (id : FlowId) (h : Handled) (v w : View)
+    : Type 0 where
+  pub flow : Flow
+  pub own : IsOwn id v flow
+  pub answer : h ≡ answer_at flow seg
+  pub given : IsUse id flow (history_by core tick frame seg flow h) v w
+
+-- What was done by the pin, by the answer. Busy is one of the take, and the others are answers at the record.
+abbrev pub IsTried : (core tick : ℕ) → FrameId → Segment → FlowId → View → View → Handled → Type 0
+IsTried core tick frame seg id v w (handled.Passed (passed.Busy x)) = IsCallRefused id v w (Busy x)
+IsTried core tick frame seg id v w h = IsOffered core tick frame seg id h v w
