@@ -1,1 +1,3 @@
+pub mod Emissions
+pub mod Packets
 pub mod Records

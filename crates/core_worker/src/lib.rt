@@ -4,9 +4,15 @@
 mod entering;
 mod frames;
 mod handing;
+mod handling;
+mod kicking;
 mod receiving;
+mod sending;
+mod shared;
+mod worker;
 
-pub use entering::{enter, tuple_of};
+pub use entering::tuple_of;
 pub use frames::{Handled, Passed};
 pub use handing::core_for;
-pub use receiving::offer;
+pub use shared::Shared;
+pub use worker::CoreWorker;

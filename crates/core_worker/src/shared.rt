@@ -1,0 +1,48 @@
+ghost use Rattle.std.specs.Prelude.{◌≡◌};
+
+use flow_lock::FlowTable;
+use flow_state::FlowRecord;
+use std::marker::Model;
+use steering::Steering;
+
+/// What the workers of a host share by `&`.
+#[derive(Drop)]
+pub struct Shared {
+    /// The flows of the host.
+    pub table: FlowTable<FlowRecord>,
+    /// The cores of the groups of flows.
+    pub steering: Steering,
+    slots: u32,
+}
+
+impl Model for Shared {
+    ghost use Rattle.std.specs.Prelude.{◌≡◌};
+    ghost use Rattle.core_worker.specs.Workers.{Common};
+
+    ghost Value = { Common };
+
+    ghost view = { λ s. record { table = s.table; steering = s.steering } };
+
+    ghost invariant = { λ s. s.slots ≡ s.table.slots };
+}
+
+impl Shared {
+    /// What the workers share: a table of so many slots, and the steering.
+    pub fn new(table: FlowTable<FlowRecord>, slots: u32, steering: Steering) -> Shared
+        requires { slots ≡ table.slots }
+        ensures { result ≡ record { table = table; steering = steering } }
+    {
+        Shared {
+            table,
+            steering,
+            slots,
+        }
+    }
+
+    /// The table's number of slots.
+    pub(crate) fn slots(&self) -> u32
+        ensures { result ≡ self.now.table.slots }
+    {
+        self.slots
+    }
+}
