@@ -4,4 +4,4 @@ pub mod Workers
 pub mod Handing
 pub mod Handling
 pub mod Sending
-pub mod Kicks
+pub mod Turns

@@ -5,14 +5,15 @@ mod entering;
 mod frames;
 mod handing;
 mod handling;
-mod kicking;
+mod lists;
 mod receiving;
 mod sending;
 mod shared;
+mod turning;
 mod worker;
 
 pub use entering::tuple_of;
-pub use frames::{Handled, Passed};
+pub use frames::{Frame, Handled, Passed, PassedFrame};
 pub use handing::core_for;
 pub use shared::Shared;
 pub use worker::CoreWorker;

@@ -1,5 +1,6 @@
-ghost use Rattle.std.specs.Prelude.{◌≡◌};
+ghost use Rattle.std.specs.Prelude.{◌≡◌, ◌<◌, length, slice_get, Some};
 
+use context_queue::ContextQueue;
 use flow_lock::FlowTable;
 use flow_state::FlowRecord;
 use std::marker::Model;
@@ -13,6 +14,7 @@ pub struct Shared {
     /// The cores of the groups of flows.
     pub steering: Steering,
     slots: u32,
+    kicks: Vec<ContextQueue>,
 }
 
 impl Model for Shared {
@@ -21,21 +23,27 @@ impl Model for Shared {
 
     ghost Value = { Common };
 
-    ghost view = { λ s. record { table = s.table; steering = s.steering } };
+    ghost view = { λ s. record { table = s.table; steering = s.steering; kicks = s.kicks.items } };
 
     ghost invariant = { λ s. s.slots ≡ s.table.slots };
 }
 
 impl Shared {
-    /// What the workers share: a table of so many slots, and the steering.
-    pub fn new(table: FlowTable<FlowRecord>, slots: u32, steering: Steering) -> Shared
+    /// What the workers share: a table of so many slots, the steering, and for each core its queue of kicks.
+    pub fn new(
+        table: FlowTable<FlowRecord>,
+        slots: u32,
+        steering: Steering,
+        kicks: Vec<ContextQueue>,
+    ) -> Shared
         requires { slots ≡ table.slots }
-        ensures { result ≡ record { table = table; steering = steering } }
+        ensures { result ≡ record { table = table; steering = steering; kicks = kicks.items } }
     {
         Shared {
             table,
             steering,
             slots,
+            kicks,
         }
     }
 
@@ -44,5 +52,13 @@ impl Shared {
         ensures { result ≡ self.now.table.slots }
     {
         self.slots
+    }
+
+    /// A core's queue of kicks.
+    pub(crate) fn kicks(&self, core: usize) -> &ContextQueue
+        requires { core < length self.now.kicks }
+        ensures { slice_get self.now.kicks core ≡ Some result.now }
+    {
+        &self.kicks[core]
     }
 }

@@ -10,8 +10,8 @@ use Rattle.core_worker.proofs.handling.handle.Goals as goal
 pub returns-in-Err-clause-handled : goal.returns-in-Err-clause-handled
 returns-in-Err-clause-handled g c =
     refused_so (setting_on c.args.shared.now c.args.duty) c.args.frame c.args.packet.now c.in-Err.refused
-    c.args.pass.now c.args.reader.now c.args.log.now c.refuse.new.log c.refuse.result c.in-Err.ensures.refused c.refuse.ensures.answer
-    c.refuse.ensures.line
+    c.args.pass.now c.args.reader.now c.args.log.now c.refuse.new.log c.refuse.result c.in-Err.ensures.refused
+    c.refuse.ensures.answer c.refuse.ensures.line
 
 pub returns-in-Err-clause-full : goal.returns-in-Err-clause-full
 returns-in-Err-clause-full g c =
