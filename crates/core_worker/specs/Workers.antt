@@ -45,7 +45,10 @@ sight_of w = sight w.pass w.known w.log
 abbrev pub with_sight : Sight → Worker → Worker
 with_sight s w = record w { pass = s.pass; known = s.known; log = s.log }
 
--- with other lists
+-- with other lines, or other lists
+abbrev pub with_log : List LogLine → Worker → Worker
+with_log lines w = record w { log = lines }
+
 abbrev pub with_frames : List Frame → Worker → Worker
 with_frames fs w = record w { frames = fs }
 

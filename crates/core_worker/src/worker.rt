@@ -1,6 +1,6 @@
 ghost use Rattle.std.specs.Prelude.{◌≡◌, ◌<◌, ◌++◌, ◌∷◌, [], IfOk, OnOk, OnErr, IfNone, IfSome};
 ghost use Rattle.core_worker.specs.Workers.{sight_of, with_sight, with_frames, with_deferred, with_exceptions, IsFree};
-ghost use Rattle.core_worker.specs.Workers.{new_worker, frame_of};
+ghost use Rattle.core_worker.specs.Workers.{with_log, new_worker, frame_of};
 ghost use Rattle.core_worker.specs.Handling.{IsHandled, IsUnhandled, setting_of};
 
 use crate::frames::{Frame, Handled, PassedFrame};
@@ -131,6 +131,14 @@ impl CoreWorker {
         ensures { result.now ≡ self.now.log }
     {
         &self.log
+    }
+
+    /// Takes out the lines that the worker wrote, and leaves it none. It takes no memory.
+    pub fn take_log(&mut self, alloc: Global) -> HostLog
+        ensures lines { result ≡ self.old.log }
+        ensures rest { self.new ≡ with_log [] self.old }
+    {
+        std::mem::replace(&mut self.log, HostLog::new(alloc))
     }
 
     /// Takes the first frame out that another pass stood in the way of.
