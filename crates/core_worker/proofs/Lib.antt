@@ -1,1 +1,4 @@
+pub mod Emissions
+pub mod Packets
 pub mod Records
+pub mod Turns

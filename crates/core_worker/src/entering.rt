@@ -51,7 +51,7 @@ fn why_not(phase: Phase, seg: &Segment<'_>) -> Option<Why>
 
 /// Receives the segment by the fast path, where it is of this flow and the fast path takes it.
 /// The error is want of memory.
-pub fn enter(
+pub(crate) fn enter(
     flow: &mut FlowRecord,
     core: u32,
     tick: u32,

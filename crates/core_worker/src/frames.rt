@@ -1,6 +1,13 @@
 use fast_rx::Why;
 use flow_lock::Word;
-use tas_model::FlowId;
+use tas_model::{Bytes, FlowId, FrameId};
+
+/// A frame that was handed to a core, with its packet as it came.
+#[derive(Drop)]
+pub struct Frame {
+    pub id: FrameId,
+    pub packet: Bytes,
+}
 
 /// What became of a frame at a core.
 #[derive(Clone, Copy, PartialEq, Eq, Debug)]
@@ -26,4 +33,11 @@ pub enum Passed {
     Moved(Word, Word),
     /// The fast path doesn't take it, for this reason.
     Fast(Why),
+}
+
+/// A frame that was left to the slow path, and why.
+#[derive(Drop)]
+pub struct PassedFrame {
+    pub frame: Frame,
+    pub passed: Passed,
 }

@@ -4,9 +4,16 @@
 mod entering;
 mod frames;
 mod handing;
+mod handling;
+mod lists;
 mod receiving;
+mod sending;
+mod shared;
+mod turning;
+mod worker;
 
-pub use entering::{enter, tuple_of};
-pub use frames::{Handled, Passed};
+pub use entering::tuple_of;
+pub use frames::{Frame, Handled, Passed, PassedFrame};
 pub use handing::core_for;
-pub use receiving::offer;
+pub use shared::Shared;
+pub use worker::CoreWorker;

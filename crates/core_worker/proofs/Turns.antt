@@ -1,0 +1,188 @@
+-- A turn, frame by frame and kick by kick.
+use Rattle.std.proofs.Common.{◌≡◌, ap, sym, ◌∙◌, refl, subst, ℕ, zero, suc, List, [], ◌∷◌, ◌++◌}
+use Rattle.std.proofs.Common.{append_assoc, append-nil, inl, inr, false, length, arith, tests}
+use Rattle.std.specs.Prelude.{Option, slice_get, nat_lt, Result, Ok, Err, OnErr}
+use Rattle.tas_model.specs.declared.entry.FlowId.{FlowId}
+use Rattle.flow_lock.specs.Passes.{Seen}
+use Rattle.flow_lock.specs.declared.view.History.{History}
+use Rattle.context_queue.specs.Notes.{Receiver, HasTaken}
+use Rattle.context_queue.specs.declared.note.Note.{Note}
+use Rattle.core_worker.specs.Workers.{Common, Worker, Sight, sight_of, with_sight, with_pass, with_kicks}
+use Rattle.core_worker.specs.Workers.{IsFree, HasQueue}
+use Rattle.core_worker.specs.Handling.{IsHandled, setting_of}
+use Rattle.core_worker.specs.Sending.{IsAllSent, IsPartSent}
+use Rattle.core_worker.specs.Turns.{deferred_by, exceptions_by, placed}
+use Rattle.core_worker.specs.Turns.{IsFrameDone, IsFirstDone, AreFramesDone, IsFrameLeft, AreFramesLeft}
+use Rattle.core_worker.specs.Turns.{kicked_in, IsKicked, IsKickDone, AreKicksDone, AreKicksLeft}
+use Rattle.core_worker.specs.declared.frames.Frame.{Frame}
+use Rattle.core_worker.specs.declared.frames.Handled.{Handled}
+use Rattle.core_worker.specs.declared.frames.PassedFrame.{PassedFrame}
+
+-- ----- frames
+none_first : (n : ℕ) → nat_lt 0 (suc n) ≡ false → ⊥
+none_first n = grind (arith, tests)
+
+-- one frame more
+pub frames_more : (c : Common) (tick : ℕ) (fs : List Frame) (f : Frame) (v m w : Worker)
+    → AreFramesDone c tick fs v m → IsFrameDone c tick f m w → AreFramesDone c tick (fs ++ f ∷ []) v w
+frames_more c tick [] f v m w e d = (w, subst (λ x. IsFrameDone c tick f x w) e d, refl)
+frames_more c tick (g ∷ fs) f v m w (x, one, more) d = (x, one, frames_more c tick fs f x m w more d)
+
+-- the first of a list
+first_or : Frame → List Frame → Frame
+first_or d [] = d
+first_or d (f ∷ fs) = f
+
+-- the frame that was handled is the one that was taken out, and stands where its answer says
+pub frame_done : (c : Common) (tick : ℕ) (u v : Worker) (f g : Frame) (rest fs : List Frame) (h : Handled)
+    (seen : Sight) (ds es : List PassedFrame) (packet : List ℕ) → u ≡ v → u.frames ≡ f ∷ rest → u.frames ≡ g ∷ fs
+    → packet ≡ f.packet → IsHandled (setting_of c tick u) f.id packet (sight_of u) seen h
+    → ds ≡ u.deferred ++ deferred_by g h → es ≡ u.exceptions ++ exceptions_by g h
+    → IsFirstDone c tick v (record (with_sight seen u) { frames = fs; deferred = ds; exceptions = es })
+unfolding first_or
+frame_done c tick u v f g rest fs h seen ds es packet is first taken bytes done deferred exceptions =
+    let n : Worker = record (with_sight seen u) { frames = fs; deferred = ds; exceptions = es } in
+    let same : f ≡ g = ap (first_or f) (sym first ∙ taken) in
+    let of_f : IsHandled (setting_of c tick u) f.id f.packet (sight_of u) seen h =
+    subst (λ b. IsHandled (setting_of c tick u) f.id b (sight_of u) seen h) bytes done in
+    let of_g : IsHandled (setting_of c tick u) g.id g.packet (sight_of u) seen h =
+    subst (λ (x : Frame). IsHandled (setting_of c tick u) x.id x.packet (sight_of u) seen h) same of_f in
+    let after : n ≡ placed g h fs (with_sight seen u) =
+    ap (λ l. record (with_sight seen u) { frames = fs; deferred = l; exceptions = es }) deferred
+    ∙ ap (λ l. record (with_sight seen u) { frames = fs; deferred = u.deferred ++ deferred_by g h; exceptions = l })
+    exceptions in
+    subst (λ (w : Worker). IsFirstDone c tick w n) is
+    (g, record { rest = fs; first = taken; answer = h; seen = seen; handled = of_g; after = after })
+
+-- a loop that handles frames: those handled, and those that are left
+pub record Handling (c : Common) (tick : ℕ) (first now : Worker) : Type 0 where
+  pub handled : List Frame
+  pub done : AreFramesDone c tick handled first now
+  pub all : first.frames ≡ handled ++ now.frames
+  pub core : now.core ≡ first.core
+  pub kicks : now.kicks ≡ first.kicks
+
+pub handling_first : (c : Common) (tick : ℕ) (w : Worker) → Handling c tick w w
+handling_first c tick w = record { handled = []; done = refl; all = refl; core = refl; kicks = refl }
+
+pub handling_more : (c : Common) (tick : ℕ) (first m w : Worker) → Handling c tick first m → IsFirstDone c tick m w
+    → Handling c tick first w
+handling_more c tick first m w h (f, d) =
+    let rest : w.frames ≡ d.rest = ap (λ (x : Worker). x.frames) d.after in
+    let next : m.frames ≡ f ∷ w.frames = d.first ∙ ap (λ l. f ∷ l) (sym rest) in
+    record {
+      handled = h.handled ++ f ∷ [];
+      done = frames_more c tick h.handled f first m w h.done d;
+      all = h.all ∙ (ap (λ l. h.handled ++ l) next ∙ sym (append_assoc h.handled (f ∷ []) w.frames));
+      core = ap (λ (x : Worker). x.core) d.after ∙ h.core;
+      kicks = ap (λ (x : Worker). x.kicks) d.after ∙ h.kicks;
+    }
+
+-- with none left all were handled
+pub handling_ends : (c : Common) (tick : ℕ) (first w : Worker) → Handling c tick first w → w.frames ≡ []
+    → AreFramesDone c tick first.frames first w
+handling_ends c tick first w h none =
+    let all : first.frames ≡ h.handled = h.all ∙ (ap (λ l. h.handled ++ l) none ∙ append-nil h.handled) in
+    subst (λ l. AreFramesDone c tick l first w) (sym all) h.done
+
+left_frames : (c : Common) (tick : ℕ) (m w : Worker) → IsFrameLeft c tick m w → w.frames ≡ m.frames
+left_frames c tick m w (inl e) = ap (λ (x : Worker). x.frames) e
+left_frames c tick m w (inr (f, rest, first, seen, un, e)) = ap (λ (x : Worker). x.frames) e
+
+pub handling_stops : (c : Common) (tick : ℕ) (first m w : Worker) → Handling c tick first m → IsFrameLeft c tick m w
+    → AreFramesLeft c tick first w
+handling_stops c tick first m w h left =
+    (h.handled, m, h.done, left, h.all ∙ ap (λ l. h.handled ++ l) (sym (left_frames c tick m w left)))
+
+pub left_core : (c : Common) (tick : ℕ) (m w : Worker) → IsFrameLeft c tick m w
+    → (w.core ≡ m.core) × (w.kicks ≡ m.kicks)
+left_core c tick m w (inl e) = (ap (λ (x : Worker). x.core) e, ap (λ (x : Worker). x.kicks) e)
+left_core c tick m w (inr (f, rest, first, seen, un, e)) =
+    (ap (λ (x : Worker). x.core) e, ap (λ (x : Worker). x.kicks) e)
+
+-- ----- the queue of kicks
+pub same_queue : (c : Common) (v w : Worker) → w.core ≡ v.core → w.kicks ≡ v.kicks → HasQueue c v → HasQueue c w
+same_queue c v w core kicks (place, there, line) =
+    (place, ap (λ k. slice_get c.kicks k) core ∙ there, line ∙ ap (λ (r : Receiver). r.line) (sym kicks))
+
+pub queue_taken : (c : Common) (note : Note) (v w : Worker) → HasTaken note v.kicks w.kicks
+    → w ≡ with_kicks w.kicks v → HasQueue c v → HasQueue c w
+queue_taken c note v w taken e (place, there, line) = (
+  place,
+  ap (λ k. slice_get c.kicks k) (ap (λ (x : Worker). x.core) e) ∙ there,
+  line ∙ sym (ap (λ (r : Receiver). r.line) taken.1),
+)
+
+-- ----- kicks
+-- one kick more
+pub kicks_more : (c : Common) (tick n : ℕ) (v m w : Worker) → AreKicksDone c tick n v m
+    → IsKickDone c (IsAllSent v.core tick) m w → AreKicksDone c tick (suc n) v w
+kicks_more c tick zero v m w e d = (w, subst (λ x. IsKickDone c (IsAllSent v.core tick) x w) e d, refl)
+kicks_more c tick (suc n) v m w (x, one, more) d =
+    let same : x.core ≡ v.core = ap (λ (y : Worker). y.core) one.after in
+    (x, one, kicks_more c tick n x m w more (subst (λ k. IsKickDone c (IsAllSent k tick) m w) (sym same) d))
+
+-- one kick, taken and then followed
+pub kick_after : (c : Common) (sent : (core : ℕ) → History → History → Type 0) (note : Note) (v u n : Worker)
+    → HasTaken note v.kicks u.kicks → u ≡ with_kicks u.kicks v
+    → IsKicked (kicked_in c.table.slots note) (sent u.core) u.pass.view n.pass.view → n ≡ with_pass n.pass u
+    → IsFree c v → IsFree c n → IsKickDone c (sent v.core) v n
+kick_after c sent note v u n taken first kicked last free free_then =
+    let id : Option FlowId = kicked_in c.table.slots note in
+    let core : u.core ≡ v.core = ap (λ (x : Worker). x.core) first in
+    let pass : u.pass ≡ v.pass = ap (λ (x : Worker). x.pass) first in
+    let by_core : IsKicked id (sent v.core) u.pass.view n.pass.view =
+    subst (λ k. IsKicked id (sent k) u.pass.view n.pass.view) core kicked in
+    record {
+      note = note;
+      kicks = u.kicks;
+      taken = taken;
+      pass = n.pass;
+      table = free_then.0.0 ∙ sym free.0.0;
+      kicked = subst (λ (s : Seen). IsKicked id (sent v.core) s.view n.pass.view) pass by_core;
+      after = last ∙ ap (with_pass n.pass) first;
+    }
+
+pub queue_after : (c : Common) (note : Note) (v u n : Worker) → HasTaken note v.kicks u.kicks
+    → u ≡ with_kicks u.kicks v → n ≡ with_pass n.pass u → HasQueue c v → HasQueue c n
+queue_after c note v u n taken first last queue =
+    same_queue c u n (ap (λ (x : Worker). x.core) last) (ap (λ (x : Worker). x.kicks) last)
+    (queue_taken c note v u taken first queue)
+
+-- a loop that takes kicks
+pub record Kicking (c : Common) (tick : ℕ) (first now : Worker) : Type 0 where
+  pub count : ℕ
+  pub done : AreKicksDone c tick count first now
+  pub core : now.core ≡ first.core
+  pub frames : now.frames ≡ first.frames
+  pub free : IsFree c now
+  pub queue : HasQueue c now
+
+pub kicking_first : (c : Common) (tick : ℕ) (w : Worker) → IsFree c w → HasQueue c w → Kicking c tick w w
+kicking_first c tick w free queue =
+    record { count = 0; done = refl; core = refl; frames = refl; free = free; queue = queue }
+
+pub kicking_more : (c : Common) (tick : ℕ) (first m w : Worker) → Kicking c tick first m
+    → IsKickDone c (IsAllSent m.core tick) m w → IsFree c w → HasQueue c w → Kicking c tick first w
+kicking_more c tick first m w k d free queue = record {
+  count = suc k.count;
+  done = kicks_more c tick k.count first m w k.done (subst (λ n. IsKickDone c (IsAllSent n tick) m w) k.core d);
+  core = ap (λ (x : Worker). x.core) d.after ∙ k.core;
+  frames = ap (λ (x : Worker). x.frames) d.after ∙ k.frames;
+  free = free;
+  queue = queue;
+}
+
+pub kicking_stops : (c : Common) (tick : ℕ) (first m w : Worker) → Kicking c tick first m
+    → IsKickDone c (IsPartSent m.core tick) m w → AreKicksLeft c tick first w
+kicking_stops c tick first m w k d =
+    (k.count, m, k.done, subst (λ n. IsKickDone c (IsPartSent n tick) m w) k.core d)
+
+-- ----- loops
+pub no_frame : (l : List Frame) → nat_lt 0 (length l) ≡ false → l ≡ []
+no_frame [] e = refl
+no_frame (f ∷ fs) e = absurd (none_first (length fs) e)
+
+pub err_of : {A E : Type 0} (P : Type 0) → P → (x : Result A E) → OnErr x P
+err_of P p (Ok a) = tt
+err_of P p (Err e) = p

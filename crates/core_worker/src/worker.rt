@@ -1,0 +1,161 @@
+ghost use Rattle.std.specs.Prelude.{◌≡◌, ◌<◌, ◌++◌, ◌∷◌, [], IfOk, OnOk, OnErr, IfNone, IfSome};
+ghost use Rattle.core_worker.specs.Workers.{sight_of, with_sight, with_frames, with_deferred, with_exceptions, IsFree};
+ghost use Rattle.core_worker.specs.Workers.{with_log, new_worker, frame_of};
+ghost use Rattle.core_worker.specs.Handling.{IsHandled, IsUnhandled, setting_of};
+
+use crate::frames::{Frame, Handled, PassedFrame};
+use crate::handling::{Duty, handle};
+use crate::lists::{FrameList, PassedList};
+use crate::shared::Shared;
+use context_queue::ReceiverPass;
+use flow_index::IndexReader;
+use flow_lock::Pass;
+use flow_state::FlowRecord;
+use std::alloc::{AllocError, Global};
+use std::marker::Model;
+use std::sync::Wait;
+use tas_core::HostLog;
+use tas_model::{Bytes, FrameId};
+
+/// The worker of one core. It handles the frames that were handed to it, and keeps those that it passed on.
+#[derive(Drop)]
+pub struct CoreWorker {
+    /// Its way to the table of flows. At each call it has no pin and holds no record.
+    pub pass: Pass<FlowRecord>,
+    /// Whether it looks at the checksums of packets.
+    pub check_sums: bool,
+    pub(crate) core: u32,
+    /// The gate's point before each frame; the one after it is the next.
+    pub(crate) point: u32,
+    pub(crate) reader: IndexReader,
+    pub(crate) log: HostLog,
+    pub(crate) frames: FrameList,
+    pub(crate) deferred: PassedList,
+    pub(crate) exceptions: PassedList,
+    pub(crate) kicks: ReceiverPass,
+}
+
+impl Model for CoreWorker {
+    ghost use Rattle.std.specs.Prelude.{◌<◌};
+    ghost use Rattle.core_worker.specs.Workers.{Worker};
+
+    ghost Value = { Worker };
+
+    ghost view = { λ w. record {
+      core = w.core;
+      pass = w.pass;
+      check_sums = w.check_sums;
+      known = w.reader;
+      log = w.log;
+      frames = w.frames;
+      deferred = w.deferred.list;
+      exceptions = w.exceptions.list;
+      kicks = w.kicks;
+    } };
+
+    ghost invariant = { λ w. w.point < 4294967295 };
+}
+
+impl CoreWorker {
+    /// The worker of a core, below 16, on a host by its place in the scenario, with empty lists. It takes no memory.
+    pub fn new(
+        alloc: Global,
+        host: u32,
+        core: u32,
+        pass: Pass<FlowRecord>,
+        reader: IndexReader,
+        kicks: ReceiverPass,
+    ) -> CoreWorker
+        requires host { host < 67108863 }
+        requires core { core < 16 }
+        ensures { result ≡ new_worker core pass reader kicks }
+    {
+        CoreWorker {
+            pass,
+            check_sums: true,
+            core,
+            point: 64 * host + 2 * core,
+            reader,
+            log: HostLog::new(alloc),
+            frames: FrameList::new(alloc),
+            deferred: PassedList::new(alloc),
+            exceptions: PassedList::new(alloc),
+            kicks,
+        }
+    }
+
+    /// Puts a frame behind those that the worker has to handle. The error is want of memory, and leaves all as it was.
+    pub fn hand(&mut self, id: FrameId, packet: Bytes) -> Result<(), AllocError>
+        ensures ok { OnOk result (self.new ≡ with_frames (self.old.frames ++ frame_of id packet ∷ []) self.old) }
+        ensures err { OnErr result (self.new ≡ self.old) }
+    {
+        self.frames.push(Frame { id, packet })
+    }
+
+    /// Handles one frame, and leaves no pin. The error is want of memory, and then the frame made no entry and no line.
+    pub fn frame<R: Wait>(
+        &mut self,
+        rt: &R,
+        shared: &Shared,
+        tick: u32,
+        id: FrameId,
+        packet: &Bytes,
+    ) -> Result<Handled, AllocError>
+        requires free { IsFree shared.now self.old }
+        ensures free { IsFree shared.now self.new }
+        ensures handled { IfOk result (IsHandled (setting_of shared.now tick self.old) id packet.now
+            (sight_of self.old) (sight_of self.new)) }
+        ensures full { OnErr result (IsUnhandled (setting_of shared.now tick self.old) packet.now
+            (sight_of self.old) (sight_of self.new)) }
+        ensures rest { self.new ≡ with_sight (sight_of self.new) self.old }
+    {
+        let duty = Duty {
+            core: self.core,
+            check_sums: self.check_sums,
+            tick,
+        };
+        handle(
+            rt,
+            shared,
+            duty,
+            &mut self.pass,
+            &mut self.reader,
+            &mut self.log,
+            id,
+            packet.as_slice(),
+        )
+    }
+
+    /// The lines that the worker wrote.
+    pub fn log(&self) -> &HostLog
+        ensures { result.now ≡ self.now.log }
+    {
+        &self.log
+    }
+
+    /// Takes out the lines that the worker wrote, and leaves it none. It takes no memory.
+    pub fn take_log(&mut self, alloc: Global) -> HostLog
+        ensures lines { result ≡ self.old.log }
+        ensures rest { self.new ≡ with_log [] self.old }
+    {
+        std::mem::replace(&mut self.log, HostLog::new(alloc))
+    }
+
+    /// Takes the first frame out that another pass stood in the way of.
+    pub fn take_deferred(&mut self) -> Option<PassedFrame>
+        ensures none { IfNone result ((self.old.deferred ≡ []) × (self.new ≡ self.old)) }
+        ensures first { IfSome result (λ f. self.old.deferred ≡ f ∷ self.new.deferred) }
+        ensures rest { self.new ≡ with_deferred self.new.deferred self.old }
+    {
+        self.deferred.take_first()
+    }
+
+    /// Takes the first frame out that is left to the slow path for another reason.
+    pub fn take_exception(&mut self) -> Option<PassedFrame>
+        ensures none { IfNone result ((self.old.exceptions ≡ []) × (self.new ≡ self.old)) }
+        ensures first { IfSome result (λ f. self.old.exceptions ≡ f ∷ self.new.exceptions) }
+        ensures rest { self.new ≡ with_exceptions self.new.exceptions self.old }
+    {
+        self.exceptions.take_first()
+    }
+}
