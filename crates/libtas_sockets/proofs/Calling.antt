@@ -1,6 +1,6 @@
 -- One call of an application on the flow of one of its sockets.
-use Rattle.std.proofs.Common.{◌≡◌, ℕ, ap, sym, ◌∙◌, refl, subst, ◌==◌, Bool, true, false, cond, List, [], length}
-use Rattle.std.specs.Prelude.{Option, Some, None, Result, Ok, Err, IfErr, IfOk, ⊤}
+use Rattle.std.proofs.Common.{◌≡◌, ℕ, ap, sym, ◌∙◌, refl, subst, ◌==◌, Bool, true, false, cond, List, [], ◌++◌, length}
+use Rattle.std.specs.Prelude.{Option, Some, None, Result, Ok, Err, IfErr, IfOk, min, not, ◌&&◌}
 use Rattle.std.specs.Option.{MatchOption}
 use Rattle.tas_model.specs.declared.entry.Caller.{Caller}
 use Rattle.tas_model.specs.declared.entry.Caller.TheVariants as callers
@@ -9,11 +9,11 @@ use Rattle.tas_model.specs.declared.entry.Reason.{Reason}
 use Rattle.tas_model.specs.declared.entry.Reason.TheVariants as reasons
 use Rattle.tas_model.specs.declared.entry.Reply.{Reply}
 use Rattle.tas_model.specs.declared.entry.Reply.TheVariants as replies
-use Rattle.tas_model.specs.Endpoint.{Endpoint, phase, unread}
-use Rattle.tas_model.specs.Segments.{Outcome}
+use Rattle.tas_model.specs.Endpoint.{Endpoint, phase, unread, send_room}
+use Rattle.tas_model.specs.Segments.{Outcome, unchanged}
 use Rattle.tas_model.specs.ApplicationCalls.{Column, Opening, Over, Running, column, ready_in, accept_in, send_in, recv_in}
 use Rattle.tas_model.specs.ApplicationCalls.{shut_in, close_in, abort_in, recv_open, recv_given, empty_reply, abort_reply}
-use Rattle.tas_model.specs.ApplicationCalls.{tells_abort}
+use Rattle.tas_model.specs.ApplicationCalls.{tells_abort, shutting}
 use Rattle.tas_model.specs.LegalHistory.{step, reply_or, shown}
 use Rattle.flow_state.specs.declared.call.CallIn.{CallIn}
 use Rattle.flow_state.specs.declared.call.CallIn.TheVariants as ins
@@ -27,9 +27,9 @@ use Rattle.flow_lock.specs.declared.view.View.{View}
 use Rattle.app_reaper.specs.OneCall.{history_with, IsUse, IsCall, IsCallRefused}
 use Rattle.app_reaper.specs.declared.one_call.CallFault.{CallFault}
 use Rattle.app_reaper.specs.declared.one_call.CallFault.TheVariants as faults
-use Rattle.libtas_sockets.specs.Answers.{refusal_in, refused_or, answer_by, fault_of, fault_in, IsRefusalOf}
-use Rattle.libtas_sockets.specs.Apps.{Application, flow_of, with_view}
-use Rattle.libtas_sockets.specs.Calling.{IsEntry, IsCalled, HasCalled}
+use Rattle.libtas_sockets.specs.Answers.{refusal_in, refused_or, answer_by, fault_of, fault_in, is_closed, IsRefusalOf}
+use Rattle.libtas_sockets.specs.Apps.{Application, flow_of, with_view, without_socket}
+use Rattle.libtas_sockets.specs.Calling.{IsEntry, IsCalled, HasCalled, after_abort}
 use Rattle.libtas_sockets.specs.declared.socket.Socket.{Socket}
 use Rattle.libtas_sockets.specs.declared.socket_error.SocketError.{SocketError}
 use Rattle.libtas_sockets.specs.declared.socket_error.SocketError.TheVariants as errors
@@ -115,7 +115,10 @@ send_refuses : (b : _) (c : Column) (e : Endpoint) (offered : ℕ) (bytes : List
 send_refuses b Opening e offered bytes x = tt
 send_refuses b (Over why) e offered bytes x = tt
 send_refuses b Running e offered bytes x =
-    one_of_four (λ r. IfErr (answer_by r x) (IsRefusalOf (ins.Send b))) _ _ _ _ _ _ tt tt tt tt
+    one_of_four (λ r. IfErr (answer_by r x) (IsRefusalOf (ins.Send b))) e.tx.shut
+    (min offered (send_room e) == 0 && not (offered == 0)) (length bytes == min offered (send_room e))
+    (unchanged e replies.Shut) (unchanged e replies.NotYet)
+    (record { state = record e { tx = record (e.tx) { out = e.tx.out ++ bytes } }; reply = replies.Took bytes }) tt tt tt tt
 
 empty_refuses : (most : ℕ) (why : Option Reason) (ended : Bool) → Refuses (ins.Recv most) (empty_reply why ended)
 empty_refuses most (Some why) true x = tt
@@ -124,8 +127,8 @@ empty_refuses most None true x = tt
 empty_refuses most None false x = tt
 
 open_refuses : (e : Endpoint) (most : ℕ) → Refuses (ins.Recv most) (recv_open e most).reply
-open_refuses e most x = one_of (λ r. IfErr (answer_by r x) (IsRefusalOf (ins.Recv most))) _ _ _
-    (empty_refuses most e.reason e.rx.ended x) tt
+open_refuses e most x = one_of (λ r. IfErr (answer_by r x) (IsRefusalOf (ins.Recv most))) (unread e.rx == 0)
+    (unchanged e (empty_reply e.reason e.rx.ended)) (recv_given e most) (empty_refuses most e.reason e.rx.ended x) tt
 
 recv_refuses : (c : Column) (e : Endpoint) (most : ℕ) → Refuses (ins.Recv most) (recv_in c e most).reply
 recv_refuses Opening e most x = tt
@@ -139,7 +142,8 @@ recv_refuses Running e most x = open_refuses e most x
 shut_refuses : (c : Column) (e : Endpoint) → Refuses ins.Shut (shut_in c e).reply
 shut_refuses Opening e x = tt
 shut_refuses (Over why) e x = tt
-shut_refuses Running e x = one_of (λ r. IfErr (answer_by r x) (IsRefusalOf ins.Shut)) _ _ _ tt tt
+shut_refuses Running e x = one_of (λ r. IfErr (answer_by r x) (IsRefusalOf ins.Shut)) e.tx.shut
+    (unchanged e replies.Shut) (record { state = shutting e; reply = replies.Ok }) tt tt
 
 close_refuses : (c : Column) (e : Endpoint) → Refuses ins.Close (close_in c e).reply
 close_refuses Opening e x = tt
@@ -182,11 +186,8 @@ pub reply_refuses : (call : CallIn) → IsAppCall call → (r : Flow) (tick : �
 reply_refuses call a r tick x = call_refuses call a _ _ _ x
 
 -- ----- entries
-abbrev pub appserves : Parts → CallIn → Type 0
-appserves p call = IsAppCall call
-
-pub entered : (id : FlowId) (caller : Caller) (tick : ℕ) (call : CallIn) (v w : View) (a : Answer)
-    → IsCall id caller tick call appserves v w (Some a)
+pub entered : {serves : Parts → CallIn → Type 0} (id : FlowId) (caller : Caller) (tick : ℕ) (call : CallIn) (v w : View) (a : Answer)
+    → IsCall id caller tick call serves v w (Some a)
     → (reply : Reply) × IsEntry id caller tick call v w reply × (a ≡ answer_of reply)
 entered id caller tick call v w a c = (
   reply_to c.flow.params c.flow.entries tick (call_of call) (offer_of call),
@@ -200,34 +201,38 @@ told_is a r is q e =
     e ∙ (ap (λ (x : Answer). refused_or (refusal_in x) (answer_len x)) is
     ∙ ap (λ (n : ℕ). refused_or (refusal_in (answer_of r)) n) (reply_len r))
 
-pub called : (a b : Application) (s : Socket) (tick : ℕ) (call : CallIn) (x : Answer) (q : Result ℕ SocketError)
-    → IsCall (flow_of a s) (callers.App a.number) tick call appserves a.pass.view b.pass.view (Some x)
-    → q ≡ refused_or (refusal_in x) (answer_len x) → b ≡ with_view b.pass.view a
+pub called : {serves : Parts → CallIn → Type 0} (a b : Application) (s : Socket) (tick : ℕ) (call : CallIn) (f : FlowId)
+    (o : Option Answer) (x : Answer) (q : Result ℕ SocketError) → f ≡ flow_of a s → o ≡ Some x
+    → IsCall f (callers.App a.number) tick call serves a.pass.view b.pass.view o → q ≡ refused_or (refusal_in x) (answer_len x) → b ≡ with_view b.pass.view a
     → HasCalled a b s tick call (fault_in q) (λ reply. q ≡ answer_by reply (length (reply_bytes reply)))
-called a b s tick call x q c e same =
-    let n = entered (flow_of a s) (callers.App a.number) tick call a.pass.view b.pass.view x c in
+called {serves} a b s tick call f o x q on is c e same =
+    let made : IsCall f (callers.App a.number) tick call serves a.pass.view b.pass.view (Some x) =
+    subst (λ (y : Option Answer). IsCall f (callers.App a.number) tick call serves a.pass.view b.pass.view y) is c in
+    let own : IsCall (flow_of a s) (callers.App a.number) tick call serves a.pass.view b.pass.view (Some x) =
+    subst (λ (id : FlowId). IsCall id (callers.App a.number) tick call serves a.pass.view b.pass.view (Some x)) on made in
+    let n = entered (flow_of a s) (callers.App a.number) tick call a.pass.view b.pass.view x own in
     let none : fault_in q ≡ None = ap (λ (y : Result ℕ SocketError). fault_in y) e ∙ no_fault x (answer_len x) in (
       subst (λ o. MatchOption o ((reply : Reply) × IsEntry (flow_of a s) (callers.App a.number) tick call a.pass.view b.pass.view reply × (q ≡ answer_by reply (length (reply_bytes reply)))) (IsCallRefused (flow_of a s) a.pass.view b.pass.view))
           (sym none) (n.0, n.1, told_is x n.0 n.2 q e),
       same,
     )
 
-pub called_only : (id : FlowId) (caller : Caller) (tick : ℕ) (call : CallIn) (v w : View) (x : Answer)
-    (q : Result ℕ SocketError) → IsAppCall call → IsCall id caller tick call appserves v w (Some x)
+pub called_only : {serves : Parts → CallIn → Type 0} (id : FlowId) (caller : Caller) (tick : ℕ) (call : CallIn) (v w : View) (o : Option Answer) (x : Answer)
+    (q : Result ℕ SocketError) → IsAppCall call → o ≡ Some x → IsCall id caller tick call serves v w o
     → q ≡ refused_or (refusal_in x) (answer_len x) → IfErr q (IsRefusalOf call)
-called_only id caller tick call v w x q app c e =
-    let n = entered id caller tick call v w x c in
+called_only {serves} id caller tick call v w o x q app same c e =
+    let n = entered id caller tick call v w x (subst (λ (y : Option Answer). IsCall id caller tick call serves v w y) same c) in
     let r = reply_refuses call app n.1.flow tick (length (reply_bytes n.0)) in
     let is = told_is x n.0 n.2 q e in
     subst (λ y. IfErr y (IsRefusalOf call)) (sym is)
     (subst (λ (z : Reply). IfErr (answer_by z (length (reply_bytes n.0))) (IsRefusalOf call)) (sym n.1.replied) r)
 
-pub not_called : (a b : Application) (s : Socket) (tick : ℕ) (call : CallIn) (f : CallFault) (e : SocketError)
-    → fault_of e ≡ Some f → IsCallRefused (flow_of a s) a.pass.view b.pass.view f → b ≡ with_view b.pass.view a
+pub not_called : (a b : Application) (s : Socket) (tick : ℕ) (call : CallIn) (id : FlowId) (f : CallFault) (e : SocketError)
+    → id ≡ flow_of a s → fault_of e ≡ Some f → IsCallRefused id a.pass.view b.pass.view f → b ≡ with_view b.pass.view a
     → HasCalled a b s tick call (fault_in {T = ℕ} (Err e)) (λ reply. Err e ≡ answer_by reply (length (reply_bytes reply)))
-not_called a b s tick call f e is r same = (
+not_called a b s tick call id f e on is r same = (
   subst (λ o. MatchOption o ((reply : Reply) × IsEntry (flow_of a s) (callers.App a.number) tick call a.pass.view b.pass.view reply × (◌≡◌ {A = Result ℕ SocketError} (Err e) (answer_by reply (length (reply_bytes reply))))) (IsCallRefused (flow_of a s) a.pass.view b.pass.view))
-      (sym is) r,
+      (sym is) (subst (λ (i : FlowId). IsCallRefused i a.pass.view b.pass.view f) on r),
   same,
 )
 
@@ -258,3 +263,51 @@ retold a b s tick call (Some x) q P Q e f h = (
       (sym e) h.0,
   h.1,
 )
+
+-- a refusal of the call with another value
+pub refused_again : {T : Type 0} (y : T) (a b : Application) (s : Socket) (tick : ℕ) (call : CallIn) (e : SocketError)
+    → HasCalled a b s tick call (fault_of e)
+      (λ reply. ◌≡◌ {A = Result ℕ SocketError} (Err e) (answer_by reply (length (reply_bytes reply))))
+    → HasCalled a b s tick call (fault_of e) (λ reply. ◌≡◌ {A = Result T SocketError} (Err e) (answer_by reply y))
+refused_again y a b s tick call e h = retold a b s tick call (fault_of e) (fault_of e) _ _ refl
+    (λ r q. err_with (refusal_in (answer_of r)) (length (reply_bytes r)) e y q) h
+
+pub reanswered : {T : Type 0} (y : T) (a b : Application) (s : Socket) (tick : ℕ) (call : CallIn) (e : SocketError)
+    (q : Result T SocketError) → q ≡ Err e
+    → HasCalled a b s tick call (fault_of e)
+      (λ reply. ◌≡◌ {A = Result ℕ SocketError} (Err e) (answer_by reply (length (reply_bytes reply))))
+    → HasCalled a b s tick call (fault_in q) (λ reply. q ≡ answer_by reply y)
+reanswered {T} y a b s tick call e q is h =
+    subst (λ (z : Result T SocketError). HasCalled a b s tick call (fault_in z) (λ reply. z ≡ answer_by reply y)) (sym is)
+    (refused_again y a b s tick call e h)
+
+-- ----- an Abort that was refused
+pub socket_stays : (T : Type 0) (e : SocketError) (s : Socket) (a : Application) → is_closed e ≡ false
+    → a ≡ after_abort {T = T} (Err e) s a
+socket_stays T errors.NotYet s a is = refl
+socket_stays T errors.NotOpen s a is = refl
+socket_stays T errors.Shut s a is = refl
+socket_stays T (errors.Closed reason) s a is = absurd (cc (is))
+socket_stays T (errors.Busy word) s a is = refl
+socket_stays T (errors.Stale word) s a is = refl
+socket_stays T (errors.Moved seen found) s a is = refl
+socket_stays T (errors.Early p) s a is = refl
+socket_stays T (errors.PortInUse port) s a is = refl
+socket_stays T errors.NoPort s a is = refl
+socket_stays T errors.NoFlowSlot s a is = refl
+socket_stays T errors.OutOfMemory s a is = refl
+
+pub socket_goes : (T : Type 0) (e : SocketError) (s : Socket) (a : Application) → is_closed e ≡ true
+    → without_socket s a ≡ after_abort {T = T} (Err e) s a
+socket_goes T errors.NotYet s a is = absurd (cc (is))
+socket_goes T errors.NotOpen s a is = absurd (cc (is))
+socket_goes T errors.Shut s a is = absurd (cc (is))
+socket_goes T (errors.Closed reason) s a is = refl
+socket_goes T (errors.Busy word) s a is = absurd (cc (is))
+socket_goes T (errors.Stale word) s a is = absurd (cc (is))
+socket_goes T (errors.Moved seen found) s a is = absurd (cc (is))
+socket_goes T (errors.Early p) s a is = absurd (cc (is))
+socket_goes T (errors.PortInUse port) s a is = absurd (cc (is))
+socket_goes T errors.NoPort s a is = absurd (cc (is))
+socket_goes T errors.NoFlowSlot s a is = absurd (cc (is))
+socket_goes T errors.OutOfMemory s a is = absurd (cc (is))

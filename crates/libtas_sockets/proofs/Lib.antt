@@ -4,3 +4,4 @@ pub mod Calling
 pub mod Waiting
 pub mod Answering
 pub mod Receiving
+pub mod Ends

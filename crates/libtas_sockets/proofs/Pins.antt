@@ -22,7 +22,7 @@ use Rattle.flow_lock.proofs.Sums.{total-append, term_le}
 use Rattle.app_reaper.specs.Lists.{is_on}
 use Rattle.app_reaper.specs.Reaping.{ArePins}
 use Rattle.app_reaper.proofs.Walking.{same_pin, same_pins, there, none_some, on_itself, on_other, kept}
-use Rattle.libtas_sockets.specs.Apps.{Application, IsSound, flow_on, flow_of, without_socket}
+use Rattle.libtas_sockets.specs.Apps.{Application, IsSound, IsSocket, flow_on, flow_of, with_view, without_socket}
 use Rattle.libtas_sockets.specs.declared.socket.Socket.{Socket}
 use Rattle.libtas_sockets.specs.declared.begun.Begun.{Begun}
 
@@ -260,3 +260,26 @@ released a s n l f is e rest =
     ap (λ (m : Seen). record a { pass = m; sockets = l }) pass
     ∙ ap (λ (k : List FlowId). record a { pass = record (a.pass) { view = unpinned (flow_of a s) a.pass.view }; sockets = k })
     rest
+
+-- the pin at a socket's place is that of its flow
+pub same_socket : (o a : Application) (s : Socket) (k : ℕ) (p : FlowId) → o ≡ a → slice_get a.sockets k ≡ Some (flow_of a s)
+    → slice_get o.sockets k ≡ Some p → p ≡ flow_of o s
+same_socket o a s k p is e q =
+    same_pin p (flow_of o s)
+    (sym q ∙ subst (λ (x : Application). slice_get x.sockets k ≡ Some (flow_of x s)) (sym is) e)
+
+-- the application with another view
+pub viewed : (o a : Application) (n : Seen) → o ≡ a → n.table ≡ o.pass.table → record o { pass = n } ≡ with_view n.view a
+viewed o a n is e =
+    ap (λ (t : TableId). record o { pass = record { table = t; view = n.view } }) e
+    ∙ ap (λ (x : Application). with_view n.view x) is
+
+-- with one pin a slot, the pins but for a socket's are those on other slots
+pub left_of : (o a : Application) (s : Socket) (k : ℕ) (f : FlowId) (l : List FlowId) → o ≡ a → IsSocket a s
+    → ((i : ℕ) → total (at_slot i) o.sockets ≤ 1) → slice_get o.sockets k ≡ Some f → f ≡ flow_of o s
+    → l ≡ remove o.sockets k → (l ≡ without f.slot o.sockets) × (l ≡ without s.0 o.sockets)
+left_of o a s k f l is any once e same rest =
+    let by_slot : l ≡ without f.slot o.sockets = rest ∙ removed o.sockets k f once e in
+    let here : IsSocket o s = subst (λ (x : Application). IsSocket x s) (sym is) any in
+    let slot : f.slot ≡ s.0 = ap (λ (x : FlowId). x.slot) same ∙ slot_is s.0 o.sockets here in
+    (by_slot, by_slot ∙ ap (λ i. without i o.sockets) slot)

@@ -4,7 +4,7 @@ use Rattle.std.proofs.Common.{ap, sym, ◌∙◌, refl, subst, arith, get_or, se
 use Rattle.std.specs.Prelude.{Option, Some, None, IfSome, length, take, drop, All}
 use Rattle.std.specs.List.{filter, find}
 use Rattle.std.proofs.lemmas.List.{take_more_set, take-set-le, drop-set-lt, drop_more, take_all, take_more, length-set}
-use Rattle.std.proofs.lemmas.List.Elements.{filter-append}
+use Rattle.std.proofs.lemmas.List.Elements.{filter-append, All-head, All-tail}
 
 module _ {A : Type 0} (stays : A → Bool) where
   -- what is in front are those of the elements so far that stay
@@ -60,5 +60,5 @@ pub found_has : {A : Type 0} (P : A → Type 0) (test : A → Bool) (l : List A)
 found_has P test [] x e all = absurd (cc (e))
 found_has P test (y ∷ ys) x e all = by_test (test y) e (found_has P test ys x) where
   by_test : (b : Bool) → cond b (Some y) (find test ys) ≡ Some x → (find test ys ≡ Some x → All P ys → P x) → P x
-  by_test true q rest = let same : y ≡ x = cc (q) in subst P same all.0
-  by_test false q rest = rest q all.1
+  by_test true q rest = let same : y ≡ x = cc (q) in subst P same (All-head P y ys all)
+  by_test false q rest = rest q (All-tail P y ys all)

@@ -1,5 +1,5 @@
 -- What a call of an application answers, by the reply of the entry that it made.
-use Rattle.std.specs.Prelude.{◌≡◌, ℕ, List, ◌++◌, length, drop, Option, Some, None, Result, Ok, Err, ⊤}
+use Rattle.std.specs.Prelude.{◌≡◌, ℕ, List, ◌++◌, length, drop, Bool, true, false, Option, Some, None, Result, Ok, Err, ⊤}
 use Rattle.tas_model.specs.declared.entry.Reply.{Reply}
 use Rattle.tas_model.specs.declared.entry.Reply.TheVariants as replies
 use Rattle.flow_state.specs.declared.call.CallIn.{CallIn}
@@ -52,6 +52,11 @@ fault_of _ = None
 abbrev pub fault_in : {T : Type 0} → Result T SocketError → Option CallFault
 fault_in (Ok x) = None
 fault_in (Err e) = fault_of e
+
+-- the flow was closed
+abbrev pub is_closed : SocketError → Bool
+is_closed (errors.Closed reason) = true
+is_closed _ = false
 
 -- a pin that was refused
 abbrev pub error_of : PinRefused → SocketError

@@ -7,7 +7,7 @@ ghost use Rattle.flow_state.specs.declared.call.CallIn.TheVariants as ins;
 ghost use Rattle.flow_lock.specs.Steps.{MayAct};
 ghost use Rattle.flow_lock.specs.Histories.{IsLonger};
 ghost use Rattle.app_reaper.specs.OneCall.{history};
-ghost use Rattle.libtas_sockets.specs.Answers.{answer_by, refused_or, refusal_in, fault_of, fault_in, IsRefusalOf};
+ghost use Rattle.libtas_sockets.specs.Answers.{answer_by, refused_or, refusal_in, fault_of, fault_in, is_closed, IsRefusalOf};
 ghost use Rattle.libtas_sockets.specs.Answers.{received_in, IsReceived};
 ghost use Rattle.libtas_sockets.specs.Apps.{Application, IsSocket};
 ghost use Rattle.libtas_sockets.specs.Calling.{HasCalled, HasReceived, after_close, after_abort};
@@ -158,13 +158,22 @@ impl App {
                 self.release(t, s);
                 Ok(())
             }
-            Err(SocketError::Closed(reason)) => {
+            Err(refused) => {
+                if !is_closed(&refused) {
+                    return Err(refused);
+                }
                 self.release(t, s);
-                Err(SocketError::Closed(reason))
+                Err(refused)
             }
-            Err(refused) => Err(refused),
         }
     }
+}
+
+/// Whether the call found the flow closed.
+fn is_closed(refused: &SocketError) -> bool
+    ensures { result ≡ is_closed refused.now }
+{
+    matches!(refused, SocketError::Closed(_))
 }
 
 /// What the entry's answer is to the application: a refusal, or how many bytes the reply has.
