@@ -1,6 +1,6 @@
 -- An application accepts a flow of its listener.
 use Rattle.std.proofs.Common.{◌≡◌, ℕ, ◌<◌, ap, sym, ◌∙◌, refl, subst, ◌==◌, cond, Bool, true, false, List, [], ◌∷◌, ◌⊎◌, inl, inr}
-use Rattle.std.specs.Prelude.{Option, Some, None, Result, Ok, Err, All, ⊤}
+use Rattle.std.specs.Prelude.{Option, Some, None, Result, Ok, Err, All, IfSome}
 use Rattle.std.specs.List.{find}
 use Rattle.std.specs.Option.{option_map}
 use Rattle.tas_model.specs.declared.entry.Caller.{Caller}
@@ -12,13 +12,15 @@ use Rattle.tas_model.specs.Endpoint.{Endpoint, phase, phase_by, is_fin_acked}
 use Rattle.tas_model.specs.ApplicationCalls.{Column, Opening, Over, Running, column, column_by}
 use Rattle.flow_state.specs.Calls.{is_running}
 use Rattle.flow_state.specs.Flow.{Flow}
+use Rattle.flow_lock.specs.Answers.{IsPinned}
 use Rattle.flow_lock.specs.Steps.{MayAct}
 use Rattle.flow_lock.specs.declared.view.History.{History}
 use Rattle.flow_lock.specs.declared.view.View.{View}
 use Rattle.app_reaper.specs.OneCall.{IsOwn, IsUse}
 use Rattle.slow_handshake.specs.Openings.{Openings, first_ready, is_ready_at, id_of}
 use Rattle.slow_handshake.specs.declared.openings.PassiveFlow.{PassiveFlow}
-use Rattle.libtas_sockets.specs.Accepting.{IsAcceptedOn, IsAnsweredBy}
+use Rattle.libtas_sockets.specs.Accepting.{IsAcceptedOn, IsAnsweredBy, IsTried, IsAcceptance}
+use Rattle.libtas_sockets.specs.Apps.{Application}
 use Rattle.libtas_sockets.specs.declared.socket_error.SocketError.{SocketError}
 use Rattle.libtas_sockets.specs.declared.socket_error.SocketError.TheVariants as errors
 use Rattle.libtas_sockets.proofs.Acting.{may_too, use_acts, use_pins, use_idle}
@@ -108,3 +110,31 @@ ready_near slots o port id e all = by_found (find (is_ready_at port) o.flows) re
   by_found (Some f) is q =
       let same : f.id ≡ id = cc (q) in
       subst (λ (i : FlowId). i.slot < slots) same (found_has (λ (g : PassiveFlow). g.id.slot < slots) (is_ready_at port) o.flows f is all)
+
+-- ----- the socket
+-- the answer says the same of the flow, whichever way it is named
+pub some_is : {A : Type 0} (o : Option A) (x : A) (P : A → Type 0) → o ≡ Some x → P x → IfSome o P
+some_is {A} o x P e p = subst (λ (y : Option A). IfSome y P) (sym e) p
+
+-- what the pass has after the pin and the tried Accept
+pub tried_view : (f : FlowId) (caller : Caller) (tick : ℕ) (v u w : View) (q : Result (Unit {0}) SocketError)
+    → IsPinned f v u → IsAnsweredBy f caller tick u w q → v.held ≡ [] → (w.pins ≡ f ∷ v.pins) × (w.held ≡ [])
+tried_view f caller tick v u w q p a idle =
+    let s = stays f caller tick u w q a in
+    (s.pins ∙ ap (λ (x : View). x.pins) p.3, s.idle (ap (λ (x : View). x.held) p.3 ∙ idle))
+
+-- only some refusals come of an Accept that was tried
+pub tried_err : (id : FlowId) (tick : ℕ) (a b : Application) (e : SocketError) → IsTried id tick a b (Err e)
+    → IsAcceptance id tick a b (Err e)
+tried_err id tick a b (errors.Busy x) t = t
+tried_err id tick a b errors.OutOfMemory t = inr t
+tried_err id tick a b errors.NotYet t = t
+tried_err id tick a b errors.NotOpen t = t
+tried_err id tick a b errors.Shut t = t
+tried_err id tick a b (errors.Closed reason) t = t
+tried_err id tick a b (errors.Stale word) t = absurd t.3.3
+tried_err id tick a b (errors.Moved seen found) t = absurd t.3.3
+tried_err id tick a b (errors.Early p) t = t
+tried_err id tick a b (errors.PortInUse port) t = t
+tried_err id tick a b errors.NoPort t = t
+tried_err id tick a b errors.NoFlowSlot t = t

@@ -6,23 +6,28 @@ use Rattle.std.specs.Prelude.{Option, Some, None, slice_get, remove, length, All
 use Rattle.std.specs.List.{list_any, position_or_len}
 use Rattle.std.proofs.lemmas.Bool.{lt-ltb, eqb-true}
 use Rattle.std.proofs.lemmas.List.{length-append}
+use Rattle.std.proofs.lemmas.List.Elements.{All-push}
 use mathlib.Core.Option as O
 use mathlib.Core.Logic.{dite}
 use native.Mathlib.Decide.{ℕ_discrete}
 use lib.ListN.{get_elem?}
 use Rattle.atomic_table.specs.Seated.{TableId}
 use Rattle.tas_model.specs.declared.entry.FlowId.{FlowId}
-use Rattle.flow_lock.specs.Claims.{HasPin}
+use Rattle.flow_lock.specs.Answers.{IsRefused}
+use Rattle.flow_lock.specs.Claims.{HasPin, pins_on}
 use Rattle.flow_lock.specs.Orders.{total, at_slot}
 use Rattle.flow_lock.specs.Passes.{Seen}
 use Rattle.flow_lock.specs.Steps.{without, unpinned}
+use Rattle.flow_lock.specs.declared.pass.PinRefused.{PinRefused}
+use Rattle.flow_lock.specs.declared.pass.PinRefused.TheVariants.{Stale, Moved}
 use Rattle.flow_lock.specs.declared.view.View.{View}
 use Rattle.flow_lock.proofs.Pinning.{without_here, without_else}
 use Rattle.flow_lock.proofs.Sums.{total-append, term_le}
 use Rattle.app_reaper.specs.Lists.{is_on}
 use Rattle.app_reaper.specs.Reaping.{ArePins}
 use Rattle.app_reaper.proofs.Walking.{same_pin, same_pins, there, none_some, on_itself, on_other, kept}
-use Rattle.libtas_sockets.specs.Apps.{Application, IsSound, IsSocket, flow_on, flow_of, with_view, without_socket}
+use Rattle.libtas_sockets.specs.Apps.{Application, IsSound, IsSocket, flow_on, flow_of, with_view, with_socket, without_socket}
+use Rattle.libtas_sockets.specs.Connecting.{begun_without}
 use Rattle.libtas_sockets.specs.declared.socket.Socket.{Socket}
 use Rattle.libtas_sockets.specs.declared.begun.Begun.{Begun}
 
@@ -283,3 +288,60 @@ left_of o a s k f l is any once e same rest =
     let here : IsSocket o s = subst (λ (x : Application). IsSocket x s) (sym is) any in
     let slot : f.slot ≡ s.0 = ap (λ (x : FlowId). x.slot) same ∙ slot_is s.0 o.sockets here in
     (by_slot, by_slot ∙ ap (λ i. without i o.sockets) slot)
+
+-- ----- a pin that came or went
+-- a pin on a slot that had none, and its end
+pub without_first : (i : ℕ) (f : FlowId) (l : List FlowId) → f.slot ≡ i → total (at_slot i) l ≡ 0 → without i (f ∷ l) ≡ l
+without_first i f l e none =
+    ap (λ b. cond b (without i l) (f ∷ without i l)) (eq-eqb f.slot i e) ∙ without_none i l none
+
+-- no socket on the slot, no pin there
+pub pinless : (s : Seen) (b : List Begun) (l : List FlowId) (i : ℕ) → IsSound s b l → list_any (is_on i) l ≡ false
+    → pins_on i s.view ≡ 0
+pinless s b l i is none = is.pins.all i ∙ none_on i l none
+
+-- the application with another pass, and the same sockets or one more
+pub with_more : (o a : Application) (n : Seen) (l : List FlowId) (id : FlowId) → o ≡ a → n.table ≡ o.pass.table
+    → l ≡ o.sockets ++ id ∷ [] → record o { pass = n; sockets = l } ≡ with_socket id (with_view n.view a)
+with_more o a n l id is e rest =
+    ap (λ (m : List FlowId). record o { pass = n; sockets = m }) rest
+    ∙ (ap (λ (t : TableId). record o { pass = record { table = t; view = n.view }; sockets = o.sockets ++ id ∷ [] }) e
+    ∙ ap (λ (x : Application). with_socket id (with_view n.view x)) is)
+
+pub with_same : (o a : Application) (n : Seen) (l : List FlowId) (v : View) → o ≡ a → n.table ≡ o.pass.table → n.view ≡ v
+    → l ≡ o.sockets → record o { pass = n; sockets = l } ≡ with_view v a
+with_same o a n l v is e same rest =
+    ap (λ (m : List FlowId). record o { pass = n; sockets = m }) rest
+    ∙ (viewed o a n is e ∙ ap (λ (w : View). with_view w a) same)
+
+-- ----- begun flows
+pub sound_begun : (s : Seen) (b d : List Begun) (l : List FlowId) → All (λ (q : Begun). q.id.slot < s.table.slots) d
+    → IsSound s b l → IsSound s d l
+sound_begun s b d l all is = record { pins = is.pins; idle = is.idle; few = is.few; slots = all }
+
+-- a begun flow more
+pub begun_more : (s n : Seen) (b d : List Begun) (l : List FlowId) (x : Begun) → n.table ≡ s.table
+    → n.view.pins ≡ s.view.pins → n.view.held ≡ s.view.held → d ≡ b ++ x ∷ [] → x.id.slot < s.table.slots → IsSound s b l
+    → IsSound n d l
+begun_more s n b d l x t p h e near is =
+    sound_moved s n d l t p (h ∙ is.idle)
+    (sound_begun s b d l (subst (All (λ (q : Begun). q.id.slot < s.table.slots)) (sym e)
+    (All-push (λ (q : Begun). q.id.slot < s.table.slots) b x is.slots near)) is)
+
+-- a refused pin changes no pins
+pub refused_pins : (f : FlowId) (v w : View) (e : PinRefused) → IsRefused f v w e → (w.pins ≡ v.pins) × (w.held ≡ v.held)
+refused_pins f v w (Stale x) r = (ap (λ (y : View). y.pins) r.2, ap (λ (y : View). y.held) r.2)
+refused_pins f v w (Moved x y) r = (ap (λ (z : View). z.pins) r.2, ap (λ (z : View). z.held) r.2)
+
+-- a begun flow was pinned
+pub taken_up : (o : Application) (n : Seen) (d : List Begun) (l : List FlowId) (id : FlowId) → n.table ≡ o.pass.table
+    → d ≡ begun_without id o.begun → l ≡ o.sockets ++ id ∷ []
+    → record o { pass = n; begun = d; sockets = l } ≡ record (with_socket id (with_view n.view o)) { begun = begun_without id o.begun }
+taken_up o n d l id t e rest =
+    ap (λ (m : List FlowId). record o { pass = n; begun = d; sockets = m }) rest
+    ∙ (ap (λ (x : List Begun). record o { pass = n; begun = x; sockets = o.sockets ++ id ∷ [] }) e
+    ∙ ap (λ (x : TableId). record o {
+      pass = record { table = x; view = n.view };
+      begun = begun_without id o.begun;
+      sockets = o.sockets ++ id ∷ [];
+    }) t)
