@@ -28,13 +28,21 @@ module _ {A : Type 0} (stays : A → Bool) where
       subst (λ n. take n (set now kept x) ≡ take kept now ++ []) (sym z)
       (take-set-le kept now kept x (omega arith) ∙ sym (append-nil (take kept now)))
 
+  pub kept_here : (old now : List A) (kept at : ℕ) (x : A) → Kept old now kept at → at < length now → get_or now at x ≡ x
+      → get_or old at x ≡ x
+  kept_here old now kept at x k near is =
+      let in_old : at < length old = let s = k.same in omega arith in
+      let heads : get_or now at x ∷ drop (at + 1) now ≡ get_or old at x ∷ drop (at + 1) old =
+      sym (drop_more now at x near) ∙ (k.back ∙ drop_more old at x in_old) in
+      ap (λ l. get_or l 0 x) (sym heads) ∙ is
+
   pub kept_more : (old now : List A) (kept at : ℕ) (x : A) → Kept old now kept at → at < length now → get_or now at x ≡ x
       → Kept old (set now kept x) (kept + cond (stays x) 1 0) (at + 1)
   kept_more old now kept at x k near is =
       let in_old : at < length old = let s = k.same in omega arith in
       let heads : get_or now at x ∷ drop (at + 1) now ≡ get_or old at x ∷ drop (at + 1) old =
       sym (drop_more now at x near) ∙ (k.back ∙ drop_more old at x in_old) in
-      let here : get_or old at x ≡ x = ap (λ l. get_or l 0 x) (sym heads) ∙ is in
+      let here : get_or old at x ≡ x = kept_here old now kept at x k near is in
       let rest : drop (at + 1) now ≡ drop (at + 1) old = ap (drop 1) heads in
       let below : kept < length now = let n = k.near in omega arith in
       record {
