@@ -1,10 +1,17 @@
 -- The list of begun flows.
 use Rattle.std.proofs.Common.{◌≡◌, ℕ, zero, suc, ◌+◌, ◌≤◌, ◌<◌, cond, Bool, true, false, List, [], ◌∷◌, ◌++◌}
 use Rattle.std.proofs.Common.{ap, sym, ◌∙◌, refl, subst, arith, get_or, set, append-nil, append_assoc}
-use Rattle.std.specs.Prelude.{Option, Some, None, IfSome, length, take, drop, All}
+use Rattle.std.specs.Prelude.{Option, Some, None, not, ◌||◌, length, take, drop, All}
 use Rattle.std.specs.List.{filter, find}
+use Rattle.std.specs.Option.{option_map}
 use Rattle.std.proofs.lemmas.List.{take_more_set, take-set-le, drop-set-lt, drop_more, take_all, take_more, length-set}
-use Rattle.std.proofs.lemmas.List.Elements.{filter-append, All-head, All-tail}
+use Rattle.std.proofs.lemmas.List.Elements.{filter-append, All-head, All-tail, All-filter}
+use Rattle.tas_model.specs.declared.entry.FlowId.{FlowId}
+use Rattle.flow_lock.specs.Answers.{is_open_in}
+use Rattle.flow_lock.specs.declared.view.Mark.{Mark}
+use Rattle.libtas_sockets.specs.Connecting.{fits, id_of, still_begun}
+use Rattle.libtas_sockets.specs.declared.begun.Begun.{Begun}
+use Rattle.libtas_sockets.specs.declared.begun.Target.{Target}
 
 module _ {A : Type 0} (stays : A → Bool) where
   -- what is in front are those of the elements so far that stay
@@ -70,3 +77,20 @@ found_has P test (y ∷ ys) x e all = by_test (test y) e (found_has P test ys x)
   by_test : (b : Bool) → cond b (Some y) (find test ys) ≡ Some x → (find test ys ≡ Some x → All P ys → P x) → P x
   by_test true q rest = let same : y ≡ x = cc (q) in subst P same (All-head P y ys all)
   by_test false q rest = rest q (All-tail P y ys all)
+
+-- ----- the flow that a connect takes up
+pub begun_near : (slots : ℕ) (target : Target) (l : List Begun) (id : FlowId)
+    → option_map id_of (find (fits target) l) ≡ Some id → All (λ (q : Begun). q.id.slot < slots) l → id.slot < slots
+begun_near slots target l id e all = by_found (find (fits target) l) refl e where
+  by_found : (x : Option Begun) → find (fits target) l ≡ x → option_map id_of x ≡ Some id → id.slot < slots
+  by_found None is q = absurd (cc (q))
+  by_found (Some b) is q =
+      let same : b.id ≡ id = cc (q) in
+      subst (λ (i : FlowId). i.slot < slots) same (found_has (λ (g : Begun). g.id.slot < slots) (fits target) l b is all)
+
+-- the slots of those that stay begun
+pub still_near : (slots : ℕ) (target : Target) (marks : List Mark) (b d : List Begun) → d ≡ still_begun target marks b
+    → All (λ (q : Begun). q.id.slot < slots) b → All (λ (q : Begun). q.id.slot < slots) d
+still_near slots target marks b d e all =
+    subst (All (λ (q : Begun). q.id.slot < slots)) (sym e)
+    (All-filter (λ (q : Begun). not (fits target q) || is_open_in marks q.id) (λ (q : Begun). q.id.slot < slots) b all)
