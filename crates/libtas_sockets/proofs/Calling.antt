@@ -267,7 +267,7 @@ retold a b s tick call (Some x) q P Q e f h = (
 -- a refusal of the call with another value
 pub refused_again : {T : Type 0} (y : T) (a b : Application) (s : Socket) (tick : ℕ) (call : CallIn) (e : SocketError)
     → HasCalled a b s tick call (fault_of e)
-      (λ reply. ◌≡◌ {A = Result ℕ SocketError} (Err e) (answer_by reply (length (reply_bytes reply))))
+    (λ reply. ◌≡◌ {A = Result ℕ SocketError} (Err e) (answer_by reply (length (reply_bytes reply))))
     → HasCalled a b s tick call (fault_of e) (λ reply. ◌≡◌ {A = Result T SocketError} (Err e) (answer_by reply y))
 refused_again y a b s tick call e h = retold a b s tick call (fault_of e) (fault_of e) _ _ refl
     (λ r q. err_with (refusal_in (answer_of r)) (length (reply_bytes r)) e y q) h
@@ -275,7 +275,7 @@ refused_again y a b s tick call e h = retold a b s tick call (fault_of e) (fault
 pub reanswered : {T : Type 0} (y : T) (a b : Application) (s : Socket) (tick : ℕ) (call : CallIn) (e : SocketError)
     (q : Result T SocketError) → q ≡ Err e
     → HasCalled a b s tick call (fault_of e)
-      (λ reply. ◌≡◌ {A = Result ℕ SocketError} (Err e) (answer_by reply (length (reply_bytes reply))))
+    (λ reply. ◌≡◌ {A = Result ℕ SocketError} (Err e) (answer_by reply (length (reply_bytes reply))))
     → HasCalled a b s tick call (fault_in q) (λ reply. q ≡ answer_by reply y)
 reanswered {T} y a b s tick call e q is h =
     subst (λ (z : Result T SocketError). HasCalled a b s tick call (fault_in z) (λ reply. z ≡ answer_by reply y)) (sym is)
