@@ -1,0 +1,6 @@
+pub mod Apps
+pub mod Answers
+pub mod Calling
+pub mod Accepting
+pub mod Connecting
+pub mod Ending

@@ -1,0 +1,19 @@
+//! Sockets: what an application calls on the flows that it shares with the cores.
+#![tactic(auto)]
+
+mod accepting;
+mod app;
+mod begun;
+mod calls;
+mod connecting;
+mod ending;
+mod pinning;
+mod received;
+mod socket;
+mod socket_error;
+
+pub use app::App;
+pub use begun::Begun;
+pub use received::Received;
+pub use socket::Socket;
+pub use socket_error::SocketError;
