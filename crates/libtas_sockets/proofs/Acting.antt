@@ -1,6 +1,5 @@
 -- What stays over a step of an application's pass: its right to act, its pins, and that it holds nothing.
-use Rattle.std.proofs.Common.{◌≡◌, ℕ, ap, sym, ◌∙◌, refl, subst, List, [], ◌∷◌, ◌⊎◌, inl, inr}
-use Rattle.tas_model.specs.declared.entry.Caller.{Caller}
+use Rattle.std.proofs.Common.{◌≡◌, ℕ, ap, ◌∙◌, List, [], ◌∷◌, inl, inr}
 use Rattle.tas_model.specs.declared.entry.FlowId.{FlowId}
 use Rattle.tas_model.specs.declared.entry.Reply.{Reply}
 use Rattle.std.specs.Prelude.{Option, Some, None}
@@ -16,7 +15,7 @@ use Rattle.app_reaper.specs.OneCall.{IsUse, IsCallRefused}
 use Rattle.app_reaper.specs.declared.one_call.CallFault.{CallFault}
 use Rattle.app_reaper.specs.declared.one_call.CallFault.TheVariants as faults
 use Rattle.libtas_sockets.specs.Apps.{Application}
-use Rattle.libtas_sockets.specs.Calling.{IsCalled, HasCalled}
+use Rattle.libtas_sockets.specs.Calling.{HasCalled}
 use Rattle.libtas_sockets.specs.declared.socket.Socket.{Socket}
 
 pub may_still : (v w : View) (ds : List Deed) (won lost : List FlowId) → w.turns ≡ noted ds won lost v.turns
@@ -41,7 +40,8 @@ use_idle f r h v w u = ap (λ (x : View). x.held) u.3
 
 -- ----- a call that wasn't made
 pub fault_acts : (f : FlowId) (e : CallFault) (v w : View) → IsCallRefused f v w e → MayAct v → MayAct w
-fault_acts f (faults.Busy x) v w r may = may_too v w (ap (λ (y : View). y.turns) r.0.1) (ap (λ (y : View). y.baton) r.0.1)
+fault_acts f (faults.Busy x) v w r may =
+    may_too v w (ap (λ (y : View). y.turns) r.0.1) (ap (λ (y : View). y.baton) r.0.1)
     (ap (λ (y : View). y.made) r.0.1) may
 fault_acts f faults.OutOfMemory v w r may = use_acts f r.0 _ v w r.2 may
 

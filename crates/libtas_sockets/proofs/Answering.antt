@@ -1,15 +1,15 @@
 -- An application accepts a flow of its listener.
-use Rattle.std.proofs.Common.{◌≡◌, ℕ, ◌<◌, ap, sym, ◌∙◌, refl, subst, ◌==◌, cond, Bool, true, false, List, [], ◌∷◌, ◌⊎◌, inl, inr}
+use Rattle.std.proofs.Common.{◌≡◌, ℕ, ◌<◌, ap, sym, ◌∙◌, refl, subst, ◌==◌, cond, Bool, true, false, [], ◌∷◌}
+use Rattle.std.proofs.Common.{inr}
 use Rattle.std.specs.Prelude.{Option, Some, None, Result, Ok, Err, All, IfSome}
 use Rattle.std.specs.List.{find}
 use Rattle.std.specs.Option.{option_map}
 use Rattle.tas_model.specs.declared.entry.Caller.{Caller}
 use Rattle.tas_model.specs.declared.entry.FlowId.{FlowId}
-use Rattle.tas_model.specs.declared.entry.Phase.{Phase}
 use Rattle.tas_model.specs.declared.entry.Phase.TheVariants as phases
 use Rattle.tas_model.specs.declared.entry.Reason.{Reason}
 use Rattle.tas_model.specs.Endpoint.{Endpoint, phase, phase_by, is_fin_acked}
-use Rattle.tas_model.specs.ApplicationCalls.{Column, Opening, Over, Running, column, column_by}
+use Rattle.tas_model.specs.ApplicationCalls.{Column, Opening, Running, column, column_by}
 use Rattle.flow_state.specs.Calls.{is_running}
 use Rattle.flow_state.specs.Flow.{Flow}
 use Rattle.flow_lock.specs.Answers.{IsPinned}
@@ -29,7 +29,8 @@ use Rattle.libtas_sockets.proofs.Waiting.{found_has}
 -- ----- the record
 synchronized_runs : (b shut fin ended first : Bool) → ◌≡◌ {A = Column} (cond b Opening Running) Running
     → is_running (cond b phases.SynReceived (cond shut
-    (cond ended (cond first phases.LastAck (cond fin phases.TimeWait phases.Closing)) (cond fin phases.FinWait2 phases.FinWait1))
+    (cond ended (cond first phases.LastAck (cond fin phases.TimeWait phases.Closing))
+    (cond fin phases.FinWait2 phases.FinWait1))
     (cond ended phases.CloseWait phases.Established))) ≡ true
 synchronized_runs true shut fin ended first e = absurd (cc (e))
 synchronized_runs false true fin true true e = refl
@@ -87,7 +88,8 @@ stays id caller tick v w (Ok x) a = used_stays id a.0 a.1 v w a.4
 stays id caller tick v w (Err (errors.Busy x)) a = record {
   pins = ap (λ (y : View). y.pins) a.0.1;
   idle = λ h. ap (λ (y : View). y.held) a.0.1 ∙ h;
-  acts = may_too v w (ap (λ (y : View). y.turns) a.0.1) (ap (λ (y : View). y.baton) a.0.1) (ap (λ (y : View). y.made) a.0.1);
+  acts = may_too v w (ap (λ (y : View). y.turns) a.0.1) (ap (λ (y : View). y.baton) a.0.1) (ap (λ (y : View). y.made)
+      a.0.1);
 }
 stays id caller tick v w (Err errors.OutOfMemory) a = used_stays id a.0 a.1 v w a.4
 stays id caller tick v w (Err errors.NotYet) a = absurd a.3
@@ -105,11 +107,13 @@ stays id caller tick v w (Err errors.NoFlowSlot) a = absurd a.3
 pub ready_near : (slots : ℕ) (o : Openings) (port : ℕ) (id : FlowId) → first_ready o port ≡ Some id
     → All (λ (f : PassiveFlow). f.id.slot < slots) o.flows → id.slot < slots
 ready_near slots o port id e all = by_found (find (is_ready_at port) o.flows) refl e where
-  by_found : (x : Option PassiveFlow) → find (is_ready_at port) o.flows ≡ x → option_map id_of x ≡ Some id → id.slot < slots
+  by_found : (x : Option PassiveFlow) → find (is_ready_at port) o.flows ≡ x → option_map id_of x ≡ Some id
+      → id.slot < slots
   by_found None is q = absurd (cc (q))
   by_found (Some f) is q =
       let same : f.id ≡ id = cc (q) in
-      subst (λ (i : FlowId). i.slot < slots) same (found_has (λ (g : PassiveFlow). g.id.slot < slots) (is_ready_at port) o.flows f is all)
+      subst (λ (i : FlowId). i.slot < slots) same (found_has (λ (g : PassiveFlow). g.id.slot < slots)
+      (is_ready_at port) o.flows f is all)
 
 -- ----- the socket
 -- the answer says the same of the flow, whichever way it is named

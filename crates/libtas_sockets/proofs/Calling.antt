@@ -1,7 +1,6 @@
 -- One call of an application on the flow of one of its sockets.
-use Rattle.std.proofs.Common.{◌≡◌, ℕ, ap, sym, ◌∙◌, refl, subst, ◌==◌, Bool, true, false, cond, List, [], ◌++◌, length}
-use Rattle.std.specs.Prelude.{Option, Some, None, Result, Ok, Err, IfErr, IfOk, min, not, ◌&&◌}
-use Rattle.std.specs.Option.{MatchOption}
+use Rattle.std.proofs.Common.{◌≡◌, ℕ, ap, sym, ◌∙◌, refl, subst, ◌==◌, Bool, true, false, cond, List, ◌++◌, length}
+use Rattle.std.specs.Prelude.{Option, Some, None, Result, Ok, Err, IfErr, min, not, ◌&&◌}
 use Rattle.tas_model.specs.declared.entry.Caller.{Caller}
 use Rattle.tas_model.specs.declared.entry.Caller.TheVariants as callers
 use Rattle.tas_model.specs.declared.entry.FlowId.{FlowId}
@@ -11,10 +10,11 @@ use Rattle.tas_model.specs.declared.entry.Reply.{Reply}
 use Rattle.tas_model.specs.declared.entry.Reply.TheVariants as replies
 use Rattle.tas_model.specs.Endpoint.{Endpoint, phase, unread, send_room}
 use Rattle.tas_model.specs.Segments.{Outcome, unchanged}
-use Rattle.tas_model.specs.ApplicationCalls.{Column, Opening, Over, Running, column, ready_in, accept_in, send_in, recv_in}
-use Rattle.tas_model.specs.ApplicationCalls.{shut_in, close_in, abort_in, recv_open, recv_given, empty_reply, abort_reply}
+use Rattle.tas_model.specs.ApplicationCalls.{Column, Opening, Over, Running, column, ready_in, accept_in, send_in}
+use Rattle.tas_model.specs.ApplicationCalls.{recv_in}
+use Rattle.tas_model.specs.ApplicationCalls.{shut_in, close_in, abort_in, recv_open, recv_given, empty_reply}
 use Rattle.tas_model.specs.ApplicationCalls.{tells_abort, shutting}
-use Rattle.tas_model.specs.LegalHistory.{step, reply_or, shown}
+use Rattle.tas_model.specs.LegalHistory.{step, reply_or}
 use Rattle.flow_state.specs.declared.call.CallIn.{CallIn}
 use Rattle.flow_state.specs.declared.call.CallIn.TheVariants as ins
 use Rattle.flow_state.specs.declared.call.Answer.{Answer}
@@ -24,9 +24,8 @@ use Rattle.flow_state.specs.App.{IsAppCall}
 use Rattle.flow_state.specs.Calls.{call_of, offer_of, answer_of, answer_len, reply_bytes}
 use Rattle.flow_state.specs.Flow.{Flow, reply_to}
 use Rattle.flow_lock.specs.declared.view.View.{View}
-use Rattle.app_reaper.specs.OneCall.{history_with, IsUse, IsCall, IsCallRefused}
+use Rattle.app_reaper.specs.OneCall.{IsUse, IsCall, IsCallRefused}
 use Rattle.app_reaper.specs.declared.one_call.CallFault.{CallFault}
-use Rattle.app_reaper.specs.declared.one_call.CallFault.TheVariants as faults
 use Rattle.libtas_sockets.specs.Answers.{refusal_in, refused_or, answer_by, fault_of, fault_in, is_closed, IsRefusalOf}
 use Rattle.libtas_sockets.specs.Apps.{Application, flow_of, with_view, without_socket}
 use Rattle.libtas_sockets.specs.Calling.{IsEntry, IsCalled, HasCalled, after_abort}
@@ -73,7 +72,8 @@ no_fault answers.TimedOut x = refl
 no_fault (answers.Window cwnd ssthresh) x = refl
 
 -- the same answer with another value
-pub ok_with : {S T : Type 0} (o : Option SocketError) (x a : S) (y : T) → ◌≡◌ {A = Result S SocketError} (Ok a) (refused_or o x)
+pub ok_with : {S T : Type 0} (o : Option SocketError) (x a : S) (y : T)
+    → ◌≡◌ {A = Result S SocketError} (Ok a) (refused_or o x)
     → ◌≡◌ {A = Result T SocketError} (Ok y) (refused_or o y)
 ok_with None x a y e = refl
 ok_with (Some r) x a y e = absurd (cc (e))
@@ -118,7 +118,8 @@ send_refuses b Running e offered bytes x =
     one_of_four (λ r. IfErr (answer_by r x) (IsRefusalOf (ins.Send b))) e.tx.shut
     (min offered (send_room e) == 0 && not (offered == 0)) (length bytes == min offered (send_room e))
     (unchanged e replies.Shut) (unchanged e replies.NotYet)
-    (record { state = record e { tx = record (e.tx) { out = e.tx.out ++ bytes } }; reply = replies.Took bytes }) tt tt tt tt
+    (record { state = record e { tx = record (e.tx) { out = e.tx.out ++ bytes } }; reply = replies.Took bytes }) tt tt
+    tt tt
 
 empty_refuses : (most : ℕ) (why : Option Reason) (ended : Bool) → Refuses (ins.Recv most) (empty_reply why ended)
 empty_refuses most (Some why) true x = tt
@@ -186,12 +187,18 @@ pub reply_refuses : (call : CallIn) → IsAppCall call → (r : Flow) (tick : �
 reply_refuses call a r tick x = call_refuses call a _ _ _ x
 
 -- ----- entries
-pub entered : {serves : Parts → CallIn → Type 0} (id : FlowId) (caller : Caller) (tick : ℕ) (call : CallIn) (v w : View) (a : Answer)
+pub entered : {serves : Parts → CallIn → Type 0} (id : FlowId) (caller : Caller) (tick : ℕ) (call : CallIn)
+    (v w : View) (a : Answer)
     → IsCall id caller tick call serves v w (Some a)
     → (reply : Reply) × IsEntry id caller tick call v w reply × (a ≡ answer_of reply)
 entered id caller tick call v w a c = (
   reply_to c.flow.params c.flow.entries tick (call_of call) (offer_of call),
-  record { flow = c.flow; own = c.own; replied = refl; given = subst (λ h. IsUse id c.flow h v w) c.made.grown c.given },
+  record {
+    flow = c.flow;
+    own = c.own;
+    replied = refl;
+    given = subst (λ h. IsUse id c.flow h v w) c.made.grown c.given;
+  },
   c.made.reply,
 )
 
@@ -203,35 +210,43 @@ told_is a r is q e =
 
 pub called : {serves : Parts → CallIn → Type 0} (a b : Application) (s : Socket) (tick : ℕ) (call : CallIn) (f : FlowId)
     (o : Option Answer) (x : Answer) (q : Result ℕ SocketError) → f ≡ flow_of a s → o ≡ Some x
-    → IsCall f (callers.App a.number) tick call serves a.pass.view b.pass.view o → q ≡ refused_or (refusal_in x) (answer_len x) → b ≡ with_view b.pass.view a
+    → IsCall f (callers.App a.number) tick call serves a.pass.view b.pass.view o
+    → q ≡ refused_or (refusal_in x) (answer_len x) → b ≡ with_view b.pass.view a
     → HasCalled a b s tick call (fault_in q) (λ reply. q ≡ answer_by reply (length (reply_bytes reply)))
 called {serves} a b s tick call f o x q on is c e same =
     let made : IsCall f (callers.App a.number) tick call serves a.pass.view b.pass.view (Some x) =
     subst (λ (y : Option Answer). IsCall f (callers.App a.number) tick call serves a.pass.view b.pass.view y) is c in
     let own : IsCall (flow_of a s) (callers.App a.number) tick call serves a.pass.view b.pass.view (Some x) =
-    subst (λ (id : FlowId). IsCall id (callers.App a.number) tick call serves a.pass.view b.pass.view (Some x)) on made in
+    subst (λ (id : FlowId). IsCall id (callers.App a.number) tick call serves a.pass.view b.pass.view (Some x)) on
+    made in
     let n = entered (flow_of a s) (callers.App a.number) tick call a.pass.view b.pass.view x own in
     let none : fault_in q ≡ None = ap (λ (y : Result ℕ SocketError). fault_in y) e ∙ no_fault x (answer_len x) in (
-      subst (λ o. MatchOption o ((reply : Reply) × IsEntry (flow_of a s) (callers.App a.number) tick call a.pass.view b.pass.view reply × (q ≡ answer_by reply (length (reply_bytes reply)))) (IsCallRefused (flow_of a s) a.pass.view b.pass.view))
+      subst (λ (o : Option CallFault). IsCalled (flow_of a s) (callers.App a.number) tick call a.pass.view b.pass.view o
+          (λ reply. q ≡ answer_by reply (length (reply_bytes reply))))
           (sym none) (n.0, n.1, told_is x n.0 n.2 q e),
       same,
     )
 
-pub called_only : {serves : Parts → CallIn → Type 0} (id : FlowId) (caller : Caller) (tick : ℕ) (call : CallIn) (v w : View) (o : Option Answer) (x : Answer)
+pub called_only : {serves : Parts → CallIn → Type 0} (id : FlowId) (caller : Caller) (tick : ℕ) (call : CallIn)
+    (v w : View) (o : Option Answer) (x : Answer)
     (q : Result ℕ SocketError) → IsAppCall call → o ≡ Some x → IsCall id caller tick call serves v w o
     → q ≡ refused_or (refusal_in x) (answer_len x) → IfErr q (IsRefusalOf call)
 called_only {serves} id caller tick call v w o x q app same c e =
-    let n = entered id caller tick call v w x (subst (λ (y : Option Answer). IsCall id caller tick call serves v w y) same c) in
+    let n = entered id caller tick call v w x (subst (λ (y : Option Answer). IsCall id caller tick call serves v w y)
+    same c) in
     let r = reply_refuses call app n.1.flow tick (length (reply_bytes n.0)) in
     let is = told_is x n.0 n.2 q e in
     subst (λ y. IfErr y (IsRefusalOf call)) (sym is)
     (subst (λ (z : Reply). IfErr (answer_by z (length (reply_bytes n.0))) (IsRefusalOf call)) (sym n.1.replied) r)
 
-pub not_called : (a b : Application) (s : Socket) (tick : ℕ) (call : CallIn) (id : FlowId) (f : CallFault) (e : SocketError)
+pub not_called : (a b : Application) (s : Socket) (tick : ℕ) (call : CallIn) (id : FlowId) (f : CallFault)
+    (e : SocketError)
     → id ≡ flow_of a s → fault_of e ≡ Some f → IsCallRefused id a.pass.view b.pass.view f → b ≡ with_view b.pass.view a
-    → HasCalled a b s tick call (fault_in {T = ℕ} (Err e)) (λ reply. Err e ≡ answer_by reply (length (reply_bytes reply)))
+    → HasCalled a b s tick call (fault_in {T = ℕ} (Err e)) (λ reply. Err e ≡ answer_by reply
+    (length (reply_bytes reply)))
 not_called a b s tick call id f e on is r same = (
-  subst (λ o. MatchOption o ((reply : Reply) × IsEntry (flow_of a s) (callers.App a.number) tick call a.pass.view b.pass.view reply × (◌≡◌ {A = Result ℕ SocketError} (Err e) (answer_by reply (length (reply_bytes reply))))) (IsCallRefused (flow_of a s) a.pass.view b.pass.view))
+  subst (λ (o : Option CallFault). IsCalled (flow_of a s) (callers.App a.number) tick call a.pass.view b.pass.view o
+      (λ reply. ◌≡◌ {A = Result ℕ SocketError} (Err e) (answer_by reply (length (reply_bytes reply)))))
       (sym is) (subst (λ (i : FlowId). IsCallRefused i a.pass.view b.pass.view f) on r),
   same,
 )
@@ -254,12 +269,12 @@ not_only call errors.NoFlowSlot f is = absurd (cc (is))
 pub retold : (a b : Application) (s : Socket) (tick : ℕ) (call : CallIn) (o q : Option CallFault) (P Q : Reply → Type 0)
     → q ≡ o → ((r : Reply) → P r → Q r) → HasCalled a b s tick call o P → HasCalled a b s tick call q Q
 retold a b s tick call None q P Q e f h = (
-  subst (λ x. MatchOption x ((reply : Reply) × IsEntry (flow_of a s) (callers.App a.number) tick call a.pass.view b.pass.view reply × Q reply) (IsCallRefused (flow_of a s) a.pass.view b.pass.view))
+  subst (λ (o : Option CallFault). IsCalled (flow_of a s) (callers.App a.number) tick call a.pass.view b.pass.view o Q)
       (sym e) (h.0.0, h.0.1, f h.0.0 h.0.2),
   h.1,
 )
 retold a b s tick call (Some x) q P Q e f h = (
-  subst (λ x. MatchOption x ((reply : Reply) × IsEntry (flow_of a s) (callers.App a.number) tick call a.pass.view b.pass.view reply × Q reply) (IsCallRefused (flow_of a s) a.pass.view b.pass.view))
+  subst (λ (o : Option CallFault). IsCalled (flow_of a s) (callers.App a.number) tick call a.pass.view b.pass.view o Q)
       (sym e) h.0,
   h.1,
 )
@@ -278,7 +293,8 @@ pub reanswered : {T : Type 0} (y : T) (a b : Application) (s : Socket) (tick : �
     (λ reply. ◌≡◌ {A = Result ℕ SocketError} (Err e) (answer_by reply (length (reply_bytes reply))))
     → HasCalled a b s tick call (fault_in q) (λ reply. q ≡ answer_by reply y)
 reanswered {T} y a b s tick call e q is h =
-    subst (λ (z : Result T SocketError). HasCalled a b s tick call (fault_in z) (λ reply. z ≡ answer_by reply y)) (sym is)
+    subst (λ (z : Result T SocketError). HasCalled a b s tick call (fault_in z) (λ reply. z ≡ answer_by reply y))
+    (sym is)
     (refused_again y a b s tick call e h)
 
 -- ----- an Abort that was refused

@@ -1,5 +1,5 @@
 -- What an application leaves when it ends.
-use Rattle.std.proofs.Common.{◌≡◌, ℕ, zero, suc, ◌+◌, ap, sym, ◌∙◌, refl, subst, arith, Bool, true, List, [], ◌∷◌, inl, inr}
+use Rattle.std.proofs.Common.{◌≡◌, ℕ, zero, suc, ◌+◌, ap, sym, ◌∙◌, subst, arith, Bool, true, List, [], ◌∷◌}
 use Rattle.std.proofs.Common.{length, append-nil}
 use Rattle.std.specs.Prelude.{Option, Some, None, slice_get}
 use Rattle.atomic_table.specs.Seated.{TableId}
@@ -29,7 +29,8 @@ newest_is (x ∷ []) (suc k) f e q = absurd (none_some f q)
 newest_is (x ∷ y ∷ ys) zero f e q = absurd (omega (arith, e))
 newest_is (x ∷ y ∷ ys) (suc k) f e q = newest_is (y ∷ ys) k f (omega (arith, e)) q
 
-pub ending_held : (a : Application) (e : Ended) (holding : Bool) (id : FlowId) → holding ≡ true → newest a.sockets ≡ Some id
+pub ending_held : (a : Application) (e : Ended) (holding : Bool) (id : FlowId) → holding ≡ true
+    → newest a.sockets ≡ Some id
     → IsLeftHolding id a e → IsEnding holding (newest a.sockets) a e
 ending_held a e holding id on last left =
     subst (λ (h : Bool). IsEnding h (newest a.sockets) a e) (sym on)
@@ -45,7 +46,8 @@ pub ended_held : (t : TableId) (s n : Seen) (l : List FlowId) (at : ℕ) (f : Fl
 ended_held t s n l at f r e pass list held table place own taken pins is = record {
   turned = subst (λ (x : Seen). IsTurned t x) (sym pass) (turned t s n table (ap (λ (x : View). x.turns) taken.3)
       (ap (λ (x : View). x.slow) taken.3) (ap (λ (x : View). x.baton) taken.3) is);
-  pins = subst (λ (x : Seen). ArePins t.slots x.view e.pins.list) (sym pass) (subst (λ m. ArePins t.slots n.view m) (sym list)
+  pins = subst (λ (x : Seen). ArePins t.slots x.view e.pins.list) (sym pass) (subst (λ m. ArePins t.slots n.view m)
+      (sym list)
       (same_pins t.slots s.view n.view l (ap (λ (x : View). x.pins) taken.3) pins));
   held = subst (λ (x : Seen). IsHeld x.view e.pins.list e.held) (sym pass)
       (subst (λ m. IsHeld n.view m e.held) (sym list)
@@ -61,7 +63,8 @@ pub ended_busy : (t : TableId) (s n : Seen) (l : List FlowId) (f : FlowId) (x : 
 ended_busy t s n l f x e pass list held table busy idle pins is = record {
   turned = subst (λ (y : Seen). IsTurned t y) (sym pass) (turned t s n table (ap (λ (y : View). y.turns) busy.1)
       (ap (λ (y : View). y.slow) busy.1) (ap (λ (y : View). y.baton) busy.1) is);
-  pins = subst (λ (y : Seen). ArePins t.slots y.view e.pins.list) (sym pass) (subst (λ m. ArePins t.slots n.view m) (sym list)
+  pins = subst (λ (y : Seen). ArePins t.slots y.view e.pins.list) (sym pass) (subst (λ m. ArePins t.slots n.view m)
+      (sym list)
       (same_pins t.slots s.view n.view l (ap (λ (y : View). y.pins) busy.1) pins));
   held = subst (λ (y : Seen). IsHeld y.view e.pins.list e.held) (sym pass)
       (subst (λ (o : Option (ℕ × Flow)). IsHeld n.view e.pins.list o) (sym held)

@@ -7,7 +7,6 @@ use Rattle.std.specs.List.{list_any, position_or_len}
 use Rattle.std.proofs.lemmas.Bool.{lt-ltb, eqb-true}
 use Rattle.std.proofs.lemmas.List.{length-append}
 use Rattle.std.proofs.lemmas.List.Elements.{All-push}
-use mathlib.Core.Option as O
 use mathlib.Core.Logic.{dite}
 use native.Mathlib.Decide.{ℕ_discrete}
 use lib.ListN.{get_elem?}
@@ -26,7 +25,8 @@ use Rattle.flow_lock.proofs.Sums.{total-append, term_le}
 use Rattle.app_reaper.specs.Lists.{is_on}
 use Rattle.app_reaper.specs.Reaping.{ArePins}
 use Rattle.app_reaper.proofs.Walking.{same_pin, same_pins, there, none_some, on_itself, on_other, kept}
-use Rattle.libtas_sockets.specs.Apps.{Application, IsSound, IsSocket, flow_on, flow_of, with_view, with_socket, without_socket}
+use Rattle.libtas_sockets.specs.Apps.{Application, IsSound, IsSocket, flow_on, flow_of, with_view, with_socket}
+use Rattle.libtas_sockets.specs.Apps.{without_socket}
 use Rattle.libtas_sockets.specs.Connecting.{begun_without}
 use Rattle.libtas_sockets.specs.declared.socket.Socket.{Socket}
 use Rattle.libtas_sockets.specs.declared.begun.Begun.{Begun}
@@ -36,7 +36,8 @@ use Rattle.libtas_sockets.specs.declared.begun.Begun.{Begun}
 pub none_on : (i : ℕ) (l : List FlowId) → list_any (is_on i) l ≡ false → total (at_slot i) l ≡ 0
 none_on i [] e = refl
 none_on i (f ∷ fs) e = by_place i f fs (eqb f.slot i) refl e (none_on i fs) where
-  by_place : (i : ℕ) (f : FlowId) (fs : List FlowId) (b : Bool) → eqb f.slot i ≡ b → (b || list_any (is_on i) fs) ≡ false
+  by_place : (i : ℕ) (f : FlowId) (fs : List FlowId) (b : Bool) → eqb f.slot i ≡ b
+      → (b || list_any (is_on i) fs) ≡ false
       → (list_any (is_on i) fs ≡ false → total (at_slot i) fs ≡ 0) → cond b 1 0 + total (at_slot i) fs ≡ 0
   by_place i f fs true h e rest = absurd (cc (e))
   by_place i f fs false h e rest = omega (arith, rest e)
@@ -60,14 +61,16 @@ in_without i (f ∷ fs) k g e = by_slot i f fs k g (ℕ_discrete f.slot i) e (in
 
   at_place : (i : ℕ) (f : FlowId) (fs : List FlowId) (k : ℕ) (g : FlowId) → f.slot ≢ i
       → slice_get (f ∷ without i fs) k ≡ Some g
-      → ((k : ℕ) (g : FlowId) → slice_get (without i fs) k ≡ Some g → (j : ℕ) × (slice_get fs j ≡ Some g) × (g.slot ≢ i))
+      → ((k : ℕ) (g : FlowId) → slice_get (without i fs) k ≡ Some g → (j : ℕ) × (slice_get fs j ≡ Some g)
+      × (g.slot ≢ i))
       → (j : ℕ) × (slice_get (f ∷ fs) j ≡ Some g) × (g.slot ≢ i)
   at_place i f fs zero g ne e rest = (0, e, λ h. ne (ap (λ (x : FlowId). x.slot) (same_pin f g e) ∙ h))
   at_place i f fs (suc k) g ne e rest = moved f fs g i (rest k g e)
 
   by_slot : (i : ℕ) (f : FlowId) (fs : List FlowId) (k : ℕ) (g : FlowId) → Dec (f.slot ≡ i)
       → slice_get (without i (f ∷ fs)) k ≡ Some g
-      → ((k : ℕ) (g : FlowId) → slice_get (without i fs) k ≡ Some g → (j : ℕ) × (slice_get fs j ≡ Some g) × (g.slot ≢ i))
+      → ((k : ℕ) (g : FlowId) → slice_get (without i fs) k ≡ Some g → (j : ℕ) × (slice_get fs j ≡ Some g)
+      × (g.slot ≢ i))
       → (j : ℕ) × (slice_get (f ∷ fs) j ≡ Some g) × (g.slot ≢ i)
   by_slot i f fs k g d e rest = dite d
       (λ h. moved f fs g i (rest k g (subst (λ b. slice_get (cond b (without i fs) (f ∷ without i fs)) k ≡ Some g)
@@ -100,7 +103,9 @@ removed (x ∷ xs) (suc k) f once e =
     let le = term_le (at_slot f.slot) xs k f (there xs k f e) in
     let here = on_itself f in
     let one = once f.slot in
-    let ne : x.slot ≢ f.slot = λ h. absurd (let also : at_slot f.slot x ≡ 1 = ap (λ b. cond {A = ℕ} b 1 0) (eq-eqb x.slot f.slot h) in omega arith) in
+    let ne : x.slot ≢ f.slot =
+    λ h. absurd (let also : at_slot f.slot x ≡ 1 = ap (λ b. cond {A = ℕ} b 1 0) (eq-eqb x.slot f.slot h) in
+    omega arith) in
     let less : (i : ℕ) → total (at_slot i) xs ≤ 1 = λ i. let o = once i in omega arith in
     ap (λ l. x ∷ l) (removed xs k f less e)
     ∙ sym (ap (λ b. cond b (without f.slot xs) (x ∷ without f.slot xs)) (ne_eqb x.slot f.slot ne))
@@ -114,7 +119,8 @@ pins_more slots f v w l e near free a = record {
   all = λ i.
       let t = total-append (at_slot i) l (f ∷ []) in
       let s = a.all i in
-      let p : total (at_slot i) w.pins ≡ at_slot i f + total (at_slot i) v.pins = ap (total (at_slot i)) e in omega arith;
+      let p : total (at_slot i) w.pins ≡ at_slot i f + total (at_slot i) v.pins =
+      ap (total (at_slot i)) e in omega arith;
 } where
   has : (k : ℕ) (g : FlowId) → (slice_get l k ≡ Some g) ⊎ (f ≡ g) → HasPin w g × (g.slot < slots)
   has k g (inl q) = let h = a.has k g q in ((suc h.0.0, ap (λ x. get_elem? x (suc h.0.0)) e ∙ h.0.1), h.1)
@@ -194,7 +200,8 @@ pub found_on : (i : ℕ) (l : List FlowId) → list_any (is_on i) l ≡ true
 found_on i [] e = absurd (cc (e))
 found_on i (f ∷ fs) e = by_test i f fs (eqb f.slot i) e (found_on i fs) where
   by_test : (i : ℕ) (f : FlowId) (fs : List FlowId) (b : Bool) → (b || list_any (is_on i) fs) ≡ true
-      → (list_any (is_on i) fs ≡ true → (slice_get fs (first_on i fs) ≡ Some (flow_on fs i)) × (first_on i fs < length fs))
+      → (list_any (is_on i) fs ≡ true → (slice_get fs (first_on i fs) ≡ Some (flow_on fs i))
+      × (first_on i fs < length fs))
       → (slice_get (f ∷ fs) (cond (not b) (1 + first_on i fs) 0) ≡ Some (cond b f (flow_on fs i)))
       × (cond (not b) (1 + first_on i fs) 0 < suc (length fs))
   by_test i f fs true e rest = let z : 0 < suc (length fs) = omega arith in (refl, z)
@@ -263,18 +270,23 @@ released a s n l f is e rest =
     let pass : n ≡ record (a.pass) { view = unpinned (flow_of a s) a.pass.view } =
     e ∙ ap (λ (x : FlowId). record (a.pass) { view = unpinned x a.pass.view }) is in
     ap (λ (m : Seen). record a { pass = m; sockets = l }) pass
-    ∙ ap (λ (k : List FlowId). record a { pass = record (a.pass) { view = unpinned (flow_of a s) a.pass.view }; sockets = k })
+    ∙ ap (λ (k : List FlowId). record a {
+      pass = record (a.pass) { view = unpinned (flow_of a s) a.pass.view };
+      sockets = k;
+    })
     rest
 
 -- the pin at a socket's place is that of its flow
-pub same_socket : (o a : Application) (s : Socket) (k : ℕ) (p : FlowId) → o ≡ a → slice_get a.sockets k ≡ Some (flow_of a s)
+pub same_socket : (o a : Application) (s : Socket) (k : ℕ) (p : FlowId) → o ≡ a
+    → slice_get a.sockets k ≡ Some (flow_of a s)
     → slice_get o.sockets k ≡ Some p → p ≡ flow_of o s
 same_socket o a s k p is e q =
     same_pin p (flow_of o s)
     (sym q ∙ subst (λ (x : Application). slice_get x.sockets k ≡ Some (flow_of x s)) (sym is) e)
 
 -- the application with another view
-pub viewed : (o a : Application) (n : Seen) → o ≡ a → n.table ≡ o.pass.table → record o { pass = n } ≡ with_view n.view a
+pub viewed : (o a : Application) (n : Seen) → o ≡ a → n.table ≡ o.pass.table
+    → record o { pass = n } ≡ with_view n.view a
 viewed o a n is e =
     ap (λ (t : TableId). record o { pass = record { table = t; view = n.view } }) e
     ∙ ap (λ (x : Application). with_view n.view x) is
@@ -291,7 +303,8 @@ left_of o a s k f l is any once e same rest =
 
 -- ----- a pin that came or went
 -- a pin on a slot that had none, and its end
-pub without_first : (i : ℕ) (f : FlowId) (l : List FlowId) → f.slot ≡ i → total (at_slot i) l ≡ 0 → without i (f ∷ l) ≡ l
+pub without_first : (i : ℕ) (f : FlowId) (l : List FlowId) → f.slot ≡ i → total (at_slot i) l ≡ 0
+    → without i (f ∷ l) ≡ l
 without_first i f l e none =
     ap (λ b. cond b (without i l) (f ∷ without i l)) (eq-eqb f.slot i e) ∙ without_none i l none
 
@@ -308,7 +321,8 @@ with_more o a n l id is e rest =
     ∙ (ap (λ (t : TableId). record o { pass = record { table = t; view = n.view }; sockets = o.sockets ++ id ∷ [] }) e
     ∙ ap (λ (x : Application). with_socket id (with_view n.view x)) is)
 
-pub with_same : (o a : Application) (n : Seen) (l : List FlowId) (v : View) → o ≡ a → n.table ≡ o.pass.table → n.view ≡ v
+pub with_same : (o a : Application) (n : Seen) (l : List FlowId) (v : View) → o ≡ a → n.table ≡ o.pass.table
+    → n.view ≡ v
     → l ≡ o.sockets → record o { pass = n; sockets = l } ≡ with_view v a
 with_same o a n l v is e same rest =
     ap (λ (m : List FlowId). record o { pass = n; sockets = m }) rest
@@ -321,7 +335,8 @@ sound_begun s b d l all is = record { pins = is.pins; idle = is.idle; few = is.f
 
 -- a begun flow more
 pub begun_more : (s n : Seen) (b d : List Begun) (l : List FlowId) (x : Begun) → n.table ≡ s.table
-    → n.view.pins ≡ s.view.pins → n.view.held ≡ s.view.held → d ≡ b ++ x ∷ [] → x.id.slot < s.table.slots → IsSound s b l
+    → n.view.pins ≡ s.view.pins → n.view.held ≡ s.view.held → d ≡ b ++ x ∷ [] → x.id.slot < s.table.slots
+    → IsSound s b l
     → IsSound n d l
 begun_more s n b d l x t p h e near is =
     sound_moved s n d l t p (h ∙ is.idle)
@@ -329,14 +344,16 @@ begun_more s n b d l x t p h e near is =
     (All-push (λ (q : Begun). q.id.slot < s.table.slots) b x is.slots near)) is)
 
 -- a refused pin changes no pins
-pub refused_pins : (f : FlowId) (v w : View) (e : PinRefused) → IsRefused f v w e → (w.pins ≡ v.pins) × (w.held ≡ v.held)
+pub refused_pins : (f : FlowId) (v w : View) (e : PinRefused) → IsRefused f v w e
+    → (w.pins ≡ v.pins) × (w.held ≡ v.held)
 refused_pins f v w (Stale x) r = (ap (λ (y : View). y.pins) r.2, ap (λ (y : View). y.held) r.2)
 refused_pins f v w (Moved x y) r = (ap (λ (z : View). z.pins) r.2, ap (λ (z : View). z.held) r.2)
 
 -- a begun flow was pinned
 pub taken_up : (o : Application) (n : Seen) (d : List Begun) (l : List FlowId) (id : FlowId) → n.table ≡ o.pass.table
     → d ≡ begun_without id o.begun → l ≡ o.sockets ++ id ∷ []
-    → record o { pass = n; begun = d; sockets = l } ≡ record (with_socket id (with_view n.view o)) { begun = begun_without id o.begun }
+    → record o { pass = n; begun = d; sockets = l } ≡ record (with_socket id (with_view n.view o))
+    { begun = begun_without id o.begun }
 taken_up o n d l id t e rest =
     ap (λ (m : List FlowId). record o { pass = n; begun = d; sockets = m }) rest
     ∙ (ap (λ (x : List Begun). record o { pass = n; begun = x; sockets = o.sockets ++ id ∷ [] }) e

@@ -1,5 +1,6 @@
 -- A Recv on a record that was taken.
-use Rattle.std.proofs.Common.{◌≡◌, ℕ, ◌+◌, ◌≤◌, ap, sym, ◌∙◌, refl, subst, List, [], ◌∷◌, ◌++◌, length, take, drop, arith, ◌==◌, Bool, true, false}
+use Rattle.std.proofs.Common.{◌≡◌, ℕ, ◌≤◌, ap, sym, ◌∙◌, refl, subst, List, [], ◌∷◌, ◌++◌, length, take, drop}
+use Rattle.std.proofs.Common.{arith, ◌==◌, Bool, true, false}
 use Rattle.std.specs.Prelude.{Option, Some, None, Result, Ok, Err, IfErr, OnErr, min}
 use Rattle.std.proofs.lemmas.List.{length-take}
 use Rattle.tas_model.specs.declared.entry.Call.TheVariants as calls
@@ -12,7 +13,8 @@ use Rattle.tas_model.specs.declared.entry.Reason.TheVariants as reasons
 use Rattle.tas_model.specs.declared.entry.Reply.{Reply}
 use Rattle.tas_model.specs.declared.entry.Reply.TheVariants as replies
 use Rattle.tas_model.specs.Endpoint.{Endpoint, unread}
-use Rattle.tas_model.specs.ApplicationCalls.{Column, Opening, Over, Running, column, recv_in, recv_open, recv_given, empty_reply}
+use Rattle.tas_model.specs.ApplicationCalls.{Column, Opening, Over, Running, column, recv_in, recv_open, recv_given}
+use Rattle.tas_model.specs.ApplicationCalls.{empty_reply}
 use Rattle.tas_model.specs.Segments.{unchanged}
 use Rattle.tas_model.specs.LegalHistory.{step, reply_or}
 use Rattle.flow_state.specs.declared.call.Answer.{Answer}
@@ -77,15 +79,19 @@ pub reply_room : (r : Flow) (tick most : ℕ) → length (reply_bytes (recv_repl
 reply_room r tick most = step_room _ _ most _
 
 -- ----- the entry and its bytes
-pub entry_bytes : {serves : Parts → CallIn → Type 0} (caller : Caller) (tick most : ℕ) (r n : Flow) (o : Option Answer) (a : Answer) (bytes : List ℕ)
-    → o ≡ Some a → IsMade caller tick (ins.Recv most) serves r (history n) o → bytes ≡ reply_bytes (last_reply n.entries)
+pub entry_bytes : {serves : Parts → CallIn → Type 0} (caller : Caller) (tick most : ℕ) (r n : Flow) (o : Option Answer)
+    (a : Answer) (bytes : List ℕ)
+    → o ≡ Some a → IsMade caller tick (ins.Recv most) serves r (history n) o
+    → bytes ≡ reply_bytes (last_reply n.entries)
     → bytes ≡ reply_bytes (recv_reply r tick most)
 entry_bytes {serves} caller tick most r n o a bytes is c e =
     let m = subst (λ (y : Option Answer). IsMade caller tick (ins.Recv most) serves r (history n) y) is c in
     e ∙ (ap (λ (h : History). reply_bytes (last_reply h.entries)) m.grown ∙ ap reply_bytes (last_more r.entries _))
 
-pub entry_len : {serves : Parts → CallIn → Type 0} (caller : Caller) (tick most : ℕ) (r n : Flow) (o : Option Answer) (a : Answer) (bytes : List ℕ)
-    → o ≡ Some a → IsMade caller tick (ins.Recv most) serves r (history n) o → bytes ≡ reply_bytes (last_reply n.entries)
+pub entry_len : {serves : Parts → CallIn → Type 0} (caller : Caller) (tick most : ℕ) (r n : Flow) (o : Option Answer)
+    (a : Answer) (bytes : List ℕ)
+    → o ≡ Some a → IsMade caller tick (ins.Recv most) serves r (history n) o
+    → bytes ≡ reply_bytes (last_reply n.entries)
     → length bytes ≡ answer_len a
 entry_len {serves} caller tick most r n o a bytes is c e =
     let m = subst (λ (y : Option Answer). IsMade caller tick (ins.Recv most) serves r (history n) y) is c in
@@ -110,9 +116,11 @@ has_received caller tick r after room left (Err (errors.PortInUse port)) none h 
 has_received caller tick r after room left (Err errors.NoPort) none h i = (h, i)
 has_received caller tick r after room left (Err errors.NoFlowSlot) none h i = (h, i)
 
-pub received_is : {serves : Parts → CallIn → Type 0} (caller : Caller) (tick : ℕ) (r n : Flow) (o : Option Answer) (a : Answer)
+pub received_is : {serves : Parts → CallIn → Type 0} (caller : Caller) (tick : ℕ) (r n : Flow) (o : Option Answer)
+    (a : Answer)
     (room left bytes : List ℕ) (q : Result Received SocketError) → o ≡ Some a
-    → IsMade caller tick (ins.Recv (length room)) serves r (history n) o → bytes ≡ reply_bytes (last_reply n.entries) → q ≡ refused_or (refusal_in a) (received_in a)
+    → IsMade caller tick (ins.Recv (length room)) serves r (history n) o → bytes ≡ reply_bytes (last_reply n.entries)
+    → q ≡ refused_or (refusal_in a) (received_in a)
     → left ≡ bytes ++ drop (length bytes) room → HasReceived caller tick r (history n) room left q
 received_is {serves} caller tick r n o a room left bytes q same c e is copied =
     let m = subst (λ (y : Option Answer). IsMade caller tick (ins.Recv (length room)) serves r (history n) y) same c in
@@ -126,7 +134,8 @@ received_is {serves} caller tick r n o a room left bytes q same c e is copied =
 
 -- a refusal has no bytes
 refusal_bytes : (reply : Reply) (x : Received) (e : SocketError)
-    → ◌≡◌ {A = Result Received SocketError} (refused_or (refusal_in (answer_of reply)) x) (Err e) → reply_bytes reply ≡ []
+    → ◌≡◌ {A = Result Received SocketError} (refused_or (refusal_in (answer_of reply)) x) (Err e)
+    → reply_bytes reply ≡ []
 refusal_bytes (replies.Sent seg) x e is = absurd (cc (is))
 refusal_bytes (replies.Took bytes) x e is = absurd (cc (is))
 refusal_bytes (replies.Got bytes update) x e is = absurd (cc (is))
@@ -145,20 +154,24 @@ refusal_bytes replies.TimedOut x e is = refl
 refusal_bytes (replies.Window cwnd ssthresh) x e is = refl
 
 pub kept_is : (reply : Reply) (x : Received) (room left : List ℕ) (q : Result Received SocketError)
-    → q ≡ refused_or (refusal_in (answer_of reply)) x → left ≡ reply_bytes reply ++ drop (length (reply_bytes reply)) room
+    → q ≡ refused_or (refusal_in (answer_of reply)) x
+    → left ≡ reply_bytes reply ++ drop (length (reply_bytes reply)) room
     → OnErr q (left ≡ room)
 kept_is reply x room left (Ok y) is copied = tt
 kept_is reply x room left (Err e) is copied =
     copied ∙ ap (λ (l : List ℕ). l ++ drop (length l) room) (refusal_bytes reply x e (sym is))
 
 -- ----- refusals
-err_alike : {S T : Type 0} (o : Option SocketError) (x : S) (y : T) (P : SocketError → Type 0) → IfErr (refused_or o x) P
+err_alike : {S T : Type 0} (o : Option SocketError) (x : S) (y : T) (P : SocketError → Type 0)
+    → IfErr (refused_or o x) P
     → IfErr (refused_or o y) P
 err_alike None x y P h = tt
 err_alike (Some e) x y P h = h
 
-pub received_only : {serves : Parts → CallIn → Type 0} (caller : Caller) (tick most : ℕ) (r n : Flow) (o : Option Answer)
-    (a : Answer) (q : Result Received SocketError) → o ≡ Some a → IsMade caller tick (ins.Recv most) serves r (history n) o
+pub received_only : {serves : Parts → CallIn → Type 0} (caller : Caller) (tick most : ℕ) (r n : Flow)
+    (o : Option Answer)
+    (a : Answer) (q : Result Received SocketError) → o ≡ Some a
+    → IsMade caller tick (ins.Recv most) serves r (history n) o
     → q ≡ refused_or (refusal_in a) (received_in a) → IfErr q (IsRefusalOf (ins.Recv most))
 received_only {serves} caller tick most r n o a q same c is =
     let m = subst (λ (y : Option Answer). IsMade caller tick (ins.Recv most) serves r (history n) y) same c in
@@ -183,7 +196,8 @@ received_kept {serves} caller tick r n o a room left bytes q same c e is copied 
 -- ----- the call
 read_entry : (id : FlowId) (caller : Caller) (tick : ℕ) (v w : View) (r : Flow) (after : History) (room left : List ℕ)
     (q : Result Received SocketError) → IsOwn id v r
-    → (after ≡ history_with r caller tick (ins.Recv (length room))) × IsReceived room left q (recv_reply r tick (length room))
+    → (after ≡ history_with r caller tick (ins.Recv (length room))) × IsReceived room left q
+    (recv_reply r tick (length room))
     → IsUse id r after v w
     → (reply : Reply) × IsEntry id caller tick (ins.Recv (length room)) v w reply × IsReceived room left q reply
 read_entry id caller tick v w r after room left q own h u = (
@@ -192,15 +206,20 @@ read_entry id caller tick v w r after room left q own h u = (
   h.1,
 )
 
-never : {A : Type 0} (f : CallFault) (q : Result Received SocketError) (reply : Reply) (x : Received) → fault_in q ≡ Some f
+never : {A : Type 0} (f : CallFault) (q : Result Received SocketError) (reply : Reply) (x : Received)
+    → fault_in q ≡ Some f
     → q ≡ answer_by reply x → A
 never f q reply x is e =
-    absurd (let none = ap (λ (z : Result Received SocketError). fault_in z) e ∙ no_fault (answer_of reply) x in cc (none, is))
+    absurd (let none = ap (λ (z : Result Received SocketError). fault_in z) e ∙ no_fault (answer_of reply) x in
+    cc (none, is))
 
-pub read_made : (id : FlowId) (caller : Caller) (tick : ℕ) (v w : View) (r : Flow) (after : History) (room left : List ℕ)
-    (q : Result Received SocketError) → IsOwn id v r → HasReceived caller tick r after room left q → IsUse id r after v w
+pub read_made : (id : FlowId) (caller : Caller) (tick : ℕ) (v w : View) (r : Flow) (after : History)
+    (room left : List ℕ)
+    (q : Result Received SocketError) → IsOwn id v r → HasReceived caller tick r after room left q
+    → IsUse id r after v w
     → IsCalled id caller tick (ins.Recv (length room)) v w (fault_in q) (IsReceived room left q)
-read_made id caller tick v w r after room left (Ok x) own h u = read_entry id caller tick v w r after room left (Ok x) own h u
+read_made id caller tick v w r after room left (Ok x) own h u =
+    read_entry id caller tick v w r after room left (Ok x) own h u
 read_made id caller tick v w r after room left (Err errors.OutOfMemory) own h u =
     (r, own, subst (λ (k : History). IsUse id r k v w) h.0 u)
 read_made id caller tick v w r after room left (Err (errors.Busy word)) own h u =
@@ -227,7 +246,8 @@ read_made id caller tick v w r after room left (Err errors.NoFlowSlot) own h u =
     read_entry id caller tick v w r after room left (Err errors.NoFlowSlot) own h u
 
 -- the socket's flow was read
-pub socket_read : (o b : Application) (s : Socket) (tick : ℕ) (f : FlowId) (r : Flow) (after : History) (room left : List ℕ)
+pub socket_read : (o b : Application) (s : Socket) (tick : ℕ) (f : FlowId) (r : Flow) (after : History)
+    (room left : List ℕ)
     (q : Result Received SocketError) → f ≡ flow_of o s → IsOwn f o.pass.view r
     → HasReceived (callers.App o.number) tick r after room left q → IsUse f r after o.pass.view b.pass.view
     → b ≡ with_view b.pass.view o → HasCalled o b s tick (ins.Recv (length room)) (fault_in q) (IsReceived room left q)

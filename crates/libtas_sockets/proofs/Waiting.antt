@@ -1,6 +1,6 @@
 -- The list of begun flows.
-use Rattle.std.proofs.Common.{◌≡◌, ℕ, zero, suc, ◌+◌, ◌≤◌, ◌<◌, cond, Bool, true, false, List, [], ◌∷◌, ◌++◌}
-use Rattle.std.proofs.Common.{ap, sym, ◌∙◌, refl, subst, arith, get_or, set, append-nil, append_assoc}
+use Rattle.std.proofs.Common.{◌≡◌, ℕ, ◌+◌, ◌≤◌, ◌<◌, cond, Bool, true, false, List, [], ◌∷◌, ◌++◌}
+use Rattle.std.proofs.Common.{ap, sym, ◌∙◌, refl, subst, arith, get_or, set, append-nil}
 use Rattle.std.specs.Prelude.{Option, Some, None, not, ◌||◌, length, take, drop, All}
 use Rattle.std.specs.List.{filter, find}
 use Rattle.std.specs.Option.{option_map}
@@ -35,7 +35,8 @@ module _ {A : Type 0} (stays : A → Bool) where
       subst (λ n. take n (set now kept x) ≡ take kept now ++ []) (sym z)
       (take-set-le kept now kept x (omega arith) ∙ sym (append-nil (take kept now)))
 
-  pub kept_here : (old now : List A) (kept at : ℕ) (x : A) → Kept old now kept at → at < length now → get_or now at x ≡ x
+  pub kept_here : (old now : List A) (kept at : ℕ) (x : A) → Kept old now kept at → at < length now
+      → get_or now at x ≡ x
       → get_or old at x ≡ x
   kept_here old now kept at x k near is =
       let in_old : at < length old = let s = k.same in omega arith in
@@ -43,7 +44,8 @@ module _ {A : Type 0} (stays : A → Bool) where
       sym (drop_more now at x near) ∙ (k.back ∙ drop_more old at x in_old) in
       ap (λ l. get_or l 0 x) (sym heads) ∙ is
 
-  pub kept_more : (old now : List A) (kept at : ℕ) (x : A) → Kept old now kept at → at < length now → get_or now at x ≡ x
+  pub kept_more : (old now : List A) (kept at : ℕ) (x : A) → Kept old now kept at → at < length now
+      → get_or now at x ≡ x
       → Kept old (set now kept x) (kept + cond (stays x) 1 0) (at + 1)
   kept_more old now kept at x k near is =
       let in_old : at < length old = let s = k.same in omega arith in
@@ -66,12 +68,14 @@ module _ {A : Type 0} (stays : A → Bool) where
       le_count true n = omega (arith, n)
       le_count false n = omega (arith, n)
 
-  pub kept_all : (old now : List A) (kept at : ℕ) → Kept old now kept at → length now ≤ at → take kept now ≡ filter stays old
+  pub kept_all : (old now : List A) (kept at : ℕ) → Kept old now kept at → length now ≤ at
+      → take kept now ≡ filter stays old
   kept_all old now kept at k past =
       k.front ∙ ap (filter stays) (take_all at old (let s = k.same in omega arith))
 
 -- what holds of all holds of the one that is found
-pub found_has : {A : Type 0} (P : A → Type 0) (test : A → Bool) (l : List A) (x : A) → find test l ≡ Some x → All P l → P x
+pub found_has : {A : Type 0} (P : A → Type 0) (test : A → Bool) (l : List A) (x : A) → find test l ≡ Some x → All P l
+    → P x
 found_has P test [] x e all = absurd (cc (e))
 found_has P test (y ∷ ys) x e all = by_test (test y) e (found_has P test ys x) where
   by_test : (b : Bool) → cond b (Some y) (find test ys) ≡ Some x → (find test ys ≡ Some x → All P ys → P x) → P x
@@ -86,7 +90,8 @@ begun_near slots target l id e all = by_found (find (fits target) l) refl e wher
   by_found None is q = absurd (cc (q))
   by_found (Some b) is q =
       let same : b.id ≡ id = cc (q) in
-      subst (λ (i : FlowId). i.slot < slots) same (found_has (λ (g : Begun). g.id.slot < slots) (fits target) l b is all)
+      subst (λ (i : FlowId). i.slot < slots) same (found_has (λ (g : Begun). g.id.slot < slots) (fits target) l b is
+      all)
 
 -- the slots of those that stay begun
 pub still_near : (slots : ℕ) (target : Target) (marks : List Mark) (b d : List Begun) → d ≡ still_begun target marks b

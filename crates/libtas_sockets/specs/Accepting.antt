@@ -37,7 +37,8 @@ IsAcceptedOn caller tick r after (Err (errors.Closed why)) =
 IsAcceptedOn caller tick r after (Err errors.OutOfMemory) = after ≡ history r
 IsAcceptedOn caller tick r after (Err e) = ⊥
 
--- An Accept on a pinned flow: its own record was taken for it, and given back; or another pass held it, and never alone.
+-- An Accept on a pinned flow: its own record was taken for it, and given back; or another pass held it, and never
+-- alone.
 abbrev pub IsAnsweredBy : FlowId → Caller → (tick : ℕ) → (before after : View) → Result (Unit {0}) SocketError → Type 0
 IsAnsweredBy id caller tick v w (Err (errors.Busy x)) = IsBusy id v w x × (¬ IsAlone v)
 IsAnsweredBy id caller tick v w result =

@@ -1,5 +1,5 @@
 -- What contracts see of an application, and of its sockets.
-use Rattle.std.specs.Prelude.{◌≡◌, ℕ, ◌<◌, ◌^◌, cond, Bool, true, ◌==◌, List, [], ◌∷◌, ◌++◌, length, All}
+use Rattle.std.specs.Prelude.{◌≡◌, ℕ, ◌<◌, ◌^◌, cond, true, ◌==◌, List, [], ◌∷◌, ◌++◌, length, All}
 use Rattle.std.specs.List.{list_any}
 use Rattle.tas_model.specs.declared.entry.FlowId.{FlowId}
 use Rattle.context_queue.specs.Notes.{Receiver}

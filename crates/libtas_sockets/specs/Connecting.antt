@@ -1,6 +1,6 @@
 -- An application connects to a port of a host.
-use Rattle.std.specs.Prelude.{◌≡◌, ℕ, ◌+◌, ◌⊎◌, ◌==◌, ◌&&◌, ◌||◌, not, Bool, List, [], ◌∷◌, ◌++◌}
-use Rattle.std.specs.Prelude.{Option, Some, None, Result, Ok, Err}
+use Rattle.std.specs.Prelude.{◌≡◌, ℕ, ◌+◌, ◌==◌, ◌&&◌, ◌||◌, not, Bool, List, [], ◌∷◌, ◌++◌}
+use Rattle.std.specs.Prelude.{Option, Some, Result, Ok, Err}
 use Rattle.std.specs.List.{filter, find}
 use Rattle.tas_num.specs.declared.seq.Seq.{Seq}
 use Rattle.tas_model.specs.declared.entry.Caller.{Caller}
@@ -16,8 +16,7 @@ use Rattle.flow_lock.specs.Steps.{opened}
 use Rattle.flow_lock.specs.declared.pass.PinRefused.TheVariants as pins
 use Rattle.flow_lock.specs.declared.view.History.{History}
 use Rattle.flow_lock.specs.declared.view.Mark.{Mark}
-use Rattle.flow_lock.specs.declared.view.View.{View}
-use Rattle.slow_handshake.specs.Openings.{Openings, first_port, all_ports, next_after}
+use Rattle.slow_handshake.specs.Openings.{Openings, first_port, next_after}
 use Rattle.libtas_sockets.specs.Apps.{Application, socket_on, with_view, with_socket}
 use Rattle.libtas_sockets.specs.declared.begun.Begun.{Begun}
 use Rattle.libtas_sockets.specs.declared.begun.Target.{Target}
@@ -42,12 +41,12 @@ abbrev pub begun_without : FlowId → List Begun → List Begun
 begun_without id = filter (λ (b : Begun). not (same_flow b.id id))
 
 -- the application after it looked for a begun flow
-abbrev pub looked_up : Target → List Mark → Application → Application
-looked_up target marks a = record a { begun = still_begun target marks a.begun }
+abbrev pub looked_up : Target → (slow : Seen) → Application → Application
+looked_up target slow a = record a { begun = still_begun target slow.view.marks a.begun }
 
 -- the begun flow that a connect takes up: of several the one that was opened first
-abbrev pub begun_for : Target → List Mark → Application → Option Begun
-begun_for target marks a = find (fits target) (still_begun target marks a.begun)
+abbrev pub begun_for : Target → (slow : Seen) → Application → Option Begun
+begun_for target slow a = find (fits target) (still_begun target slow.view.marks a.begun)
 
 abbrev pub id_of : Begun → FlowId
 id_of b = b.id
@@ -98,7 +97,8 @@ IsJoined id tuple a b (Err (errors.Moved x y)) =
 IsJoined id tuple a b (Err e) = ⊥
 
 -- A flow with this history was opened, and then pinned or not; or memory was wanting, and none was.
-abbrev pub IsOpening : History → (before after : Application) → (before after : Opener) → Result Socket SocketError → Type 0
+abbrev pub IsOpening : History → (before after : Application) → (before after : Opener) → Result Socket SocketError
+    → Type 0
 IsOpening h a b s n (Err errors.OutOfMemory) = (b ≡ a) × (n ≡ s)
 IsOpening h a b s n result = (id : FlowId) × IsOpened id h s n × IsJoined id h.tuple a b result
 

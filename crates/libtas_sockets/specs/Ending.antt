@@ -1,5 +1,5 @@
 -- What an application leaves when it ends.
-use Rattle.std.specs.Prelude.{◌≡◌, ℕ, ◌+◌, ◌⊎◌, Bool, true, false, List, [], ◌∷◌, length, slice_get}
+use Rattle.std.specs.Prelude.{◌≡◌, ℕ, ◌+◌, ◌⊎◌, Bool, true, List, [], ◌∷◌, length}
 use Rattle.std.specs.Prelude.{Option, Some, None}
 use Rattle.flow_state.specs.Flow.{Flow}
 use Rattle.flow_lock.specs.Answers.{IsTaken, IsBusy}

@@ -1,5 +1,6 @@
 //! An application: its pass, its sockets, and its turns.
-ghost use Rattle.std.specs.Prelude.{◌≡◌, ℕ, ◌<◌, ◌≤◌, ◌↔◌, ◌⊎◌, [], ◌∷◌, ◌++◌, true, false, Err, Some, slice_get, length, IfOk, IsOk, IfErr, OnOk, OnErr, IfSome, IfNone};
+ghost use Rattle.std.specs.Prelude.{◌≡◌, ℕ, ◌<◌, ◌≤◌, ◌↔◌, ◌⊎◌, [], ◌∷◌, ◌++◌, true, false, Err, Some, slice_get};
+ghost use Rattle.std.specs.Prelude.{length, IfOk, IsOk, IfErr, OnOk, OnErr, IfSome, IfNone};
 ghost use Rattle.crossbeam_queue.specs.Fifo.{Held};
 ghost use Rattle.context_queue.specs.Notes.{HasTaken, HoldsRest};
 ghost use Rattle.flow_lock.specs.Claims.{HasPin};
@@ -40,7 +41,13 @@ impl Model for App {
 
     ghost Value = { Application };
 
-    ghost view = { λ a. record { number = a.number; pass = a.pass; notes = a.notes; begun = a.begun.items; sockets = a.sockets.list } };
+    ghost view = { λ a. record {
+      number = a.number;
+      pass = a.pass;
+      notes = a.notes;
+      begun = a.begun.items;
+      sockets = a.sockets.list;
+    } };
 
     ghost invariant = { λ a. IsSound a.pass a.begun.items a.sockets.list };
 }
@@ -55,7 +62,13 @@ impl App {
     ) -> Result<App, AllocError>
         requires { (pass.view.pins ≡ []) × (pass.view.held ≡ []) }
         ensures made { IsOk result }
-        ensures new { IfOk result (λ app. app ≡ record { number = number; pass = pass; notes = notes; begun = []; sockets = [] }) }
+        ensures new { IfOk result (λ app. app ≡ record {
+          number = number;
+          pass = pass;
+          notes = notes;
+          begun = [];
+          sockets = [];
+        }) }
     {
         Ok(App {
             alloc,
@@ -80,7 +93,10 @@ impl App {
     pub fn listen(&mut self, slow: &mut SlowPath, port: u16) -> Result<(), SocketError>
         requires port { (1 ≤ port) × (port ≤ 49151) }
         ensures used { result ≡ Err (SocketError.PortInUse port) ↔ is_taken slow.old port ≡ true }
-        ensures listens { OnOk result (slow.new ≡ record slow.old { listeners = slow.old.listeners ++ (record { port = port; app = self.old.number }) ∷ [] }) }
+        ensures listens { OnOk result (slow.new ≡ record slow.old {
+          listeners = slow.old.listeners
+              ++ (record { port = port; app = self.old.number }) ∷ [];
+        }) }
         ensures refused { OnErr result (slow.new ≡ slow.old) }
         ensures only { IfErr result (λ e. (e ≡ SocketError.PortInUse port) ⊎ (e ≡ SocketError.OutOfMemory)) }
         ensures same { self.new ≡ self.old }

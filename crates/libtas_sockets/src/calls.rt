@@ -7,7 +7,8 @@ ghost use Rattle.flow_state.specs.declared.call.CallIn.TheVariants as ins;
 ghost use Rattle.flow_lock.specs.Steps.{MayAct};
 ghost use Rattle.flow_lock.specs.Histories.{IsLonger};
 ghost use Rattle.app_reaper.specs.OneCall.{history};
-ghost use Rattle.libtas_sockets.specs.Answers.{answer_by, refused_or, refusal_in, fault_of, fault_in, is_closed, IsRefusalOf};
+ghost use Rattle.libtas_sockets.specs.Answers.{answer_by, refused_or, refusal_in, fault_of, fault_in, is_closed};
+ghost use Rattle.libtas_sockets.specs.Answers.{IsRefusalOf};
 ghost use Rattle.libtas_sockets.specs.Answers.{received_in, IsReceived};
 ghost use Rattle.libtas_sockets.specs.Apps.{Application, IsSocket};
 ghost use Rattle.libtas_sockets.specs.Calling.{HasCalled, HasReceived, after_close, after_abort};
@@ -35,7 +36,8 @@ impl App {
         requires app { IsAppCall call.now }
         requires small { IsSmall call.now }
         requires timely { (phase : Phase) → IsTimely phase call.now }
-        ensures made { HasCalled self.old self.new s tick call.now (fault_in result) (λ reply. result ≡ answer_by reply (length (reply_bytes reply))) }
+        ensures made { HasCalled self.old self.new s tick call.now (fault_in result)
+            (λ reply. result ≡ answer_by reply (length (reply_bytes reply))) }
         ensures only { IfErr result (IsRefusalOf call.now) }
     {
         let at = self.place(s);
@@ -57,7 +59,8 @@ impl App {
     ) -> Result<(), SocketError>
         requires pass { (self.old.pass.table ≡ t.now) × MayAct self.old.pass.view }
         requires socket { IsSocket self.old s }
-        ensures made { HasCalled self.old self.new s tick ins.Ready (fault_in result) (λ reply. result ≡ answer_by reply tt) }
+        ensures made { HasCalled self.old self.new s tick ins.Ready (fault_in result)
+            (λ reply. result ≡ answer_by reply tt) }
         ensures only { IfErr result (IsRefusalOf ins.Ready) }
     {
         self.call(t, s, tick, &CallIn::Ready)?;
@@ -76,7 +79,8 @@ impl App {
         requires pass { (self.old.pass.table ≡ t.now) × MayAct self.old.pass.view }
         requires socket { IsSocket self.old s }
         requires small { length bytes.now < 2 ^ 32 }
-        ensures made { HasCalled self.old self.new s tick (ins.Send bytes.entry) (fault_in result) (λ reply. result ≡ answer_by reply (length (reply_bytes reply))) }
+        ensures made { HasCalled self.old self.new s tick (ins.Send bytes.entry) (fault_in result)
+            (λ reply. result ≡ answer_by reply (length (reply_bytes reply))) }
         ensures only { IfErr result (IsRefusalOf (ins.Send bytes.entry)) }
     {
         self.call(t, s, tick, &CallIn::Send { bytes })
@@ -93,7 +97,8 @@ impl App {
         requires pass { (self.old.pass.table ≡ t.now) × MayAct self.old.pass.view }
         requires socket { IsSocket self.old s }
         requires room { (1 ≤ length buf.old) × (length buf.old ≤ 65536) }
-        ensures made { HasCalled self.old self.new s tick (ins.Recv (length buf.old)) (fault_in result) (IsReceived buf.old buf.new result) }
+        ensures made { HasCalled self.old self.new s tick (ins.Recv (length buf.old)) (fault_in result)
+            (IsReceived buf.old buf.new result) }
         ensures only { IfErr result (IsRefusalOf (ins.Recv (length buf.old))) }
         ensures kept { OnErr result (buf.new ≡ buf.old) }
     {
@@ -117,7 +122,8 @@ impl App {
     ) -> Result<(), SocketError>
         requires pass { (self.old.pass.table ≡ t.now) × MayAct self.old.pass.view }
         requires socket { IsSocket self.old s }
-        ensures made { HasCalled self.old self.new s tick ins.Shut (fault_in result) (λ reply. result ≡ answer_by reply tt) }
+        ensures made { HasCalled self.old self.new s tick ins.Shut (fault_in result)
+            (λ reply. result ≡ answer_by reply tt) }
         ensures only { IfErr result (IsRefusalOf ins.Shut) }
     {
         self.call(t, s, tick, &CallIn::Shut)?;
@@ -133,7 +139,8 @@ impl App {
     ) -> Result<(), SocketError>
         requires pass { (self.old.pass.table ≡ t.now) × MayAct self.old.pass.view }
         requires socket { IsSocket self.old s }
-        ensures made { (mid : Application) × HasCalled self.old mid s tick ins.Close (fault_in result) (λ reply. result ≡ answer_by reply tt) × (self.new ≡ after_close result s mid) }
+        ensures made { (mid : Application) × HasCalled self.old mid s tick ins.Close (fault_in result)
+            (λ reply. result ≡ answer_by reply tt) × (self.new ≡ after_close result s mid) }
         ensures only { IfErr result (IsRefusalOf ins.Close) }
     {
         self.call(t, s, tick, &CallIn::Close)?;
@@ -150,7 +157,8 @@ impl App {
     ) -> Result<(), SocketError>
         requires pass { (self.old.pass.table ≡ t.now) × MayAct self.old.pass.view }
         requires socket { IsSocket self.old s }
-        ensures made { (mid : Application) × HasCalled self.old mid s tick ins.Abort (fault_in result) (λ reply. result ≡ answer_by reply tt) × (self.new ≡ after_abort result s mid) }
+        ensures made { (mid : Application) × HasCalled self.old mid s tick ins.Abort (fault_in result)
+            (λ reply. result ≡ answer_by reply tt) × (self.new ≡ after_abort result s mid) }
         ensures only { IfErr result (IsRefusalOf ins.Abort) }
     {
         match self.call(t, s, tick, &CallIn::Abort) {

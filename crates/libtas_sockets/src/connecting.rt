@@ -1,5 +1,6 @@
 //! Connections to other hosts are opened.
-ghost use Rattle.std.specs.Prelude.{◌≡◌, ℕ, ◌<◌, ◌↔◌, ◌||◌, not, cond, Option, None, Some, Err, All, length, IfSome, IsSome, OnSome, IfNone};
+ghost use Rattle.std.specs.Prelude.{◌≡◌, ℕ, ◌<◌, ◌↔◌, ◌||◌, not, cond, Option, None, Some, Err, All, length, IfSome};
+ghost use Rattle.std.specs.Prelude.{IsSome, OnSome, IfNone};
 ghost use Rattle.std.specs.List.{find};
 ghost use Rattle.std.specs.Option.{option_map};
 ghost use Rattle.tas_model.specs.Valid.{InRange};
@@ -9,7 +10,8 @@ ghost use Rattle.flow_lock.specs.Steps.{MayAct, opened};
 ghost use Rattle.slow_handshake.specs.Openings.{all_ports};
 ghost use Rattle.app_reaper.specs.OneCall.{history};
 ghost use Rattle.libtas_sockets.specs.Connecting.{fits, id_of, still_begun, begun_for, looked_up, IsTakenUp, opener};
-ghost use Rattle.libtas_sockets.specs.Connecting.{IsOpening, IsConnection, IsConnectionAs, after_connect, first_history};
+ghost use Rattle.libtas_sockets.specs.Connecting.{IsOpening, IsConnection, IsConnectionAs, after_connect};
+ghost use Rattle.libtas_sockets.specs.Connecting.{first_history};
 
 use crate::app::App;
 use crate::begun::{Begun, Target};
@@ -42,13 +44,20 @@ impl App {
         requires slow { (sp.old.table ≡ t.now) × MayAct sp.old.view }
         requires few { sp.old.view.opened < 4294967295 }
         requires ranges { InRange slow.old.params }
-        ensures begun { let target = Target.To raddr rport in IfSome (begun_for target sp.old.view.marks self.old) (λ b. IsTakenUp b.id (looked_up target sp.old.view.marks self.old) self.new result) }
-        ensures unopened { OnSome (begun_for (Target.To raddr rport) sp.old.view.marks self.old) (opener sp.new pins.new.list ≡ opener sp.old pins.old.list) }
-        ensures unnumbered { OnSome (begun_for (Target.To raddr rport) sp.old.view.marks self.old) (slow.new ≡ slow.old) }
-        ensures slots { IfNone (begun_for (Target.To raddr rport) sp.old.view.marks self.old) (result ≡ Err SocketError.NoFlowSlot ↔ next_in sp.old.view.marks ≡ None) }
-        ensures ports { IfNone (begun_for (Target.To raddr rport) sp.old.view.marks self.old) (result ≡ Err SocketError.NoPort ↔ IsSome (next_in sp.old.view.marks) × (slow.old.ports ≡ all_ports)) }
-        ensures opened { let target = Target.To raddr rport in IfNone (begun_for target sp.old.view.marks self.old) (IsConnection raddr rport tick slow.old (looked_up target sp.old.view.marks self.old) self.new (opener sp.old pins.old.list) (opener sp.new pins.new.list) result) }
-        ensures numbered { IfNone (begun_for (Target.To raddr rport) sp.old.view.marks self.old) (slow.new ≡ after_connect result slow.old) }
+        ensures begun { IfSome (begun_for (Target.To raddr rport) sp.old self.old)
+            (λ b. IsTakenUp b.id (looked_up (Target.To raddr rport) sp.old self.old) self.new result) }
+        ensures unopened { OnSome (begun_for (Target.To raddr rport) sp.old self.old)
+            (opener sp.new pins.new.list ≡ opener sp.old pins.old.list) }
+        ensures unnumbered { OnSome (begun_for (Target.To raddr rport) sp.old self.old) (slow.new ≡ slow.old) }
+        ensures slots { IfNone (begun_for (Target.To raddr rport) sp.old self.old)
+            (result ≡ Err SocketError.NoFlowSlot ↔ next_in sp.old.view.marks ≡ None) }
+        ensures ports { IfNone (begun_for (Target.To raddr rport) sp.old self.old)
+            (result ≡ Err SocketError.NoPort ↔ IsSome (next_in sp.old.view.marks) × (slow.old.ports ≡ all_ports)) }
+        ensures opened { IfNone (begun_for (Target.To raddr rport) sp.old self.old)
+            (IsConnection raddr rport tick slow.old (looked_up (Target.To raddr rport) sp.old self.old) self.new
+            (opener sp.old pins.old.list) (opener sp.new pins.new.list) result) }
+        ensures numbered { IfNone (begun_for (Target.To raddr rport) sp.old self.old)
+            (slow.new ≡ after_connect result slow.old) }
     {
         forget_ended(&mut self.begun, sp, &Target::To(raddr, rport));
         if let Some(id) = begun_for(&self.begun, &Target::To(raddr, rport)) {
@@ -85,10 +94,15 @@ impl App {
         requires slow { (sp.old.table ≡ t.now) × MayAct sp.old.view }
         requires few { sp.old.view.opened < 4294967295 }
         requires ranges { InRange slow.old.params }
-        ensures begun { let target = Target.Of tuple in IfSome (begun_for target sp.old.view.marks self.old) (λ b. IsTakenUp b.id (looked_up target sp.old.view.marks self.old) self.new result) }
-        ensures unopened { OnSome (begun_for (Target.Of tuple) sp.old.view.marks self.old) (opener sp.new pins.new.list ≡ opener sp.old pins.old.list) }
-        ensures slots { IfNone (begun_for (Target.Of tuple) sp.old.view.marks self.old) (result ≡ Err SocketError.NoFlowSlot ↔ next_in sp.old.view.marks ≡ None) }
-        ensures opened { let target = Target.Of tuple in IfNone (begun_for target sp.old.view.marks self.old) (IsConnectionAs tuple iss tick slow.old.params (looked_up target sp.old.view.marks self.old) self.new (opener sp.old pins.old.list) (opener sp.new pins.new.list) result) }
+        ensures begun { IfSome (begun_for (Target.Of tuple) sp.old self.old)
+            (λ b. IsTakenUp b.id (looked_up (Target.Of tuple) sp.old self.old) self.new result) }
+        ensures unopened { OnSome (begun_for (Target.Of tuple) sp.old self.old)
+            (opener sp.new pins.new.list ≡ opener sp.old pins.old.list) }
+        ensures slots { IfNone (begun_for (Target.Of tuple) sp.old self.old)
+            (result ≡ Err SocketError.NoFlowSlot ↔ next_in sp.old.view.marks ≡ None) }
+        ensures opened { IfNone (begun_for (Target.Of tuple) sp.old self.old)
+            (IsConnectionAs tuple iss tick slow.old.params (looked_up (Target.Of tuple) sp.old self.old) self.new
+            (opener sp.old pins.old.list) (opener sp.new pins.new.list) result) }
         ensures kept { slow.new ≡ slow.old }
     {
         forget_ended(&mut self.begun, sp, &Target::Of(tuple));
@@ -136,7 +150,8 @@ impl App {
         requires ranges { InRange params.now }
         requires next { next_in sp.old.view.marks ≡ Some id }
         requires slot { id.slot < t.now.slots }
-        ensures { IsOpening (first_history tuple params.now (callers.App self.old.number) tick iss) self.old self.new (opener sp.old pins.old.list) (opener sp.new pins.new.list) result }
+        ensures { IsOpening (first_history tuple params.now (callers.App self.old.number) tick iss) self.old self.new
+            (opener sp.old pins.old.list) (opener sp.new pins.new.list) result }
     {
         make_room(&mut self.sockets, id)?;
         if self.begun.reserve(1).is_err() || pins.reserve().is_err() {

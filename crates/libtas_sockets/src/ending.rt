@@ -12,7 +12,8 @@ use flow_state::FlowRecord;
 
 impl App {
     /// Ends the application, which leaves its pass and its pins. Where it is `holding` and has a socket, it takes the
-    /// record of the newest socket first; `held` has it then, or `busy` the word that was found where another pass had it.
+    /// record of the newest socket first; `held` has it then, or `busy` the word that was found where another pass had
+    /// it.
     pub fn end(self, holding: bool, t: &FlowTable<FlowRecord>) -> Ended
         requires pass { (self.pass.table ≡ t.now) × MayAct self.pass.view }
         ensures app { result.app ≡ self.number }

@@ -1,4 +1,4 @@
-use Rattle.std.proofs.Common.{◌≡◌, ◌≤◌, ap, sym, ◌∙◌, subst, List, ℕ, length}
+use Rattle.std.proofs.Common.{◌≤◌, sym, subst, List, ℕ, length}
 use Rattle.libtas_sockets.proofs.Receiving.{reply_room, entry_bytes, entry_len, received_is}
 use Rattle.libtas_sockets.proofs.Receiving.{received_only, received_kept}
 use Rattle.libtas_sockets.proofs.calls.read_from.Goals as goal
@@ -18,7 +18,8 @@ received-requires-clause-room c =
 pub returns-in-Ok-Some-clause-made : goal.returns-in-Ok-Some-clause-made
 returns-in-Ok-Some-clause-made c =
     received_is _ _ c.args.flow.now c.act_on.new.flow _ c.in-Ok-Some.answer c.args.buf.now _
-    c.last_bytes.result.now _ c.in-Ok-Some.field-0-is c.in-Ok-Some.ensures.made c.last_bytes.ensures c.received.ensures.made c.received.ensures.copied
+    c.last_bytes.result.now _ c.in-Ok-Some.field-0-is c.in-Ok-Some.ensures.made c.last_bytes.ensures
+    c.received.ensures.made c.received.ensures.copied
 
 pub returns-in-Ok-Some-clause-only : goal.returns-in-Ok-Some-clause-only
 returns-in-Ok-Some-clause-only c =
@@ -28,4 +29,5 @@ returns-in-Ok-Some-clause-only c =
 pub returns-in-Ok-Some-clause-kept : goal.returns-in-Ok-Some-clause-kept
 returns-in-Ok-Some-clause-kept c =
     received_kept _ _ c.args.flow.now c.act_on.new.flow _ c.in-Ok-Some.answer c.args.buf.now _ c.last_bytes.result.now _
-    c.in-Ok-Some.field-0-is c.in-Ok-Some.ensures.made c.last_bytes.ensures c.received.ensures.made c.received.ensures.copied
+    c.in-Ok-Some.field-0-is c.in-Ok-Some.ensures.made c.last_bytes.ensures c.received.ensures.made
+    c.received.ensures.copied

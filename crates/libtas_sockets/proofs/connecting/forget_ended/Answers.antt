@@ -12,7 +12,8 @@ is_still_begun-requires c =
     let stays : Begun → Bool = λ b. not (fits c.args.target.now b) || is_open_in c.args.sp.now.view.marks b.id in
     let near : l.at < length l.begun.items = omega (arith, c.loop-at-test.true, c.len.ensures, l.begun.ok) in
     let same = l.invariant.same in
-    let here = kept_here stays c.args.begun.now.items l.begun.items l.kept l.at x l.invariant near (sym c.index.ensures) in
+    let here = kept_here stays c.args.begun.now.items l.begun.items l.kept l.at x l.invariant near
+    (sym c.index.ensures) in
     subst (λ (b : Begun). b.id.slot < c.args.sp.now.table.slots) here
     (c.requires l.at x (subst (λ n. l.at < n) same near))
 

@@ -1,5 +1,5 @@
 use Rattle.std.proofs.Common.{◌≡◌, ◌<◌, ap, sym, ◌∙◌, refl, subst, List, ◌∷◌, ◌++◌, [], false, length, ◌+◌, ◌^◌}
-use Rattle.std.specs.Prelude.{Option, Some, Result, Ok, Err}
+use Rattle.std.specs.Prelude.{Result, Ok, Err}
 use Rattle.std.specs.List.{list_any}
 use Rattle.atomic_table.specs.Seated.{TableId}
 use Rattle.tas_model.specs.declared.entry.Caller.{Caller}
@@ -8,37 +8,40 @@ use Rattle.tas_model.specs.declared.entry.FlowId.{FlowId}
 use Rattle.flow_lock.specs.Answers.{IsPinned}
 use Rattle.flow_lock.specs.Passes.{Seen}
 use Rattle.flow_lock.specs.Steps.{without, unpinned}
-use Rattle.flow_lock.specs.declared.view.View.{View}
 use Rattle.app_reaper.specs.Lists.{is_on}
 use Rattle.slow_handshake.specs.Openings.{first_ready}
 use Rattle.libtas_sockets.specs.Accepting.{IsAnsweredBy, IsTried}
 use Rattle.libtas_sockets.specs.Apps.{Application, IsSound, socket_on}
 use Rattle.libtas_sockets.specs.declared.socket_error.SocketError.{SocketError}
-use Rattle.libtas_sockets.proofs.Pins.{pinless, without_first, none_on, sound_more, sound_moved, with_more, with_same}
+use Rattle.libtas_sockets.proofs.Pins.{pinless, without_first, sound_more, sound_moved, with_more, with_same}
 use Rattle.libtas_sockets.proofs.Answering.{ready_near, some_is, tried_view, tried_err}
 use Rattle.libtas_sockets.proofs.app.App.accept.Goals as goal
 
 pub pin-requires-clause-slot : goal.pin-requires-clause-slot
 pin-requires-clause-slot c =
-    ready_near c.args.t.now.slots c.args.slow.now c.args.port c.in-Some.id (sym c.ready.ensures ∙ c.in-Some.is) c.requires.slots
+    ready_near c.args.t.now.slots c.args.slow.now c.args.port c.in-Some.id (sym c.ready.ensures ∙ c.in-Some.is)
+    c.requires.slots
 
 pub pin-requires-clause-unpinned : goal.pin-requires-clause-unpinned
 pin-requires-clause-unpinned c =
     let i = c.self.inside in
     let id = c.in-Some.id in
     let free : list_any (is_on id.slot) i.sockets.list ≡ false =
-    subst (λ (l : List FlowId). list_any (is_on id.slot) l ≡ false) c.make_room.ensures.list c.in_ok-make_room.ensures.free in
+    subst (λ (l : List FlowId). list_any (is_on id.slot) l ≡ false) c.make_room.ensures.list
+    c.in_ok-make_room.ensures.free in
     pinless i.pass i.begun.items i.sockets.list id.slot c.self.invariant free
 
 pub accept_pinned-accepted-requires-clause-slot : goal.accept_pinned-accepted-requires-clause-slot
 accept_pinned-accepted-requires-clause-slot c =
     subst (λ (f : FlowId). f.slot < c.args.t.now.slots) (sym c.in-Ok.ensures.pinned.0)
-    (ready_near c.args.t.now.slots c.args.slow.now c.args.port c.in-Some.id (sym c.ready.ensures ∙ c.in-Some.is) c.requires.slots)
+    (ready_near c.args.t.now.slots c.args.slow.now c.args.port c.in-Some.id (sym c.ready.ensures ∙ c.in-Some.is)
+    c.requires.slots)
 
 pub unpin-requires-clause-slot : goal.unpin-requires-clause-slot
 unpin-requires-clause-slot c =
     subst (λ (f : FlowId). f.slot < c.args.t.now.slots) (sym c.in-Ok.ensures.pinned.0)
-    (ready_near c.args.t.now.slots c.args.slow.now c.args.port c.in-Some.id (sym c.ready.ensures ∙ c.in-Some.is) c.requires.slots)
+    (ready_near c.args.t.now.slots c.args.slow.now c.args.port c.in-Some.id (sym c.ready.ensures ∙ c.in-Some.is)
+    c.requires.slots)
 
 pub invariant_of-self-in-Ok-accepted : goal.invariant_of-self-in-Ok-accepted
 invariant_of-self-in-Ok-accepted c =
@@ -48,20 +51,23 @@ invariant_of-self-in-Ok-accepted c =
     let is : f ≡ id = c.in-Ok.ensures.pinned.0 in
     let n = c.accept_pinned-accepted.new.pass in
     let free : list_any (is_on id.slot) i.sockets.list ≡ false =
-    subst (λ (l : List FlowId). list_any (is_on id.slot) l ≡ false) c.make_room.ensures.list c.in_ok-make_room.ensures.free in
+    subst (λ (l : List FlowId). list_any (is_on id.slot) l ≡ false) c.make_room.ensures.list
+    c.in_ok-make_room.ensures.free in
     let free_here : list_any (is_on f.slot) i.sockets.list ≡ false =
     subst (λ (g : FlowId). list_any (is_on g.slot) i.sockets.list ≡ false) (sym is) free in
     let table : i.pass.table ≡ c.args.t.now =
     ap (λ (x : Application). x.pass.table) c.self.view_is ∙ c.requires.pass.0 in
     let near : f.slot < i.pass.table.slots = subst (λ (x : TableId). f.slot < x.slots) (sym table)
     (subst (λ (g : FlowId). g.slot < c.args.t.now.slots) (sym is)
-    (ready_near c.args.t.now.slots c.args.slow.now c.args.port id (sym c.ready.ensures ∙ c.in-Some.is) c.requires.slots)) in
+    (ready_near c.args.t.now.slots c.args.slow.now c.args.port id (sym c.ready.ensures ∙ c.in-Some.is)
+    c.requires.slots)) in
     let pinned = subst (λ (g : FlowId). IsPinned g i.pass.view c.pin.new.pass.view) (sym is) c.in-Ok.ensures.pinned.1 in
     let tried = tried_view f _ c.args.tick i.pass.view c.pin.new.pass.view n.view _ pinned
     c.accept_pinned-accepted.ensures.made c.self.invariant.idle in
     let list : c.put.new.self.list ≡ i.sockets.list ++ f ∷ [] =
     c.put.ensures.list ∙ ap (λ (l : List FlowId). l ++ f ∷ []) c.make_room.ensures.list in
-    let few = subst (λ (l : List FlowId). length l + 1 < 2 ^ 32) c.make_room.ensures.list c.in_ok-make_room.ensures.few in
+    let few = subst (λ (l : List FlowId). length l + 1 < 2 ^ 32) c.make_room.ensures.list
+    c.in_ok-make_room.ensures.few in
     subst (λ (l : List FlowId). IsSound n i.begun.items l) (sym list)
     (sound_more i.pass n i.begun.items i.sockets.list f (c.accept_pinned-accepted.ensures.table ∙ c.pin.ensures.table)
     tried.0 tried.1 near free_here few c.self.invariant)
@@ -74,7 +80,8 @@ invariant_of-self-in-Err-accepted c =
     let is : f ≡ id = c.in-Ok.ensures.pinned.0 in
     let n = c.accept_pinned-accepted.new.pass in
     let free : list_any (is_on id.slot) i.sockets.list ≡ false =
-    subst (λ (l : List FlowId). list_any (is_on id.slot) l ≡ false) c.make_room.ensures.list c.in_ok-make_room.ensures.free in
+    subst (λ (l : List FlowId). list_any (is_on id.slot) l ≡ false) c.make_room.ensures.list
+    c.in_ok-make_room.ensures.free in
     let free_here : list_any (is_on f.slot) i.sockets.list ≡ false =
     subst (λ (g : FlowId). list_any (is_on g.slot) i.sockets.list ≡ false) (sym is) free in
     let pinned = subst (λ (g : FlowId). IsPinned g i.pass.view c.pin.new.pass.view) (sym is) c.in-Ok.ensures.pinned.1 in
@@ -142,7 +149,8 @@ returns-in-Err-accepted-clause-made c =
       done,
       with_same o o c.unpin.new.pass c.make_room.new.sockets.list (unpinned id n.view) refl
           (ap (λ (x : Seen). x.table) c.unpin.ensures ∙ (c.accept_pinned-accepted.ensures.table ∙ c.pin.ensures.table))
-          (ap (λ (x : Seen). x.view) c.unpin.ensures ∙ ap (λ (g : FlowId). unpinned g n.view) is) c.make_room.ensures.list,
+          (ap (λ (x : Seen). x.view) c.unpin.ensures ∙ ap (λ (g : FlowId). unpinned g n.view) is)
+          c.make_room.ensures.list,
       tt,
     ) in
     some_is (first_ready c.args.slow.now c.args.port) id _ (sym c.ready.ensures ∙ c.in-Some.is)

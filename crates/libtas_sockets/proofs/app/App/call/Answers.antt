@@ -1,5 +1,5 @@
 use Rattle.std.proofs.Common.{◌≡◌, ℕ, sym, ◌∙◌, refl, subst, length}
-use Rattle.std.specs.Prelude.{Result, Err, IfErr}
+use Rattle.std.specs.Prelude.{Result, IfErr}
 use Rattle.flow_state.specs.Calls.{reply_bytes}
 use Rattle.libtas_sockets.specs.Answers.{answer_by, fault_in, IsRefusalOf}
 use Rattle.libtas_sockets.specs.Apps.{Application, flow_of}
@@ -26,7 +26,8 @@ returns-clause-made c =
     (λ reply. c.match-make_call.result ≡ answer_by reply (length (reply_bytes reply)))) c.self.view_is
     (elim c.match-make_call.branch [
       | in-Ok-Some w ↦ called o b s c.args.tick c.args.call.now f w.in-Ok-Some.field-0 w.in-Ok-Some.answer
-          c.match-make_call.result same w.in-Ok-Some.field-0-is w.in-Ok-Some.ensures.made (w.result-is ∙ w.told.ensures) moved
+          c.match-make_call.result same w.in-Ok-Some.field-0-is w.in-Ok-Some.ensures.made
+          (w.result-is ∙ w.told.ensures) moved
       | in-Err w ↦ subst (λ (q : Result ℕ SocketError). HasCalled o b s c.args.tick c.args.call.now (fault_in q)
           (λ reply. q ≡ answer_by reply (length (reply_bytes reply)))) (sym w.result-is)
           (not_called o b s c.args.tick c.args.call.now f w.in-Err.fault w.error_by.result same w.error_by.ensures
@@ -36,7 +37,8 @@ returns-clause-made c =
 pub returns-clause-only : goal.returns-clause-only
 returns-clause-only c =
     elim c.match-make_call.branch [
-      | in-Ok-Some w ↦ called_only _ _ _ c.args.call.now _ _ _ w.in-Ok-Some.answer c.match-make_call.result c.requires.app
+      | in-Ok-Some w ↦ called_only _ _ _ c.args.call.now _ _ _ w.in-Ok-Some.answer c.match-make_call.result
+          c.requires.app
           w.in-Ok-Some.field-0-is w.in-Ok-Some.ensures.made (w.result-is ∙ w.told.ensures)
       | in-Err w ↦ subst (λ (q : Result ℕ SocketError). IfErr q (IsRefusalOf c.args.call.now)) (sym w.result-is)
           (not_only c.args.call.now _ _ w.error_by.ensures)

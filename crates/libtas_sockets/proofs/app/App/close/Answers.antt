@@ -1,7 +1,6 @@
-use Rattle.std.proofs.Common.{◌≡◌, ap, sym, ◌∙◌, refl, rules}
+use Rattle.std.proofs.Common.{◌≡◌, ap, sym, rules}
 use Rattle.std.specs.Prelude.{Result, Err}
 use Rattle.flow_state.specs.declared.call.CallIn.TheVariants as ins
-use Rattle.libtas_sockets.specs.Answers.{fault_in, answer_by}
 use Rattle.libtas_sockets.specs.declared.socket_error.SocketError.{SocketError}
 use Rattle.libtas_sockets.specs.Calling.{after_close}
 use Rattle.libtas_sockets.proofs.Calling.{reanswered}

@@ -12,7 +12,8 @@ invariant_of-self c =
     let i = c.self.inside in
     let d = c.forget_ended.new.begun.items in
     sound_begun i.pass i.begun.items d i.sockets.list
-    (still_near i.pass.table.slots (Of c.args.tuple) c.args.sp.now.view.marks i.begun.items d c.forget_ended.ensures c.self.invariant.slots)
+    (still_near i.pass.table.slots (Of c.args.tuple) c.args.sp.now.view.marks i.begun.items d c.forget_ended.ensures
+    c.self.invariant.slots)
     c.self.invariant
 
 pub invariant_of-self-in_default : goal.invariant_of-self-in_default
@@ -20,7 +21,8 @@ invariant_of-self-in_default c =
     let i = c.self.inside in
     let d = c.forget_ended.new.begun.items in
     sound_begun i.pass i.begun.items d i.sockets.list
-    (still_near i.pass.table.slots (Of c.args.tuple) c.args.sp.now.view.marks i.begun.items d c.forget_ended.ensures c.self.invariant.slots)
+    (still_near i.pass.table.slots (Of c.args.tuple) c.args.sp.now.view.marks i.begun.items d c.forget_ended.ensures
+    c.self.invariant.slots)
     c.self.invariant
 
 pub take_up-requires-clause-slot : goal.take_up-requires-clause-slot
@@ -31,6 +33,8 @@ take_up-requires-clause-slot c =
     ap (λ (x : Application). x.pass.table) c.self.view_is ∙ c.requires.pass.0 in
     let all : All (λ (q : Begun). q.id.slot < c.args.t.now.slots) d =
     subst (λ (x : TableId). All (λ (q : Begun). q.id.slot < x.slots) d) table
-    (still_near i.pass.table.slots (Of c.args.tuple) c.args.sp.now.view.marks i.begun.items d c.forget_ended.ensures c.self.invariant.slots) in
-    begun_near c.args.t.now.slots (Of c.args.tuple) c.deref.result.now c.in-Some.id (sym c.begun_for.ensures ∙ c.in-Some.is)
+    (still_near i.pass.table.slots (Of c.args.tuple) c.args.sp.now.view.marks i.begun.items d c.forget_ended.ensures
+    c.self.invariant.slots) in
+    begun_near c.args.t.now.slots (Of c.args.tuple) c.deref.result.now c.in-Some.id (sym c.begun_for.ensures
+    ∙ c.in-Some.is)
     (subst (All (λ (q : Begun). q.id.slot < c.args.t.now.slots)) (sym c.deref.ensures.value) all)

@@ -1,9 +1,10 @@
-use Rattle.std.proofs.Common.{◌≡◌, ◌≢◌, ℕ, ◌+◌, ◌-◌, Bool, true, ap, sym, ◌∙◌, refl, subst, arith, length, rules, inl, inr}
-use Rattle.std.specs.Prelude.{Option, Some, None, slice_get}
+use Rattle.std.proofs.Common.{◌≡◌, ◌+◌, ◌-◌, true, sym, refl, subst, arith, length, rules, inl}
+use Rattle.std.proofs.Common.{inr}
+use Rattle.std.specs.Prelude.{Some, None}
 use Rattle.atomic_table.specs.Seated.{TableId}
 use Rattle.app_reaper.specs.Reaping.{ArePins}
 use Rattle.flow_lock.specs.Callers.{IsTurned}
-use Rattle.app_reaper.specs.OneCall.{history, IsOwn}
+use Rattle.app_reaper.specs.OneCall.{IsOwn}
 use Rattle.app_reaper.specs.declared.ended.Ended.{Ended}
 use Rattle.libtas_sockets.specs.Apps.{Application}
 use Rattle.libtas_sockets.specs.Ending.{newest, IsEnding}
@@ -20,7 +21,8 @@ returns-in-Ok-clause-held c =
     record { app = i.number; pass = c.take.new.pass; held = Some (at, c.in-Ok.flow); busy = None; pins = i.sockets } in
     let f = c.pin.result.now in
     let on : c.args.holding ≡ true = search rules in
-    let far : at + 1 ≡ length i.sockets.list = let n = c.if-count-eq0.false in let l = c.len-count.ensures in omega arith in
+    let far : at + 1 ≡ length i.sockets.list = let n = c.if-count-eq0.false in let l = c.len-count.ensures in
+    omega arith in
     let t = c.in-Ok.ensures in
     let own : IsOwn f i.pass.view c.in-Ok.flow = record { own = t.own; seen = t.seen; known = t.known } in
     subst (λ (x : Application). IsEnding c.args.holding (newest x.sockets) x e) c.self.view_is
@@ -34,7 +36,8 @@ returns-in-Ok-clause-ended c turn =
     subst (λ (x : Application). IsTurned c.args.t.now x.pass) (sym c.self.view_is) turn in
     let t = c.in-Ok.ensures in
     let near : i.pass.table ≡ c.args.t.now = whole.0 in
-    ended_held c.args.t.now i.pass c.take.new.pass i.sockets.list (c.len-count.result - 1) c.pin.result.now c.in-Ok.flow _
+    ended_held c.args.t.now i.pass c.take.new.pass i.sockets.list (c.len-count.result - 1) c.pin.result.now
+    c.in-Ok.flow _
     refl refl refl c.take.ensures.table c.pin.ensures t.own t.taken
     (subst (λ (x : TableId). ArePins x.slots i.pass.view i.sockets.list) near c.self.invariant.pins) whole
 
@@ -48,7 +51,8 @@ returns-clause-held c =
     record { app = i.number; pass = c.take.new.pass; held = None; busy = Some c.in-Err.word; pins = i.sockets } in
     let f = c.pin.result.now in
     let on : c.args.holding ≡ true = search rules in
-    let far : at + 1 ≡ length i.sockets.list = let n = c.if-count-eq0.false in let l = c.len-count.ensures in omega arith in
+    let far : at + 1 ≡ length i.sockets.list = let n = c.if-count-eq0.false in let l = c.len-count.ensures in
+    omega arith in
     subst (λ (x : Application). IsEnding c.args.holding (newest x.sockets) x e) c.self.view_is
     (ending_held o e c.args.holding f on (newest_is i.sockets.list at f far c.pin.ensures)
     (inr (refl, (c.in-Err.word, refl, c.in-Err.ensures.busy))))

@@ -1,9 +1,7 @@
-use Rattle.std.proofs.Common.{◌≡◌, ◌<◌, ◌+◌, ◌^◌, ap, sym, ◌∙◌, refl, subst, List, ◌∷◌, ◌++◌, [], false, length, not}
-use Rattle.std.specs.Prelude.{All, Ok}
+use Rattle.std.proofs.Common.{◌≡◌, ◌<◌, ◌+◌, ◌^◌, ap, sym, ◌∙◌, subst, List, ◌∷◌, ◌++◌, [], false, length}
 use Rattle.std.specs.List.{list_any}
 use Rattle.atomic_table.specs.Seated.{TableId}
 use Rattle.tas_model.specs.declared.entry.FlowId.{FlowId}
-use Rattle.flow_lock.specs.Answers.{IsPinned}
 use Rattle.flow_lock.specs.declared.view.View.{View}
 use Rattle.app_reaper.specs.Lists.{is_on}
 use Rattle.libtas_sockets.specs.Apps.{Application, IsSound}
@@ -16,7 +14,8 @@ pin-requires-clause-unpinned c =
     let i = c.self.inside in
     let id = c.args.id in
     let free : list_any (is_on id.slot) i.sockets.list ≡ false =
-    subst (λ (l : List FlowId). list_any (is_on id.slot) l ≡ false) c.make_room.ensures.list c.in_ok-make_room.ensures.free in
+    subst (λ (l : List FlowId). list_any (is_on id.slot) l ≡ false) c.make_room.ensures.list
+    c.in_ok-make_room.ensures.free in
     pinless i.pass i.begun.items i.sockets.list id.slot c.self.invariant free
 
 pub invariant_of-self-in-Ok-pin : goal.invariant_of-self-in-Ok-pin
@@ -24,8 +23,10 @@ invariant_of-self-in-Ok-pin c =
     let i = c.self.inside in
     let id = c.args.id in
     let free : list_any (is_on id.slot) i.sockets.list ≡ false =
-    subst (λ (l : List FlowId). list_any (is_on id.slot) l ≡ false) c.make_room.ensures.list c.in_ok-make_room.ensures.free in
-    let few = subst (λ (l : List FlowId). length l + 1 < 2 ^ 32) c.make_room.ensures.list c.in_ok-make_room.ensures.few in
+    subst (λ (l : List FlowId). list_any (is_on id.slot) l ≡ false) c.make_room.ensures.list
+    c.in_ok-make_room.ensures.free in
+    let few = subst (λ (l : List FlowId). length l + 1 < 2 ^ 32) c.make_room.ensures.list
+    c.in_ok-make_room.ensures.few in
     let table : i.pass.table ≡ c.args.t.now =
     ap (λ (x : Application). x.pass.table) c.self.view_is ∙ c.requires.pass.0 in
     let near : id.slot < i.pass.table.slots =

@@ -1,4 +1,4 @@
-use Rattle.std.proofs.Common.{◌≡◌, ap, sym, ◌∙◌, refl, subst, length}
+use Rattle.std.proofs.Common.{◌≡◌, ap, ◌∙◌, refl, subst, length}
 use Rattle.flow_state.specs.declared.call.CallIn.TheVariants as ins
 use Rattle.flow_lock.specs.Passes.{Seen}
 use Rattle.flow_lock.specs.declared.view.View.{View}
@@ -48,7 +48,8 @@ returns-clause-made c =
     let own : IsOwn f i.pass.view r = record { own = t.own; seen = t.seen; known = t.known } in
     let after = history c.read_from-received.new.flow in
     let u : IsUse f r after i.pass.view c.give.new.pass.view =
-    used f r after i.pass.view c.take.new.pass.view c.give.new.pass.view t.taken (ap (λ (x : Seen). x.view) c.give.ensures) in
+    used f r after i.pass.view c.take.new.pass.view c.give.new.pass.view t.taken (ap (λ (x : Seen). x.view)
+    c.give.ensures) in
     let q = c.read_from-received.result in
     let room = c.args.buf.now in
     subst (λ (x : Application). HasCalled x b s c.args.tick (ins.Recv (length room)) (fault_in q)

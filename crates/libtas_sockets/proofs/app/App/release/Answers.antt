@@ -13,7 +13,8 @@ invariant_of-self c =
     let f = c.remove-pin.result in
     let n = c.unpin.new.pass in
     let same : f ≡ flow_of o c.args.s =
-    same_socket o c.args.self.now c.args.s c.place-at.result f c.self.view_is c.place-at.ensures.pin c.remove-pin.ensures.pin in
+    same_socket o c.args.self.now c.args.s c.place-at.result f c.self.view_is c.place-at.ensures.pin
+    c.remove-pin.ensures.pin in
     let rest = left_of o c.args.self.now c.args.s c.place-at.result f c.remove-pin.new.self.list c.self.view_is
     c.requires.socket c.self.invariant.pins.once c.remove-pin.ensures.pin same c.remove-pin.ensures.rest in
     subst (λ (l : List FlowId). IsSound n i.begun.items l) (sym rest.0)
@@ -28,7 +29,8 @@ returns c =
     record { number = i.number; pass = i.pass; notes = i.notes; begun = i.begun.items; sockets = i.sockets.list } in
     let f = c.remove-pin.result in
     let same : f ≡ flow_of o c.args.s =
-    same_socket o c.args.self.now c.args.s c.place-at.result f c.self.view_is c.place-at.ensures.pin c.remove-pin.ensures.pin in
+    same_socket o c.args.self.now c.args.s c.place-at.result f c.self.view_is c.place-at.ensures.pin
+    c.remove-pin.ensures.pin in
     let rest = left_of o c.args.self.now c.args.s c.place-at.result f c.remove-pin.new.self.list c.self.view_is
     c.requires.socket c.self.invariant.pins.once c.remove-pin.ensures.pin same c.remove-pin.ensures.rest in
     released o c.args.s c.unpin.new.pass c.remove-pin.new.self.list f same c.unpin.ensures rest.1

@@ -3,7 +3,6 @@ use Rattle.std.specs.Prelude.{All, Ok}
 use Rattle.std.specs.List.{list_any}
 use Rattle.atomic_table.specs.Seated.{TableId}
 use Rattle.tas_model.specs.declared.entry.FlowId.{FlowId}
-use Rattle.flow_lock.specs.Answers.{IsPinned}
 use Rattle.flow_lock.specs.declared.view.View.{View}
 use Rattle.app_reaper.specs.Lists.{is_on}
 use Rattle.std.proofs.Common.{rules, tests}
@@ -21,7 +20,8 @@ pin-requires-clause-unpinned c =
     let i = c.self.inside in
     let id = c.args.id in
     let free : list_any (is_on id.slot) i.sockets.list ≡ false =
-    subst (λ (l : List FlowId). list_any (is_on id.slot) l ≡ false) c.make_room.ensures.list c.in_ok-make_room.ensures.free in
+    subst (λ (l : List FlowId). list_any (is_on id.slot) l ≡ false) c.make_room.ensures.list
+    c.in_ok-make_room.ensures.free in
     pinless i.pass i.begun.items i.sockets.list id.slot c.self.invariant free
 
 pub invariant_of-self-in-Ok : goal.invariant_of-self-in-Ok
@@ -29,8 +29,10 @@ invariant_of-self-in-Ok c =
     let i = c.self.inside in
     let id = c.args.id in
     let free : list_any (is_on id.slot) i.sockets.list ≡ false =
-    subst (λ (l : List FlowId). list_any (is_on id.slot) l ≡ false) c.make_room.ensures.list c.in_ok-make_room.ensures.free in
-    let few = subst (λ (l : List FlowId). length l + 1 < 2 ^ 32) c.make_room.ensures.list c.in_ok-make_room.ensures.few in
+    subst (λ (l : List FlowId). list_any (is_on id.slot) l ≡ false) c.make_room.ensures.list
+    c.in_ok-make_room.ensures.free in
+    let few = subst (λ (l : List FlowId). length l + 1 < 2 ^ 32) c.make_room.ensures.list
+    c.in_ok-make_room.ensures.few in
     let table : i.pass.table ≡ c.args.t.now =
     ap (λ (x : Application). x.pass.table) c.self.view_is ∙ c.requires.pass.0 in
     let near : id.slot < i.pass.table.slots =
@@ -44,7 +46,8 @@ invariant_of-self-in-Ok c =
     let sound = sound_more i.pass c.pin.new.pass i.begun.items i.sockets.list id c.pin.ensures.table
     (ap (λ (x : View). x.pins) v) idle near free few c.self.invariant in
     let left : c.retain.new.self.items ≡ begun_without id i.begun.items =
-    filter_same _ (λ (b : Begun). not (same_flow b.id id)) _ (λ x b q k. search (rules, tests)) _ _ c.retain.ensures.filtered in
+    filter_same _ (λ (b : Begun). not (same_flow b.id id)) _ (λ x b q k. search (rules, tests)) _ _
+    c.retain.ensures.filtered in
     let there : All (λ (b : Begun). b.id.slot < c.pin.new.pass.table.slots) c.retain.new.self.items =
     subst (All (λ (b : Begun). b.id.slot < c.pin.new.pass.table.slots)) (sym left)
     (All-filter (λ (b : Begun). not (same_flow b.id id)) (λ (b : Begun). b.id.slot < c.pin.new.pass.table.slots)
@@ -65,7 +68,8 @@ returns-in-Ok c =
     c.put.ensures.list ∙ (ap (λ (l : List FlowId). l ++ c.in-Ok.pin ∷ []) c.make_room.ensures.list
     ∙ ap (λ (g : FlowId). i.sockets.list ++ g ∷ []) p.0) in
     let left : c.retain.new.self.items ≡ begun_without id i.begun.items =
-    filter_same _ (λ (b : Begun). not (same_flow b.id id)) _ (λ x b q k. search (rules, tests)) _ _ c.retain.ensures.filtered in
+    filter_same _ (λ (b : Begun). not (same_flow b.id id)) _ (λ x b q k. search (rules, tests)) _ _
+    c.retain.ensures.filtered in
     subst (λ (x : Application). IsTakenUp id x b (Ok (socket_on id))) c.self.view_is (
       refl,
       p.1,
