@@ -55,10 +55,10 @@ impl Shared {
     }
 
     /// A core's queue of kicks.
-    pub(crate) fn kicks(&self, core: usize) -> &ContextQueue
+    pub fn kicks(&self, core: u32) -> &ContextQueue
         requires { core < length self.now.kicks }
         ensures { slice_get self.now.kicks core ≡ Some result.now }
     {
-        &self.kicks[core]
+        &self.kicks[core as usize]
     }
 }

@@ -148,7 +148,7 @@ impl CoreWorker {
         ensures none { IfNone result (self.new ≡ self.old) }
         ensures rest { self.new ≡ with_kicks self.new.kicks self.old }
     {
-        let queue = shared.kicks(self.core as usize);
+        let queue = shared.kicks(self.core);
         queue.drain_one(rt, &mut self.kicks)
     }
 
