@@ -1,6 +1,8 @@
 ghost use Rattle.std.specs.Prelude.{◌≡◌, ◌≤◌, ℕ, Bool, List, [], length, Some, Ok, IfOk, IfErr};
 ghost use Rattle.std.specs.declared.net.ipv4_addr.Ipv4Addr.{Ipv4Addr};
 ghost use Rattle.scenario_text.specs.Reads.{reads};
+ghost use Rattle.scenario_text.specs.Bulk.{bulk_text};
+ghost use Rattle.scenario_ranges.specs.Ranges.{IsInRange};
 ghost use Rattle.tas_round.specs.Runs.{log_in, Refuses};
 ghost use Rattle.tas_main.specs.Words as asked;
 ghost use Rattle.tas_main.specs.Requests.{input_in, request_in};
@@ -84,8 +86,6 @@ fn scenario_run(alloc: Global, bytes: &[u8]) -> Result<RunLog, Stop>
     ensures refused { IfErr result (Unrun asked.Scenario bytes.now) }
 {
     let scenario = scenario_of(alloc, bytes)?;
-    // Why it may be run.
-    what_is_read_is_in_range();
     match run_serially(alloc, &scenario) {
         Ok(log) => Ok(log),
         Err(_) => Err(Stop::Memory),
@@ -105,8 +105,6 @@ fn scenario_on_cores<R: Threads + Wait + Sync, G: Gate>(
     ensures refused { IfErr result (Unrun asked.Scenario bytes.now) }
 {
     let scenario = scenario_of(alloc, bytes)?;
-    // Why it may be run.
-    what_is_read_is_in_range();
     match run(rt, alloc, &scenario, Mode::Cores(count), gate) {
         Ok(log) => Ok(log),
         Err(_) => Err(Stop::Memory),
@@ -119,11 +117,7 @@ fn made_run(alloc: Global, clients: u32) -> Result<RunLog, Stop>
     ensures ok { IfOk result (λ log. IsSerialRun (asked.Made clients) [] (log_in log)) }
     ensures memory { IfErr result (λ stop. stop ≡ Stop.Memory) }
 {
-    let Ok(scenario) = bulk_scenario(alloc, clients) else {
-        return Err(Stop::Memory);
-    };
-    // Why it may be run.
-    what_is_read_is_in_range();
+    let scenario = made_scenario(alloc, clients)?;
     match run_serially(alloc, &scenario) {
         Ok(log) => Ok(log),
         Err(_) => Err(Stop::Memory),
@@ -143,26 +137,38 @@ fn made_on_cores<R: Threads + Wait + Sync, G: Gate>(
     ensures ok { IfOk result (λ log. IsRunOf (asked.Made clients) [] (log_in log)) }
     ensures memory { IfErr result (λ stop. stop ≡ Stop.Memory) }
 {
-    let Ok(scenario) = bulk_scenario(alloc, clients) else {
-        return Err(Stop::Memory);
-    };
-    // Why it may be run.
-    what_is_read_is_in_range();
+    let scenario = made_scenario(alloc, clients)?;
     match run(rt, alloc, &scenario, Mode::Cores(count), gate) {
         Ok(log) => Ok(log),
         Err(_) => Err(Stop::Memory),
     }
 }
 
-/// The scenario that these bytes are.
+/// The scenario that these bytes are, which may be run.
 fn scenario_of(alloc: Global, bytes: &[u8]) -> Result<Scenario, Stop>
     ensures ok { IfOk result (λ s. reads bytes.now ≡ Ok s) }
+    ensures ranges { IfOk result (λ s. IsInRange s) }
     ensures refused { IfErr result (Unrun asked.Scenario bytes.now) }
 {
+    what_is_read_is_in_range();
     match read_scenario(alloc, bytes) {
         Ok(scenario) => Ok(scenario),
         Err(ScenarioFault::OutOfMemory) => Err(Stop::Memory),
         Err(ScenarioFault::Refused { line, .. }) => Err(Stop::Line { number: line }),
+    }
+}
+
+/// The scenario that is made for so many clients, which may be run. The error is want of memory.
+fn made_scenario(alloc: Global, clients: u32) -> Result<Scenario, Stop>
+    requires { asked.HasClients (asked.Made clients) }
+    ensures ok { IfOk result (λ s. reads (bulk_text clients) ≡ Ok s) }
+    ensures ranges { IfOk result (λ s. IsInRange s) }
+    ensures memory { IfErr result (λ stop. stop ≡ Stop.Memory) }
+{
+    what_is_read_is_in_range();
+    match bulk_scenario(alloc, clients) {
+        Ok(scenario) => Ok(scenario),
+        Err(_) => Err(Stop::Memory),
     }
 }
 
@@ -193,7 +199,15 @@ fn capture_on_cores<R: Threads + Wait + Sync, G: Gate>(
     ensures ok { IfOk result (λ log. IsRunOf (asked.Capture local loose) bytes.now (log_in log)) }
     ensures refused { IfErr result (Unrun (asked.Capture local loose) bytes.now) }
 {
-    match replay(rt, alloc, local.to_bits(), bytes, loose, Mode::Cores(count), gate) {
+    match replay(
+        rt,
+        alloc,
+        local.to_bits(),
+        bytes,
+        loose,
+        Mode::Cores(count),
+        gate,
+    ) {
         Ok(log) => Ok(log),
         Err(fault) => Err(stop_of(fault)),
     }

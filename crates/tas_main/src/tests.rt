@@ -115,7 +115,8 @@ fn words_of_no_form_are_refused(rt: HostRuntime) -> Result<(), Fail> {
 /// With cores the callers of a report are others, but not what is read, the state and the counts.
 #[test]
 fn cores_read_what_one_thread_reads(rt: HostRuntime) -> Result<(), Fail> {
-    let read = b"\nstate ESTABLISHED\nread 2 6869\nrecords 3 frames 3 passed 0 refused 0\nend 3 ticks\n";
+    let read =
+        b"\nstate ESTABLISHED\nread 2 6869\nrecords 3 frames 3 passed 0 refused 0\nend 3 ticks\n";
     let of_one = b"bulk 1\nread 65536\nclosed 1\n";
     let ends = [
         ("replay --local 10.0.0.2", read.as_slice()),

@@ -71,12 +71,15 @@ returns-in_err-log-clause-before g c =
 pub run_of-requires : goal.run_of-requires
 run_of-requires g c =
     let words = map string_bytes c.args.words.now in
-    let r = request_in c.in_ok-asked.asked in
-    record {
-      short = search rules;
-      clients = clients_in_range words r c.in_ok-asked.ensures.ok;
-      cores = cores_in_range words r c.in_ok-asked.ensures.ok;
-    }
+    let r = request_in c.in_ok-asked.asked in (
+      c.type_bounds.sync-R,
+      c.type_bounds.sync-G,
+      record {
+        short = search rules;
+        clients = clients_in_range words r c.in_ok-asked.ensures.ok;
+        cores = cores_in_range words r c.in_ok-asked.ensures.ok;
+      },
+    )
 
 pub returns-clause-read : goal.returns-clause-read
 returns-clause-read g c =
