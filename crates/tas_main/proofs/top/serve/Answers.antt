@@ -1,6 +1,6 @@
 use Rattle.std.proofs.Common.{rules, ◌≡◌, IfSome, List, ℕ, map, string_bytes}
 use Rattle.tas_round.specs.Runs.{log_in}
-use Rattle.tas_main.specs.Words.{most_in, form_of}
+use Rattle.tas_main.specs.Words.{most_in, form_of, HasClients, HasCores}
 use Rattle.tas_main.specs.Runs.{given, bytes_of, IsRun}
 use Rattle.tas_main.specs.Outputs.{output}
 use Rattle.tas_main.specs.Stops.{Cause, ReadsFor, ReadBefore, Unread, Unrun, Unwritten, IsOfMade}
@@ -71,15 +71,10 @@ returns-in_err-log-clause-before g c =
 pub run_of-requires : goal.run_of-requires
 run_of-requires g c =
     let words = map string_bytes c.args.words.now in
-    let r = request_in c.in_ok-asked.asked in (
-      c.type_bounds.sync-R,
-      c.type_bounds.sync-G,
-      record {
-        short = search rules;
-        clients = clients_in_range words r c.in_ok-asked.ensures.ok;
-        cores = cores_in_range words r c.in_ok-asked.ensures.ok;
-      },
-    )
+    let r = request_in c.in_ok-asked.asked in
+    let clients : HasClients r.input = clients_in_range words r c.in_ok-asked.ensures.ok in
+    let cores : HasCores r.cores = cores_in_range words r c.in_ok-asked.ensures.ok in
+    search (rules, clients, cores)
 
 pub returns-clause-read : goal.returns-clause-read
 returns-clause-read g c =
