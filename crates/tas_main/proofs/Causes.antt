@@ -1,8 +1,8 @@
 -- From what the parts of the program found to what the program promises.
 use Rattle.std.proofs.Common.{◌≡◌, ◌≢◌, ◌⊎◌, inl, inr, ℕ, ◌<◌, ◌≤◌, List, [], ◌∷◌, length, Bool, true}
 use Rattle.std.proofs.Common.{false, Option, Some, None, Result, Ok, Err, IsOk, IfOk, IfErr, OnErr, IfSome, subst}
-use Rattle.std.proofs.Common.{refl, sym, ap, ◌∙◌, if◌then◌else◌, arith}
-use Rattle.std.proofs.lemmas.Bool.{true≢false, false≢true}
+use Rattle.std.proofs.Common.{refl, sym, ap, if◌then◌else◌, arith}
+use Rattle.std.proofs.lemmas.Bool.{false≢true}
 use Rattle.std.specs.Io.KnownBytes.{IsAtEnd}
 use Rattle.std.specs.Net.Addr.{ipv4_bits}
 use Rattle.tas_num.specs.Captures as captures
@@ -24,8 +24,7 @@ use Rattle.tas_runs.proofs.SerialRun.{serial_is_replay}
 use Rattle.tas_runs.proofs.Runs.{replays_sound}
 use Rattle.tas_main.specs.declared.stop.Stop.{Stop}
 use Rattle.tas_main.specs.declared.stop.Stop.TheVariants.{Stalled, Words, Line, Record, Read, Write, Memory, TooLong}
-use Rattle.tas_main.specs.declared.stop.Stop.TheVariants.{NotBuilt}
-use Rattle.tas_main.specs.Words.{Form, Unknown, IsForm, is_built, form_of, Input, Scenario, Made, Capture, Request}
+use Rattle.tas_main.specs.Words.{Form, Unknown, IsForm, form_of, Input, Scenario, Made, Capture, Request}
 use Rattle.tas_main.specs.Words.{Asks, IsMade, most_in, most_bytes}
 use Rattle.tas_main.specs.Words as forms
 use Rattle.tas_main.specs.Runs.{bytes_of, IsInput, IsSerialRun, IsRunOf, IsRun, Given, Ran}
@@ -66,10 +65,21 @@ run_is_sound (Made clients) b log run =
     runs_sound run.0 log (hosts_in_range run.0.hosts (read_in_range (bulk_text clients) run.0 run.1).hosts) run.2
 run_is_sound (Capture local loose) b log run = replays_sound (ipv4_bits local) b loose log run
 
-pub is_run : (input : Input) (b : List ℕ) (log : RunLog) → IsSerialRun input b log → IsRun input b log
-is_run input b log serial =
-    let run : IsRunOf input b log = run_in_serial_order input b log serial in
-    record { serial = serial; run = run; sound = run_is_sound input b log run }
+-- the run without cores, in serial order
+pub is_run_serially : (r : Request) (b : List ℕ) (log : RunLog) → IsSerialRun r.input b log → IsRun r b log
+is_run_serially r b log serial =
+    let run : IsRunOf r.input b log = run_in_serial_order r.input b log serial in
+    record { run = run; sound = run_is_sound r.input b log run; serial = λ none. serial }
+
+-- the run with cores, in any order
+pub is_run_on_cores : (r : Request) (n : ℕ) (b : List ℕ) (log : RunLog) → r.cores ≡ Some n → IsRunOf r.input b log
+    → IsRun r b log
+is_run_on_cores r n b log cores run =
+    record { run = run; sound = run_is_sound r.input b log run; serial = λ none. absurd (cc (cores, none)) }
+
+pub if_ok : {T : Type 0} (r : Result T Stop) (P Q : T → Type 0) → ((x : T) → P x → Q x) → IfOk r P → IfOk r Q
+if_ok (Ok x) P Q f h = f x h
+if_ok (Err stop) P Q f h = tt
 
 -- these are the bytes of the input, where they are told
 abbrev pub IsAll : Given → Request → (b : List ℕ) → Type 0
@@ -77,40 +87,38 @@ IsAll g r b = IfSome (bytes_of r.input g.source.left) (λ bytes. b ≡ bytes)
 
 -- what holds of the run of the bytes that were read
 pub ran : (g : Given) (b : List ℕ) (r : Request) (log : RunLog) (P : Request → RunLog → Type 0) → IsAll g r b
-    → Asks (form_of g.words) r → IsSerialRun r.input b log → P r log → Ran g P
-ran g b r log P same asked serial fact = (
+    → Asks (form_of g.words) r → IsRun r b log → P r log → Ran g P
+ran g b r log P same asked run fact = (
   r,
   asked,
   of_input (bytes_of r.input g.source.left) b
-      (λ (bytes : List ℕ). (log : RunLog) × IsRun r.input bytes log × P r log) same
-      (log, is_run r.input b log serial, fact),
+      (λ (bytes : List ℕ). (log : RunLog) × IsRun r bytes log × P r log) same (log, run, fact),
 )
 
 pub writes_all : (g : Given) (b : List ℕ) (r : Request) (log : RunLog) → IsAll g r b → Asks (form_of g.words) r
-    → IsSerialRun r.input b log → Wrote g.sink (Ok tt) g.written (output r log) [] → WritesAll g (end_status log)
-writes_all g b r log same asked serial wrote =
+    → IsRun r b log → Wrote g.sink (Ok tt) g.written (output r log) [] → WritesAll g (end_status log)
+writes_all g b r log same asked run wrote =
     ran g b r log
     (λ (r : Request) (l : RunLog). Wrote g.sink (Ok tt) g.written (output r l) [] × (end_status log ≡ end_status l))
-    same asked serial (wrote, refl)
+    same asked run (wrote, refl)
 
 -- what a fault left of the text
 abbrev Front : Given → Request → RunLog → Type 0
 Front g r log = (fault : IoFault) × Wrote g.sink (Err fault) g.written (output r log) []
 
 pub writes_front : (g : Given) (b : List ℕ) (r : Request) (log : RunLog) (stop : Stop) → IsAll g r b
-    → Asks (form_of g.words) r → IsSerialRun r.input b log → Unwritten g.sink g.written (output r log) stop
+    → Asks (form_of g.words) r → IsRun r b log → Unwritten g.sink g.written (output r log) stop
     → WritesFront g
-writes_front g b r log Write same asked serial why = inr (ran g b r log (Front g) same asked serial (Failed, why))
-writes_front g b r log Memory same asked serial (inl e) = inl e
-writes_front g b r log Memory same asked serial (inr why) =
-    inr (ran g b r log (Front g) same asked serial (OutOfMemory, why))
-writes_front g b r log Stalled same asked serial why = absurd why
-writes_front g b r log Words same asked serial why = absurd why
-writes_front g b r log (Line number) same asked serial why = absurd why
-writes_front g b r log (Record number) same asked serial why = absurd why
-writes_front g b r log Read same asked serial why = absurd why
-writes_front g b r log TooLong same asked serial why = absurd why
-writes_front g b r log NotBuilt same asked serial why = absurd why
+writes_front g b r log Write same asked run why = inr (ran g b r log (Front g) same asked run (Failed, why))
+writes_front g b r log Memory same asked run (inl e) = inl e
+writes_front g b r log Memory same asked run (inr why) =
+    inr (ran g b r log (Front g) same asked run (OutOfMemory, why))
+writes_front g b r log Stalled same asked run why = absurd why
+writes_front g b r log Words same asked run why = absurd why
+writes_front g b r log (Line number) same asked run why = absurd why
+writes_front g b r log (Record number) same asked run why = absurd why
+writes_front g b r log Read same asked run why = absurd why
+writes_front g b r log TooLong same asked run why = absurd why
 
 -- ----- what was read
 reads_all : (limit most : ℕ) (before after : SourceState) (b : List ℕ) → limit ≡ most
@@ -120,45 +128,41 @@ reads_all limit most before after b few same short end =
     record { fits = of_input before.left b (λ (bytes : List ℕ). length bytes ≤ most) same fits; end = end }
 
 -- so for each input that is asked for
-reads_for_input : (form : Form) (input : Input) (pcap : Bool) (limit : ℕ) (before after : SourceState) (b : List ℕ)
-    → Asks form (record { input = input; pcap = pcap }) → limit ≡ most_in form
+reads_for_input : (form : Form) (input : Input) (cores : Option ℕ) (pcap : Bool) (limit : ℕ)
+    (before after : SourceState) (b : List ℕ) → Asks form (record { input = input; cores = cores; pcap = pcap }) → limit ≡ most_in form
     → IfSome (bytes_of input before.left) (λ bytes. b ≡ bytes) → length b ≤ limit → IsReadFor input before after
     → ReadsFor form before after
-reads_for_input (forms.Run None p) Scenario pcap limit before after b asked few same short end =
+reads_for_input (forms.Run c p) Scenario cores pcap limit before after b asked few same short end =
     reads_all limit 1048576 before after b few same short end
-reads_for_input (forms.Bulk n None) (Made clients) pcap limit before after b asked few same short end = end
-reads_for_input (forms.Replay text None p loose) (Capture local l) pcap limit before after b asked few same short end =
+reads_for_input (forms.Bulk n c) (Made clients) cores pcap limit before after b asked few same short end = end
+reads_for_input (forms.Replay text c p loose) (Capture local l) cores pcap limit before after b asked few same short
+    end =
     reads_all limit 67108864 before after b few same short end
-reads_for_input (forms.Run None p) (Made clients) pcap limit before after b asked few same short end =
+reads_for_input (forms.Run c p) (Made clients) cores pcap limit before after b asked few same short end =
     absurd (cc (ap (λ (q : Request). q.input) asked))
-reads_for_input (forms.Run None p) (Capture local l) pcap limit before after b asked few same short end =
+reads_for_input (forms.Run c p) (Capture local l) cores pcap limit before after b asked few same short end =
     absurd (cc (ap (λ (q : Request). q.input) asked))
-reads_for_input (forms.Bulk n None) Scenario pcap limit before after b asked few same short end =
+reads_for_input (forms.Bulk n c) Scenario cores pcap limit before after b asked few same short end =
     absurd (cc (ap (λ (q : Request). q.input) asked))
-reads_for_input (forms.Bulk n None) (Capture local l) pcap limit before after b asked few same short end =
+reads_for_input (forms.Bulk n c) (Capture local l) cores pcap limit before after b asked few same short end =
     absurd (cc (ap (λ (q : Request). q.input) asked))
-reads_for_input (forms.Replay text None p loose) Scenario pcap limit before after b asked few same short end =
+reads_for_input (forms.Replay text c p loose) Scenario cores pcap limit before after b asked few same short end =
     absurd (cc (ap (λ (q : Request). q.input) asked.2))
-reads_for_input (forms.Replay text None p loose) (Made clients) pcap limit before after b asked few same short end =
+reads_for_input (forms.Replay text c p loose) (Made clients) cores pcap limit before after b asked few same short end =
     absurd (cc (ap (λ (q : Request). q.input) asked.2))
-reads_for_input (forms.Run (Some n) p) input pcap limit before after b asked few same short end = absurd asked
-reads_for_input (forms.Bulk n (Some m)) input pcap limit before after b asked few same short end = absurd asked
-reads_for_input (forms.Replay text (Some n) p loose) input pcap limit before after b asked few same short end =
-    absurd asked
-reads_for_input Unknown input pcap limit before after b asked few same short end = absurd asked
+reads_for_input Unknown input cores pcap limit before after b asked few same short end = absurd asked
 
 pub reads_for : (form : Form) (r : Request) (limit : ℕ) (before after : SourceState) (b : List ℕ) → Asks form r
     → limit ≡ most_in form → IfSome (bytes_of r.input before.left) (λ bytes. b ≡ bytes) → length b ≤ limit
     → IsReadFor r.input before after → ReadsFor form before after
 reads_for form r limit before after b asked few same short end =
-    reads_for_input form r.input r.pcap limit before after b asked few same short end
+    reads_for_input form r.input r.cores r.pcap limit before after b asked few same short end
 
 -- ----- a made scenario
 -- words of one ask for no other input
 made_input : (form : Form) (r : Request) → IsMade form → Asks form r
     → (clients : ℕ) × (r.input ≡ Made clients)
-made_input (forms.Bulk n None) r made asked = (n, ap (λ (q : Request). q.input) asked)
-made_input (forms.Bulk n (Some m)) r made asked = absurd asked
+made_input (forms.Bulk n cores) r made asked = (n, ap (λ (q : Request). q.input) asked)
 made_input (forms.Run cores pcap) r made asked = absurd made
 made_input (forms.Replay text cores pcap loose) r made asked = absurd made
 made_input Unknown r made asked = absurd made
@@ -179,7 +183,6 @@ made_is_read {T} form r stop result P made asked sure failed =
 
 pub made_words : (words : List (List ℕ)) (stop : Stop) → Unasked words stop → IsOfMade stop
 made_words words Words why = tt
-made_words words NotBuilt why = tt
 made_words words Stalled why = tt
 made_words words Memory why = tt
 made_words words Write why = tt
@@ -193,7 +196,6 @@ made_runs clients b Memory why = tt
 made_runs clients b Stalled why = tt
 made_runs clients b Words why = tt
 made_runs clients b Write why = tt
-made_runs clients b NotBuilt why = tt
 made_runs clients b (Line number) why = why
 made_runs clients b (Record number) why = why
 made_runs clients b Read why = why
@@ -211,7 +213,6 @@ made_unwritten before after text Write why = tt
 made_unwritten before after text Memory why = tt
 made_unwritten before after text Stalled why = tt
 made_unwritten before after text Words why = tt
-made_unwritten before after text NotBuilt why = tt
 made_unwritten before after text (Line number) why = why
 made_unwritten before after text (Record number) why = why
 made_unwritten before after text Read why = why
@@ -223,7 +224,6 @@ made_status Stalled fits = (λ e. omega (arith, e), (λ e. omega (arith, e), λ 
 made_status Words fits = (λ e. omega (arith, e), (λ e. omega (arith, e), λ e. omega (arith, e)))
 made_status Write fits = (λ e. omega (arith, e), (λ e. omega (arith, e), λ e. omega (arith, e)))
 made_status Memory fits = (λ e. omega (arith, e), (λ e. omega (arith, e), λ e. omega (arith, e)))
-made_status NotBuilt fits = (λ e. omega (arith, e), (λ e. omega (arith, e), λ e. omega (arith, e)))
 made_status (Line number) fits = absurd fits
 made_status (Record number) fits = absurd fits
 made_status Read fits = absurd fits
@@ -244,7 +244,6 @@ untold Read input b none = none
 untold Write input b none = none
 untold Memory input b none = none
 untold TooLong input b none = none
-untold NotBuilt input b none = none
 
 no_input : (stop : Stop) (input : Input) (left : Option (List ℕ)) (b : List ℕ) → IfSome left (λ bytes. b ≡ bytes)
     → IsNoInput stop input (Some b) → IsNoInput stop input left
@@ -267,7 +266,6 @@ no_input_of stop (Made clients) left b same none = never stop none
     never Write none = none
     never Memory none = none
     never TooLong none = none
-    never NotBuilt none = none
 
 pub unrun_why : (g : Given) (b : List ℕ) (r : Request) (stop : Stop) → IsAll g r b → Asks (form_of g.words) r
     → Unrun r.input b stop → Cause g stop
@@ -281,7 +279,6 @@ unrun_why g b r Words same asked why = absurd why
 unrun_why g b r Read same asked why = absurd why
 unrun_why g b r Write same asked why = absurd why
 unrun_why g b r TooLong same asked why = absurd why
-unrun_why g b r NotBuilt same asked why = absurd why
 
 -- why not all of it was read
 pub unread_why : (g : Given) (r : Request) (limit : ℕ) (stop : Stop) → Asks (form_of g.words) r
@@ -295,7 +292,6 @@ unread_why g r limit Words asked most why = absurd why
 unread_why g r limit (Line number) asked most why = absurd why
 unread_why g r limit (Record number) asked most why = absurd why
 unread_why g r limit Write asked most why = absurd why
-unread_why g r limit NotBuilt asked most why = absurd why
 
 pub unrun_read : (form : Form) (before after : SourceState) (input : Input) (b : List ℕ) (stop : Stop)
     → ReadsFor form before after → Unrun input b stop → ReadBefore form before after stop
@@ -307,7 +303,6 @@ unrun_read form before after input b Words all why = absurd why
 unrun_read form before after input b Read all why = absurd why
 unrun_read form before after input b Write all why = absurd why
 unrun_read form before after input b TooLong all why = absurd why
-unrun_read form before after input b NotBuilt all why = absurd why
 
 pub unwritten_read : (form : Form) (before after : SourceState) (old new : SinkState) (text : List ℕ) (stop : Stop)
     → ReadsFor form before after → Unwritten old new text stop → ReadBefore form before after stop
@@ -319,59 +314,42 @@ unwritten_read form before after old new text (Line number) all why = absurd why
 unwritten_read form before after old new text (Record number) all why = absurd why
 unwritten_read form before after old new text Read all why = absurd why
 unwritten_read form before after old new text TooLong all why = absurd why
-unwritten_read form before after old new text NotBuilt all why = absurd why
 
 -- ----- a request
--- the words of a run are of a form, and of one that is built
+-- the words of a run are of a form
 asked_form : (form : Form) (r : Request) → Asks form r → IsForm form
 asked_form (forms.Run cores pcap) r asked = tt
-asked_form (forms.Replay text None pcap loose) r asked = (asked.0, asked.1)
-asked_form (forms.Replay text (Some n) pcap loose) r asked = absurd asked
+asked_form (forms.Replay text cores pcap loose) r asked = (asked.0, asked.1)
 asked_form (forms.Bulk clients cores) r asked = tt
 asked_form Unknown r asked = asked
-
-asked_built : (form : Form) (r : Request) → Asks form r → is_built form ≡ true
-asked_built (forms.Run None pcap) r asked = refl
-asked_built (forms.Run (Some n) pcap) r asked = absurd asked
-asked_built (forms.Replay text None pcap loose) r asked = refl
-asked_built (forms.Replay text (Some n) pcap loose) r asked = absurd asked
-asked_built (forms.Bulk clients None) r asked = refl
-asked_built (forms.Bulk clients (Some n)) r asked = absurd asked
-asked_built Unknown r asked = absurd asked
 
 -- words ask for inputs of one kind
 same_kind : (form : Form) (q r : Request) (b : List ℕ) → Asks form q → Asks form r → IsInput q.input b
     → IsInput r.input b
-same_kind (forms.Run None pcap) q r b of_q of_r is =
+same_kind (forms.Run cores pcap) q r b of_q of_r is =
     let here : IsInput Scenario b = subst (λ (x : Request). IsInput x.input b) of_q is in
     subst (λ (x : Request). IsInput x.input b) (sym of_r) here
-same_kind (forms.Replay text None pcap loose) q r b of_q of_r is =
+same_kind (forms.Replay text cores pcap loose) q r b of_q of_r is =
     let here : (found : captures.Capture) × (captures.capture_of b ≡ Ok found) =
     subst (λ (x : Request). IsInput x.input b) of_q.2 is in
     subst (λ (x : Request). IsInput x.input b) (sym of_r.2) here
-same_kind (forms.Run (Some n) pcap) q r b of_q of_r is = absurd of_q
-same_kind (forms.Replay text (Some n) pcap loose) q r b of_q of_r is = absurd of_q
-same_kind (forms.Bulk clients None) q r b of_q of_r is =
+same_kind (forms.Bulk clients cores) q r b of_q of_r is =
     subst (λ (x : Request). IsInput x.input b) (sym of_r) tt
-same_kind (forms.Bulk clients (Some n)) q r b of_q of_r is = absurd of_q
 same_kind Unknown q r b of_q of_r is = absurd of_q
 
 -- and for the same bytes
 same_bytes : (form : Form) (q r : Request) (left : Option (List ℕ)) (b : List ℕ) → Asks form q → Asks form r
     → bytes_of q.input left ≡ Some b → bytes_of r.input left ≡ Some b
-same_bytes (forms.Run None pcap) q r left b of_q of_r is =
+same_bytes (forms.Run cores pcap) q r left b of_q of_r is =
     let here : left ≡ Some b = subst (λ (x : Request). bytes_of x.input left ≡ Some b) of_q is in
     subst (λ (x : Request). bytes_of x.input left ≡ Some b) (sym of_r) here
-same_bytes (forms.Bulk clients None) q r left b of_q of_r is =
+same_bytes (forms.Bulk clients cores) q r left b of_q of_r is =
     let here : ◌≡◌ {A = Option (List ℕ)} (Some []) (Some b) =
     subst (λ (x : Request). bytes_of x.input left ≡ Some b) of_q is in
     subst (λ (x : Request). bytes_of x.input left ≡ Some b) (sym of_r) here
-same_bytes (forms.Replay text None pcap loose) q r left b of_q of_r is =
+same_bytes (forms.Replay text cores pcap loose) q r left b of_q of_r is =
     let here : left ≡ Some b = subst (λ (x : Request). bytes_of x.input left ≡ Some b) of_q.2 is in
     subst (λ (x : Request). bytes_of x.input left ≡ Some b) (sym of_r.2) here
-same_bytes (forms.Run (Some n) pcap) q r left b of_q of_r is = absurd of_q
-same_bytes (forms.Bulk clients (Some n)) q r left b of_q of_r is = absurd of_q
-same_bytes (forms.Replay text (Some n) pcap loose) q r left b of_q of_r is = absurd of_q
 same_bytes Unknown q r left b of_q of_r is = absurd of_q
 
 -- ----- the status
@@ -396,7 +374,6 @@ not_refused Read input left b e is none = none
 not_refused Write input left b e is none = none
 not_refused Memory input left b e is none = none
 not_refused TooLong input left b e is none = none
-not_refused NotBuilt input left b e is none = none
 
 fits_not : (g : Given) (stop : Stop) (r : Request) → Asks (form_of g.words) r → IsNoInput stop r.input g.source.left
     → IsWhole g → ⊥
@@ -420,8 +397,6 @@ whole_ends_well g TooLong cause w =
     let bytes = bytes_of cause.0.input g.source.left in
     let long = told bytes w.input (λ (b : List ℕ). most_bytes g.words < length b) is cause.2 in
     absurd (omega (arith, long, w.short))
-whole_ends_well g NotBuilt cause w =
-    absurd (true≢false (sym (asked_built (form_of g.words) w.request w.asked) ∙ cause.1))
 
 -- all was written of a run that is stalled
 by_status : (stalled : Bool) → ◌≡◌ {A = ℕ} 1 (if stalled then 1 else 0) → stalled ≡ true
@@ -439,9 +414,9 @@ stalled_why g written =
       r,
       written.1,
       if_some (bytes_of r.input g.source.left)
-          (λ (b : List ℕ). (log : RunLog) × IsRun r.input b log
+          (λ (b : List ℕ). (log : RunLog) × IsRun r b log
           × (Wrote g.sink (Ok tt) g.written (output r log) [] × (1 ≡ end_status log)))
-          (λ (b : List ℕ). (log : RunLog) × IsRun r.input b log × (log.stalled ≡ true))
+          (λ (b : List ℕ). (log : RunLog) × IsRun r b log × (log.stalled ≡ true))
           (λ b h. (h.0, h.1, by_status h.0.stalled h.2.1)) written.2,
     )
 
@@ -455,7 +430,6 @@ never_whole Read P other whole = absurd (omega (arith, whole))
 never_whole Write P other whole = absurd (omega (arith, whole))
 never_whole Memory P other whole = absurd (omega (arith, whole))
 never_whole TooLong P other whole = absurd (omega (arith, whole))
-never_whole NotBuilt P other whole = absurd (omega (arith, whole))
 
 pub read_at : (form : Form) (before after : SourceState) (stop : Stop) → stop ≢ Stalled
     → ReadBefore form before after stop
@@ -469,7 +443,6 @@ read_at form before after Words other read at = absurd (omega (arith, at))
 read_at form before after Read other read at = absurd (omega (arith, at))
 read_at form before after Memory other read at = absurd (omega (arith, at))
 read_at form before after TooLong other read at = absurd (omega (arith, at))
-read_at form before after NotBuilt other read at = absurd (omega (arith, at))
 
 -- ----- what holds after a stop
 pub at_err : {T : Type 0} (P : Stop → Type 0) (r : Result T Stop) (stop : Stop) → r ≡ Err stop → P stop → IfErr r P

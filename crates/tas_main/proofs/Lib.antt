@@ -1,4 +1,4 @@
 pub mod Causes
-pub mod Clients
 pub mod Puts
+pub mod Ranges
 pub mod Spelling

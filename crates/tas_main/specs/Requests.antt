@@ -39,4 +39,4 @@ input_in (input.Made clients) = Made clients
 input_in (input.Capture local loose) = Capture local loose
 
 abbrev pub request_in : code_request.Request → Request
-request_in r = record { input = input_in r.input; pcap = r.pcap }
+request_in r = record { input = input_in r.input; cores = r.cores; pcap = r.pcap }

@@ -1,5 +1,5 @@
 -- Which run the words ask for.
-use Rattle.std.specs.Prelude.{◌≡◌, ℕ, List, [], Option, Some, Ok, IfSome, ⊤}
+use Rattle.std.specs.Prelude.{◌≡◌, ℕ, List, [], Option, None, Some, Ok, IfSome, ⊤}
 use Rattle.std.specs.Net.Addr.{ipv4_bits}
 use Rattle.tas_num.specs.Captures as captures
 use Rattle.tas_num.specs.Streams.{SourceState, SinkState}
@@ -39,13 +39,13 @@ IsRunOf (Made clients) b log = (s : scenarios.Scenario) × (reads (bulk_text cli
 IsRunOf (Capture local loose) b log = Replay (ipv4_bits local) b loose log
 
 -- ----- the run
--- The log is that of the run of an input, of all its bytes. It is the one in serial order, and so a run of its input;
--- and each flow in it is sound: it has a history of the endpoint, has read a prefix of every one stream that its peer
--- may have sent, and acknowledged only what stands in order.
-pub record IsRun (input : Input) (b : List ℕ) (log : RunLog) : Type 0 where
-  pub serial : IsSerialRun input b log
-  pub run : IsRunOf input b log
+-- The log is that of a run that is asked for, of all bytes of its input. It is a run of this input; each flow in it is
+-- sound: it has a history of the endpoint, has read a prefix of every one stream that its peer may have sent, and
+-- acknowledged only what stands in order; and where no cores are asked for, it is the run in serial order.
+pub record IsRun (r : Request) (b : List ℕ) (log : RunLog) : Type 0 where
+  pub run : IsRunOf r.input b log
   pub sound : AreSound log.hosts
+  pub serial : r.cores ≡ None → IsSerialRun r.input b log
 
 -- What a call was given, and what became of its source and its sink.
 pub record Given : Type 0 where
@@ -63,4 +63,4 @@ given words source read sink written =
 abbrev pub Ran : Given → (Request → RunLog → Type 0) → Type 0
 Ran g P =
     (r : Request) × Asks (form_of g.words) r
-    × IfSome (bytes_of r.input g.source.left) (λ b. (log : RunLog) × IsRun r.input b log × P r log)
+    × IfSome (bytes_of r.input g.source.left) (λ b. (log : RunLog) × IsRun r b log × P r log)

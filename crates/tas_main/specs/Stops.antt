@@ -8,12 +8,11 @@ use Rattle.tas_num.specs.Streams.{SourceState, SinkState, Wrote}
 use Rattle.tas_num.specs.declared.outside.IoFault.TheVariants.{Failed, OutOfMemory}
 use Rattle.scenario_text.specs.Reads.{reads}
 use Rattle.scenario_text.specs.declared.reading.ScenarioFault.TheVariants as faults
-use Rattle.tas_main.specs.Words.{Form, Bulk, form_of, IsForm, is_built, IsAsked, Input, Scenario, Made, Capture}
+use Rattle.tas_main.specs.Words.{Form, Bulk, form_of, IsForm, IsAsked, Input, Scenario, Made, Capture}
 use Rattle.tas_main.specs.Words.{Request, Asks, most_in, most_bytes}
 use Rattle.tas_main.specs.Runs.{Given, Ran, bytes_of}
 use Rattle.tas_main.specs.declared.stop.Stop.{Stop}
 use Rattle.tas_main.specs.declared.stop.Stop.TheVariants.{Stalled, Words, Line, Record, Read, Write, Memory, TooLong}
-use Rattle.tas_main.specs.declared.stop.Stop.TheVariants.{NotBuilt}
 
 -- the status that the program ends with
 abbrev pub status_of : Stop → ℕ
@@ -25,12 +24,10 @@ status_of Read = 4
 status_of Write = 5
 status_of Memory = 6
 status_of TooLong = 7
-status_of NotBuilt = 8
 
--- why the words ask for no run on one thread: they are of no form of the program, or of one that is not built
+-- why the words ask for no run: they are of no form of the program
 abbrev pub Unasked : (words : List (List ℕ)) → Stop → Type 0
 Unasked words Words = ¬ IsForm (form_of words)
-Unasked words NotBuilt = IsForm (form_of words) × (is_built (form_of words) ≡ false)
 Unasked words _ = ⊥
 
 -- why the input is none of its kind, where its bytes are told: they are no scenario, and this is the first line that is
@@ -61,19 +58,16 @@ Cause g Read = Rose g.source.faults g.read.faults
 Cause g Write = Rose g.sink.faults g.written.faults
 Cause g Memory = ⊤
 Cause g TooLong = IsTooLong g
-Cause g NotBuilt = Unasked g.words NotBuilt
 
 -- ----- the order
 -- the words are looked at first: any other stop is one of words that ask for a run
 abbrev pub WordsFirst : (words : List (List ℕ)) → Stop → Type 0
 WordsFirst words Words = ⊤
-WordsFirst words NotBuilt = ⊤
 WordsFirst words _ = IsAsked words
 
 -- where they are not, the source is not touched
 abbrev pub Untouched : (before after : SourceState) → Stop → Type 0
 Untouched before after Words = after ≡ before
-Untouched before after NotBuilt = after ≡ before
 Untouched before after _ = ⊤
 
 -- ----- how much is read

@@ -4,7 +4,6 @@ use Rattle.tas_num.specs.declared.outside.IoFault.{IoFault}
 use Rattle.tas_num.specs.Streams.{SinkState, Wrote}
 use Rattle.tas_main.specs.declared.stop.Stop.{Stop}
 use Rattle.tas_main.specs.declared.stop.Stop.TheVariants.{Stalled, Words, Line, Record, Read, Write, Memory, TooLong}
-use Rattle.tas_main.specs.declared.stop.Stop.TheVariants.{NotBuilt}
 
 -- the number, and the end of the line
 abbrev pub numbered : (number : ℕ) → List ℕ
@@ -19,7 +18,6 @@ fault_line Read = codes "tas: read\n"
 fault_line Write = codes "tas: write\n"
 fault_line Memory = codes "tas: memory\n"
 fault_line TooLong = codes "tas: too long\n"
-fault_line NotBuilt = codes "tas: not built\n"
 
 -- The fault line was written, or a front of it, as a write says it.
 abbrev pub IsTold : Stop → (before after : SinkState) → Type 0

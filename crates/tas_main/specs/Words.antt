@@ -1,7 +1,8 @@
 -- The words of the command line, after the program's name: a command, the number of `bulk`, and then options in any
 -- order, each at most once.
 use Rattle.std.specs.Prelude.{◌≡◌, ◌≤◌, ℕ, zero, suc, ◌&&◌, not, Bool, true, false, List, [], ◌∷◌, codes, decimal, drop}
-use Rattle.std.specs.Prelude.{take, length, fold, is_some, Option, Some, None, if◌then◌else◌, bytes_eq, ⊤}
+use Rattle.std.specs.Prelude.{take, length, fold, is_some, Option, Some, None, IfSome, if◌then◌else◌}
+use Rattle.std.specs.Prelude.{bytes_eq, ⊤}
 use Rattle.std.specs.Net.Grammar.{IsIpv4Text}
 use Rattle.std.specs.declared.net.ipv4_addr.Ipv4Addr.{Ipv4Addr}
 
@@ -131,13 +132,6 @@ IsForm (Run cores pcap) = ⊤
 IsForm (Bulk clients cores) = ⊤
 IsForm (Replay text cores pcap loose) = (local : Ipv4Addr) × IsIpv4Text text local
 
--- The form is built: on one thread.
-abbrev pub is_built : Form → Bool
-is_built (Run None pcap) = true
-is_built (Bulk clients None) = true
-is_built (Replay text None pcap loose) = true
-is_built _ = false
-
 -- What the input is: a scenario, or the one that is made for so many clients, of which nothing is read; or a capture of
 -- what the host with this address saw, with `loose` no checksum of which is looked at.
 pub data Input : Type 0 where
@@ -149,17 +143,19 @@ pub data Input : Type 0 where
 -- by the frames that it sent.
 pub record Request : Type 0 where
   pub input : Input
+  pub cores : Option ℕ  -- on so many cores, or where none are asked for on one thread, in serial order
   pub pcap : Bool
 
--- Words of this form ask for this, on one thread.
+-- Words of this form ask for this.
 abbrev pub Asks : Form → Request → Type 0
-Asks (Run None pcap) r = r ≡ record { input = Scenario; pcap = pcap }
-Asks (Bulk clients None) r = r ≡ record { input = Made clients; pcap = false }
-Asks (Replay text None pcap loose) r =
-    (local : Ipv4Addr) × IsIpv4Text text local × (r ≡ record { input = Capture local loose; pcap = pcap })
-Asks _ r = ⊥
+Asks Unknown r = ⊥
+Asks (Run cores pcap) r = r ≡ record { input = Scenario; cores = cores; pcap = pcap }
+Asks (Bulk clients cores) r = r ≡ record { input = Made clients; cores = cores; pcap = false }
+Asks (Replay text cores pcap loose) r =
+    (local : Ipv4Addr) × IsIpv4Text text local
+    × (r ≡ record { input = Capture local loose; cores = cores; pcap = pcap })
 
--- The words ask for a run on one thread.
+-- The words ask for a run.
 abbrev pub IsAsked : (words : List (List ℕ)) → Type 0
 IsAsked words = (r : Request) × Asks (form_of words) r
 
@@ -168,7 +164,11 @@ abbrev pub HasClients : Input → Type 0
 HasClients (Made clients) = (1 ≤ clients) × (clients ≤ 1000)
 HasClients _ = ⊤
 
--- The words ask for a made scenario, on one thread or on cores.
+-- on how many cores a run is, where it is on cores
+abbrev pub HasCores : (cores : Option ℕ) → Type 0
+HasCores cores = IfSome cores (λ n. (1 ≤ n) × (n ≤ 16))
+
+-- The words ask for a made scenario.
 abbrev pub IsMade : Form → Type 0
 IsMade (Bulk clients cores) = ⊤
 IsMade _ = ⊥

@@ -20,8 +20,6 @@ pub enum Stop {
     Memory,
     /// The source gave more than an input of its kind may have.
     TooLong,
-    /// The words are of a form that is not built.
-    NotBuilt,
 }
 
 impl Stop {
@@ -37,7 +35,6 @@ impl Stop {
             Stop::Write => 5,
             Stop::Memory => 6,
             Stop::TooLong => 7,
-            Stop::NotBuilt => 8,
         }
     }
 }

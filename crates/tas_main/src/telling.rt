@@ -27,7 +27,6 @@ fn put_line<F: Sink>(faults: &mut F, stop: Stop) -> Result<(), IoFault>
         Stop::Write => put(faults, "tas: write\n"),
         Stop::Memory => put(faults, "tas: memory\n"),
         Stop::TooLong => put(faults, "tas: too long\n"),
-        Stop::NotBuilt => put(faults, "tas: not built\n"),
     }
 }
 

@@ -112,16 +112,39 @@ fn words_of_no_form_are_refused(rt: HostRuntime) -> Result<(), Fail> {
     all_end_with(&rt, rt.alloc(), &lines, 2, "tas: words\n")
 }
 
+/// With cores the callers of a report are others, but not what is read, the state and the counts.
 #[test]
-fn cores_are_not_built(rt: HostRuntime) -> Result<(), Fail> {
-    let lines = [
-        "run --cores 4 --pcap",
-        "run --pcap --cores=16",
-        "bulk 1 --cores 16",
-        "replay --local 10.0.0.2 --cores 2",
-        "replay --cores=1 --loose-sums --pcap --local=10.0.0.2",
+fn cores_read_what_one_thread_reads(rt: HostRuntime) -> Result<(), Fail> {
+    let read =
+        b"\nstate ESTABLISHED\nread 2 6869\nrecords 3 frames 3 passed 0 refused 0\nend 3 ticks\n";
+    let of_one = b"bulk 1\nread 65536\nclosed 1\n";
+    let ends = [
+        ("replay --local 10.0.0.2", read.as_slice()),
+        ("replay --local 10.0.0.2 --cores 1", read),
+        ("replay --cores=2 --loose-sums --local=10.0.0.2", read),
+        ("bulk 1", of_one),
+        ("bulk 1 --cores 2", of_one),
     ];
-    all_end_with(&rt, rt.alloc(), &lines, 8, "tas: not built\n")
+    for (line, end) in ends {
+        let (status, sink, faults) = run(&rt, rt.alloc(), line, &FIRST_CAPTURE)?;
+        assert_eq!(rt; status, 0, "{line}");
+        assert!(rt; sink.written().ends_with(end), "{line}");
+        assert_eq!(rt; faults.written(), b"".as_slice());
+    }
+    Ok(())
+}
+
+/// Of each flow the frames that are sent are the same ones.
+#[test]
+fn cores_send_what_one_thread_sends(rt: HostRuntime) -> Result<(), Fail> {
+    let alloc = rt.alloc();
+    let (_, wanted, _) = run(&rt, alloc, "replay --local 10.0.0.2 --pcap", &FIRST_CAPTURE)?;
+    let line = "replay --local 10.0.0.2 --pcap --cores 2";
+    let (status, sink, _) = run(&rt, alloc, line, &FIRST_CAPTURE)?;
+    assert_eq!(rt; status, 0);
+    assert_eq!(rt; wanted.written().len(), 140);
+    assert_eq!(rt; sink.written(), wanted.written());
+    Ok(())
 }
 
 /// The status of a run whose source fails at this read, and how many bytes it wrote.

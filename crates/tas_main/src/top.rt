@@ -25,16 +25,16 @@ use tas_num::{Gate, IoFault, Sink, Source};
 use tas_round::{RunLog, write_capture, write_report, write_summary};
 
 /// Runs what the words ask for, and answers the status that the program ends with. The output goes to `sink`. Where the
-/// status is not 0, a fault line goes to `faults`; if that fails, the status stays. What one thread does waits for
-/// nobody: no run has workers yet, so that `rt` and the gate have no use here.
+/// status is not 0, a fault line goes to `faults`; if that fails, the status stays. With cores it starts threads and
+/// waits for them, and its clauses say what holds where it returns; without cores it waits for nobody.
 pub fn tas<R: Threads + Wait + Sync, S: Source, K: Sink, F: Sink, G: Gate>(
-    _rt: &R,
+    rt: &R,
     alloc: Global,
     words: &[String],
     source: &mut S,
     sink: &mut K,
     faults: &mut F,
-    _gate: &G,
+    gate: &G,
 ) -> u8
     // At status 0 and 1 the sink grew by exactly the text of the run that was asked for, and 1 says that it is stalled.
     ensures headline { (result ≡ 0) ⊎ (result ≡ 1)
@@ -47,10 +47,9 @@ pub fn tas<R: Threads + Wait + Sync, S: Source, K: Sink, F: Sink, G: Gate>(
         × IsTold stop (F.state faults.old) (F.state faults.new)) }
     // At status 0 nothing is told.
     ensures silent { result ≡ 0 → F.state faults.new ≡ F.state faults.old }
-    // The words are looked at first: every status but 2 and 8 is one of words that ask for a run, and at those nothing
-    // is read.
-    ensures order { (result ≡ 2) ⊎ ((result ≡ 8) ⊎ IsAsked (map string_bytes words.now)) }
-    ensures unread { (result ≡ 2) ⊎ (result ≡ 8) → S.state source.new ≡ S.state source.old }
+    // The words are looked at first: every status but 2 is one of words that ask for a run, and at 2 nothing is read.
+    ensures order { (result ≡ 2) ⊎ IsAsked (map string_bytes words.now) }
+    ensures unread { result ≡ 2 → S.state source.new ≡ S.state source.old }
     // Then all of the input is read, which is within its length at 0, 1, 3 and 5; at 7 one byte past that was taken.
     ensures read { (result ≡ 0) ⊎ ((result ≡ 1) ⊎ ((result ≡ 3) ⊎ (result ≡ 5)))
         → ReadsFor (form_of (map string_bytes words.now)) (S.state source.old) (S.state source.new) }
@@ -71,15 +70,15 @@ pub fn tas<R: Threads + Wait + Sync, S: Source, K: Sink, F: Sink, G: Gate>(
     ensures memory { result ≡ 6 → (K.state sink.old).grows ≡ false
         → Keeps (K.state sink.old).held (K.state sink.new).held }
     // At every other status it is as it was.
-    ensures nothing { (result ≡ 2) ⊎ ((result ≡ 3) ⊎ ((result ≡ 4) ⊎ ((result ≡ 7) ⊎ (result ≡ 8))))
+    ensures nothing { (result ≡ 2) ⊎ ((result ≡ 3) ⊎ ((result ≡ 4) ⊎ (result ≡ 7)))
         → K.state sink.new ≡ K.state sink.old }
-    // Words of a run on one thread, and a scenario or a capture within its length where one is wanted, give status 0 or
-    // 1, or want of memory, where no stream fails.
+    // Words that ask for a run, and a scenario or a capture within its length where one is wanted, give status 0 or 1,
+    // or want of memory, where no stream fails.
     ensures complete { IsWhole (given (map string_bytes words.now) (S.state source.old) (S.state source.new)
         (K.state sink.old) (K.state sink.new))
         → (result ≡ 0) ⊎ ((result ≡ 1) ⊎ (result ≡ 6)) }
 {
-    match serve(alloc, words, source, sink) {
+    match serve(rt, alloc, words, source, sink, gate) {
         Ok(false) => 0,
         Ok(true) => told(faults, Stop::Stalled),
         Err(stop) => told(faults, stop),
@@ -96,11 +95,13 @@ fn told<F: Sink>(faults: &mut F, stop: Stop) -> u8
 }
 
 /// Runs the input that the source has, and writes what was asked for. Answers whether the run is stalled.
-fn serve<S: Source, K: Sink>(
+fn serve<R: Threads + Wait + Sync, S: Source, K: Sink, G: Gate>(
+    rt: &R,
     alloc: Global,
     words: &[String],
     source: &mut S,
     sink: &mut K,
+    gate: &G,
 ) -> Result<bool, Stop>
     ensures done { IfOk result (λ stalled. WritesAll
         (given (map string_bytes words.now) (S.state source.old) (S.state source.new)
@@ -130,7 +131,7 @@ fn serve<S: Source, K: Sink>(
 {
     let asked = read_words(words)?;
     let bytes = read_input(alloc, asked.input, asked.most_bytes(), source)?;
-    let log = run_of(alloc, asked.input, &bytes)?;
+    let log = run_of(rt, alloc, &asked, &bytes, gate)?;
     write_log(alloc, &asked, &log, sink)?;
     Ok(log.stalled)
 }

@@ -27,10 +27,12 @@ pub enum Input {
     Capture { local: Ipv4Addr, loose: bool },
 }
 
-/// What the words of a run on one thread ask for.
+/// What the words ask for.
 #[derive(Clone, Copy, Debug)]
 pub struct Request {
     pub input: Input,
+    /// On how many cores it runs, or on one thread, in serial order.
+    pub cores: Option<u32>,
     /// Whether the frames sent are written as a capture, in place of the report.
     pub pcap: bool,
 }
@@ -97,26 +99,24 @@ pub enum Progress<'a> {
     WantsAddress(Options<'a>),
 }
 
-/// What the words ask for: `run`, with `--serial` and `--pcap` where they are wanted; `bulk N` for N clients, from 1 to
-/// 1,000, with `--serial` where it is wanted; or `replay`, with `--local ADDRESS` or `--local=ADDRESS`, and with
-/// `--pcap` and `--loose-sums` where they are wanted. Options stand in any order and each at most once. The error is
-/// `Words` where they are of no form of the program, and `NotBuilt` where they are of another one: of a run on cores.
+/// What the words ask for: `run`, with `--serial` or `--cores N`, and with `--pcap`, where they are wanted; `bulk N` for
+/// N clients, from 1 to 1,000, with `--serial` or `--cores N`; or `replay`, with `--local ADDRESS` or `--local=ADDRESS`,
+/// and with `--cores N`, `--pcap` and `--loose-sums`. N of `--cores N`, or of `--cores=N`, is from 1 to 16. Options
+/// stand in any order and each at most once. The error is `Words`, where they are of no form of the program.
 pub fn read_words(words: &[String]) -> Result<Request, Stop>
     ensures ok { IfOk result (λ r. forms.Asks (forms.form_of (map string_bytes words.now)) (request_in r)) }
     ensures err { IfErr result (Unasked (map string_bytes words.now)) }
 {
     match form_of(words) {
         Form::Unknown => Err(Stop::Words),
-        Form::Bulk { cores: Some(_), .. } | Form::Run { cores: Some(_), .. } => Err(Stop::NotBuilt),
-        Form::Bulk {
-            clients,
-            cores: None,
-        } => Ok(Request {
+        Form::Bulk { clients, cores } => Ok(Request {
             input: Input::Made { clients },
+            cores,
             pcap: false,
         }),
-        Form::Run { cores: None, pcap } => Ok(Request {
+        Form::Run { cores, pcap } => Ok(Request {
             input: Input::Scenario,
+            cores,
             pcap,
         }),
         Form::Replay {
@@ -128,11 +128,9 @@ pub fn read_words(words: &[String]) -> Result<Request, Stop>
             let Some(local) = address_in(local) else {
                 return Err(Stop::Words);
             };
-            if cores.is_some() {
-                return Err(Stop::NotBuilt);
-            }
             Ok(Request {
                 input: Input::Capture { local, loose },
+                cores,
                 pcap,
             })
         }

@@ -1,14 +1,14 @@
 use Rattle.std.proofs.Common.{rules, ◌≡◌, IfSome, List, ℕ, map, string_bytes}
 use Rattle.tas_round.specs.Runs.{log_in}
-use Rattle.tas_main.specs.Words.{most_in, form_of}
-use Rattle.tas_main.specs.Runs.{given, bytes_of, IsSerialRun}
+use Rattle.tas_main.specs.Words.{most_in, form_of, HasClients, HasCores}
+use Rattle.tas_main.specs.Runs.{given, bytes_of, IsRun}
 use Rattle.tas_main.specs.Outputs.{output}
 use Rattle.tas_main.specs.Stops.{Cause, ReadsFor, ReadBefore, Unread, Unrun, Unwritten, IsOfMade}
 use Rattle.tas_main.specs.Requests.{request_in}
 use Rattle.tas_main.proofs.Causes.{writes_all, writes_front, reads_for, unrun_why, unrun_read, at_err, whichever}
 use Rattle.tas_main.proofs.Causes.{unread_why, unwritten_read, made_unread, made_is_read, made_words, made_unrun}
 use Rattle.tas_main.proofs.Causes.{made_unwritten}
-use Rattle.tas_main.proofs.Clients.{clients_in_range}
+use Rattle.tas_main.proofs.Ranges.{clients_in_range, cores_in_range}
 use Rattle.tas_main.proofs.top.serve.Goals as goal
 
 pub returns-clause-done : goal.returns-clause-done
@@ -19,10 +19,10 @@ returns-clause-done g c =
     let before = g.S.Source.state c.args.source.now in
     let after = g.S.Source.state c.read_input.new.source in
     let all : IfSome (bytes_of r.input before.left) (λ (b : List ℕ). bytes ≡ b) = search rules in
-    let serial : IsSerialRun r.input bytes log = search rules in
+    let run : IsRun r bytes log = search rules in
     let call = given (map string_bytes c.args.words.now) before after (g.K.Sink.state c.args.sink.now)
     (g.K.Sink.state c.write_log.new.sink) in
-    writes_all call bytes r log all c.in_ok-asked.ensures.ok serial c.in_ok-write_log.ensures.ok
+    writes_all call bytes r log all c.in_ok-asked.ensures.ok run c.in_ok-write_log.ensures.ok
 
 pub returns-in_err-write_log-clause-front : goal.returns-in_err-write_log-clause-front
 returns-in_err-write_log-clause-front g c =
@@ -32,11 +32,11 @@ returns-in_err-write_log-clause-front g c =
     let before = g.S.Source.state c.args.source.now in
     let after = g.S.Source.state c.read_input.new.source in
     let all : IfSome (bytes_of r.input before.left) (λ (b : List ℕ). bytes ≡ b) = search rules in
-    let serial : IsSerialRun r.input bytes log = search rules in
+    let run : IsRun r bytes log = search rules in
     let call = given (map string_bytes c.args.words.now) before after (g.K.Sink.state c.args.sink.now)
     (g.K.Sink.state c.write_log.new.sink) in
     whichever c.from_residual-in_err-write_log.result
-    (writes_front call bytes r log c.in_err-write_log.field-0.0 all c.in_ok-asked.ensures.ok serial
+    (writes_front call bytes r log c.in_err-write_log.field-0.0 all c.in_ok-asked.ensures.ok run
     (search rules))
 
 pub returns-in_err-log-clause-cause : goal.returns-in_err-log-clause-cause
@@ -70,11 +70,11 @@ returns-in_err-log-clause-before g c =
 
 pub run_of-requires : goal.run_of-requires
 run_of-requires g c =
-    record {
-      short = search rules;
-      clients = clients_in_range (map string_bytes c.args.words.now) (request_in c.in_ok-asked.asked)
-          c.in_ok-asked.ensures.ok;
-    }
+    let words = map string_bytes c.args.words.now in
+    let r = request_in c.in_ok-asked.asked in
+    let clients : HasClients r.input = clients_in_range words r c.in_ok-asked.ensures.ok in
+    let cores : HasCores r.cores = cores_in_range words r c.in_ok-asked.ensures.ok in
+    search (rules, clients, cores)
 
 pub returns-clause-read : goal.returns-clause-read
 returns-clause-read g c =
