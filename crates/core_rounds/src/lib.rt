@@ -1,2 +1,7 @@
-//! A tick of a host with cores: what cores take side by side, and what the slow path and the applications do after it.
+//! A tick of a host with cores: what cores take side by side, and what the slow path and the applications do after it;
+//! and the law that such a tick is a right one.
 #![tactic(auto)]
+
+mod laws;
+
+pub use laws::cores_ticks_are_right;

@@ -1,0 +1,2 @@
+pub mod CoresFrames
+pub mod CoresRounds
