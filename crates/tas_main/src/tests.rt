@@ -201,18 +201,6 @@ fn a_sink_of_any_size_holds_the_front_of_the_output(rt: HostRuntime) -> Result<(
     Ok(())
 }
 
-#[test]
-fn a_small_fault_sink_leaves_the_status(rt: HostRuntime) -> Result<(), Fail> {
-    let alloc = rt.alloc();
-    let mut source = SureSource::new(alloc, b"")?;
-    let (mut sink, mut faults) = (SureSink::new(alloc), MemSink::new(alloc, 3)?);
-    let status = run_on(&rt, alloc, "run", &mut source, &mut sink, &mut faults)?;
-    assert_eq!(rt; status, 3);
-    assert_eq!(rt; sink.written(), b"".as_slice());
-    assert_eq!(rt; faults.written(), b"tas".as_slice());
-    Ok(())
-}
-
 /// A source that counts how it is asked.
 #[derive(Drop)]
 struct Asked {
