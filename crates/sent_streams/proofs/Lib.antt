@@ -3,3 +3,4 @@ pub mod Stays
 pub mod Steps
 pub mod Taken
 pub mod Spending
+pub mod Ending

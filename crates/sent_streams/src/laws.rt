@@ -1,13 +1,13 @@
-ghost use Rattle.std.specs.Prelude.{ℕ, ◌+◌, ◌*◌, ◌^◌, ◌<◌, ◌≤◌, List, length};
+ghost use Rattle.std.specs.Prelude.{◌≡◌, true, ℕ, ◌+◌, ◌*◌, ◌^◌, ◌<◌, ◌≤◌, List, length};
 ghost use Rattle.tas_model.specs.declared.entry.Entry.{Entry};
 ghost use Rattle.tas_model.specs.declared.entry.HostParams.{HostParams};
 ghost use Rattle.tas_model.specs.LegalHistory.{Legal, replay};
 ghost use Rattle.tas_model.specs.OneStream.{OneStream};
-ghost use Rattle.tas_model.specs.Outputs.{accepted, sent};
+ghost use Rattle.tas_model.specs.Outputs.{accepted, bytes_read, sent};
 ghost use Rattle.tas_model.specs.Valid.{InRange};
 ghost use Rattle.host_rounds.specs.Lists.{Each};
 ghost use Rattle.host_rounds.specs.Passing.{ticks_in};
-ghost use Rattle.sent_streams.specs.Streams.{IsOf, AllTaken};
+ghost use Rattle.sent_streams.specs.Streams.{IsOf, AllTaken, told_end};
 
 /// Each segment that was sent is of one direction: a SYN bears the first number, and all else says nothing but what the
 /// application's Sends took.
@@ -27,4 +27,10 @@ pub fn taken_is_one_stream()
 pub fn time_bounds_what_is_accepted()
     ensures { (params : HostParams) (h : List Entry) → InRange params → Legal params h
         → length (accepted h) ≤ 65536 * (ticks_in h + 2) }
+{}
+
+/// Once a Recv was answered by the end, the peer has ended its stream, and all of it that was received was read.
+pub fn the_end_is_told_last()
+    ensures { (params : HostParams) (h : List Entry) → InRange params → Legal params h → told_end h ≡ true
+        → ((replay params h).rx.ended ≡ true) × (bytes_read h ≡ (replay params h).rx.got) }
 {}

@@ -31,10 +31,11 @@ use Rattle.scenario_runs.specs.Applications.{Script}
 use Rattle.scenario_runs.specs.Worlds.{World, numbers_of, at_start}
 use Rattle.scenario_runs.specs.Runs.{hosts_of, End, RunsFrom, Run}
 use Rattle.scenario_runs.specs.Histories.{AreInRange}
-use Rattle.sent_streams.specs.Streams.{IsOf, Takes, AllTaken}
+use Rattle.sent_streams.specs.Streams.{IsOf, Takes, AllTaken, told_end}
 use Rattle.sent_streams.proofs.Sent.{sent_is_of}
 use Rattle.sent_streams.proofs.Taken.{taken_is}
 use Rattle.sent_streams.proofs.Spending.{time_bounds}
+use Rattle.sent_streams.proofs.Ending.{end_is_last}
 use Rattle.two_ends.specs.Ends.{reversed, flows_in, other_ends, IsFaithful, HearsOtherEnd, ReadsOf, ReadsOtherEnd}
 use Rattle.two_ends.proofs.Lists.{each_left, each_right, each_filter, filter_tells, each_as, each_both, each_under, each_given, each_always, each_self}
 use Rattle.two_ends.proofs.Back.{SentLive, AnswerHas, LineHas, SentHost}
@@ -235,10 +236,14 @@ module _ (s : Scenario) (end : End) (fits : AreInRange s.hosts) (low : s.limit �
       (entries_taken h.tuple (replay g.params g.entries).iss (accepted g.entries) h.entries (both.1 (g, one)))
 
   reads : (h : Flow) → IsKnown s.limit h × HearsOtherEnd hosts h → ReadsOtherEnd hosts h
-  reads h both g one = record {
-    reads = read_is_of_stream h.params (accepted g.entries) h.entries both.0.fits both.0.legal (both.1 g one);
-    ended = (got_is_prefix h.params (accepted g.entries) h.entries both.0.legal (both.1 g one)).1;
-  }
+  reads h both g one =
+      let ended : (replay h.params h.entries).rx.ended ≡ true → (replay h.params h.entries).rx.got ≡ accepted g.entries =
+      (got_is_prefix h.params (accepted g.entries) h.entries both.0.legal (both.1 g one)).1 in
+      record {
+        reads = read_is_of_stream h.params (accepted g.entries) h.entries both.0.fits both.0.legal (both.1 g one);
+        ended = ended;
+        whole = λ told. let last = end_is_last h.params h.entries both.0.fits both.0.legal told in last.1 ∙ ended last.0;
+      }
 
   all_hear : Each (HearsOtherEnd hosts) (flows_in hosts)
   all_hear = each_as _ (HearsOtherEnd hosts) hears (flows_in hosts) (each_both (IsKnown s.limit) (λ (h : Flow). (o : Other h) → Took h o.0 h) (flows_in hosts) all_known own_took)

@@ -105,7 +105,7 @@ module _ (Q : FourTuple → Seg → Type 0) (reads : (tuple : FourTuple) (seg : 
   rounds_heard s whole t u h (l ∷ ls) (b ∷ bs) [] faithful sent rounds right heard = absurd rounds
   rounds_heard s whole t u h (l ∷ ls) (b ∷ bs) (a ∷ az) faithful sent rounds right heard = (
     round_heard Q (scripts_of s b.host.params) t (due_at s whole t h b.scripts) b a (scenarios_by_moves s b.host.params) right.0.right.legal rounds.0
-    (due_come Q reads s.link whole t h faithful sent) heard.0,
+        (due_come Q reads s.link whole t h faithful sent) heard.0,
     rounds_heard s whole t u (h + 1) ls bs az faithful sent rounds.1 right.1 heard.1,
   )
 

@@ -7,6 +7,7 @@ use Rattle.tas_model.specs.Outputs.{accepted, bytes_read}
 use Rattle.host_rounds.specs.Lists.{Each}
 use Rattle.host_rounds.specs.Logs.{Flow, HostRun}
 use Rattle.host_rounds.specs.Hosts.{same_tuple}
+use Rattle.sent_streams.specs.Streams.{told_end}
 use Rattle.link_script.specs.LinkLines.{LinkLines}
 use Rattle.link_script.specs.declared.script.LinkAct.{LinkAct}
 use Rattle.link_script.specs.declared.script.LinkAct.TheVariants as acts
@@ -41,12 +42,13 @@ abbrev pub HearsOtherEnd : List HostRun → Flow → Type 0
 HearsOtherEnd hosts f =
     (g : Flow) → other_ends f hosts ≡ g ∷ [] → OneStream f.params (accepted g.entries) f.entries
 
--- Then what its application read is a prefix of what the other end's application sent, and all of that was received
--- where the end was taken.
+-- Then what its application read is a prefix of what the other end's application sent. All of that was received where
+-- the end was taken, and all of it was read once a Recv was answered by the end.
 pub record ReadsOf (f g : Flow) : Type 0 where
   pub reads : IsPrefixOf (bytes_read f.entries) (accepted g.entries)
   pub ended : (replay f.params f.entries).rx.ended ≡ true
       → (replay f.params f.entries).rx.got ≡ accepted g.entries
+  pub whole : told_end f.entries ≡ true → bytes_read f.entries ≡ accepted g.entries
 
 abbrev pub ReadsOtherEnd : List HostRun → Flow → Type 0
 ReadsOtherEnd hosts f = (g : Flow) → other_ends f hosts ≡ g ∷ [] → ReadsOf f g

@@ -13,8 +13,8 @@ pub fn two_ends_are_one_stream()
         → Each (λ (h : HostRun). Each (HearsOtherEnd log.hosts) h.flows) log.hosts }
 {}
 
-/// So what its application read is a prefix of what the other end's application sent; and where the end was taken, all
-/// of it was received.
+/// So what its application read is a prefix of what the other end's application sent, and all of it once a Recv was
+/// answered by the end.
 pub fn what_is_read_was_sent()
     ensures { (s : Scenario) (log : RunLog) → AreInRange s.hosts → s.limit ≤ 10000 → IsFaithful s.link → Run s log
         → Each (λ (h : HostRun). Each (ReadsOtherEnd log.hosts) h.flows) log.hosts }
