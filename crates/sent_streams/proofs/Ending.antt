@@ -27,7 +27,8 @@ use Rattle.tas_model.specs.ApplicationCalls.{recv_in, recv_open, empty_reply, sh
 use Rattle.tas_model.specs.ApplicationCalls.{tells_abort}
 use Rattle.tas_model.specs.NextSegment.{Going, going, going_in, emitted, waiting, data_len}
 use Rattle.tas_model.specs.Timers.{ticks, tick_in, ticked, waited, is_armed, patience, probes, filled, control}
-use Rattle.tas_model.specs.LegalHistory.{step, control_in, state_or, moved, replay, taken_bytes, Gives, Legal, MayFollow}
+use Rattle.tas_model.specs.LegalHistory.{step, control_in, state_or, moved, replay, taken_bytes, Gives, Legal}
+use Rattle.tas_model.specs.LegalHistory.{MayFollow}
 use Rattle.tas_model.specs.LegalHistory.{IsFirst}
 use Rattle.tas_model.specs.Outputs.{bytes_read}
 use Rattle.tas_model.specs.Valid.{InRange}
@@ -108,10 +109,12 @@ syn_sent_ends : (e : Endpoint) (seg : Seg) → R e (rx_syn_sent e seg)
 unfolding rx_syn_sent
 syn_sent_ends e seg =
     on_cond (R e) (is_ack seg && not (eqb (place_of_ack e seg) 1 && leb 1 e.tx.max)) _ _
-    (λ t. silent e e _ refl (on_cond (λ (r : Reply). is_end r ≡ false) (is_rst seg) replies.Nothing (resets seg.head.ack)
+    (λ t. silent e e _ refl
+    (on_cond (λ (r : Reply). is_end r ≡ false) (is_rst seg) replies.Nothing (resets seg.head.ack)
     (λ u. refl) (λ u. refl)))
     (λ f. on_cond (R e) (is_rst seg) _ _
-    (λ t. on_cond (λ (g : Endpoint). Ends e g replies.Nothing) (is_ack seg) (record e { reason = Some reasons.Refused }) e
+    (λ t. on_cond (λ (g : Endpoint). Ends e g replies.Nothing) (is_ack seg)
+    (record e { reason = Some reasons.Refused }) e
     (λ u. silent e (record e { reason = Some reasons.Refused }) replies.Nothing refl refl)
     (λ u. silent e e replies.Nothing refl refl))
     (λ g. on_cond (R e) (is_syn seg && is_ack seg) _ _
@@ -197,7 +200,8 @@ going_same e (Over why) = tt
 going_same e Opening = on_cond (G e) (eqb e.tx.nxt 0) _ _ (λ t. refl) (λ f. tt)
 going_same e Running =
     on_cond (G e) (ltb 0 (data_len e)) _ _ (λ t. refl)
-    (λ f. on_cond (G e) (e.tx.probe && eqb e.tx.window 0 && eqb e.tx.nxt e.tx.una && ltb 0 (waiting e.tx)) _ _ (λ t. refl)
+    (λ f. on_cond (G e) (e.tx.probe && eqb e.tx.window 0 && eqb e.tx.nxt e.tx.una && ltb 0 (waiting e.tx)) _ _
+    (λ t. refl)
     (λ g. on_cond (G e) (e.tx.shut && eqb e.tx.nxt (1 + length e.tx.out)) _ _ (λ t. refl) (λ h. tt)))
 
 emit_ends : (e : Endpoint) (o : Option Going) → G e o → L e (emitted o)
@@ -209,7 +213,8 @@ ticked_ends e =
     on_cond (R e) (not (is_armed e.tx)) _ _ (λ t. silent e _ replies.Quiet refl refl)
     (λ f. on_cond (R e) (ltb (e.tx.age + 1) (patience e)) _ _ (λ t. silent e _ replies.Quiet refl refl)
     (λ g. on_cond (R e) (eqb (e.tx.tries + 1) 9) _ _ (λ t. silent e _ replies.TimedOut refl refl)
-    (λ h. on_cond (R e) (probes e) _ _ (λ t. silent e _ replies.Probe refl refl) (λ k. silent e _ replies.Resend refl refl))))
+    (λ h. on_cond (R e) (probes e) _ _ (λ t. silent e _ replies.Probe refl refl)
+    (λ k. silent e _ replies.Resend refl refl))))
 
 tick_ends : (ph : Phase) (e : Endpoint) (tick : ℕ) → L e (tick_in ph e tick)
 tick_ends phases.Closed e tick = tt

@@ -1,5 +1,6 @@
 -- Each segment that was sent is of one direction.
-use Rattle.std.proofs.Common.{◌≡◌, ℕ, Bool, true, false, cond, List, [], ◌∷◌, Option, Some, None, refl, sym, subst, ap, ◌∙◌, true≢false, eqb}
+use Rattle.std.proofs.Common.{◌≡◌, ℕ, Bool, true, false, cond, List, [], ◌∷◌, Option, Some, None, refl, sym, subst, ap}
+use Rattle.std.proofs.Common.{◌∙◌, true≢false, eqb}
 use Rattle.tas_model.specs.declared.entry.HostParams.{HostParams}
 use Rattle.tas_model.specs.declared.entry.Entry.{Entry}
 use Rattle.tas_model.specs.declared.entry.Seg.{Seg}
@@ -41,15 +42,22 @@ each_begins = record {
   fin = λ e t r s. absurd (cc (s));
 }
 
-all_begin : (params : HostParams) (h : List Entry) → InRange params → Legal params h → AllHave (Begins (replay params h)) (sent h)
+all_begin : (params : HostParams) (h : List Entry) → InRange params → Legal params h
+    → AllHave (Begins (replay params h)) (sent h)
 all_begin params h fits legal = sent_shows Shown each_begins Begins params fits (λ b e seg v shown. shown) kept h legal
   where
-    kept : (es : List Entry) (x : Entry) → Legal params es → MayFollow params es x → (seg : Seg) → Begins (replay params es) seg → Begins (moved (replay params es) x) seg
-    kept es x before may seg begins r s = begins r s ∙ ap (λ (n : ℕ). seq_at n 0) (sym (entry_moves params es x fits before may).iss)
+    kept : (es : List Entry) (x : Entry) → Legal params es → MayFollow params es x → (seg : Seg)
+        → Begins (replay params es) seg → Begins (moved (replay params es) x) seg
+    kept es x before may seg begins r s =
+        begins r s ∙ ap (λ (n : ℕ). seq_at n 0) (sym (entry_moves params es x fits before may).iss)
 
-both : (e : Endpoint) (stream : List ℕ) (segs : List Seg) → AllHave (Begins e) segs → AllSay e.iss stream segs → Each (IsOf e.iss stream) segs
+both : (e : Endpoint) (stream : List ℕ) (segs : List Seg) → AllHave (Begins e) segs → AllSay e.iss stream segs
+    → Each (IsOf e.iss stream) segs
 both e stream [] begin say = tt
 both e stream (seg ∷ segs) begin say = (record { begins = begin.0; says = say.0 }, both e stream segs begin.1 say.1)
 
-pub sent_is_of : (params : HostParams) (h : List Entry) → InRange params → Legal params h → Each (IsOf (replay params h).iss (accepted h)) (sent h)
-sent_is_of params h fits legal = both (replay params h) (accepted h) (sent h) (all_begin params h fits legal) (sent_says_accepted params h fits legal)
+pub sent_is_of : (params : HostParams) (h : List Entry) → InRange params → Legal params h
+    → Each (IsOf (replay params h).iss (accepted h)) (sent h)
+sent_is_of params h fits legal =
+    both (replay params h) (accepted h) (sent h) (all_begin params h fits legal)
+    (sent_says_accepted params h fits legal)

@@ -1,6 +1,7 @@
 -- What most steps leave as it is: the highest place that was sent, the peer's first number, and a bucket as deep as the
 -- congestion window is wide.
-use Rattle.std.proofs.Common.{◌≡◌, ℕ, ◌+◌, ◌-◌, ◌*◌, ◌≤◌, Bool, true, false, cond, not, ◌&&◌, List, length, min, max, Option, Some, None, refl, sym, subst, ap, ◌∙◌, arith, ltb, leb, eqb}
+use Rattle.std.proofs.Common.{◌≡◌, ℕ, ◌+◌, ◌-◌, ◌*◌, ◌≤◌, Bool, true, false, cond, not, ◌&&◌, List, length, min, max}
+use Rattle.std.proofs.Common.{Option, Some, None, refl, sym, subst, ap, ◌∙◌, arith, ltb, leb, eqb}
 use Rattle.tas_model.proofs.Tests.{on_cond}
 use Rattle.tas_model.specs.declared.entry.Reason.{Reason}
 use Rattle.tas_model.specs.declared.entry.Reason.TheVariants as reasons
@@ -10,11 +11,16 @@ use Rattle.tas_model.specs.declared.entry.Call.{Call}
 use Rattle.tas_model.specs.declared.entry.Call.TheVariants as calls
 use Rattle.tas_model.specs.declared.entry.Seg.{Seg}
 use Rattle.tas_model.specs.declared.entry.Reply.{Reply}
-use Rattle.tas_model.specs.Endpoint.{Endpoint, Sending, Rate, phase, unread, send_room, next_place, wnd, uncounted, first_rate}
+use Rattle.tas_model.specs.Endpoint.{Endpoint, Sending, Rate, phase, unread, send_room, next_place, wnd, uncounted}
+use Rattle.tas_model.specs.Endpoint.{first_rate}
 use Rattle.tas_model.specs.Segments.{Outcome, one_if, is_fin, is_ack, is_rst, is_syn, seg_len}
 use Rattle.tas_model.specs.Reassembly.{with_data}
-use Rattle.tas_model.specs.Receive.{rx, rx_in, rx_later, rx_syn_sent, connected, by_verdict, verdict, Verdict, Dropped, Answered, Reset, BareAck, Taken, AckVerdict, Stray, TooFar, Good, taken, bare_ack, after_ack, after_data, takes_fin, place_of_ack, ack_verdict, is_duplicate, after_duplicate, after_advance, moves_window, sending_after, rate_after}
-use Rattle.tas_model.specs.ApplicationCalls.{Column, Opening, Over, Running, column, accept_in, ready_in, send_in, recv_in, recv_open, shut_in, close_in, abort_in}
+use Rattle.tas_model.specs.Receive.{rx, rx_in, rx_later, rx_syn_sent, connected, by_verdict, verdict, Verdict, Dropped}
+use Rattle.tas_model.specs.Receive.{Answered, Reset, BareAck, Taken, AckVerdict, Stray, TooFar, Good, taken, bare_ack}
+use Rattle.tas_model.specs.Receive.{after_ack, after_data, takes_fin, place_of_ack, ack_verdict, is_duplicate}
+use Rattle.tas_model.specs.Receive.{after_duplicate, after_advance, moves_window, sending_after, rate_after}
+use Rattle.tas_model.specs.ApplicationCalls.{Column, Opening, Over, Running, column, accept_in, ready_in, send_in}
+use Rattle.tas_model.specs.ApplicationCalls.{recv_in, recv_open, shut_in, close_in, abort_in}
 use Rattle.tas_model.specs.Timers.{ticks, tick_in, ticked, waited, is_armed, patience, probes, filled, control}
 use Rattle.tas_model.specs.LegalHistory.{step, control_in, taken_bytes}
 
@@ -61,13 +67,16 @@ less_probe false p = omega arith
 sending_same : (tx : Sending) (a q len window : ℕ) → SendsNoMore tx (sending_after tx a q len window)
 sending_same tx a q len window =
     let duplicate : SendsNoMore tx (after_duplicate tx a len window) =
-    on_cond (SendsNoMore tx) (is_duplicate tx a len window) _ tx (λ t. record { max = refl; probe = omega arith }) (λ f. same_tx tx) in
+    on_cond (SendsNoMore tx) (is_duplicate tx a len window) _ tx (λ t. record { max = refl; probe = omega arith })
+    (λ f. same_tx tx) in
     let advance : SendsNoMore tx (after_advance (after_duplicate tx a len window) a) =
     on_cond (SendsNoMore tx) (ltb (after_duplicate tx a len window).una a) _ (after_duplicate tx a len window)
     (λ t. record { max = duplicate.max; probe = duplicate.probe }) (λ f. duplicate) in
     let moved : Sending = after_advance (after_duplicate tx a len window) a in
-    let less : one_if (cond (eqb moved.window 0 && ltb 0 window) false moved.probe) ≤ one_if moved.probe = less_probe (eqb moved.window 0 && ltb 0 window) moved.probe in
-    on_cond (SendsNoMore tx) (moves_window tx a q) _ moved (λ t. record { max = advance.max; probe = omega (arith, less, advance.probe) }) (λ f. advance)
+    let less : one_if (cond (eqb moved.window 0 && ltb 0 window) false moved.probe) ≤ one_if moved.probe = less_probe
+    (eqb moved.window 0 && ltb 0 window) moved.probe in
+    on_cond (SendsNoMore tx) (moves_window tx a q) _ moved
+    (λ t. record { max = advance.max; probe = omega (arith, less, advance.probe) }) (λ f. advance)
 
 ack_same : (e : Endpoint) (tick a q len window : ℕ) → StaysWhole e (after_ack e tick a q len window)
 ack_same e tick a q len window = record {
@@ -78,9 +87,11 @@ ack_same e tick a q len window = record {
   peer = refl;
 }
 
-data_same : (e x : Endpoint) (tick window q : ℕ) (seg : Seg) → StaysWhole e x → StaysWhole e (after_data x tick window q seg)
+data_same : (e x : Endpoint) (tick window q : ℕ) (seg : Seg) → StaysWhole e x
+    → StaysWhole e (after_data x tick window q seg)
 data_same e x tick window q seg s =
-    on_cond (StaysWhole e) (takes_fin x.rx (with_data x.rx window q seg.bytes) window q (length seg.bytes) (is_fin seg)) _ _
+    on_cond (StaysWhole e)
+    (takes_fin x.rx (with_data x.rx window q seg.bytes) window q (length seg.bytes) (is_fin seg)) _ _
     (λ t. record { stays = record { tx = s.stays.tx; deep = s.stays.deep }; peer = s.peer })
     (λ f. record { stays = record { tx = s.stays.tx; deep = s.stays.deep }; peer = s.peer })
 
@@ -88,7 +99,8 @@ taken_same : (e : Endpoint) (tick q : ℕ) (seg : Seg) (a : AckVerdict) → R e 
 taken_same e tick q seg Stray = whole e
 taken_same e tick q seg TooFar = whole e
 taken_same e tick q seg Good =
-    data_same e (after_ack e tick (place_of_ack e seg) q (seg_len seg) seg.head.window) tick (wnd e) q seg (ack_same e tick (place_of_ack e seg) q (seg_len seg) seg.head.window)
+    data_same e (after_ack e tick (place_of_ack e seg) q (seg_len seg) seg.head.window) tick (wnd e) q seg
+    (ack_same e tick (place_of_ack e seg) q (seg_len seg) seg.head.window)
 
 bare_same : (e : Endpoint) (tick : ℕ) (seg : Seg) (a : AckVerdict) → R e (bare_ack e tick seg a)
 bare_same e tick seg Stray = whole e
@@ -133,10 +145,15 @@ syn_sent_hears Q e seg tells =
     (λ t. on_cond (Hears Q e) (is_ack seg) (record e { reason = Some reasons.Refused }) e
     (λ u. record { stays = record { tx = same_tx e.tx; deep = λ d. d }; peer = λ k. k }) (λ u. hears Q e e (whole e)))
     (λ r. on_cond (H Q e) (is_syn seg && is_ack seg) _ _
-    (λ s. record { stays = record { tx = record { max = refl; probe = omega arith }; deep = λ d. refl }; peer = λ k. tells r (both_left (is_syn seg) (is_ack seg) s) })
+    (λ s. record {
+      stays = record { tx = record { max = refl; probe = omega arith }; deep = λ d. refl };
+      peer =
+          λ k. tells r (both_left (is_syn seg) (is_ack seg) s);
+    })
     (λ s. hears Q e e (whole e))))
 
-rx_in_hears : (Q : ℕ → Type 0) (ph : Phase) (e : Endpoint) (tick : ℕ) (seg : Seg) → Tells Q seg → H Q e (rx_in ph e tick seg)
+rx_in_hears : (Q : ℕ → Type 0) (ph : Phase) (e : Endpoint) (tick : ℕ) (seg : Seg) → Tells Q seg
+    → H Q e (rx_in ph e tick seg)
 unfolding rx_later
 rx_in_hears Q phases.Closed e tick seg tells = hears Q e e (whole e)
 rx_in_hears Q phases.SynSent e tick seg tells = syn_sent_hears Q e seg tells
@@ -164,10 +181,13 @@ send_same e Running offered bytes =
     on_cond (L e) e.tx.shut _ _ (λ t. whole e)
     (λ f. on_cond (L e) (eqb (min offered (send_room e)) 0 && not (eqb offered 0)) _ _ (λ t. whole e)
     (λ g. on_cond (L e) (eqb (length bytes) (min offered (send_room e))) _ _
-    (λ t. record { stays = record { tx = record { max = refl; probe = omega arith }; deep = λ d. d }; peer = refl }) (λ h. tt)))
+    (λ t. record { stays = record { tx = record { max = refl; probe = omega arith }; deep = λ d. d }; peer = refl })
+    (λ h. tt)))
 
 open_same : (e : Endpoint) (most : ℕ) → R e (recv_open e most)
-open_same e most = on_cond (R e) (eqb (unread e.rx) 0) _ _ (λ t. whole e) (λ f. record { stays = record { tx = same_tx e.tx; deep = λ d. d }; peer = refl })
+open_same e most =
+    on_cond (R e) (eqb (unread e.rx) 0) _ _ (λ t. whole e)
+    (λ f. record { stays = record { tx = same_tx e.tx; deep = λ d. d }; peer = refl })
 
 pub recv_same : (e : Endpoint) (c : Column) (most : ℕ) → R e (recv_in c e most)
 recv_same e Opening most = whole e

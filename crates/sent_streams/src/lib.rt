@@ -4,4 +4,6 @@
 
 mod laws;
 
-pub use laws::{sent_is_one_stream, taken_is_one_stream, the_end_is_told_last, time_bounds_what_is_accepted};
+pub use laws::{
+    sent_is_one_stream, taken_is_one_stream, the_end_is_told_last, time_bounds_what_is_accepted,
+};
