@@ -1,0 +1,6 @@
+pub mod Lists
+pub mod Back
+pub mod Heard
+pub mod Frames
+pub mod Worlds
+pub mod Ends

@@ -1,0 +1,7 @@
+//! The two ends of a connection: in every run of a scenario whose link damages nothing, what one end reads is what the
+//! other end sent.
+#![tactic(auto)]
+
+mod laws;
+
+pub use laws::{two_ends_are_one_stream, what_is_read_was_sent};
