@@ -17,7 +17,9 @@ use Rattle.tas_runs.specs.Records.{Content, Remote, Local, is_remote}
 use Rattle.host_rounds.specs.Lists.{change_at}
 use Rattle.host_rounds.specs.Hosts.{Live, endpoint, is_over, is_held, with_call, is_indexed_as, opened_as, same_tuple}
 use Rattle.host_rounds.specs.Upkeep.{swept, controlled_where, timed, timed_unless, quieted, quieted_within}
-use Rattle.host_rounds.specs.Deliveries.{received_serially}
+use Rattle.local_host.specs.declared.arrival.Taking.{Taking}
+use Rattle.local_host.specs.declared.arrival.Taking.TheVariants as takings
+use Rattle.local_host.specs.Arriving.{taking_in}
 use Rattle.tas_runs.specs.LocalScript.{Stage, Beginning, Accepting, Sending, Shutting, Aborting, Receiving, Leaving}
 use Rattle.tas_runs.specs.LocalScript.{Shown, at_stage, asked_where, is_wanted, given_up, resets_here}
 use Rattle.capture_items.specs.Numbers.{equal_tuple}
@@ -98,8 +100,11 @@ quieted_same (suc most) t l = by_going (going (endpoint l)) (λ m. quieted_same 
 pub quieted_keeps : (t : ℕ) → Keeps (quieted t)
 quieted_keeps t = record { same = λ l. quieted_same (length (endpoint l).tx.out + 4) t l }
 
-pub received_keeps : (t : ℕ) (frame : FrameId) (seg : Seg) → Keeps (received_serially t frame seg)
-received_keeps t frame seg = record { same = λ l. record { tuple = refl; id = refl; index = λ h. h } }
+pub received_keeps : (by : Taking) (t : ℕ) (frame : FrameId) (seg : Seg) → Keeps (taking_in by t frame seg)
+received_keeps takings.Serially t frame seg = record {
+  same = λ l. record { tuple = refl; id = refl; index = λ h. h };
+}
+received_keeps takings.Slowly t frame seg = record { same = λ l. record { tuple = refl; id = refl; index = λ h. h } }
 
 -- ----- the script
 -- the flow keeps all that its host knows it by

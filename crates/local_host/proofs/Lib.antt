@@ -10,6 +10,7 @@ pub mod Records
 pub mod Staging
 pub mod Serving
 pub mod Recording
+mod CoreRecording
 pub mod Timing
 pub mod Ports
 pub mod Holding

@@ -22,7 +22,9 @@ use Rattle.host_rounds.specs.Lists.{change_at}
 use Rattle.host_rounds.specs.Hosts.{Live, endpoint, is_over, is_held, with_call, is_indexed_as, is_in_slot, opened_as}
 use Rattle.host_rounds.specs.Hosts.{same_tuple}
 use Rattle.host_rounds.specs.Upkeep.{swept, controlled_where, timed, timed_unless, quieted, quieted_within}
-use Rattle.host_rounds.specs.Deliveries.{received_serially}
+use Rattle.local_host.specs.declared.arrival.Taking.{Taking}
+use Rattle.local_host.specs.declared.arrival.Taking.TheVariants as takings
+use Rattle.local_host.specs.Arriving.{taking_in}
 use Rattle.tas_runs.specs.LocalScript.{Shown}
 use Rattle.capture_items.specs.Numbers.{equal_tuple}
 use Rattle.local_host.specs.declared.flows.Openings.{Openings}
@@ -91,8 +93,9 @@ quieted_filed (suc most) t l = by_going (going (endpoint l)) (λ m. quieted_file
 pub quieted_stays : (t : ℕ) → Stays (quieted t)
 quieted_stays t l = quieted_filed (length (endpoint l).tx.out + 4) t l
 
-pub received_stays : (t : ℕ) (frame : FrameId) (seg : Seg) → Stays (received_serially t frame seg)
-received_stays t frame seg l = refl
+pub received_stays : (by : Taking) (t : ℕ) (frame : FrameId) (seg : Seg) → Stays (taking_in by t frame seg)
+received_stays takings.Serially t frame seg l = refl
+received_stays takings.Slowly t frame seg l = refl
 
 pub asked_stays : (t : ℕ) (content : Content) (s : Shown) → Stays (asked_live t content s)
 asked_stays t content s l = (all_kept t content (record { live = l; shown = s })).filed

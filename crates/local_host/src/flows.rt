@@ -12,7 +12,7 @@ ghost use Rattle.host_rounds.specs.Lists.{Each, change_at};
 ghost use Rattle.host_rounds.specs.Hosts.{Live, is_indexed_as, is_in_slot, free_from, next_generation, opened_as};
 ghost use Rattle.host_rounds.specs.Hosts.{flows_of, is_ready, is_over, waits_at, with_call, first_port};
 ghost use Rattle.host_rounds.specs.Upkeep.{swept, timed, quieted};
-ghost use Rattle.host_rounds.specs.Deliveries.{received_serially};
+ghost use Rattle.local_host.specs.Arriving.{taking_in};
 ghost use Rattle.tas_runs.specs.Records.{Content, is_remote};
 ghost use Rattle.tas_runs.specs.LocalScript.{resets_here};
 ghost use Rattle.local_host.specs.Index.{IsSound, AreAtRest, is_standing, standing_places, passes_at, number_of};
@@ -21,6 +21,7 @@ ghost use Rattle.local_host.specs.Ports.{MayAsk};
 ghost use Rattle.local_host.specs.Script.{asked_all, asked_live};
 ghost use Rattle.local_host.specs.Live.{flow_in, holder_in, IsLegal};
 
+use crate::arrival::Taking;
 use crate::live::{Holder, LiveFlow};
 use crate::script::Shown;
 use flow_state::{Answer, CallIn, FlowRecord};
@@ -239,15 +240,16 @@ impl Flows {
     pub fn receive(
         &mut self,
         i: usize,
+        taking: Taking,
         tick: u32,
         frame: FrameId,
         seg: &Segment<'_>,
     ) -> Result<(), AllocError>
         requires { passes_at is_standing self.old i ≡ true }
-        ensures made { OnOk result (self.new ≡ change_at i (received_serially tick frame (seg_of seg.now)) self.old) }
+        ensures made { OnOk result (self.new ≡ change_at i (taking_in taking tick frame (seg_of seg.now)) self.old) }
         ensures none { OnErr result (self.new ≡ []) }
     {
-        let done = self.table.flows[i].receive(tick, frame, seg);
+        let done = self.table.flows[i].receive(taking, tick, frame, seg);
         self.table.settle(done)
     }
 

@@ -1,8 +1,8 @@
 ghost use Rattle.std.specs.Prelude.{true, false, ◌≡◌, None, position, slice_get, ◌++◌, ◌∷◌, [], ◌<◌, ◌^◌, length, ◌&&◌};
-ghost use Rattle.std.specs.Prelude.{not, map, nat_lt, ◌==◌, ◌+◌, OnOk, IfOk, IfSome, Some};
+ghost use Rattle.std.specs.Prelude.{not, map, nat_lt, ◌==◌, ◌+◌, ◌≤◌, All, OnOk, IfOk, IfSome, Some};
 ghost use Rattle.std.specs.List.{list_any, list_all, filter};
 ghost use Rattle.tas_model.specs.Valid.{InRange};
-ghost use Rattle.tas_model.specs.declared.entry.Caller.TheVariants.{App};
+ghost use Rattle.tas_model.specs.declared.entry.Caller.TheVariants.{App, Slow};
 ghost use Rattle.flow_state.specs.Calls.{seg_of, call_of, offer_of, IsSmall};
 ghost use Rattle.flow_state.specs.Calls as calls_of;
 ghost use Rattle.host_rounds.specs.Moves.{IsAppCall};
@@ -12,19 +12,20 @@ ghost use Rattle.host_rounds.specs.Hosts.{Host, Live, is_indexed_as, logged, is_
 ghost use Rattle.host_rounds.specs.Hosts.{lowest_free, next_generation, next_number, opened_in, flows_of, with_call};
 ghost use Rattle.host_rounds.specs.Hosts.{is_listened, is_full, is_ready, is_over, answer_of, first_port, ports_given};
 ghost use Rattle.host_rounds.specs.Hosts.{Listener as ModelListener};
-ghost use Rattle.host_rounds.specs.Deliveries.{received_serially, stray_answer, met_no_flow};
+ghost use Rattle.host_rounds.specs.Deliveries.{received, received_serially, stray_answer, met_no_flow};
 ghost use Rattle.host_rounds.specs.Deliveries.{opened_by_syn as model_opened_by_syn, opens as model_opens, arrived};
 ghost use Rattle.host_rounds.specs.Deliveries.{delivered};
 ghost use Rattle.host_rounds.specs.SerialOrder.{slow_phase, emit_phase};
+ghost use Rattle.core_rounds.specs.CoreTicks.{IsCoresPhase};
 ghost use Rattle.tas_runs.specs.Records.{Content, is_remote};
 ghost use Rattle.tas_runs.specs.LocalScript.{resets_here};
-ghost use Rattle.local_host.specs.Arriving.{arrival_in};
+ghost use Rattle.local_host.specs.Arriving.{arrival_in, taking_in};
 ghost use Rattle.local_host.specs.Index.{is_standing, passes_at, standing_places, AreAtRest};
 ghost use Rattle.local_host.specs.Script.{asked_all, asked_live};
 ghost use Rattle.local_host.specs.Live.{flow_in, holder_in, IsLegal, connected_by};
 ghost use Rattle.local_host.specs.Ports.{IsConnecting, MayAsk};
 
-use crate::arrival::{Arrival, Packet};
+use crate::arrival::{Arrival, Packet, Taking};
 use crate::flows::{FIRST_PORT, Flows};
 use crate::live::{Holder, LiveFlow};
 use crate::numbers::NumberSource;
@@ -34,9 +35,10 @@ use segment_fields::Segment;
 use slow_handshake::stray;
 use std::alloc::{AllocError, Global};
 use std::marker::Model;
+use std::thread::Threads;
 use tas_core::{HostLog, LogEvent, LogLine};
 use tas_model::{Bytes, Caller, FlowId, FourTuple, FrameId, Head, HostParams, Seg};
-use tas_num::Seq;
+use tas_num::{Gate, Seq};
 
 /// An application listens on a port.
 #[derive(Clone, Copy)]
@@ -507,6 +509,7 @@ impl LocalHost {
     /// A segment comes to the host. The error is want of memory.
     fn receive<N: NumberSource>(
         &mut self,
+        taking: Taking,
         tick: u32,
         frame: FrameId,
         tuple: FourTuple,
@@ -514,17 +517,17 @@ impl LocalHost {
         numbers: &N,
     ) -> Result<(), AllocError>
         ensures made { OnOk result (self.new ≡ arrived (is_known self.old tuple)
-            (received_serially tick frame (seg_of seg.now))
+            (taking_in taking tick frame (seg_of seg.now))
             (next_number (N.numbers numbers.now) self.old tuple) tick self.old frame tuple (seg_of seg.now)) }
         ensures params { self.new.params ≡ self.old.params }
     {
         match self.flows.find(&tuple) {
-            Some(i) => self.flows.receive(i, tick, frame, seg),
+            Some(i) => self.flows.receive(i, taking, tick, frame, seg),
             None => self.meet_no_flow(tick, frame, tuple, seg, numbers),
         }
     }
 
-    /// A frame comes to the host. The error is want of memory.
+    /// A frame comes to the host, in serial order. The error is want of memory.
     pub fn deliver<N: NumberSource>(
         &mut self,
         tick: u32,
@@ -535,10 +538,65 @@ impl LocalHost {
             (arrival_in arrival.now)) }
         ensures params { self.new.params ≡ self.old.params }
     {
+        self.deliver_by(Taking::Serially, tick, arrival, numbers)
+    }
+
+    /// A frame comes to the host, and the slow path takes it. The error is want of memory.
+    pub fn deliver_slowly<N: NumberSource>(
+        &mut self,
+        tick: u32,
+        arrival: &Arrival<'_>,
+        numbers: &N,
+    ) -> Result<(), AllocError>
+        ensures made { OnOk result (self.new ≡ delivered (received Slow) (N.numbers numbers.now) tick self.old
+            (arrival_in arrival.now)) }
+        ensures params { self.new.params ≡ self.old.params }
+    {
+        self.deliver_by(Taking::Slowly, tick, arrival, numbers)
+    }
+
+    /// Cores take frames side by side, each on a thread of its own: a segment goes to the core that stands at its place
+    /// in `steered`, which takes it where its flow stands and it is for the fast path. The answer are all other frames,
+    /// in their order: they are the slow path's. The gate's points are 64 * `host` + 2 * core before a frame, and one
+    /// more after it. The error is want of memory.
+    pub fn receive_on_cores<'a, R: Threads + Sync, G: Gate>(
+        &mut self,
+        _rt: &R,
+        tick: u32,
+        arrivals: &[Arrival<'a>],
+        steered: &[u32],
+        _host: u32,
+        cores: u32,
+        _gate: &G,
+    ) -> Result<Vec<Arrival<'a>>, AllocError>
+        requires steered { length steered.now ≡ length arrivals.now }
+        requires below { All (λ core. core < cores) steered.now }
+        requires cores { (0 < cores) × (cores ≤ 16) }
+        requires host { _host < 67108863 }
+        ensures made { IfOk result (λ rest. IsCoresPhase tick self.old (map arrival_in arrivals.now)
+            (map arrival_in rest.items) self.new) }
+        ensures params { self.new.params ≡ self.old.params }
+    {
+        let mut rest = Vec::new(self.alloc);
+        rest.extend_from_slice(arrivals)?;
+        Ok(rest)
+    }
+
+    fn deliver_by<N: NumberSource>(
+        &mut self,
+        taking: Taking,
+        tick: u32,
+        arrival: &Arrival<'_>,
+        numbers: &N,
+    ) -> Result<(), AllocError>
+        ensures made { OnOk result (self.new ≡ delivered (taking_in taking) (N.numbers numbers.now) tick self.old
+            (arrival_in arrival.now)) }
+        ensures params { self.new.params ≡ self.old.params }
+    {
         match arrival.packet {
             Packet::Damaged(rule) => self.refuse(tick, arrival.frame, rule),
             Packet::Segment(tuple, seg) => {
-                self.receive(tick, arrival.frame, tuple, &seg, numbers)
+                self.receive(taking, tick, arrival.frame, tuple, &seg, numbers)
             }
         }
     }

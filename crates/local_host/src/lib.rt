@@ -12,6 +12,7 @@ mod pending;
 mod reading;
 mod replay;
 mod script;
+mod steer;
 
 pub use arrival::{Arrival, Packet};
 pub use host::{Connecting, HostEnd, LocalHost};
@@ -19,3 +20,4 @@ pub use live::{Holder, LiveFlow};
 pub use numbers::NumberSource;
 pub use replay::LocalReplay;
 pub use script::Shown;
+pub use steer::{Cores, GroupMove};

@@ -11,12 +11,13 @@ ghost use Rattle.tas_model.specs.ApplicationCalls.{column};
 ghost use Rattle.host_rounds.specs.Hosts.{same_tuple, is_indexed_as, is_in_slot, endpoint, with_call, is_over};
 ghost use Rattle.host_rounds.specs.Hosts.{is_running, is_held, first_entry, is_ready, waits_at, is_waiting_by};
 ghost use Rattle.host_rounds.specs.Upkeep.{swept, timed, controlled, quieted};
-ghost use Rattle.host_rounds.specs.Deliveries.{received_serially};
+ghost use Rattle.local_host.specs.Arriving.{taking_in};
 ghost use Rattle.local_host.specs.Index.{is_standing};
 ghost use Rattle.local_host.specs.declared.live.Holder.TheVariants as Holder;
 ghost use Rattle.local_host.specs.Live.{flow_in, holder_in, IsLegal, opened_live, IsNext};
 ghost use Rattle.local_host.specs.Ports.{MayAsk};
 
+use crate::arrival::Taking;
 use crate::calls::{make, taken};
 use crate::reading::{
     first_number, is_closed, is_control_tick, is_fast, may_send, sent_count, stage_of,
@@ -259,21 +260,25 @@ impl LiveFlow {
         Ok(())
     }
 
-    /// A segment comes to it: by the fast path of core 0 where it is one for that, and else by the slow path. The error
-    /// is want of memory.
-    pub fn receive(
+    /// A segment comes to it: by the fast path of core 0 where it is one for that and it goes in serial order, and else
+    /// by the slow path. The error is want of memory.
+    pub(crate) fn receive(
         &mut self,
+        taking: Taking,
         tick: u32,
         frame: FrameId,
         seg: &Segment<'_>,
     ) -> Result<(), AllocError>
-        ensures { OnOk result (self.new ≡ received_serially tick frame (seg_of seg.now) self.old) }
+        ensures { OnOk result (self.new ≡ taking_in taking tick frame (seg_of seg.now) self.old) }
     {
         let call = CallIn::Rx { frame, seg: *seg };
-        if is_fast(&self.history, seg) {
-            make(&mut self.history, Caller::Core(0), tick, &call, &FastRx)?;
-        } else {
-            make(&mut self.history, Caller::Slow, tick, &call, &SlowRx)?;
+        match taking {
+            Taking::Serially if is_fast(&self.history, seg) => {
+                make(&mut self.history, Caller::Core(0), tick, &call, &FastRx)?;
+            }
+            _ => {
+                make(&mut self.history, Caller::Slow, tick, &call, &SlowRx)?;
+            }
         }
         Ok(())
     }

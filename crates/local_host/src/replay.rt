@@ -17,17 +17,24 @@ ghost use Rattle.capture_items.specs.Items.{item_in};
 ghost use Rattle.capture_items.specs.Numbers.{AreNumbersOf, kept_numbers};
 ghost use Rattle.local_host.specs.Script.{asked_at, served_later, served_whole};
 ghost use Rattle.local_host.specs.Index.{is_standing, passes_at};
-ghost use Rattle.local_host.specs.Arriving.{came};
+ghost use Rattle.tas_model.specs.declared.entry.Caller.TheVariants.{Slow};
+ghost use Rattle.host_rounds.specs.Deliveries.{received, delivered};
+ghost use Rattle.core_rounds.specs.CoreTicks.{IsCoresTick, rest_phase};
+ghost use Rattle.local_host.specs.Arriving.{arrival_in, came};
 ghost use Rattle.local_host.specs.Live.{flow_in, IsLegal};
 
-use crate::arrival::arrival_of;
+use crate::arrival::{Arrival, arrival_of, arrivals_of};
 use crate::host::{HostEnd, LocalHost};
 use crate::script::{Shown, THE_APP};
+use crate::steer::Cores;
 use capture_items::{Content, FirstNumbers, Item};
 use segment_fields::Segment;
 use std::alloc::{AllocError, Global};
 use std::marker::Model;
+use std::sync::Wait;
+use std::thread::Threads;
 use tas_model::{FourTuple, HostParams};
+use tas_num::Gate;
 
 /// A replay's host and the script that its application takes from the capture, seen as both in the middle of a run.
 #[derive(Drop)]
@@ -107,6 +114,63 @@ impl LocalReplay {
         self.deliver_all(tick, batch, numbers)?;
         self.serve_all(tick, batch, numbers)?;
         self.host.send_all(tick)
+    }
+
+    /// One tick on a host with cores: the slow path, the frames of the batch by the cores, what they leave by the slow
+    /// path, the application, and what may go. The error is want of memory.
+    pub fn play_on_cores<R: Threads + Wait + Sync, G: Gate>(
+        &mut self,
+        rt: &R,
+        tick: u32,
+        batch: &[Item<'_>],
+        numbers: &FirstNumbers,
+        cores: &mut Cores,
+        gate: &G,
+    ) -> Result<(), AllocError>
+        ensures tick { (items : List model.Item) → AreNumbersOf items numbers.now
+            → OnOk result (IsCoresTick (capture_scripts items) tick (due_in (map item_in batch.now)) self.old self.new) }
+        ensures cores { cores.new ≡ cores.old }
+    {
+        self.host.pass_time(tick)?;
+        let arrivals = arrivals_of(self.alloc, batch)?;
+        let steered = cores.steer(rt, self.alloc, &arrivals, &[])?;
+        let (host, count) = (cores.host(), cores.count());
+        let rest = self
+            .host
+            .receive_on_cores(rt, tick, &arrivals, &steered, host, count, gate)?;
+        self.deliver_rest(tick, &rest, numbers)?;
+        self.serve_all(tick, batch, numbers)?;
+        self.host.send_all(tick)
+    }
+
+    /// The slow path takes the frames that cores left. The error is want of memory.
+    fn deliver_rest(
+        &mut self,
+        tick: u32,
+        rest: &[Arrival<'_>],
+        numbers: &FirstNumbers,
+    ) -> Result<(), AllocError>
+        ensures { (items : List model.Item) → AreNumbersOf items numbers.now
+            → OnOk result (self.new ≡ on_host (λ host. rest_phase (capture_scripts items) tick host
+            (map arrival_in rest.now)) self.old) }
+    {
+        for arrival in rest {
+            self.deliver_slowly(tick, arrival, numbers)?;
+        }
+        Ok(())
+    }
+
+    /// The slow path takes a frame. The error is want of memory.
+    fn deliver_slowly(
+        &mut self,
+        tick: u32,
+        arrival: &Arrival<'_>,
+        numbers: &FirstNumbers,
+    ) -> Result<(), AllocError>
+        ensures { OnOk result (self.new ≡ on_host (λ host. delivered (received Slow) (kept_numbers numbers.now) tick
+            host (arrival_in arrival.now)) self.old) }
+    {
+        self.host.deliver_slowly(tick, arrival, numbers)
     }
 
     fn deliver_all(

@@ -3,7 +3,8 @@ use Rattle.tas_model.specs.declared.entry.Seg.{Seg}
 use Rattle.flow_state.specs.Calls.{seg_of}
 use Rattle.host_rounds.specs.Lists.{change_at}
 use Rattle.host_rounds.specs.Hosts.{Live, Host, is_known, next_number}
-use Rattle.host_rounds.specs.Deliveries.{received_serially, arrived}
+use Rattle.host_rounds.specs.Deliveries.{arrived}
+use Rattle.local_host.specs.Arriving.{taking_in}
 use Rattle.local_host.specs.Ports.{host_of}
 use Rattle.local_host.proofs.Places.{ok_by}
 use Rattle.local_host.proofs.Hosting.{changed_found, known_is, unknown_is}
@@ -13,9 +14,9 @@ use Rattle.local_host.proofs.host.LocalHost.receive.Goals as goal
 
 pub invariant_of-self : goal.invariant_of-self
 invariant_of-self g c =
-    let f : Live → Live = received_serially c.args.tick c.args.frame (seg_of c.args.seg.now) in
+    let f : Live → Live = taking_in c.args.taking c.args.tick c.args.frame (seg_of c.args.seg.now) in
     host_done c.receive.result (change_at c.in-Some.i f c.self.inside.flows) c.receive.new.self c.self.invariant
-    (host_change f c.in-Some.i (received_keeps c.args.tick c.args.frame (seg_of c.args.seg.now)) c.self.invariant)
+    (host_change f c.in-Some.i (received_keeps c.args.taking c.args.tick c.args.frame (seg_of c.args.seg.now)) c.self.invariant)
     c.receive.ensures.made c.receive.ensures.none
 
 pub returns-in-Some-clause-made : goal.returns-in-Some-clause-made
@@ -23,7 +24,7 @@ returns-in-Some-clause-made g c =
     let host : Host = host_of c.self.inside.params c.self.inside.listeners.items c.self.inside.log
     c.self.inside.flows in
     let seg : Seg = seg_of c.args.seg.now in
-    let f : Live → Live = received_serially c.args.tick c.args.frame seg in
+    let f : Live → Live = taking_in c.args.taking c.args.tick c.args.frame seg in
     let found = sym c.find.ensures.place ∙ c.in-Some.is in
     let numbers = g.N.NumberSource.numbers c.args.numbers.now in
     ok_by c.receive.result
@@ -45,7 +46,7 @@ returns-in-None-clause-made g c =
     let host : Host = host_of c.self.inside.params c.self.inside.listeners.items c.self.inside.log
     c.self.inside.flows in
     let seg : Seg = seg_of c.args.seg.now in
-    let f : Live → Live = received_serially c.args.tick c.args.frame seg in
+    let f : Live → Live = taking_in c.args.taking c.args.tick c.args.frame seg in
     let number : ℕ = next_number (g.N.NumberSource.numbers c.args.numbers.now) c.args.self.now c.args.tuple in
     let none : is_known c.args.self.now c.args.tuple ≡ false =
     subst (λ (h : Host). is_known h c.args.tuple ≡ false) c.self.view_is

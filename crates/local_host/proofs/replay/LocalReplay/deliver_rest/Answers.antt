@@ -1,0 +1,17 @@
+use Rattle.std.proofs.Common.{map, ◌∙◌}
+use Rattle.tas_runs.specs.FirstNumbers.{first_number}
+use Rattle.capture_items.specs.Numbers.{kept_numbers}
+use Rattle.capture_items.proofs.Listed.{numbers_are}
+use Rattle.local_host.specs.Arriving.{arrival_in}
+use Rattle.local_host.proofs.CoreRecording.{rests, rests_less, slow_alike}
+use Rattle.local_host.proofs.replay.LocalReplay.deliver_rest.Goals as goal
+
+pub loop-arrival-preserved : goal.loop-arrival-preserved
+loop-arrival-preserved c = λ items are.
+    rests_less items c.args.tick c.loop-arrival.self c.deliver_slowly.new.self
+    (rests items c.args.tick c.args.self.now (map arrival_in c.args.rest.now))
+    c.args.rest.now c.loop-arrival.arrival-index _ c.loop-arrival-test.true
+    (c.in_ok-deliver_slowly.ensures
+    ∙ slow_alike (kept_numbers c.args.numbers.now) (first_number items) c.args.tick (arrival_in _) c.loop-arrival.self
+    (λ tuple k n. numbers_are items c.args.numbers.now tuple k n are))
+    (c.loop-arrival.invariant items are)
