@@ -12,7 +12,8 @@ use Rattle.scenario_text.specs.declared.scenario.Scenario.{Scenario}
 use Rattle.scenario_runs.specs.Applications.{Script}
 use Rattle.scenario_runs.specs.Worlds.{scripts_of, numbers_of}
 use Rattle.scenario_host.specs.Turns.{site_with}
-use Rattle.scenario_host.proofs.Lasting.{Lasts, lasts_same, lasts_both, lasts_made, lasts_slow, lasts_frame, lasts_frames}
+use Rattle.scenario_host.proofs.Lasting.{Lasts, lasts_same, lasts_both, lasts_made, lasts_slow, lasts_frame}
+use Rattle.scenario_host.proofs.Lasting.{lasts_frames}
 use Rattle.scenario_host.proofs.Playing.{numbers_in}
 
 lasts_taken : (numbers : Numbers) (t : ℕ) (host : Host) (order : List Taken)
@@ -20,7 +21,8 @@ lasts_taken : (numbers : Numbers) (t : ℕ) (host : Host) (order : List Taken)
 lasts_taken numbers t host [] = lasts_same host
 lasts_taken numbers t host (x ∷ xs) =
     let next : Host = delivered (received (Core x.core)) numbers t host x.arrival in
-    lasts_both host next (taken_by_cores numbers t next xs) (lasts_frame (received (Core x.core)) numbers t host x.arrival)
+    lasts_both host next (taken_by_cores numbers t next xs)
+    (lasts_frame (received (Core x.core)) numbers t host x.arrival)
     (lasts_taken numbers t next xs)
 
 -- the slow path, the cores, and the slow path again

@@ -14,7 +14,7 @@ use Rattle.scenario_text.specs.declared.scenario.Scenario.{Scenario}
 use Rattle.scenario_text.specs.declared.scenario.HostLine.{HostLine}
 use Rattle.scenario_runs.specs.Applications.{Script}
 use Rattle.scenario_runs.specs.Worlds.{World, frames_of_hosts, sent_in, is_under_way}
-use Rattle.scenario_runs.specs.Runs.{IsTick, serial_sites, serial_world}
+use Rattle.scenario_runs.specs.Runs.{AreRounds, IsTick, serial_sites, serial_world}
 use Rattle.sent_frames.specs.declared.counts.SentCounts.{SentCounts}
 use Rattle.sent_frames.specs.Sending.{addresses_of, of_tick, AreUpTo}
 use Rattle.scenario_world.specs.declared.playing.Playing.{Playing}
@@ -64,6 +64,16 @@ pub serially_played : (s : Scenario) (t : ℕ) (p : Playing) (hosts : World) →
     → hosts ≡ serial_world s t p.hosts.items → IsTick s t p.hosts.items hosts
 serially_played s t p hosts w played =
     subst (λ az. IsTick s t p.hosts.items az) (sym played) (serial_is_tick s t p.hosts.items w.early)
+
+-- the same on cores
+pub cores_played : (s : Scenario) (t : ℕ) (p : Playing) (came : List Sent) (lent hosts : World) → IsWorld s t p
+    → came ≡ due s.link p.sent t → lent ≡ p.hosts.items
+    → ((whole : World) → came ≡ due s.link (sent_in whole) t → AreEarly t lent → AreRounds s whole t 0 lent hosts)
+    → IsTick s t p.hosts.items hosts
+cores_played s t p came lent hosts w is same played =
+    subst (λ bs. AreRounds s p.hosts.items t 0 bs hosts) same
+    (played p.hosts.items (is ∙ due_as_kept s t p.hosts.items p.sent p.last w.kept)
+    (subst (λ bs. AreEarly t bs) (sym same) w.early))
 
 -- the hosts have played, and nothing else has changed
 pub are_played : (s : Scenario) (t : ℕ) (p q : Playing) (hosts : World) → IsWorld s t p

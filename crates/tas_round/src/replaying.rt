@@ -3,15 +3,17 @@ ghost use Rattle.tas_runs.specs.Records as model;
 ghost use Rattle.tas_runs.specs.Batches.{batches_of};
 ghost use Rattle.host_rounds.specs.Hosts.{run_of};
 ghost use Rattle.tas_runs.specs.LocalScript.{capture_scripts, due_in};
-ghost use Rattle.tas_runs.specs.Replays.{at_start, Replay};
+ghost use Rattle.tas_runs.specs.Replays.{at_start, replay_log, Replay};
 ghost use Rattle.host_rounds.specs.SerialOrder.{serial_tick, serial_ticks};
-ghost use Rattle.tas_runs.specs.SerialOrder.{serial_replay, serial_log};
+ghost use Rattle.tas_runs.specs.SerialOrder.{serial_replay};
 ghost use Rattle.capture_items.specs.Items.{item_in};
+ghost use Rattle.capture_items.specs.Found.{IsFound};
 ghost use Rattle.capture_items.specs.Numbers.{AreNumbersOf};
 ghost use Rattle.tas_round.specs.Runs.{host_in, log_in, AreCores, Ended, Refuses};
 ghost use Rattle.tas_round.specs.declared.replaying.Mode.{Mode};
 
 use crate::logs::{FlowList, HostRun, HostRuns, RunLog};
+use crate::on_cores::replay_on_cores;
 use capture_items::{FirstNumbers, Found, InputFault, Item, find_items, next_batch};
 use local_host::LocalReplay;
 use pcap_frames::PcapRefused;
@@ -26,7 +28,7 @@ use tas_num::Gate;
 pub enum Mode {
     /// One thread, in serial order.
     Serial,
-    /// So many cores, from 1 to 16. Until there are workers for them, one thread does their work, in serial order.
+    /// So many cores of each host, from 1 to 16. In each tick they take frames side by side, each on a thread of its own.
     Cores(u32),
 }
 
@@ -59,13 +61,13 @@ pub struct Ending {
 /// Replays a capture on the host with the address `local`, tick by tick. With `loose` no checksum of a frame is looked
 /// at. `OutOfMemory` is want of memory; `Pcap` says why the bytes are no capture.
 pub fn replay<R: Threads + Wait + Sync, G: Gate>(
-    _rt: &R,
+    rt: &R,
     alloc: Global,
     local: u32,
     capture: &[u8],
     loose: bool,
     mode: Mode,
-    _gate: &G,
+    gate: &G,
 ) -> Result<RunLog, ReplayFault>
     requires small { length capture.now ≤ 67108864 }
     requires cores { AreCores mode }
@@ -76,7 +78,10 @@ pub fn replay<R: Threads + Wait + Sync, G: Gate>(
         → IfOk result (λ log. serial_replay local capture.now loose ≡ Ok (log_in log)) }
     ensures refused { IfErr result (Refuses capture.now) }
 {
-    replay_serially(alloc, local, capture, loose)
+    match mode {
+        Mode::Serial => replay_serially(alloc, local, capture, loose),
+        Mode::Cores(count) => replay_on_cores(rt, alloc, local, capture, loose, count, gate),
+    }
 }
 
 /// The same on one thread: it waits for nobody, and so always returns.
@@ -91,16 +96,31 @@ pub fn replay_serially(
     ensures serial { IfOk result (λ log. serial_replay local capture.now loose ≡ Ok (log_in log)) }
     ensures refused { IfErr result (Refuses capture.now) }
 {
-    let found = match find_items(alloc, capture, local, loose) {
-        Ok(found) => found,
-        Err(InputFault::Refused(fault)) => return Err(ReplayFault::Pcap(fault)),
-        Err(InputFault::OutOfMemory) => return Err(ReplayFault::OutOfMemory),
-    };
+    let found = find(alloc, local, capture, loose)?;
     let _records = found.records;
     let numbers = FirstNumbers::of_items(alloc, &found.items)?;
     let ending = run_batches(alloc, local, &found.items, &numbers)?;
     let log = log_of(alloc, &found, ending)?;
     Ok(log)
+}
+
+/// What the capture has for the host with the address `local`.
+pub(crate) fn find<'a>(
+    alloc: Global,
+    local: u32,
+    capture: &'a [u8],
+    loose: bool,
+) -> Result<Found<'a>, ReplayFault>
+    requires small { length capture.now ≤ 67108864 }
+    ensures found { IfOk result (IsFound capture.now local loose) }
+    ensures few { IfOk result (λ found. length found.items.items ≤ found.records) }
+    ensures refused { IfErr result (Refuses capture.now) }
+{
+    match find_items(alloc, capture, local, loose) {
+        Ok(found) => Ok(found),
+        Err(InputFault::Refused(fault)) => Err(ReplayFault::Pcap(fault)),
+        Err(InputFault::OutOfMemory) => Err(ReplayFault::OutOfMemory),
+    }
 }
 
 /// The replay after all batches of these items.
@@ -149,10 +169,11 @@ fn play_batch(
 }
 
 /// The log of a replay with this ending. The error is want of memory.
-fn log_of(alloc: Global, found: &Found<'_>, ending: Ending) -> Result<RunLog, AllocError>
+pub(crate) fn log_of(alloc: Global, found: &Found<'_>, ending: Ending) -> Result<RunLog, AllocError>
     requires few { length found.now.items.items ≤ found.now.records }
-    ensures { (local : ℕ) → Ended local (map item_in found.now.items.items) ending
-        → IfOk result (λ log. log_in log ≡ serial_log local found.now.records (map item_in found.now.items.items)) }
+    ensures { (local : ℕ) → ending.ticks ≡ length (batches_of (map item_in found.now.items.items))
+        → IfOk result (λ log. log_in log ≡ replay_log local found.now.records (map item_in found.now.items.items)
+        ending.replay.host) }
 {
     let counts = found.counts();
     let host = host_run(alloc, ending.replay)?;

@@ -7,7 +7,7 @@ use Rattle.scenario_world.proofs.CoresPlayed.{one_round}
 use Rattle.scenario_world.proofs.on_cores.play_host_on_cores.Goals as goal
 
 pub returns-clause-round : goal.returns-clause-round
-returns-clause-round c = λ whole same histories.
+returns-clause-round g c = λ whole same histories.
     ok_by c.play_on_cores.result
     (λ tick.
     one_round c.args.s.now whole c.args.tick c.args.number c.args.host.now c.play_on_cores.new.self

@@ -5,7 +5,7 @@ use Rattle.scenario_world.proofs.world.play_scenario_on_cores.Given as goal
 
 -- each right end of the ticks that are left is one of the whole run
 abbrev pub invariant-loop-tick : goal.invariant-loop-tick
-invariant-loop-tick l = record {
+invariant-loop-tick g l = record {
   world : IsWorld l.s l.tick l.playing;
   cores : AreCoresOf (length l.s.hosts) l.cores.items;
   run : LeadsRight l.s l.tick l.playing.hosts.items;
