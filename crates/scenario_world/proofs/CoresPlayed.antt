@@ -1,6 +1,6 @@
 -- The hosts of a world play a tick on cores, one after the other.
-use Rattle.std.proofs.Common.{◌≡◌, ℕ, zero, suc, ◌+◌, ◌<◌, ◌≤◌, List, [], ◌∷◌, ◌++◌, length, map, get_or, set, take, drop}
-use Rattle.std.proofs.Common.{Some, slice_get, refl, sym, ap, ◌∙◌, subst, arith, append_assoc, append-nil}
+use Rattle.std.proofs.Common.{◌≡◌, ℕ, zero, suc, ◌+◌, ◌<◌, ◌≤◌, List, [], ◌∷◌, ◌++◌, length, map, get_or, set, take}
+use Rattle.std.proofs.Common.{drop, Some, slice_get, refl, sym, ap, ◌∙◌, subst, arith, append_assoc, append-nil}
 use Rattle.std.proofs.lemmas.List.{set_at, take_all, drop_all}
 use Rattle.std.proofs.lemmas.Option.{slice_get-get_or}
 use Rattle.std.proofs.Math.Seq.{get_or-append_seam}
@@ -29,7 +29,8 @@ pub one_round : (s : Scenario) (whole : World) (t h : ℕ) (before after : Site 
     (record { frames = frames; asks = map (λ (x : Script). x.number) before.scripts }) before after
     → Round (scripts_of s before.host.params) t (due_at s whole t h before.scripts) before after
 one_round s whole t h before after frames histories came tick =
-    let due : List Arrival → Due ℕ = λ fs. record { frames = fs; asks = map (λ (x : Script). x.number) before.scripts } in
+    let due : List Arrival → Due ℕ =
+    λ fs. record { frames = fs; asks = map (λ (x : Script). x.number) before.scripts } in
     cores_round (scripts_of s before.host.params) t (due_at s whole t h before.scripts) before after
     (scenarios_by_moves s before.host.params) histories
     (subst (λ fs. IsCoresTick (scripts_of s before.host.params) t (due fs) before after) came tick)
@@ -67,7 +68,8 @@ pub none_played : (s : Scenario) (whole : World) (t : ℕ) (olds : World) → Ha
 none_played s whole t olds = ([], tt, refl)
 
 -- the host whose turn it is stands as it was
-pub host_there : (s : Scenario) (whole : World) (t i : ℕ) (olds hosts : World) (d : Site (List Script)) → i < length olds
+pub host_there : (s : Scenario) (whole : World) (t i : ℕ) (olds hosts : World) (d : Site (List Script))
+    → i < length olds
     → HavePlayed s whole t i olds hosts → get_or hosts i d ≡ get_or olds i d
 host_there s whole t i olds hosts d inside played =
     let x : Site (List Script) = get_or olds i d in

@@ -8,4 +8,5 @@ mod playing;
 mod resting;
 mod world;
 
-pub use world::{WorldEnd, play_scenario, play_scenario_on_cores};
+pub use on_cores::play_scenario_on_cores;
+pub use world::{WorldEnd, play_scenario};

@@ -5,11 +5,16 @@ ghost use Rattle.host_rounds.specs.Rounds.{Round};
 ghost use Rattle.link_script.specs.DueFrames as frames;
 ghost use Rattle.scenario_ranges.specs.Ranges.{IsInRange};
 ghost use Rattle.scenario_runs.specs.Worlds.{World, scripts_of, due_at, sent_in};
-ghost use Rattle.scenario_runs.specs.Runs.{AreRounds, IsTick};
+ghost use Rattle.scenario_runs.specs.Runs.{AreRounds, IsTick, Run};
+ghost use Rattle.local_host.specs.declared.host.HostEnd.{HostEnd};
+ghost use Rattle.local_host.specs.Live.{IsLegal};
+ghost use Rattle.scenario_world.specs.Ends.{log_of};
 ghost use Rattle.scenario_world.specs.Playing.{IsWorld, AreEarly, AreCoresOf};
 
 use crate::arriving::arrivals_at;
-use crate::playing::{Playing, end_tick};
+use crate::playing::{Playing, at_start, end_tick, is_at_rest};
+use crate::resting::have_ended;
+use crate::world::{WorldEnd, end_of};
 use link_script::{DueList, due};
 use local_host::Cores;
 use scenario_host::ScenarioHost;
@@ -18,6 +23,33 @@ use std::alloc::{AllocError, Global};
 use std::sync::Wait;
 use std::thread::Threads;
 use tas_num::Gate;
+
+/// Plays a scenario to its end on hosts with so many cores each, from 1 to 16: the first tick after which all scripts
+/// have ended, all flows are closed and no frame is on the link, or its limit. The error is want of memory.
+pub fn play_scenario_on_cores<R: Threads + Wait + Sync, G: Gate>(
+    rt: &R,
+    alloc: Global,
+    s: &Scenario,
+    cores: u32,
+    gate: &G,
+) -> Result<WorldEnd, AllocError>
+    requires ranges { IsInRange s.now }
+    requires cores { (0 < cores) × (cores ≤ 16) }
+    ensures run { IfOk result (λ end. Run s.now (log_of s.now end)) }
+    ensures hosts { IfOk result (λ end. length end.hosts.items ≡ length s.now.hosts) }
+    ensures legal { IfOk result (λ end. Each (λ (e : HostEnd). Each IsLegal e.flows.items) end.hosts.items) }
+{
+    let mut playing = at_start(alloc, s)?;
+    let mut cores = cores_of(alloc, s, cores)?;
+    for tick in 0..s.limit {
+        play_tick_on_cores(rt, alloc, s, tick, &mut playing, &mut cores, gate)?;
+        if is_at_rest(tick, &playing) {
+            return end_of(alloc, playing.hosts, tick + 1, false);
+        }
+    }
+    let stalled = !have_ended(&playing.hosts);
+    end_of(alloc, playing.hosts, s.limit, stalled)
+}
 
 /// So many cores of each host, from 1 to 16. The error is want of memory.
 pub fn cores_of(alloc: Global, s: &Scenario, count: u32) -> Result<Vec<Cores>, AllocError>
@@ -71,7 +103,17 @@ fn play_hosts_on_cores<R: Threads + Wait + Sync, G: Gate>(
     ensures cores { OnOk result (cores.new ≡ cores.old) }
 {
     for (number, host) in hosts.iter_mut().enumerate() {
-        play_host_on_cores(rt, alloc, s, tick, due, number, host, &mut cores[number], gate)?;
+        play_host_on_cores(
+            rt,
+            alloc,
+            s,
+            tick,
+            due,
+            number,
+            host,
+            &mut cores[number],
+            gate,
+        )?;
     }
     Ok(())
 }

@@ -1,21 +1,17 @@
-ghost use Rattle.std.specs.Prelude.{◌≡◌, ◌≤◌, ◌<◌, length, IfOk};
+ghost use Rattle.std.specs.Prelude.{◌≡◌, length, IfOk};
 ghost use Rattle.host_rounds.specs.Lists.{Each};
 ghost use Rattle.scenario_ranges.specs.Ranges.{IsInRange};
-ghost use Rattle.scenario_runs.specs.Runs.{Run, serial_run};
+ghost use Rattle.scenario_runs.specs.Runs.{serial_run};
 ghost use Rattle.local_host.specs.declared.host.HostEnd.{HostEnd};
 ghost use Rattle.local_host.specs.Live.{IsLegal};
 ghost use Rattle.scenario_world.specs.Ends.{log_of, AreEnds};
 
-use crate::on_cores::{cores_of, play_tick_on_cores};
 use crate::playing::{at_start, is_at_rest, play_tick};
 use crate::resting::have_ended;
 use local_host::HostEnd;
 use scenario_host::ScenarioHost;
 use scenario_text::Scenario;
 use std::alloc::{AllocError, Global};
-use std::sync::Wait;
-use std::thread::Threads;
-use tas_num::Gate;
 
 /// What the run of a scenario leaves.
 #[derive(Drop)]
@@ -47,34 +43,8 @@ pub fn play_scenario(alloc: Global, s: &Scenario) -> Result<WorldEnd, AllocError
     end_of(alloc, playing.hosts, s.limit, stalled)
 }
 
-/// Plays a scenario to the same end on hosts with so many cores each, from 1 to 16. The error is want of memory.
-pub fn play_scenario_on_cores<R: Threads + Wait + Sync, G: Gate>(
-    rt: &R,
-    alloc: Global,
-    s: &Scenario,
-    cores: u32,
-    gate: &G,
-) -> Result<WorldEnd, AllocError>
-    requires ranges { IsInRange s.now }
-    requires cores { (0 < cores) × (cores ≤ 16) }
-    ensures run { IfOk result (λ end. Run s.now (log_of s.now end)) }
-    ensures hosts { IfOk result (λ end. length end.hosts.items ≡ length s.now.hosts) }
-    ensures legal { IfOk result (λ end. Each (λ (e : HostEnd). Each IsLegal e.flows.items) end.hosts.items) }
-{
-    let mut playing = at_start(alloc, s)?;
-    let mut cores = cores_of(alloc, s, cores)?;
-    for tick in 0..s.limit {
-        play_tick_on_cores(rt, alloc, s, tick, &mut playing, &mut cores, gate)?;
-        if is_at_rest(tick, &playing) {
-            return end_of(alloc, playing.hosts, tick + 1, false);
-        }
-    }
-    let stalled = !have_ended(&playing.hosts);
-    end_of(alloc, playing.hosts, s.limit, stalled)
-}
-
 /// What these hosts leave after so many ticks. The error is want of memory.
-fn end_of(
+pub(crate) fn end_of(
     alloc: Global,
     hosts: Vec<ScenarioHost<'_>>,
     ticks: u32,

@@ -28,7 +28,8 @@ use tas_num::Gate;
 pub enum Mode {
     /// One thread, in serial order.
     Serial,
-    /// So many cores of each host, from 1 to 16. In each tick they take frames side by side, each on a thread of its own.
+    /// So many cores of each host, from 1 to 16: in each tick they take frames side by side, each on a thread of its
+    /// own.
     Cores(u32),
 }
 

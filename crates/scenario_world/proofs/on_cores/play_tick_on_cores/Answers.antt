@@ -6,8 +6,8 @@ use Rattle.scenario_world.specs.Playing.{AreCoresOf}
 use Rattle.scenario_world.proofs.NextTick.{hosts_len, cores_played, are_played}
 use Rattle.scenario_world.proofs.on_cores.play_tick_on_cores.Goals as goal
 
-pub play_hosts_on_cores-requires : goal.play_hosts_on_cores-requires
-play_hosts_on_cores-requires g c =
+pub play_hosts_on_cores-requires-clause-cores : goal.play_hosts_on_cores-requires-clause-cores
+play_hosts_on_cores-requires-clause-cores g c = λ lifetimes outlive.
     let p = c.args.p.now in
     subst (λ n. AreCoresOf n c.args.cores.now)
     (sym (ap length c.deref_mut.ensures.value ∙ hosts_len c.args.s.now c.args.tick p.hosts.items p c.requires.world))

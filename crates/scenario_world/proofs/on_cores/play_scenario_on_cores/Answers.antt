@@ -1,10 +1,12 @@
 use Rattle.std.proofs.Common.{◌≡◌, ◌<◌, ◌+◌, not, true, false, length, sym, subst, ap, ◌∙◌, arith}
+use Rattle.std.proofs.lemmas.List.{with_items_is}
 use Rattle.std.proofs.lemmas.Result.{IfOk-weaker}
 use Rattle.scenario_runs.specs.Worlds.{all_ended}
 use Rattle.scenario_world.specs.Ends.{AreEnds}
+use Rattle.scenario_world.specs.Playing.{AreCoresOf}
 use Rattle.scenario_world.proofs.Ended.{ends_len}
 use Rattle.scenario_world.proofs.Finishing.{begins_right, goes_on_right, rests_right, runs_out_right, run_shown}
-use Rattle.scenario_world.proofs.world.play_scenario_on_cores.Goals as goal
+use Rattle.scenario_world.proofs.on_cores.play_scenario_on_cores.Goals as goal
 
 pub loop-tick-init : goal.loop-tick-init
 loop-tick-init g c = record {
@@ -35,7 +37,23 @@ returns-then-is_at_rest-clause-hosts g c =
     c.end_of.ensures.ends
 
 pub loop-tick-preserved : goal.loop-tick-preserved
-loop-tick-preserved g c = ?
+loop-tick-preserved g c =
+    let s = c.args.s.now in
+    let p = c.play_tick_on_cores.new.p in
+    let t = c.loop-tick.tick in
+    let inside : t < s.limit = omega arith in
+    let world = c.in_ok-play_tick_on_cores.ensures.world in
+    let cores = c.play_tick_on_cores.new.cores in
+    let len : length cores ≡ c.loop-tick.cores.len = omega arith in
+    record {
+      world = world;
+      cores = subst (λ cs. AreCoresOf (length s.hosts) cs)
+          (sym (with_items_is c.loop-tick.cores cores len
+          ∙ (c.in_ok-play_tick_on_cores.ensures.cores ∙ c.deref_mut.ensures.value)))
+          c.loop-tick.invariant.cores;
+      run = goes_on_right s t c.loop-tick.playing.hosts.items p.hosts.items inside c.loop-tick.invariant.run
+          c.in_ok-play_tick_on_cores.ensures.tick (sym (c.is_at_rest.ensures s world) ∙ c.if-is_at_rest.false);
+    }
 
 pub returns-clause-run : goal.returns-clause-run
 returns-clause-run g c =
