@@ -8,9 +8,9 @@ use Rattle.capture_items.proofs.Replays.{found_is_replayed}
 use Rattle.tas_round.specs.Runs.{log_in, Ended}
 use Rattle.tas_round.proofs.Playing.{ok_gives}
 use Rattle.tas_round.proofs.replaying.replay_serially.Goals as goal
-use Rattle.tas_round.proofs.replaying.replay_serially.Goals.{After-drop-found}
+use Rattle.tas_round.proofs.replaying.replay_serially.Goals.{After-drop-found-2}
 
-serial : (c : After-drop-found)
+serial : (c : After-drop-found-2)
     → serial_replay c.args.local c.args.capture.now c.args.loose ≡ Ok (log_in c.in_ok-log.log)
 serial c =
     let found = c.in_ok-found.found in
