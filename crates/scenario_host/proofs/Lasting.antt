@@ -99,13 +99,17 @@ lasts_packet taking numbers t host frame (Damaged rule) = record { params = refl
 lasts_packet taking numbers t host frame (Segment tuple seg) =
     lasts_arrived (is_known host tuple) (taking t frame seg) (next_number numbers host tuple) t host frame tuple seg
 
+pub lasts_frame : (taking : Taking) (numbers : Numbers) (t : ℕ) (host : Host) (x : Arrival)
+    → Lasts host (delivered taking numbers t host x)
+lasts_frame taking numbers t host x = lasts_packet taking numbers t host x.frame x.packet
+
 pub lasts_frames : (taking : Taking) (numbers : Numbers) (t : ℕ) (frames : List Arrival) (host : Host)
     → Lasts host (fold (delivered taking numbers t) host frames)
 lasts_frames taking numbers t [] host = lasts_same host
 lasts_frames taking numbers t (x ∷ xs) host =
     let next : Host = delivered taking numbers t host x in
     lasts_both host next (fold (delivered taking numbers t) next xs)
-    (lasts_packet taking numbers t host x.frame x.packet) (lasts_frames taking numbers t xs next)
+    (lasts_frame taking numbers t host x) (lasts_frames taking numbers t xs next)
 
 pub lasts_made : (before after made : Host) → after ≡ made → Lasts before made → Lasts before after
 lasts_made before after made is lasts = subst (Lasts before) (sym is) lasts

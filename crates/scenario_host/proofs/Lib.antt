@@ -11,3 +11,4 @@ pub mod Sockets
 pub mod Stepping
 pub mod Aborting
 pub mod Playing
+pub mod OnCores

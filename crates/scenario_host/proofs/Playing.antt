@@ -16,7 +16,7 @@ use Rattle.scenario_host.proofs.Lasting.{Lasts, lasts_both, lasts_made, lasts_sl
 use Rattle.scenario_host.proofs.Fit.{fit_more}
 use Rattle.scenario_host.proofs.Walking.{each_weaker}
 
-abbrev numbers_in : List Script → List ℕ
+abbrev pub numbers_in : List Script → List ℕ
 numbers_in scripts = map (λ (s : Script). s.number) scripts
 
 -- scripts stay sound while their host lasts

@@ -2,3 +2,4 @@ pub mod Scripts
 pub mod Answers
 pub mod Sound
 pub mod Turns
+pub mod GroupMoves

@@ -4,6 +4,7 @@ ghost use Rattle.host_rounds.specs.Lists.{Each};
 ghost use Rattle.host_rounds.specs.Hosts.{flows_of};
 ghost use Rattle.host_rounds.specs.Deliveries.{received_serially, delivered};
 ghost use Rattle.host_rounds.specs.SerialOrder.{ask_phase, serial_tick};
+ghost use Rattle.core_rounds.specs.CoreTicks.{IsCoresTick};
 ghost use Rattle.local_host.specs.Arriving.{arrival_in};
 ghost use Rattle.local_host.specs.Live.{flow_in, IsLegal};
 ghost use Rattle.scenario_ranges.specs.Ranges.{IsInRange, IsHostInRange};
@@ -14,12 +15,16 @@ ghost use Rattle.scenario_host.specs.Turns.{site_with};
 
 use crate::filling::FillBytes;
 use crate::numbers::HostNumbers;
+use crate::on_cores::play_tick_on_cores;
 use crate::script::AppScript;
 use crate::start::scripts_on;
-use local_host::{Arrival, HostEnd, LocalHost};
+use local_host::{Arrival, Cores, HostEnd, LocalHost};
 use scenario_text::{HostLine, Scenario};
 use std::alloc::{AllocError, Global};
 use std::marker::Model;
+use std::sync::Wait;
+use std::thread::Threads;
+use tas_num::Gate;
 
 /// A host of a scenario and its applications, seen as both in the middle of a run.
 #[derive(Drop)]
@@ -88,6 +93,45 @@ impl<'a> ScenarioHost<'a> {
             s,
             &self.numbers,
             &self.filling,
+        ) {
+            Ok(()) => Ok(()),
+            Err(error) => {
+                self.host = LocalHost::new(self.alloc, self.numbers.params);
+                self.scripts.clear();
+                Err(error)
+            }
+        }
+    }
+
+    /// One tick on cores: the slow path, the frames that cores take side by side, those that they left, the call of
+    /// each application, and what may go. The error is want of memory, and leaves a host without flows and
+    /// applications.
+    pub fn play_on_cores<R: Threads + Wait + Sync, G: Gate>(
+        &mut self,
+        rt: &R,
+        tick: u32,
+        arrivals: &[Arrival<'_>],
+        s: &Scenario,
+        cores: &mut Cores,
+        gate: &G,
+    ) -> Result<(), AllocError>
+        ensures tick { OnOk result (IsCoresTick (scripts_of s.now self.old.host.params) tick
+            (record { frames = map arrival_in arrivals.now; asks = map (λ (x : Script). x.number) self.old.scripts })
+            self.old self.new) }
+        ensures cores { cores.new ≡ cores.old }
+    {
+        match play_tick_on_cores(
+            rt,
+            self.alloc,
+            &mut self.host,
+            &mut self.scripts,
+            tick,
+            arrivals,
+            s,
+            &self.numbers,
+            &self.filling,
+            cores,
+            gate,
         ) {
             Ok(()) => Ok(()),
             Err(error) => {
@@ -174,7 +218,7 @@ fn deliver_all(
 }
 
 /// The turns of all applications, in their order. The error is want of memory.
-fn ask_all(
+pub(crate) fn ask_all(
     host: &mut LocalHost,
     scripts: &mut Vec<AppScript<'_>>,
     tick: u32,

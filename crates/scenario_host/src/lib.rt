@@ -6,6 +6,7 @@ mod filling;
 mod host;
 mod kill;
 mod numbers;
+mod on_cores;
 mod script;
 mod start;
 mod steps;

@@ -9,3 +9,4 @@ pub mod Starts
 pub mod NextTick
 pub mod Played
 pub mod Finishing
+pub mod CoresPlayed

@@ -1,6 +1,6 @@
 -- A tick of a world leads to the world before the next one.
 use Rattle.std.proofs.Common.{◌≡◌, ℕ, ◌+◌, ◌<◌, ◌≤◌, ◌||◌, Bool, nat_lt, eqb, List, [], ◌∷◌, ◌++◌, map, length, filter}
-use Rattle.std.proofs.Common.{refl, sym, ap, ◌∙◌, subst, arith}
+use Rattle.std.proofs.Common.{suc, refl, sym, ap, ◌∙◌, subst, arith}
 use Rattle.std.specs.List.{list_any}
 use Rattle.std.proofs.lemmas.List.{length-map}
 use Rattle.std.proofs.lemmas.List.Elements.{filter-append}
@@ -14,13 +14,15 @@ use Rattle.scenario_text.specs.declared.scenario.Scenario.{Scenario}
 use Rattle.scenario_text.specs.declared.scenario.HostLine.{HostLine}
 use Rattle.scenario_runs.specs.Applications.{Script}
 use Rattle.scenario_runs.specs.Worlds.{World, frames_of_hosts, sent_in, is_under_way}
-use Rattle.scenario_runs.specs.Runs.{serial_sites, serial_world}
+use Rattle.scenario_runs.specs.Runs.{AreRounds, IsTick, serial_sites, serial_world}
 use Rattle.sent_frames.specs.declared.counts.SentCounts.{SentCounts}
 use Rattle.sent_frames.specs.Sending.{addresses_of, of_tick, AreUpTo}
 use Rattle.scenario_world.specs.declared.playing.Playing.{Playing}
-use Rattle.scenario_world.specs.Playing.{FramesBefore, AreCounted, AreCountedBefore, AreEarly, params_of, line_params, AreKept, IsWorld}
+use Rattle.scenario_world.specs.Playing.{FramesBefore, AreCounted, AreCountedBefore, AreEarly, params_of, line_params}
+use Rattle.scenario_world.specs.Playing.{AreKept, IsWorldOf, IsWorld, IsPlayed}
 use Rattle.scenario_world.proofs.ByTick.{SameBut, same_next, any_next, tick_frames}
-use Rattle.scenario_world.proofs.WorldTicks.{AreTicked, world_ticked, next_are_early, same_addresses, sent_but, sent_none}
+use Rattle.scenario_world.proofs.WorldTicks.{AreTicked, world_ticked, serial_is_tick, next_are_early, same_addresses}
+use Rattle.scenario_world.proofs.WorldTicks.{sent_but, sent_none}
 use Rattle.scenario_world.proofs.Counted.{before_ticked}
 
 -- ----- before the tick
@@ -30,10 +32,23 @@ pub due_as_kept : (s : Scenario) (t : ℕ) (world : World) (kept : List Sent) (l
 due_as_kept s t world kept last k =
     due_by_ticks s.link kept (sent_in world) t k.low (λ f l. k.over f t l (omega arith)) k.same
 
-pub hosts_len : (s : Scenario) (t : ℕ) (p : Playing) → IsWorld s t p → length p.hosts.items ≡ length s.hosts
-hosts_len s t p w =
-    sym (length-map p.hosts.items (λ (site : Site (List Script)). site.host.params))
+ticked_len : (t : ℕ) (before after : World) → AreTicked t before after → length after ≡ length before
+ticked_len t [] [] ticked = refl
+ticked_len t [] (a ∷ az) ticked = absurd ticked
+ticked_len t (b ∷ bs) [] ticked = absurd ticked
+ticked_len t (b ∷ bs) (a ∷ az) ticked = ap suc (ticked_len t bs az ticked.1)
+
+pub hosts_len : (s : Scenario) (t : ℕ) (world : World) (p : Playing) → IsWorldOf s t world p
+    → length world ≡ length s.hosts
+hosts_len s t world p w =
+    sym (length-map world (λ (site : Site (List Script)). site.host.params))
     ∙ (ap length w.params ∙ length-map s.hosts (λ (h : HostLine). h.params))
+
+pub few_hosts : (s : Scenario) (t : ℕ) (p : Playing) → length s.hosts ≤ 8 → IsPlayed s t p
+    → length p.hosts.items ≤ 8
+few_hosts s t p few w =
+    let ticked = ticked_len t w.before p.hosts.items (world_ticked s t w.before p.hosts.items w.world.early w.tick) in
+    omega (arith, ticked, hosts_len s t w.before p w.world, few)
 
 -- Each host played its part of the world's tick.
 pub played_world : (s : Scenario) (t : ℕ) (p : Playing) (came : List Sent) (lent hosts : World) → IsWorld s t p
@@ -45,19 +60,50 @@ played_world s t p came lent hosts w is same played =
     played p.hosts.items (is ∙ due_as_kept s t p.hosts.items p.sent p.last w.kept)
     ∙ ap (serial_sites s p.hosts.items t 0) same
 
-pub to_count : (s : Scenario) (t : ℕ) (p : Playing) (hosts : World) → IsWorld s t p
-    → hosts ≡ serial_world s t p.hosts.items → AreCountedBefore t hosts p.counts.items
-to_count s t p hosts w played =
-    subst (λ az. AreCountedBefore t az p.counts.items) (sym played)
-    (before_ticked t p.hosts.items (serial_world s t p.hosts.items) p.counts.items w.early w.counted
-    (world_ticked s t p.hosts.items w.early))
+pub serially_played : (s : Scenario) (t : ℕ) (p : Playing) (hosts : World) → IsWorld s t p
+    → hosts ≡ serial_world s t p.hosts.items → IsTick s t p.hosts.items hosts
+serially_played s t p hosts w played =
+    subst (λ az. IsTick s t p.hosts.items az) (sym played) (serial_is_tick s t p.hosts.items w.early)
+
+-- the same on cores
+pub cores_played : (s : Scenario) (t : ℕ) (p : Playing) (came : List Sent) (lent hosts : World) → IsWorld s t p
+    → came ≡ due s.link p.sent t → lent ≡ p.hosts.items
+    → ((whole : World) → came ≡ due s.link (sent_in whole) t → AreEarly t lent → AreRounds s whole t 0 lent hosts)
+    → IsTick s t p.hosts.items hosts
+cores_played s t p came lent hosts w is same played =
+    subst (λ bs. AreRounds s p.hosts.items t 0 bs hosts) same
+    (played p.hosts.items (is ∙ due_as_kept s t p.hosts.items p.sent p.last w.kept)
+    (subst (λ bs. AreEarly t bs) (sym same) w.early))
+
+-- the hosts have played, and nothing else has changed
+pub are_played : (s : Scenario) (t : ℕ) (p q : Playing) (hosts : World) → IsWorld s t p
+    → IsTick s t p.hosts.items hosts → q.hosts.items ≡ hosts → q.addresses.items ≡ p.addresses.items
+    → q.counts.items ≡ p.counts.items → q.sent ≡ p.sent → q.last ≡ p.last → IsPlayed s t q
+are_played s t p q hosts w tick is addresses counts sent last =
+    record {
+      before = p.hosts.items;
+      world = record {
+        params = w.params;
+        early = w.early;
+        addresses = addresses ∙ w.addresses;
+        counted = subst (λ cs. AreCounted p.hosts.items cs) (sym counts) w.counted;
+        kept = subst (λ fs. AreKept s t p.hosts.items fs q.last) (sym sent)
+            (subst (λ n. AreKept s t p.hosts.items p.sent n) (sym last) w.kept);
+      };
+      tick = subst (λ az. IsTick s t p.hosts.items az) (sym is) tick;
+    }
+
+pub to_count : (s : Scenario) (t : ℕ) (p : Playing) → IsPlayed s t p → AreCountedBefore t p.hosts.items p.counts.items
+to_count s t p w =
+    before_ticked t w.before p.hosts.items p.counts.items w.world.early w.world.counted
+    (world_ticked s t w.before p.hosts.items w.world.early w.tick)
 
 up_to : (t : ℕ) (fs : List Sent) → FramesBefore t fs → AreUpTo t fs
 up_to t [] before = tt
 up_to t (f ∷ fs) before = ((let here : f.tick < t = before.0 in omega arith), up_to t fs before.1)
 
-pub kept_up_to : (s : Scenario) (t : ℕ) (p : Playing) → IsWorld s t p → AreUpTo t p.sent
-kept_up_to s t p w = up_to t p.sent w.kept.early
+pub kept_up_to : (s : Scenario) (t : ℕ) (p : Playing) → IsPlayed s t p → AreUpTo t p.sent
+kept_up_to s t p w = up_to t p.sent w.world.kept.early
 
 -- ----- after it
 before_next : (t : ℕ) (fs : List Sent) → AreUpTo t fs → FramesBefore (t + 1) fs
@@ -93,26 +139,27 @@ next_kept s t before after kept next last end k none but is up coming =
     }
 
 -- The world before the next tick.
-pub next_world : (s : Scenario) (t : ℕ) (p q : Playing) (after : World) (counts : List SentCounts) → IsWorld s t p
-    → q.hosts.items ≡ after → q.counts.items ≡ counts → q.addresses.items ≡ p.addresses.items
-    → after ≡ serial_world s t p.hosts.items → AreCounted after counts
+pub next_world : (s : Scenario) (t : ℕ) (p q : Playing) (after : World) (counts : List SentCounts) → IsPlayed s t p
+    → p.hosts.items ≡ after → q.hosts.items ≡ after → q.counts.items ≡ counts
+    → q.addresses.items ≡ p.addresses.items → AreCounted after counts
     → ((world : World) → p.addresses.items ≡ addresses_of world
     → q.sent ≡ p.sent ++ of_tick t (frames_of_hosts world 0 after))
     → AreUpTo t q.sent
     → ((n : ℕ) → nat_lt n q.last ≡ (nat_lt n p.last || list_any (is_under_way s.link n) (of_tick t q.sent)))
     → IsWorld s (t + 1) q
-next_world s t p q after counts w is_after is_counts addresses played counted sent up coming =
-    let before : World = p.hosts.items in
+next_world s t p q after counts w was_after is_after is_counts addresses counted sent up coming =
+    let before : World = w.before in
+    let early : AreEarly t before = w.world.early in
     let ticked : AreTicked t before after =
-    subst (λ az. AreTicked t before az) (sym played) (world_ticked s t before w.early) in
-    let same : p.addresses.items ≡ addresses_of after = w.addresses ∙ sym (same_addresses t before after ticked) in
+    subst (λ az. AreTicked t before az) was_after (world_ticked s t before p.hosts.items early w.tick) in
+    let same : p.addresses.items ≡ addresses_of after = w.world.addresses ∙ sym (same_addresses t before after ticked) in
     record {
-      params = ap params_of is_after ∙ (same_params t before after ticked ∙ w.params);
-      early = subst (λ az. AreEarly (t + 1) az) (sym is_after) (next_are_early t before after w.early ticked);
+      params = ap params_of is_after ∙ (same_params t before after ticked ∙ w.world.params);
+      early = subst (λ az. AreEarly (t + 1) az) (sym is_after) (next_are_early t before after early ticked);
       addresses = addresses ∙ (same ∙ ap addresses_of (sym is_after));
       counted = subst (λ az. AreCounted az q.counts.items) (sym is_after)
           (subst (λ cs. AreCounted after cs) (sym is_counts) counted);
       kept = subst (λ az. AreKept s (t + 1) az q.sent q.last) (sym is_after)
-          (next_kept s t before after p.sent q.sent p.last q.last w.kept (sent_none t before w.early)
+          (next_kept s t before after p.sent q.sent p.last q.last w.world.kept (sent_none t before early)
           (sent_but t before after ticked) (sent after same) up coming);
     }

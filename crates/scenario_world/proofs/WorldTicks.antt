@@ -1,4 +1,4 @@
--- A tick of a world in serial order: what its hosts keep, and the frames that they sent.
+-- A tick of a world: what its hosts keep, and the frames that they sent.
 use Rattle.std.proofs.Common.{◌≡◌, ℕ, zero, suc, ◌+◌, ◌<◌, ◌≤◌, Bool, true, false, eqb, List, [], ◌∷◌, ◌++◌, map, filter}
 use Rattle.std.proofs.Common.{refl, sym, ap, ◌∙◌, subst, arith}
 use Rattle.std.proofs.lemmas.List.Elements.{filter-append}
@@ -10,7 +10,6 @@ use Rattle.host_rounds.specs.Hosts.{Live, Host}
 use Rattle.host_rounds.specs.Scripts.{Site}
 use Rattle.host_rounds.specs.Rounds.{Round, Due}
 use Rattle.host_rounds.specs.Passing.{Went, IsUpTo}
-use Rattle.host_rounds.specs.SerialOrder.{serial_tick}
 use Rattle.host_rounds.specs.Histories.{HasHistory}
 use Rattle.host_rounds.proofs.AllLegal.{round_kept}
 use Rattle.host_rounds.proofs.AllGrown.{round_went}
@@ -19,7 +18,7 @@ use Rattle.link_script.specs.declared.frames.Sent.{Sent}
 use Rattle.scenario_text.specs.declared.scenario.Scenario.{Scenario}
 use Rattle.scenario_runs.specs.Applications.{Script}
 use Rattle.scenario_runs.specs.Worlds.{World, scripts_of, due_at, frames_of_flows, frames_of_log, frames_of_hosts, sent_in, host_at}
-use Rattle.scenario_runs.specs.Runs.{serial_sites, serial_world}
+use Rattle.scenario_runs.specs.Runs.{AreRounds, IsTick, serial_sites, serial_world}
 use Rattle.scenario_runs.proofs.ByMoves.{scenarios_by_moves}
 use Rattle.sent_frames.specs.declared.frames.Origin.{Origin}
 use Rattle.sent_frames.specs.Sending.{addresses_of, of_tick, EntriesBefore, LinesBefore}
@@ -45,19 +44,16 @@ all_up_to : (t : ℕ) (ls : List Live) → AllEntriesBefore t ls → Each (IsUpT
 all_up_to t [] before = tt
 all_up_to t (l ∷ ls) before = (up_to_before t 0 l.flow.entries (omega arith) before.0, all_up_to t ls before.1)
 
-serial_ticked : (s : Scenario) (params : HostParams) (t : ℕ) (due : Due ℕ) (site : Site (List Script)) → IsEarly t site.host
-    → Ticked t site.host (serial_tick (scripts_of s params) t site due).host
-serial_ticked s params t due site early =
-    let after = serial_tick (scripts_of s params) t site due in
+round_ticked : (s : Scenario) (params : HostParams) (t : ℕ) (due : Due ℕ) (before after : Site (List Script))
+    → IsEarly t before.host → Round (scripts_of s params) t due before after → Ticked t before.host after.host
+round_ticked s params t due before after early round =
     let moves = scenarios_by_moves s params in
-    let round : Round (scripts_of s params) t due site after =
-    serial_round (scripts_of s params) t due site moves early.histories in
     record {
       went =
-          round_went (scripts_of s params) t due site after moves early.histories
-          (all_up_to t site.host.flows early.entries) round;
-      kept = round_keeps (scripts_of s params) t due site after moves early.histories round;
-      histories = round_kept (scripts_of s params) t due site after moves round early.histories;
+          round_went (scripts_of s params) t due before after moves early.histories
+          (all_up_to t before.host.flows early.entries) round;
+      kept = round_keeps (scripts_of s params) t due before after moves early.histories round;
+      histories = round_kept (scripts_of s params) t due before after moves round early.histories;
     }
 
 next_early : (t : ℕ) (before after : Host) → IsEarly t before → Ticked t before after → IsEarly (t + 1) after
@@ -75,17 +71,33 @@ AreTicked t [] (a ∷ az) = ⊥
 AreTicked t (b ∷ bs) [] = ⊥
 AreTicked t (b ∷ bs) (a ∷ az) = Ticked t b.host a.host × AreTicked t bs az
 
-sites_ticked : (s : Scenario) (whole : World) (t h : ℕ) (sites : World) → AreEarly t sites
-    → AreTicked t sites (serial_sites s whole t h sites)
-sites_ticked s whole t h [] early = tt
-sites_ticked s whole t h (site ∷ sites) early = (
-  serial_ticked s site.host.params t (due_at s whole t h site.scripts) site early.0,
-  sites_ticked s whole t (h + 1) sites early.1,
+rounds_ticked : (s : Scenario) (whole : World) (t h : ℕ) (before after : World) → AreEarly t before
+    → AreRounds s whole t h before after → AreTicked t before after
+rounds_ticked s whole t h [] [] early rounds = tt
+rounds_ticked s whole t h [] (a ∷ az) early rounds = absurd rounds
+rounds_ticked s whole t h (b ∷ bs) [] early rounds = absurd rounds
+rounds_ticked s whole t h (b ∷ bs) (a ∷ az) early rounds = (
+  round_ticked s b.host.params t (due_at s whole t h b.scripts) b a early.0 rounds.0,
+  rounds_ticked s whole t (h + 1) bs az early.1 rounds.1,
 )
 
-pub world_ticked : (s : Scenario) (t : ℕ) (world : World) → AreEarly t world → AreTicked t world (serial_world s t world)
+pub world_ticked : (s : Scenario) (t : ℕ) (before after : World) → AreEarly t before → IsTick s t before after
+    → AreTicked t before after
+world_ticked s t before after early tick = rounds_ticked s before t 0 before after early tick
+
+-- the tick in serial order is a right one
+serial_rounds : (s : Scenario) (whole : World) (t h : ℕ) (sites : World) → AreEarly t sites
+    → AreRounds s whole t h sites (serial_sites s whole t h sites)
+serial_rounds s whole t h [] early = tt
+serial_rounds s whole t h (site ∷ sites) early = (
+  serial_round (scripts_of s site.host.params) t (due_at s whole t h site.scripts) site
+      (scenarios_by_moves s site.host.params) (early.0).histories,
+  serial_rounds s whole t (h + 1) sites early.1,
+)
+
+pub serial_is_tick : (s : Scenario) (t : ℕ) (world : World) → AreEarly t world → IsTick s t world (serial_world s t world)
 unfolding serial_world
-world_ticked s t world early = sites_ticked s world t 0 world early
+serial_is_tick s t world early = serial_rounds s world t 0 world early
 
 pub next_are_early : (t : ℕ) (before after : World) → AreEarly t before → AreTicked t before after → AreEarly (t + 1) after
 next_are_early t [] [] early ticked = tt

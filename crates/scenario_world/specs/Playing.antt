@@ -1,5 +1,5 @@
 -- A world between two ticks, and what is kept of all that its hosts sent.
-use Rattle.std.specs.Prelude.{◌≡◌, ℕ, ◌≤◌, ◌<◌, false, List, [], ◌∷◌, length, map, nat_lt, ⊤}
+use Rattle.std.specs.Prelude.{◌≡◌, ℕ, ◌+◌, ◌≤◌, ◌<◌, false, List, [], ◌∷◌, length, map, nat_lt, ⊤}
 use Rattle.std.specs.List.{list_any}
 use Rattle.tas_model.specs.declared.entry.HostParams.{HostParams}
 use Rattle.host_rounds.specs.Lists.{Each}
@@ -13,6 +13,8 @@ use Rattle.scenario_text.specs.declared.scenario.Scenario.{Scenario}
 use Rattle.scenario_text.specs.declared.scenario.HostLine.{HostLine}
 use Rattle.scenario_runs.specs.Applications.{Script}
 use Rattle.scenario_runs.specs.Worlds.{World, sent_in, is_under_way}
+use Rattle.scenario_runs.specs.Runs.{IsTick}
+use Rattle.local_host.specs.Steered.{Steered}
 use Rattle.sent_frames.specs.declared.counts.SentCounts.{SentCounts}
 use Rattle.sent_frames.specs.Sending.{addresses_of, of_tick, sent_by, answers_in, EntriesBefore, LinesBefore}
 use Rattle.scenario_world.specs.declared.playing.Playing.{Playing}
@@ -73,10 +75,31 @@ pub record AreKept (s : Scenario) (t : ℕ) (world : World) (kept : List Sent) (
   pub same : (k : ℕ) → low ≤ k → of_tick k kept ≡ of_tick k (sent_in world)
   pub coming : (n : ℕ) → list_any (is_under_way s.link n) (sent_in world) ≡ nat_lt n last
 
+-- These hosts are a world of the scenario before a tick, and what is kept is theirs.
+pub record IsWorldOf (s : Scenario) (t : ℕ) (world : World) (p : Playing) : Type 0 where
+  pub params : params_of world ≡ line_params s.hosts
+  pub early : AreEarly t world
+  pub addresses : p.addresses.items ≡ addresses_of world
+  pub counted : AreCounted world p.counts.items
+  pub kept : AreKept s t world p.sent p.last
+
 -- A world of the scenario before a tick.
-pub record IsWorld (s : Scenario) (t : ℕ) (p : Playing) : Type 0 where
-  pub params : params_of p.hosts.items ≡ line_params s.hosts
-  pub early : AreEarly t p.hosts.items
-  pub addresses : p.addresses.items ≡ addresses_of p.hosts.items
-  pub counted : AreCounted p.hosts.items p.counts.items
-  pub kept : AreKept s t p.hosts.items p.sent p.last
+abbrev pub IsWorld : Scenario → (tick : ℕ) → Playing → Type 0
+IsWorld s t p = IsWorldOf s t p.hosts.items p
+
+-- The hosts played a right tick, and what is kept is still that of the world before it.
+pub record IsPlayed (s : Scenario) (t : ℕ) (p : Playing) : Type 0 where
+  pub before : World
+  pub world : IsWorldOf s t before p
+  pub tick : IsTick s t before p.hosts.items
+
+-- ----- cores
+-- The cores of these hosts, one after the other; the first host has this number.
+abbrev pub AreNumbered : (first : ℕ) → List Steered → Type 0
+AreNumbered n [] = ⊤
+AreNumbered n (c ∷ cs) = (c.host ≡ n) × AreNumbered (n + 1) cs
+
+-- each of these hosts has cores of its own
+pub record AreCoresOf (hosts : ℕ) (cores : List Steered) : Type 0 where
+  pub len : length cores ≡ hosts
+  pub numbered : AreNumbered 0 cores

@@ -4,7 +4,7 @@ ghost use Rattle.scenario_text.specs.declared.scenario.Scenario.{Scenario};
 ghost use Rattle.scenario_ranges.specs.Ranges.{IsInRange};
 ghost use Rattle.scenario_runs.specs.Worlds.{World, at_start as model_start, sent_in, is_at_rest as model_rest};
 ghost use Rattle.scenario_runs.specs.Runs.{serial_sites, serial_world};
-ghost use Rattle.scenario_world.specs.Playing.{IsWorld};
+ghost use Rattle.scenario_world.specs.Playing.{IsWorld, IsPlayed};
 
 use crate::arriving::arrivals_at;
 use crate::collecting::collect_all;
@@ -49,7 +49,7 @@ pub fn at_start<'a>(alloc: Global, s: &'a Scenario) -> Result<Playing<'a>, Alloc
     })
 }
 
-/// Plays a tick of all hosts. The error is want of memory.
+/// Plays a tick of all hosts, in serial order. The error is want of memory.
 pub fn play_tick(
     alloc: Global,
     s: &Scenario,
@@ -63,6 +63,21 @@ pub fn play_tick(
 {
     let due = due(alloc, &s.link, &p.sent, tick)?;
     play_hosts(alloc, s, tick, &due, &mut p.hosts)?;
+    end_tick(alloc, s, tick, p)
+}
+
+/// Ends a tick that the hosts played: what they sent goes to the link. The error is want of memory.
+pub fn end_tick(
+    alloc: Global,
+    s: &Scenario,
+    tick: u32,
+    p: &mut Playing<'_>,
+) -> Result<(), AllocError>
+    requires ranges { IsInRange s.now }
+    requires played { IsPlayed s.now tick p.old }
+    ensures hosts { p.new.hosts.items ≡ p.old.hosts.items }
+    ensures world { OnOk result (IsWorld s.now (tick + 1) p.new) }
+{
     collect_all(
         alloc,
         tick,

@@ -44,7 +44,7 @@ pub fn play_scenario(alloc: Global, s: &Scenario) -> Result<WorldEnd, AllocError
 }
 
 /// What these hosts leave after so many ticks. The error is want of memory.
-fn end_of(
+pub(crate) fn end_of(
     alloc: Global,
     hosts: Vec<ScenarioHost<'_>>,
     ticks: u32,

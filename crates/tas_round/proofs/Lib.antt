@@ -3,4 +3,4 @@ pub mod Flowing
 pub mod Playing
 pub mod Summing
 pub mod HostEnds
-pub mod OnCores
+pub mod CoresPlaying

@@ -12,8 +12,8 @@ use Rattle.tas_runs.specs.Records.{Item}
 use Rattle.tas_runs.specs.Batches.{batches_of}
 use Rattle.tas_runs.specs.LocalScript.{capture_scripts, due_in}
 use Rattle.tas_runs.specs.Replays.{at_start}
-use Rattle.host_rounds.specs.SerialOrder.{serial_ticks}
 use Rattle.host_rounds.specs.Rounds.{Rounds}
+use Rattle.host_rounds.specs.SerialOrder.{serial_ticks}
 use Rattle.tas_round.specs.declared.logs.HostRun as code_host
 use Rattle.tas_round.specs.declared.logs.RunLog as code
 use Rattle.tas_round.specs.declared.replaying.Ending.{Ending}
@@ -57,8 +57,8 @@ pub record Ended (local : ℕ) (items : List Item) (ending : Ending) : Type 0 wh
       ≡ serial_ticks (capture_scripts items) 0 (at_start local) (map due_in (batches_of items))
   pub ticks : ending.ticks ≡ length (batches_of items)
 
--- the host and its script after ticks of these items' batches, each a right one, and how many they are
-pub record IsRightEnding (local : ℕ) (items : List Item) (ending : Ending) : Type 0 where
+-- the same after right ticks, in whatever order each of them went
+pub record EndedRight (local : ℕ) (items : List Item) (ending : Ending) : Type 0 where
   pub played : Rounds (capture_scripts items) 0 (map due_in (batches_of items)) (at_start local) ending.replay
   pub ticks : ending.ticks ≡ length (batches_of items)
 

@@ -4,6 +4,7 @@
 
 mod capture;
 mod logs;
+mod on_cores;
 mod replaying;
 mod report;
 mod running;

@@ -5,17 +5,17 @@ ghost use Rattle.host_rounds.specs.Hosts.{run_of};
 ghost use Rattle.tas_runs.specs.LocalScript.{capture_scripts, due_in};
 ghost use Rattle.tas_runs.specs.Replays.{at_start, replay_log, Replay};
 ghost use Rattle.host_rounds.specs.SerialOrder.{serial_tick, serial_ticks};
-ghost use Rattle.core_rounds.specs.CoreTicks.{IsCoresTick};
 ghost use Rattle.tas_runs.specs.SerialOrder.{serial_replay};
 ghost use Rattle.capture_items.specs.Items.{item_in};
 ghost use Rattle.capture_items.specs.Found.{IsFound};
 ghost use Rattle.capture_items.specs.Numbers.{AreNumbersOf};
-ghost use Rattle.tas_round.specs.Runs.{host_in, log_in, AreCores, Ended, IsRightEnding, Refuses};
+ghost use Rattle.tas_round.specs.Runs.{host_in, log_in, AreCores, Ended, Refuses};
 ghost use Rattle.tas_round.specs.declared.replaying.Mode.{Mode};
 
 use crate::logs::{FlowList, HostRun, HostRuns, RunLog};
+use crate::on_cores::replay_on_cores;
 use capture_items::{FirstNumbers, Found, InputFault, Item, find_items, next_batch};
-use local_host::{Cores, LocalReplay};
+use local_host::LocalReplay;
 use pcap_frames::PcapRefused;
 use std::alloc::{AllocError, Global};
 use std::sync::Wait;
@@ -28,8 +28,8 @@ use tas_num::Gate;
 pub enum Mode {
     /// One thread, in serial order.
     Serial,
-    /// So many cores of each host, from 1 to 16: they take the frames that come in a tick side by side, each on a thread
-    /// of its own.
+    /// So many cores of each host, from 1 to 16: in each tick they take frames side by side, each on a thread of its
+    /// own.
     Cores(u32),
 }
 
@@ -97,54 +97,28 @@ pub fn replay_serially(
     ensures serial { IfOk result (λ log. serial_replay local capture.now loose ≡ Ok (log_in log)) }
     ensures refused { IfErr result (Refuses capture.now) }
 {
-    let found = found_in(alloc, local, capture, loose)?;
+    let found = find(alloc, local, capture, loose)?;
+    let _records = found.records;
     let numbers = FirstNumbers::of_items(alloc, &found.items)?;
     let ending = run_batches(alloc, local, &found.items, &numbers)?;
     let log = log_of(alloc, &found, ending)?;
     Ok(log)
 }
 
-/// The same on so many cores.
-fn replay_on_cores<R: Threads + Wait + Sync, G: Gate>(
-    rt: &R,
+/// What the capture has for the host with the address `local`.
+pub(crate) fn find<'a>(
     alloc: Global,
     local: u32,
-    capture: &[u8],
+    capture: &'a [u8],
     loose: bool,
-    count: u32,
-    gate: &G,
-) -> Result<RunLog, ReplayFault>
-    requires small { length capture.now ≤ 67108864 }
-    requires cores { (1 ≤ count) × (count ≤ 16) }
-    ensures run { IfOk result (λ log. Replay local capture.now loose (log_in log)) }
-    ensures refused { IfErr result (Refuses capture.now) }
-{
-    let found = found_in(alloc, local, capture, loose)?;
-    let numbers = FirstNumbers::of_items(alloc, &found.items)?;
-    let mut cores = Cores::new(alloc, 0, count)?;
-    let ending = run_on_cores(rt, alloc, local, &found.items, &numbers, &mut cores, gate)?;
-    let log = log_of(alloc, &found, ending)?;
-    Ok(log)
-}
-
-/// What the capture of these bytes holds for the host.
-fn found_in(
-    alloc: Global,
-    local: u32,
-    capture: &[u8],
-    loose: bool,
-) -> Result<Found<'_>, ReplayFault>
+) -> Result<Found<'a>, ReplayFault>
     requires small { length capture.now ≤ 67108864 }
     ensures found { IfOk result (IsFound capture.now local loose) }
     ensures few { IfOk result (λ found. length found.items.items ≤ found.records) }
-    ensures near { IfOk result (λ found. length found.items.items < 2 ^ 32) }
     ensures refused { IfErr result (Refuses capture.now) }
 {
     match find_items(alloc, capture, local, loose) {
-        Ok(found) => {
-            let _records = found.records;
-            Ok(found)
-        }
+        Ok(found) => Ok(found),
         Err(InputFault::Refused(fault)) => Err(ReplayFault::Pcap(fault)),
         Err(InputFault::OutOfMemory) => Err(ReplayFault::OutOfMemory),
     }
@@ -195,64 +169,12 @@ fn play_batch(
     Ok(count)
 }
 
-/// The replay after all batches of these items, each a tick on these cores.
-fn run_on_cores<R: Threads + Wait + Sync, G: Gate>(
-    rt: &R,
-    alloc: Global,
-    local: u32,
-    items: &[Item<'_>],
-    numbers: &FirstNumbers,
-    cores: &mut Cores,
-    gate: &G,
-) -> Result<Ending, AllocError>
-    requires numbers { AreNumbersOf (map item_in items.now) numbers.now }
-    requires few { length items.now < 2 ^ 32 }
-    ensures { IfOk result (IsRightEnding local (map item_in items.now)) }
-{
-    let mut replay = LocalReplay::at_start(alloc, local);
-    let mut at = 0;
-    let mut tick = 0;
-    while at < items.len() {
-        at += play_on_cores(rt, &mut replay, tick, &items[at..], numbers, cores, gate)?;
-        tick += 1;
-    }
-    Ok(Ending {
-        replay,
-        ticks: tick,
-    })
-}
-
-/// Plays the first batch of these items as one tick on cores, and answers how many items it has. The error is want of
-/// memory.
-fn play_on_cores<R: Threads + Wait + Sync, G: Gate>(
-    rt: &R,
-    replay: &mut LocalReplay,
-    tick: u32,
-    rest: &[Item<'_>],
-    numbers: &FirstNumbers,
-    cores: &mut Cores,
-    gate: &G,
-) -> Result<usize, AllocError>
-    requires { 0 < length rest.now }
-    ensures batch { IfOk result (λ n. batches_of (map item_in rest.now) ≡ take n (map item_in rest.now)
-        ∷ batches_of (drop n (map item_in rest.now))) }
-    ensures played { (items : List model.Item) → AreNumbersOf items numbers.now
-        → IfOk result (λ n. IsCoresTick (capture_scripts items) tick (due_in (map item_in (take n rest.now)))
-        replay.old replay.new) }
-    ensures some { IfOk result (λ n. 0 < n) }
-    ensures inside { IfOk result (λ n. n ≤ length rest.now) }
-{
-    let count = next_batch(rest);
-    replay.play_on_cores(rt, tick, &rest[..count], numbers, cores, gate)?;
-    Ok(count)
-}
-
-/// The log of a replay with this ending, which had a tick for each batch. The error is want of memory.
-fn log_of(alloc: Global, found: &Found<'_>, ending: Ending) -> Result<RunLog, AllocError>
+/// The log of a replay with this ending. The error is want of memory.
+pub(crate) fn log_of(alloc: Global, found: &Found<'_>, ending: Ending) -> Result<RunLog, AllocError>
     requires few { length found.now.items.items ≤ found.now.records }
     ensures { (local : ℕ) → ending.ticks ≡ length (batches_of (map item_in found.now.items.items))
-        → IfOk result (λ log. log_in log
-        ≡ replay_log local found.now.records (map item_in found.now.items.items) ending.replay.host) }
+        → IfOk result (λ log. log_in log ≡ replay_log local found.now.records (map item_in found.now.items.items)
+        ending.replay.host) }
 {
     let counts = found.counts();
     let host = host_run(alloc, ending.replay)?;

@@ -1,4 +1,4 @@
-ghost use Rattle.std.specs.Prelude.{◌≡◌, length, map, IfOk};
+ghost use Rattle.std.specs.Prelude.{◌≡◌, ◌≤◌, length, map, IfOk};
 ghost use Rattle.host_rounds.specs.Lists.{Each};
 ghost use Rattle.scenario_ranges.specs.Ranges.{IsInRange};
 ghost use Rattle.scenario_runs.specs.Runs.{Run, serial_run};
@@ -13,7 +13,7 @@ use crate::replaying::Mode;
 use local_host::HostEnd;
 use scenario_runs::serial_order_is_right;
 use scenario_text::{HostLine, HostList, Scenario};
-use scenario_world::{WorldEnd, play_scenario};
+use scenario_world::{WorldEnd, play_scenario, play_scenario_on_cores};
 use std::alloc::{AllocError, Global};
 use std::sync::Wait;
 use std::thread::Threads;
@@ -22,11 +22,11 @@ use tas_num::Gate;
 
 /// Runs a scenario to its end, tick by tick. The error is want of memory.
 pub fn run<R: Threads + Wait + Sync, G: Gate>(
-    _rt: &R,
+    rt: &R,
     alloc: Global,
     s: &Scenario,
     mode: Mode,
-    _gate: &G,
+    gate: &G,
 ) -> Result<RunLog, AllocError>
     requires ranges { IsInRange s.now }
     requires cores { AreCores mode }
@@ -35,7 +35,26 @@ pub fn run<R: Threads + Wait + Sync, G: Gate>(
     // On one thread it is the one in serial order.
     ensures serial { mode ≡ Mode.Serial → IfOk result (λ log. serial_run s.now ≡ log_in log) }
 {
-    run_serially(alloc, s)
+    match mode {
+        Mode::Serial => run_serially(alloc, s),
+        Mode::Cores(count) => run_on_cores(rt, alloc, s, count, gate),
+    }
+}
+
+/// The same on hosts with so many cores each. The error is want of memory.
+fn run_on_cores<R: Threads + Wait + Sync, G: Gate>(
+    rt: &R,
+    alloc: Global,
+    s: &Scenario,
+    count: u32,
+    gate: &G,
+) -> Result<RunLog, AllocError>
+    requires ranges { IsInRange s.now }
+    requires cores { (1 ≤ count) × (count ≤ 16) }
+    ensures run { IfOk result (λ log. Run s.now (log_in log)) }
+{
+    let end = play_scenario_on_cores(rt, alloc, s, count, gate)?;
+    log_of(alloc, s, end)
 }
 
 /// The same on one thread: it waits for nobody, and so always returns.

@@ -1,6 +1,6 @@
 use Rattle.std.proofs.Common.{rules, ◌≡◌, Ok, sym, ap, ◌∙◌, map}
 use Rattle.host_rounds.specs.Logs.{RunLog}
-use Rattle.tas_runs.specs.Replays.{Replay}
+use Rattle.tas_runs.specs.Replays.{Replay, replay_log}
 use Rattle.tas_runs.specs.SerialOrder.{serial_log, serial_replay}
 use Rattle.tas_runs.proofs.SerialRun.{serial_is_replay}
 use Rattle.capture_items.specs.Items.{item_in}
@@ -13,12 +13,13 @@ use Rattle.tas_round.proofs.replaying.replay_serially.Goals.{After-drop-found-2}
 serial : (c : After-drop-found-2)
     → serial_replay c.args.local c.args.capture.now c.args.loose ≡ Ok (log_in c.in_ok-log.log)
 serial c =
-    let found = c.in-Ok.found in
+    let found = c.in_ok-found.found in
     let items = map item_in found.items.items in
     let ended : Ended c.args.local items c.in_ok-ending.ending = search rules in
     let same : log_in c.in_ok-log.log ≡ serial_log c.args.local found.records items =
-    c.in_ok-log.ensures c.args.local ended in
-    found_is_replayed c.args.capture.now c.args.local c.args.loose found c.in-Ok.ensures.found
+    c.in_ok-log.ensures c.args.local ended.ticks
+    ∙ ap (λ site. replay_log c.args.local found.records items site.host) ended.played in
+    found_is_replayed c.args.capture.now c.args.local c.args.loose found c.in_ok-found.ensures.found
     ∙ ap (λ (log : RunLog). Ok log) (sym same)
 
 pub returns-clause-serial : goal.returns-clause-serial

@@ -1,0 +1,40 @@
+use Rattle.std.proofs.Common.{◌≡◌, length, refl, sym, subst, ap, ◌∙◌, arith}
+use Rattle.std.proofs.lemmas.List.{with_items_is}
+use Rattle.local_host.proofs.Places.{ok_by}
+use Rattle.scenario_runs.specs.Runs.{IsTick}
+use Rattle.scenario_world.specs.Playing.{AreCoresOf}
+use Rattle.scenario_world.proofs.NextTick.{hosts_len, cores_played, are_played}
+use Rattle.scenario_world.proofs.on_cores.play_tick_on_cores.Goals as goal
+
+pub play_hosts_on_cores-requires-clause-cores : goal.play_hosts_on_cores-requires-clause-cores
+play_hosts_on_cores-requires-clause-cores g c = λ lifetimes outlive.
+    let p = c.args.p.now in
+    subst (λ n. AreCoresOf n c.args.cores.now)
+    (sym (ap length c.deref_mut.ensures.value ∙ hosts_len c.args.s.now c.args.tick p.hosts.items p c.requires.world))
+    c.requires.cores
+
+pub end_tick-requires-clause-played : goal.end_tick-requires-clause-played
+end_tick-requires-clause-played g c =
+    let s = c.args.s.now in
+    let t = c.args.tick in
+    let p = c.args.p.now in
+    let hosts = c.play_hosts_on_cores.new.hosts in
+    let len : length hosts ≡ p.hosts.len = omega arith in
+    are_played s t p _ hosts c.requires.world
+    (cores_played s t p c.in_ok-due.due c.deref_mut.result.now hosts c.requires.world c.in_ok-due.ensures
+    c.deref_mut.ensures.value c.in_ok-play_hosts_on_cores.ensures.rounds)
+    (with_items_is p.hosts hosts len) refl refl refl refl
+
+pub returns-clause-tick : goal.returns-clause-tick
+returns-clause-tick g c =
+    let s = c.args.s.now in
+    let t = c.args.tick in
+    let p = c.args.p.now in
+    let hosts = c.play_hosts_on_cores.new.hosts in
+    let len : length hosts ≡ p.hosts.len = omega arith in
+    ok_by c.end_tick.result
+    (λ world.
+    subst (λ az. IsTick s t p.hosts.items az) (sym (c.end_tick.ensures.hosts ∙ with_items_is p.hosts hosts len))
+    (cores_played s t p c.in_ok-due.due c.deref_mut.result.now hosts c.requires.world c.in_ok-due.ensures
+    c.deref_mut.ensures.value c.in_ok-play_hosts_on_cores.ensures.rounds))
+    c.end_tick.ensures.world
