@@ -38,20 +38,21 @@ use Rattle.sent_streams.proofs.Taken.{taken_is}
 use Rattle.sent_streams.proofs.Spending.{time_bounds}
 use Rattle.sent_streams.proofs.Ending.{end_is_last}
 use Rattle.two_ends.specs.Ends.{reversed, flows_in, other_ends, IsFaithful, HearsOtherEnd, ReadsOf, ReadsOtherEnd}
+use Rattle.two_ends.specs.Origins.{as_read, IsReset}
 use Rattle.two_ends.proofs.Lists.{each_left, each_right, each_filter, filter_tells, each_as, each_both, each_under}
 use Rattle.two_ends.proofs.Lists.{each_given, each_always, each_self}
 use Rattle.two_ends.proofs.Back.{SentLive, AnswerHas, LineHas, SentHost}
-use Rattle.two_ends.proofs.Heard.{same_is, same_self, IsReset, AnswerResets, LineResets, Heard, HeardLive, HeardHost}
-use Rattle.two_ends.proofs.Frames.{as_read, SentSite}
+use Rattle.two_ends.proofs.Heard.{same_is, same_self, AnswerResets, LineResets, Heard, HeardLive, HeardHost}
+use Rattle.two_ends.proofs.Frames.{SentSite}
 use Rattle.two_ends.proofs.Worlds.{HasTicks, IsRightSite, AllRight, SentWorld, HeardWorld, run_heard, run_right}
 
 -- ----- from worlds to logs
 -- a fact of each flow of a world
-abbrev InWorld : (Flow → Type 0) → World → Type 0
+abbrev pub InWorld : (Flow → Type 0) → World → Type 0
 InWorld P world = Each (λ (site : Site (List Script)). Each (λ (l : Live). P l.flow) site.host.flows) world
 
 -- and of a finished run
-abbrev InLog : (Flow → Type 0) → List HostRun → Type 0
+abbrev pub InLog : (Flow → Type 0) → List HostRun → Type 0
 InLog P hosts = Each (λ (h : HostRun). Each P h.flows) hosts
 
 flows_too : (P : Flow → Type 0) (ls : List Live) → Each (λ (l : Live). P l.flow) ls → Each P (flows_of ls)
@@ -62,7 +63,7 @@ flows_back : (P : Flow → Type 0) (ls : List Live) → Each P (flows_of ls) →
 flows_back P [] all = tt
 flows_back P (l ∷ ls) all = (all.0, flows_back P ls all.1)
 
-log_too : (P : Flow → Type 0) (hosts : List HostLine) (world : World) → InWorld P world → InLog P (hosts_of hosts world)
+pub log_too : (P : Flow → Type 0) (hosts : List HostLine) (world : World) → InWorld P world → InLog P (hosts_of hosts world)
 log_too P [] world all = tt
 log_too P (h ∷ hs) [] all = tt
 log_too P (h ∷ hs) (site ∷ sites) all = (flows_too P site.host.flows all.0, log_too P hs sites all.1)
@@ -74,13 +75,13 @@ all_of_log P (h ∷ hs) all = joined h.flows all.0 (all_of_log P hs all.1) where
   joined [] a b = b
   joined (f ∷ fs) a b = (a.0, joined fs a.1 b)
 
-log_of_all : (P : Flow → Type 0) (hosts : List HostRun) → Each P (flows_in hosts) → InLog P hosts
+pub log_of_all : (P : Flow → Type 0) (hosts : List HostRun) → Each P (flows_in hosts) → InLog P hosts
 log_of_all P [] all = tt
 log_of_all P (h ∷ hs) all =
     (each_left P h.flows (flows_in hs) all, log_of_all P hs (each_right P h.flows (flows_in hs) all))
 
 -- each flow of the world is in the log
-world_of_log : (P : Flow → Type 0) (t : ℕ) (hosts : List HostLine) (world : World) → AllRight t hosts world
+pub world_of_log : (P : Flow → Type 0) (t : ℕ) (hosts : List HostLine) (world : World) → AllRight t hosts world
     → InLog P (hosts_of hosts world) → InWorld P world
 world_of_log P t [] [] right all = tt
 world_of_log P t [] (site ∷ sites) right all = absurd right
@@ -179,15 +180,15 @@ anything_on_line (events.Stray frame tuple seg None) = tt
 anything_on_line (events.Stray frame tuple seg (Some head)) = tt
 anything_on_line _ = tt
 
-abbrev LinesReset : World → Type 0
+abbrev pub LinesReset : World → Type 0
 LinesReset world = Each (λ (site : Site (List Script)). Each (λ (l : LogLine). LineResets l.event) site.host.log) world
 
 -- each answer to a stray is a reset
-lines_reset : (s : Scenario) (end : End) → IsFaithful s.link → RunsFrom s s.limit 0 (at_start s) end
+pub lines_reset : (s : Scenario) (end : End) → IsFaithful s.link → RunsFrom s s.limit 0 (at_start s) end
     → LinesReset end.world
 lines_reset s end faithful run =
     each_as _ _ (λ site heard. heard.lines) end.world
-    (run_heard Anything (λ tuple seg q. tt) s end faithful run
+    (run_heard Anything Anything (λ tuple seg q. tt) s end faithful run
     (each_always (SentSite Anything) (λ site. record {
       flows = each_always (SentLive Anything)
           (λ l. each_always (Anything l.flow.tuple) (λ seg. tt) (sent l.flow.entries)) site.host.flows;
@@ -250,7 +251,7 @@ module _ (s : Scenario) (end : End) (fits : AreInRange s.hosts) (low : s.limit �
   all_took h o =
       all_of_log (Took h o.0) hosts (log_too (Took h o.0) s.hosts end.world
       (each_as _ _ (λ site heard. heard.flows) end.world
-      (run_heard (Direction h o.0)
+      (run_heard (Direction h o.0) (Direction h o.0)
       (speaks_read (reversed h.tuple) (replay o.0.params o.0.entries).iss (accepted o.0.entries)) s end faithful run
       (sites_speak h o.0 end.world (world_known s.limit s.hosts end.world fits right) (other_only h o)
       (lines_reset s end faithful run)))))

@@ -37,15 +37,12 @@ use Rattle.scenario_runs.specs.Worlds.{World, host_at, frames_of_segments, frame
 use Rattle.scenario_runs.specs.Worlds.{answer_on, frames_of_answer, frames_of_log, frames_of_hosts, sent_in, packet_by}
 use Rattle.scenario_runs.specs.Worlds.{arrival, arrivals_at}
 use Rattle.two_ends.specs.Ends.{is_corrupt, IsFaithful, reversed}
+use Rattle.two_ends.specs.Origins.{as_read}
 use Rattle.two_ends.proofs.Lists.{each_left, each_right, each_filter}
 use Rattle.two_ends.proofs.Back.{SentLive, LineHas, SentHost}
 use Rattle.two_ends.proofs.Heard.{Comes, ComesIn}
 
 -- ----- one packet
--- A segment as it is read: an MSS counts in a SYN alone.
-abbrev pub as_read : Seg → Seg
-as_read seg = record seg { head = record (seg.head) { mss = if is_syn seg then seg.head.mss else None } }
-
 content_by : (o : Option Refused) (b : List ℕ) → o ≡ None
     → ◌≡◌ {A = Content}
     (elim o [
@@ -173,19 +170,21 @@ module _ (Q : FourTuple → Seg → Type 0) where
   ordered_good (f ∷ fs) all = placed_good f (in_due_order fs) all.0 (ordered_good fs all.1)
 
   -- ----- what comes
-  module _ (reads : (tuple : FourTuple) (seg : Seg) → Q tuple seg → Q tuple (as_read seg)) where
-    arrival_comes : (f : Sent) → IsGood f → ComesIn Q (arrival f)
+  -- `R` is of a segment as it is read.
+  module _ (R : FourTuple → Seg → Type 0)
+      (reads : (tuple : FourTuple) (seg : Seg) → Q tuple seg → R tuple (as_read seg)) where
+    arrival_comes : (f : Sent) → IsGood f → ComesIn R (arrival f)
     arrival_comes f good =
         let content : due_content false f.packet ≡ Remote (reversed good.0) (as_read good.1) = ap
         (due_content false) good.3 ∙ content_is good.0 good.1 in
-        subst (λ (c : Content). Comes Q (packet_by c)) (sym content) (reads good.0 good.1 good.2)
+        subst (λ (c : Content). Comes R (packet_by c)) (sym content) (reads good.0 good.1 good.2)
 
-    arrivals_come : (fs : List Sent) → Each IsGood fs → Each (ComesIn Q) (map arrival fs)
+    arrivals_come : (fs : List Sent) → Each IsGood fs → Each (ComesIn R) (map arrival fs)
     arrivals_come [] all = tt
     arrivals_come (f ∷ fs) all = (arrival_comes f all.0, arrivals_come fs all.1)
 
     pub due_come : (lines : LinkLines) (world : World) (t host : ℕ) → IsFaithful lines → Each SentSite world
-        → Each (ComesIn Q) (arrivals_at lines (sent_in world) t host)
+        → Each (ComesIn R) (arrivals_at lines (sent_in world) t host)
     due_come lines world t host faithful all =
         arrivals_come (filter (λ (f : Sent). f.to == host) (due lines (sent_in world) t))
         (each_filter IsGood (λ (f : Sent). f.to == host) (due lines (sent_in world) t)

@@ -37,6 +37,7 @@ use Rattle.host_rounds.proofs.AllLegal.{each_push}
 use Rattle.host_rounds.proofs.Lists.{each_append}
 use Rattle.host_rounds.proofs.Flows.{on_control}
 use Rattle.two_ends.specs.Ends.{reversed}
+use Rattle.two_ends.specs.Origins.{IsReset}
 use Rattle.two_ends.proofs.Lists.{each_filter, first_there}
 
 -- ----- tests
@@ -89,10 +90,6 @@ frame_self f =
     refl
 
 -- ----- answers to strays
--- A reset: it says nothing, and is no SYN that anybody hears.
-abbrev pub IsReset : Seg → Type 0
-IsReset seg = (is_rst seg ≡ true) × (is_heard seg ≡ false)
-
 abbrev pub AnswerResets : Option Head → Type 0
 AnswerResets None = Unit {0}
 AnswerResets (Some head) = IsReset (bare head)

@@ -4,3 +4,5 @@ pub mod Heard
 pub mod Frames
 pub mod Worlds
 pub mod Ends
+pub mod Origins
+pub mod WorkedEnds

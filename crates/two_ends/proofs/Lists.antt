@@ -1,5 +1,5 @@
 -- Lists: facts of each item, forth and back.
-use Rattle.std.proofs.Common.{◌≡◌, ℕ, zero, suc, Bool, true, false, cond, List, [], ◌∷◌, ◌++◌, map, filter, refl, sym}
+use Rattle.std.proofs.Common.{◌≡◌, ℕ, zero, suc, Bool, true, false, cond, List, [], ◌∷◌, ◌++◌, Contains, arith, map, filter, refl, sym}
 use Rattle.std.proofs.Common.{subst, ◌∙◌, true≢false}
 use Rattle.host_rounds.specs.Lists.{Each, change_first, change_at}
 
@@ -55,6 +55,15 @@ each_always P holds (x ∷ xs) = (holds x, each_always P holds xs)
 pub each_self : {X : Type 0} (P : X → X → Type 0) (xs : List X) → ((x : X) → Each (P x) xs) → Each (λ (x : X). P x x) xs
 each_self P [] all = tt
 each_self P (x ∷ xs) all = ((all x).0, each_self P xs (λ y. (all y).1))
+
+-- each item is among them
+pub each_contained : {X : Type 0} (xs : List X) → Each (Contains xs) xs
+each_contained [] = tt
+each_contained (x ∷ xs) = (
+  (0, omega arith, refl),
+  each_as (Contains xs) (Contains (x ∷ xs)) (λ y c. (suc c.0, omega (arith, c.1), c.2)) xs
+      (each_contained xs),
+)
 
 -- ----- changes, backwards
 pub map_back : {X : Type 0} (P : X → Type 0) (f : X → X) → ((x : X) → P (f x) → P x) → (xs : List X) → Each P (map f xs)

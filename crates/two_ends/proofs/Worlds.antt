@@ -21,7 +21,8 @@ use Rattle.scenario_runs.proofs.ByMoves.{scenarios_by_moves}
 use Rattle.two_ends.specs.Ends.{IsFaithful}
 use Rattle.two_ends.proofs.Back.{SentHost, round_back}
 use Rattle.two_ends.proofs.Heard.{HeardHost, round_heard}
-use Rattle.two_ends.proofs.Frames.{as_read, SentSite, due_come}
+use Rattle.two_ends.specs.Origins.{as_read}
+use Rattle.two_ends.proofs.Frames.{SentSite, due_come}
 
 -- ----- right worlds
 -- no flow has more Ticks than there were ticks
@@ -83,13 +84,14 @@ rounds_right s whole t h (l ∷ ls) (b ∷ bs) (a ∷ az) rounds right =
     (site_right s whole t h l.params b a rounds.0 right.0, rounds_right s whole t (h + 1) ls bs az rounds.1 right.1)
 
 -- ----- one tick
-module _ (Q : FourTuple → Seg → Type 0)
-    (reads : (tuple : FourTuple) (seg : Seg) → Q tuple seg → Q tuple (as_read seg)) where
+-- `Q` is of a segment as it is sent, and `R` of one as it is read.
+module _ (Q R : FourTuple → Seg → Type 0)
+    (reads : (tuple : FourTuple) (seg : Seg) → Q tuple seg → R tuple (as_read seg)) where
   abbrev pub SentWorld : World → Type 0
   SentWorld world = Each (SentSite Q) world
 
   abbrev pub HeardWorld : World → Type 0
-  HeardWorld world = Each (λ (site : Site (List Script)). HeardHost Q site.host) world
+  HeardWorld world = Each (λ (site : Site (List Script)). HeardHost R site.host) world
 
   rounds_back : (s : Scenario) (whole : World) (t u h : ℕ) (hosts : List HostLine) (before after : World)
       → AreRounds s whole t h before after
@@ -114,9 +116,9 @@ module _ (Q : FourTuple → Seg → Type 0)
   rounds_heard s whole t u h (l ∷ ls) [] after faithful sent rounds right heard = absurd right
   rounds_heard s whole t u h (l ∷ ls) (b ∷ bs) [] faithful sent rounds right heard = absurd rounds
   rounds_heard s whole t u h (l ∷ ls) (b ∷ bs) (a ∷ az) faithful sent rounds right heard = (
-    round_heard Q (scripts_of s b.host.params) t (due_at s whole t h b.scripts) b a
+    round_heard R (scripts_of s b.host.params) t (due_at s whole t h b.scripts) b a
         (scenarios_by_moves s b.host.params) right.0.right.legal rounds.0
-        (due_come Q reads s.link whole t h faithful sent) heard.0,
+        (due_come Q R reads s.link whole t h faithful sent) heard.0,
     rounds_heard s whole t u (h + 1) ls bs az faithful sent rounds.1 right.1 heard.1,
   )
 

@@ -1,13 +1,24 @@
-ghost use Rattle.std.specs.Prelude.{ℕ, ◌≤◌};
+ghost use Rattle.std.specs.Prelude.{◌≡◌, ℕ, ◌≤◌, [], ◌∷◌};
 ghost use Rattle.host_rounds.specs.Lists.{Each};
 ghost use Rattle.host_rounds.specs.Logs.{HostRun, RunLog};
 ghost use Rattle.scenario_text.specs.declared.scenario.Scenario.{Scenario};
 ghost use Rattle.scenario_runs.specs.Runs.{Run};
 ghost use Rattle.scenario_runs.specs.Histories.{AreInRange};
+ghost use Rattle.scenario_runs.specs.WorkedTalks.{hello};
+ghost use Rattle.scenario_runs.specs.WorkedLinks.{own_host};
 ghost use Rattle.two_ends.specs.Ends.{IsFaithful, HearsOtherEnd, ReadsOtherEnd};
+ghost use Rattle.two_ends.specs.Origins.{TookWhatWasSent};
+ghost use Rattle.two_ends.specs.WorkedEnds.{other_end_counts};
 
-/// In every run of a scenario without `corrupt` lines, whatever the order of its ticks: each flow that has one other
-/// end hears one stream, which is what the other end's application sent.
+/// In every run of a scenario without `corrupt` lines, whatever the order of its ticks: each segment that a flow took
+/// is one that a flow of the run with the four-tuple reversed has sent, or a reset by which a host answered a stray.
+pub fn what_is_taken_was_sent()
+    ensures { (s : Scenario) (log : RunLog) → IsFaithful s.link → Run s log
+        → Each (λ (h : HostRun). Each (TookWhatWasSent log.hosts) h.flows) log.hosts }
+{}
+
+/// In each of these runs, where its numbers are in the ranges of the grammar, each flow that has one other end hears
+/// one stream, which is what the other end's application sent.
 pub fn two_ends_are_one_stream()
     ensures { (s : Scenario) (log : RunLog) → AreInRange s.hosts → s.limit ≤ 10000 → IsFaithful s.link → Run s log
         → Each (λ (h : HostRun). Each (HearsOtherEnd log.hosts) h.flows) log.hosts }
@@ -18,4 +29,11 @@ pub fn two_ends_are_one_stream()
 pub fn what_is_read_was_sent()
     ensures { (s : Scenario) (log : RunLog) → AreInRange s.hosts → s.limit ≤ 10000 → IsFaithful s.link → Run s log
         → Each (λ (h : HostRun). Each (ReadsOtherEnd log.hosts) h.flows) log.hosts }
+{}
+
+/// Flows that have one other end are what runs are made of: each of the serial runs of these texts has two flows, and
+/// each of them has one other end, also where both are of one host.
+pub fn worked_flows_have_other_ends()
+    ensures hello { other_end_counts hello ≡ 1 ∷ 1 ∷ [] }
+    ensures own_host { other_end_counts own_host ≡ 1 ∷ 1 ∷ [] }
 {}

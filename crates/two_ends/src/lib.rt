@@ -4,4 +4,7 @@
 
 mod laws;
 
-pub use laws::{two_ends_are_one_stream, what_is_read_was_sent};
+pub use laws::{
+    two_ends_are_one_stream, what_is_read_was_sent, what_is_taken_was_sent,
+    worked_flows_have_other_ends,
+};

@@ -1,0 +1,27 @@
+-- The other ends of worked runs, by computation.
+use Rattle.std.proofs.Common.{◌≡◌, [], ◌∷◌, refl}
+use Rattle.std.specs.Fmt.{digits}
+use Rattle.tas_num.specs.Places.{nearest}
+use Rattle.segment_fields.specs.Canon.{ip_header, tcp_fixed}
+use Rattle.segment_fields.specs.Text.{refusal, mss_of}
+use Rattle.tas_model.specs.Receive.{rx, rx_later, rx_syn_sent}
+use Rattle.tas_model.specs.NextSegment.{going}
+use Rattle.tas_model.specs.Timers.{ticks, control}
+use Rattle.tas_model.specs.LegalHistory.{step, replay}
+use Rattle.host_rounds.specs.SerialOrder.{serial_tick}
+use Rattle.scenario_text.specs.Statements.{reading}
+use Rattle.scenario_text.specs.Reads.{reads}
+use Rattle.scenario_runs.specs.Runs.{serial_world, serial_from}
+use Rattle.scenario_runs.specs.WorkedTalks.{hello}
+use Rattle.scenario_runs.specs.WorkedLinks.{own_host}
+use Rattle.two_ends.specs.WorkedEnds.{other_end_counts}
+
+pub hello_has : other_end_counts hello ≡ 1 ∷ 1 ∷ []
+unfolding reads reading digits nearest ip_header tcp_fixed refusal mss_of rx rx_later rx_syn_sent going
+    ticks control step replay serial_tick serial_world serial_from
+hello_has = refl
+
+pub own_host_has : other_end_counts own_host ≡ 1 ∷ 1 ∷ []
+unfolding reads reading digits nearest ip_header tcp_fixed refusal mss_of rx rx_later rx_syn_sent going
+    ticks control step replay serial_tick serial_world serial_from
+own_host_has = refl
