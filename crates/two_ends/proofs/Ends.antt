@@ -63,7 +63,8 @@ flows_back : (P : Flow → Type 0) (ls : List Live) → Each P (flows_of ls) →
 flows_back P [] all = tt
 flows_back P (l ∷ ls) all = (all.0, flows_back P ls all.1)
 
-pub log_too : (P : Flow → Type 0) (hosts : List HostLine) (world : World) → InWorld P world → InLog P (hosts_of hosts world)
+pub log_too : (P : Flow → Type 0) (hosts : List HostLine) (world : World) → InWorld P world
+    → InLog P (hosts_of hosts world)
 log_too P [] world all = tt
 log_too P (h ∷ hs) [] all = tt
 log_too P (h ∷ hs) (site ∷ sites) all = (flows_too P site.host.flows all.0, log_too P hs sites all.1)
