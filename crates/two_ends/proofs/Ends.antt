@@ -63,7 +63,8 @@ flows_back : (P : Flow → Type 0) (ls : List Live) → Each P (flows_of ls) →
 flows_back P [] all = tt
 flows_back P (l ∷ ls) all = (all.0, flows_back P ls all.1)
 
-pub log_too : (P : Flow → Type 0) (hosts : List HostLine) (world : World) → InWorld P world → InLog P (hosts_of hosts world)
+pub log_too : (P : Flow → Type 0) (hosts : List HostLine) (world : World) → InWorld P world
+    → InLog P (hosts_of hosts world)
 log_too P [] world all = tt
 log_too P (h ∷ hs) [] all = tt
 log_too P (h ∷ hs) (site ∷ sites) all = (flows_too P site.host.flows all.0, log_too P hs sites all.1)
@@ -272,14 +273,14 @@ module _ (s : Scenario) (end : End) (fits : AreInRange s.hosts) (low : s.limit �
 
   reads : (h : Flow) → IsKnown s.limit h × HearsOtherEnd hosts h → ReadsOtherEnd hosts h
   reads h both g one =
-      let ended : (replay h.params h.entries).rx.ended ≡ true
-      → (replay h.params h.entries).rx.got ≡ accepted g.entries =
+      let got : List ℕ = (replay h.params h.entries).rx.got in
+      let ended : (replay h.params h.entries).rx.ended ≡ true → got ≡ accepted g.entries =
       (got_is_prefix h.params (accepted g.entries) h.entries both.0.legal (both.1 g one)).1 in
+      let last = end_is_last h.params h.entries both.0.fits both.0.legal in
       record {
         reads = read_is_of_stream h.params (accepted g.entries) h.entries both.0.fits both.0.legal (both.1 g one);
         ended = ended;
-        whole = λ told. let last = end_is_last h.params h.entries both.0.fits both.0.legal told in last.1
-            ∙ ended last.0;
+        whole = λ told. (last told).1 ∙ ended (last told).0;
       }
 
   all_hear : Each (HearsOtherEnd hosts) (flows_in hosts)

@@ -1,5 +1,6 @@
 -- Lists: facts of each item, forth and back.
-use Rattle.std.proofs.Common.{◌≡◌, ℕ, zero, suc, Bool, true, false, cond, List, [], ◌∷◌, ◌++◌, Contains, arith, map, filter, refl, sym}
+use Rattle.std.proofs.Common.{◌≡◌, ℕ, zero, suc, Bool, true, false, cond}
+use Rattle.std.proofs.Common.{List, [], ◌∷◌, ◌++◌, Contains, arith, map, filter, refl, sym}
 use Rattle.std.proofs.Common.{subst, ◌∙◌, true≢false}
 use Rattle.host_rounds.specs.Lists.{Each, change_first, change_at}
 

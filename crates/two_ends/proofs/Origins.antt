@@ -64,7 +64,8 @@ call_comes hosts tuple _ heard = tt
 
 live_comes : (hosts : List HostRun) (l : Live) → HeardLive (Origin hosts) l → TookWhatWasSent hosts l.flow
 live_comes hosts l heard =
-    each_as (λ (x : Entry). Heard (Origin hosts) l.flow.tuple x.call) (λ (x : Entry). HasOrigin hosts l.flow.tuple x.call)
+    each_as (λ (x : Entry). Heard (Origin hosts) l.flow.tuple x.call)
+    (λ (x : Entry). HasOrigin hosts l.flow.tuple x.call)
     (λ x here. call_comes hosts l.flow.tuple x.call here) l.flow.entries heard
 
 end_comes : (s : Scenario) (end : End) → IsFaithful s.link → RunsFrom s s.limit 0 (at_start s) end

@@ -14,6 +14,7 @@ abbrev pub counts_of : Result Scenario ScenarioFault → List ℕ
 counts_of (Err fault) = []
 counts_of (Ok s) = counts_in (serial_run s).hosts
 
--- Of each flow of the serial run of this text, host by host and by opening, how many flows have its four-tuple reversed.
+-- Of each flow of the serial run of this text, host by host and by opening, how many flows have its four-tuple
+-- reversed.
 abbrev pub other_end_counts : (text : List ℕ) → List ℕ
 other_end_counts text = counts_of (reads text)
