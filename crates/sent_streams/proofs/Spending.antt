@@ -78,17 +78,13 @@ running_goes e v =
     on_cond (G (data_len e) e) (ltb 0 (data_len e)) _ _ (λ t. (omega (arith, v.tx.nxt), λ d. d))
     (λ f. on_cond (G (data_len e) e)
     (e.tx.probe && eqb e.tx.window 0 && eqb e.tx.nxt e.tx.una && ltb 0 (waiting e.tx)) _ _
-    (λ t. (
-      omega
-          (arith, v.tx.nxt, probe_goes e.tx.probe (eqb e.tx.window 0) (eqb e.tx.nxt e.tx.una) (ltb 0 (waiting e.tx)) t),
-      λ d. d,
-    ))
+    (λ t. let due : one_if e.tx.probe ≡ 1 = probe_goes e.tx.probe _ _ _ t in (omega (arith, v.tx.nxt, due), λ d. d))
     (λ g. on_cond (G (data_len e) e) (e.tx.shut && eqb e.tx.nxt (1 + length e.tx.out)) _ _
     (λ t. (fin_goes (both_right e.tx.shut (eqb e.tx.nxt (1 + length e.tx.out)) t), λ d. d)) (λ h. tt)))
   where
     fin_goes : eqb e.tx.nxt (1 + length e.tx.out) ≡ true
-        → min (max e.tx.max (e.tx.nxt + 1) - 1) (length e.tx.out) + one_if e.tx.probe ≤ gone e + one_if e.tx.probe +
-        data_len e
+        → min (max e.tx.max (e.tx.nxt + 1) - 1) (length e.tx.out) + one_if e.tx.probe
+        ≤ gone e + one_if e.tx.probe + data_len e
     fin_goes t =
         let place : e.tx.nxt ≡ 1 + length e.tx.out = grind (arith, nat_tests, t) in
         omega (arith, place, v.tx.nxt)

@@ -73,8 +73,8 @@ sending_same tx a q len window =
     on_cond (SendsNoMore tx) (ltb (after_duplicate tx a len window).una a) _ (after_duplicate tx a len window)
     (λ t. record { max = duplicate.max; probe = duplicate.probe }) (λ f. duplicate) in
     let moved : Sending = after_advance (after_duplicate tx a len window) a in
-    let less : one_if (cond (eqb moved.window 0 && ltb 0 window) false moved.probe) ≤ one_if moved.probe = less_probe
-    (eqb moved.window 0 && ltb 0 window) moved.probe in
+    let less : one_if (cond (eqb moved.window 0 && ltb 0 window) false moved.probe) ≤ one_if moved.probe =
+    less_probe (eqb moved.window 0 && ltb 0 window) moved.probe in
     on_cond (SendsNoMore tx) (moves_window tx a q) _ moved
     (λ t. record { max = advance.max; probe = omega (arith, less, advance.probe) }) (λ f. advance)
 

@@ -272,14 +272,14 @@ module _ (s : Scenario) (end : End) (fits : AreInRange s.hosts) (low : s.limit �
 
   reads : (h : Flow) → IsKnown s.limit h × HearsOtherEnd hosts h → ReadsOtherEnd hosts h
   reads h both g one =
-      let ended : (replay h.params h.entries).rx.ended ≡ true
-      → (replay h.params h.entries).rx.got ≡ accepted g.entries =
+      let got : List ℕ = (replay h.params h.entries).rx.got in
+      let ended : (replay h.params h.entries).rx.ended ≡ true → got ≡ accepted g.entries =
       (got_is_prefix h.params (accepted g.entries) h.entries both.0.legal (both.1 g one)).1 in
+      let last = end_is_last h.params h.entries both.0.fits both.0.legal in
       record {
         reads = read_is_of_stream h.params (accepted g.entries) h.entries both.0.fits both.0.legal (both.1 g one);
         ended = ended;
-        whole = λ told. let last = end_is_last h.params h.entries both.0.fits both.0.legal told in last.1
-            ∙ ended last.0;
+        whole = λ told. (last told).1 ∙ ended (last told).0;
       }
 
   all_hear : Each (HearsOtherEnd hosts) (flows_in hosts)

@@ -175,8 +175,8 @@ module _ (Q : FourTuple → Seg → Type 0) where
       (reads : (tuple : FourTuple) (seg : Seg) → Q tuple seg → R tuple (as_read seg)) where
     arrival_comes : (f : Sent) → IsGood f → ComesIn R (arrival f)
     arrival_comes f good =
-        let content : due_content false f.packet ≡ Remote (reversed good.0) (as_read good.1) = ap
-        (due_content false) good.3 ∙ content_is good.0 good.1 in
+        let content : due_content false f.packet ≡ Remote (reversed good.0) (as_read good.1) =
+        ap (due_content false) good.3 ∙ content_is good.0 good.1 in
         subst (λ (c : Content). Comes R (packet_by c)) (sym content) (reads good.0 good.1 good.2)
 
     arrivals_come : (fs : List Sent) → Each IsGood fs → Each (ComesIn R) (map arrival fs)

@@ -4,5 +4,6 @@ pub mod Heard
 pub mod Frames
 pub mod Worlds
 pub mod Ends
+pub mod Texts
 pub mod Origins
 pub mod WorkedEnds

@@ -1,7 +1,8 @@
-ghost use Rattle.std.specs.Prelude.{◌≡◌, ℕ, ◌≤◌, [], ◌∷◌};
+ghost use Rattle.std.specs.Prelude.{◌≡◌, ℕ, ◌≤◌, List, [], ◌∷◌, Ok};
 ghost use Rattle.host_rounds.specs.Lists.{Each};
 ghost use Rattle.host_rounds.specs.Logs.{HostRun, RunLog};
 ghost use Rattle.scenario_text.specs.declared.scenario.Scenario.{Scenario};
+ghost use Rattle.scenario_text.specs.Reads.{reads};
 ghost use Rattle.scenario_runs.specs.Runs.{Run};
 ghost use Rattle.scenario_runs.specs.Histories.{AreInRange};
 ghost use Rattle.scenario_runs.specs.WorkedTalks.{hello};
@@ -20,15 +21,20 @@ pub fn what_is_taken_was_sent()
 /// In each of these runs, where its numbers are in the ranges of the grammar, each flow that has one other end hears
 /// one stream, which is what the other end's application sent.
 pub fn two_ends_are_one_stream()
-    ensures { (s : Scenario) (log : RunLog) → AreInRange s.hosts → s.limit ≤ 10000 → IsFaithful s.link → Run s log
-        → Each (λ (h : HostRun). Each (HearsOtherEnd log.hosts) h.flows) log.hosts }
+    ensures in_range { (s : Scenario) (log : RunLog) → AreInRange s.hosts → s.limit ≤ 10000 → IsFaithful s.link
+        → Run s log → Each (λ (h : HostRun). Each (HearsOtherEnd log.hosts) h.flows) log.hosts }
+    // They are where the scenario was read from a text.
+    ensures of_texts { (text : List ℕ) (s : Scenario) (log : RunLog) → reads text ≡ Ok s → IsFaithful s.link
+        → Run s log → Each (λ (h : HostRun). Each (HearsOtherEnd log.hosts) h.flows) log.hosts }
 {}
 
 /// So what its application read is a prefix of what the other end's application sent, and all of it once a Recv was
 /// answered by the end.
 pub fn what_is_read_was_sent()
-    ensures { (s : Scenario) (log : RunLog) → AreInRange s.hosts → s.limit ≤ 10000 → IsFaithful s.link → Run s log
-        → Each (λ (h : HostRun). Each (ReadsOtherEnd log.hosts) h.flows) log.hosts }
+    ensures in_range { (s : Scenario) (log : RunLog) → AreInRange s.hosts → s.limit ≤ 10000 → IsFaithful s.link
+        → Run s log → Each (λ (h : HostRun). Each (ReadsOtherEnd log.hosts) h.flows) log.hosts }
+    ensures of_texts { (text : List ℕ) (s : Scenario) (log : RunLog) → reads text ≡ Ok s → IsFaithful s.link
+        → Run s log → Each (λ (h : HostRun). Each (ReadsOtherEnd log.hosts) h.flows) log.hosts }
 {}
 
 /// Flows that have one other end are what runs are made of: each of the serial runs of these texts has two flows, and
