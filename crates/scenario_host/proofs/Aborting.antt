@@ -5,7 +5,7 @@ use Rattle.std.proofs.Common.{Some, refl, sym, ap, ◌∙◌, arith}
 use Rattle.tas_model.specs.declared.entry.Caller.TheVariants.{Slow}
 use Rattle.tas_model.specs.declared.entry.Call.TheVariants as calls
 use Rattle.host_rounds.specs.Lists.{change_at}
-use Rattle.host_rounds.specs.Hosts.{Live, Host, Holder, Waiting, Application, GivenUp, Listener, at_flow, with_call}
+use Rattle.host_rounds.specs.Hosts.{Live, Host, Holder, Waiting, Application, GivenUp, at_flow, with_call}
 use Rattle.host_rounds.specs.Hosts.{is_held_by}
 use Rattle.scenario_runs.specs.Applications.{aborted_where, is_concerned, let_go}
 

@@ -1,5 +1,5 @@
 -- The answer of a call tells what its reply tells, and a script goes on by it as by the reply.
-use Rattle.std.proofs.Common.{◌≡◌, ◌≤◌, ◌<◌, ◌+◌, ℕ, true, false, List, [], length, take, drop, Option, Some, None}
+use Rattle.std.proofs.Common.{◌≡◌, ◌≤◌, ◌+◌, ℕ, List, [], length, take, drop, Option, Some, None}
 use Rattle.std.proofs.Common.{refl, sym, ap, subst}
 use Rattle.std.proofs.Common.{◌∙◌, arith, if◌then◌else◌}
 use Rattle.tas_model.specs.declared.entry.Caller.TheVariants.{App}
@@ -12,7 +12,7 @@ use Rattle.flow_state.specs.Calls as in_calls
 use Rattle.host_rounds.specs.Hosts.{Live, Host, at_flow, with_call, answer_of}
 use Rattle.local_host.specs.Live.{took}
 use Rattle.local_host.proofs.Taken.{took_tells}
-use Rattle.scenario_runs.specs.Applications.{Script, Turn, stepped, is_not_yet, waits_for, sent_on, sends}
+use Rattle.scenario_runs.specs.Applications.{Script, stepped, is_not_yet, waits_for, sent_on, sends}
 use Rattle.scenario_runs.specs.Applications.{received_on}
 use Rattle.scenario_runs.specs.Applications.{receives, asks_for, most}
 use Rattle.scenario_host.specs.Answers.{IsBelow, IsWithin, gave, waited_by, sent_by, received_by}

@@ -1,11 +1,9 @@
 -- A turn keeps its host's flows, and leaves its script fit for them.
-use Rattle.std.proofs.Common.{◌≡◌, ◌≤◌, ◌<◌, ◌+◌, ◌-◌, ◌^◌, ◌==◌, ℕ, Bool, true, false, List, [], ◌∷◌, length, take}
+use Rattle.std.proofs.Common.{◌≡◌, ◌≤◌, ◌<◌, ◌+◌, ◌^◌, ◌==◌, ℕ, Bool, true, false, List, [], ◌∷◌, length, take}
 use Rattle.std.proofs.Common.{drop}
-use Rattle.std.proofs.Common.{map, min, position, subst, ◌%◌, ◌++◌, length-append, nat_lt, Option, Some, None, refl}
+use Rattle.std.proofs.Common.{map, position, subst, length-append, nat_lt, Option, Some, None, refl}
 use Rattle.std.proofs.Common.{sym, ap, arith, length-take, length-drop}
-use Rattle.std.specs.List.{range_with_len}
 use Rattle.std.proofs.lemmas.List.{length-map}
-use Rattle.std.proofs.lemmas.List.FromFn.{length-map-range_with_len}
 use Rattle.std.proofs.lemmas.List.Quantifiers.{position-Some}
 use Rattle.tas_model.specs.declared.entry.Caller.TheVariants.{App}
 use Rattle.tas_model.specs.declared.entry.FourTuple.{FourTuple}
@@ -14,16 +12,14 @@ use Rattle.tas_model.specs.declared.entry.Reply.{Reply}
 use Rattle.tas_model.specs.declared.entry.Call.{Call}
 use Rattle.tas_model.specs.declared.entry.Call.TheVariants as calls
 use Rattle.tas_model.proofs.Tests.{on_cond}
-use Rattle.host_rounds.specs.Lists.{Each}
 use Rattle.host_rounds.specs.Hosts.{Live, Host, Holder, Application, GivenUp, Numbers, answer_of, is_listened}
 use Rattle.host_rounds.specs.Hosts.{is_ready}
 use Rattle.host_rounds.specs.Hosts.{lowest_free, first_port, ports_given, new_flow, first_entry, next_number}
 use Rattle.scenario_text.specs.declared.scenario.Step.{Step}
 use Rattle.scenario_text.specs.declared.scenario.Step.TheVariants as steps
-use Rattle.scenario_ranges.specs.Ranges.{IsStepInRange}
-use Rattle.scenario_runs.specs.Applications.{Bound, AListener, ASocket, Script, Turn, bind, unbind, stepped, called}
+use Rattle.scenario_runs.specs.Applications.{AListener, ASocket, Script, Turn, bind, unbind, stepped, called}
 use Rattle.scenario_runs.specs.Applications.{holds}
-use Rattle.scenario_runs.specs.Applications.{on_script, listens, listens_where, accepts, accepts_one, refused}
+use Rattle.scenario_runs.specs.Applications.{listens_where, accepts, accepts_one}
 use Rattle.scenario_runs.specs.Applications.{opens}
 use Rattle.scenario_runs.specs.Applications.{opens_where, connects, connects_on, waits_for, is_not_yet, sends}
 use Rattle.scenario_runs.specs.Applications.{sent_on}
@@ -33,9 +29,9 @@ use Rattle.scenario_runs.specs.Applications.{step_of, done_or, killed, aborted_w
 use Rattle.scenario_runs.specs.Applications.{turn_where}
 use Rattle.scenario_runs.specs.Applications.{turn, is_killed_at, flow_of, port_of, bound_in}
 use Rattle.scenario_host.specs.Answers.{IsWithin}
-use Rattle.scenario_host.specs.Sound.{IsPart, IsPartOfFirst, IsOneOf, IsFit}
+use Rattle.scenario_host.specs.Sound.{IsPart, IsPartOfFirst, IsFit}
 use Rattle.scenario_host.specs.Turns.{turn_of}
-use Rattle.scenario_host.proofs.Lasting.{Lasts, lasts_same, lasts_both, lasts_at, lasts_map, lasts_opened}
+use Rattle.scenario_host.proofs.Lasting.{Lasts, lasts_same, lasts_both, lasts_at, lasts_opened}
 use Rattle.scenario_host.proofs.Fit.{fit_more, fit_bound, fit_unbound, fit_stepped, StaysFit, stays_done}
 use Rattle.scenario_host.proofs.Fit.{stays_sent}
 use Rattle.scenario_host.proofs.Fit.{stays_received, IsUnderWay, IsUnderWayTo}

@@ -1,13 +1,12 @@
 -- A tick of a host and its scripts on cores, from what its phases leave.
-use Rattle.std.proofs.Common.{◌≡◌, ℕ, List, [], ◌∷◌, map, fold, sym, subst, ap, ◌∙◌}
+use Rattle.std.proofs.Common.{◌≡◌, ℕ, List, [], ◌∷◌, fold, sym, subst, ap, ◌∙◌}
 use Rattle.tas_model.specs.declared.entry.HostParams.{HostParams}
 use Rattle.tas_model.specs.declared.entry.Caller.TheVariants.{Slow, Core}
 use Rattle.host_rounds.specs.Hosts.{Host, Numbers}
 use Rattle.host_rounds.specs.Deliveries.{Arrival, received, delivered}
-use Rattle.host_rounds.specs.Scripts.{Site}
 use Rattle.host_rounds.specs.Rounds.{on_host}
 use Rattle.host_rounds.specs.SerialOrder.{slow_phase, ask_phase, emit_phase}
-use Rattle.core_rounds.specs.CoreTicks.{Taken, taken_by_cores, IsCoresPhase, rest_phase, IsCoresTick}
+use Rattle.core_rounds.specs.CoreTicks.{Taken, taken_by_cores, IsCoresPhase, IsCoresTick}
 use Rattle.scenario_text.specs.declared.scenario.Scenario.{Scenario}
 use Rattle.scenario_runs.specs.Applications.{Script}
 use Rattle.scenario_runs.specs.Worlds.{scripts_of, numbers_of}

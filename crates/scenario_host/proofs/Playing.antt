@@ -1,10 +1,8 @@
 -- A tick of a host and its scripts, from what its phases leave.
-use Rattle.std.proofs.Common.{◌≡◌, ℕ, List, length, map, fold, sym, ap, ◌∙◌}
+use Rattle.std.proofs.Common.{◌≡◌, ℕ, List, length, map, fold, ap, ◌∙◌}
 use Rattle.tas_model.specs.declared.entry.HostParams.{HostParams}
-use Rattle.host_rounds.specs.Lists.{Each}
 use Rattle.host_rounds.specs.Hosts.{Host}
 use Rattle.host_rounds.specs.Deliveries.{Arrival, received_serially, delivered}
-use Rattle.host_rounds.specs.Scripts.{Site}
 use Rattle.host_rounds.specs.Rounds.{on_host}
 use Rattle.host_rounds.specs.SerialOrder.{slow_phase, ask_phase, emit_phase, serial_tick}
 use Rattle.scenario_text.specs.declared.scenario.Scenario.{Scenario}

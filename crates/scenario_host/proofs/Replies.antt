@@ -1,7 +1,7 @@
 -- What a flow answered last, and how many bytes such an answer has.
 use Rattle.std.proofs.Common.{◌≡◌, ◌≤◌, ◌==◌, ◌&&◌, not, ℕ, zero, suc, Bool, true, false, List, [], ◌∷◌, ◌++◌}
 use Rattle.std.proofs.Common.{length, take, drop, min}
-use Rattle.std.proofs.Common.{max, slice_get, Option, Some, None, refl, sym, ap, subst, ◌∙◌, arith, length-take}
+use Rattle.std.proofs.Common.{max, slice_get, Option, Some, None, refl, sym, ap, subst, arith, length-take}
 use Rattle.tas_model.specs.declared.entry.Reason.{Reason}
 use Rattle.tas_model.specs.declared.entry.Reason.TheVariants as reasons
 use Rattle.tas_model.specs.declared.entry.Caller.{Caller}

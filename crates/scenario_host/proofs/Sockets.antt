@@ -1,7 +1,7 @@
 -- The flow of a socket, and a flow that may be accepted.
 use Rattle.std.proofs.Common.{◌≡◌, ◌<◌, ◌&&◌, ℕ, zero, suc, Bool, true, false, List, [], ◌∷◌, length, bytes_eq}
 use Rattle.std.proofs.Common.{position}
-use Rattle.std.proofs.Common.{slice_get, get_or, Option, Some, None, sym, ap, subst, ◌∙◌, arith}
+use Rattle.std.proofs.Common.{slice_get, get_or, Option, Some, sym, ap, ◌∙◌, arith}
 use Rattle.std.proofs.lemmas.List.Quantifiers.{position-Some}
 use Rattle.host_rounds.specs.Hosts.{Live, Host, at_flow, is_ready, is_running}
 use Rattle.scenario_runs.specs.Applications.{Bound, AListener, ASocket, Turn, bound_in, flow_of, on_flow, on_socket}

@@ -1,5 +1,5 @@
 -- The scripts of a host at its start.
-use Rattle.std.proofs.Common.{◌≡◌, ◌≤◌, ◌<◌, ◌+◌, ℕ, Bool, true, false, cond, List, [], ◌∷◌, ◌++◌, bytes_eq, refl}
+use Rattle.std.proofs.Common.{◌≤◌, ◌<◌, ◌+◌, ℕ, Bool, true, false, cond, List, [], ◌∷◌, ◌++◌, bytes_eq}
 use Rattle.std.proofs.Common.{arith}
 use Rattle.host_rounds.specs.Lists.{Each}
 use Rattle.scenario_text.specs.declared.scenario.AppLine.{AppLine}
@@ -9,7 +9,7 @@ use Rattle.scenario_text.specs.declared.scenario.Scenario.{Scenario}
 use Rattle.scenario_ranges.specs.Ranges.{IsStepInRange, IsInRange, IsHostInRange}
 use Rattle.scenario_runs.specs.Applications.{Script}
 use Rattle.scenario_runs.specs.Worlds.{scripts_on, kill_tick, site_of}
-use Rattle.scenario_host.specs.Sound.{IsFit, AreRising, IsSound, IsHosting}
+use Rattle.scenario_host.specs.Sound.{IsFit, AreRising, IsSound}
 use Rattle.scenario_host.proofs.Fit.{part_of_none}
 use Rattle.scenario_host.proofs.Walking.{each_weaker}
 

@@ -1,5 +1,5 @@
 -- A step of a script, from what its calls made of the host and of the script.
-use Rattle.std.proofs.Common.{◌≡◌, ℕ, List, [], ◌∷◌, position, Option, Some, sym, ap, ◌∙◌}
+use Rattle.std.proofs.Common.{◌≡◌, ℕ, List, [], position, Option, Some, sym, ap, ◌∙◌}
 use Rattle.tas_model.specs.declared.entry.Caller.TheVariants.{App}
 use Rattle.tas_model.specs.declared.entry.Call.{Call}
 use Rattle.tas_model.specs.declared.entry.Call.TheVariants as calls

@@ -1,7 +1,7 @@
 -- All scripts of a host make their turns, one after the other: each is found by its number at its own place.
-use Rattle.std.proofs.Common.{◌≡◌, ◌<◌, ◌≤◌, ◌+◌, ◌==◌, ℕ, zero, suc, Bool, true, false, cond, List, [], ◌∷◌}
+use Rattle.std.proofs.Common.{◌≡◌, ◌<◌, ◌≤◌, ◌+◌, ◌==◌, ℕ, zero, suc, Bool, true, false, List, [], ◌∷◌}
 use Rattle.std.proofs.Common.{length, map, fold, drop}
-use Rattle.std.proofs.Common.{set, slice_get, get_or, Option, Some, None, refl, sym, ap, subst, ◌∙◌, arith}
+use Rattle.std.proofs.Common.{set, slice_get, get_or, Option, Some, refl, sym, ap, subst, ◌∙◌, arith}
 use Rattle.std.specs.List.{find}
 use Rattle.std.proofs.lemmas.Bool.Decides.{nat_tests}
 use Rattle.host_rounds.specs.Lists.{Each, change_first}

@@ -1,10 +1,9 @@
 -- The flows and hosts of a world, one more: their frames of a tick, and their counts.
-use Rattle.std.proofs.Common.{◌≡◌, ℕ, zero, suc, ◌+◌, ◌<◌, ◌≤◌, ◌==◌, eqb, List, [], ◌∷◌, ◌++◌, length, map, filter, get_or, set}
+use Rattle.std.proofs.Common.{◌≡◌, ℕ, suc, ◌+◌, ◌≤◌, eqb, List, [], ◌∷◌, ◌++◌, length, get_or, set}
 use Rattle.std.proofs.Common.{◌-◌, replicate, length-append, take, drop, Some, slice_get, refl, sym, ap, ◌∙◌, subst, arith, append_assoc, append-nil}
 use Rattle.std.proofs.lemmas.List.{length-map, set_at, map-append, take_at}
 use Rattle.std.proofs.lemmas.List.Elements.{filter-append}
 use Rattle.std.proofs.Math.Seq.{get_or-append_seam}
-use Rattle.host_rounds.specs.declared.log.LogLine.{LogLine}
 use Rattle.host_rounds.specs.Logs.{Flow}
 use Rattle.host_rounds.specs.Hosts.{Live, Host}
 use Rattle.host_rounds.specs.Scripts.{Site}
@@ -13,7 +12,7 @@ use Rattle.scenario_runs.specs.Applications.{Script}
 use Rattle.link_script.specs.declared.frames.Sent.{Sent}
 use Rattle.flow_state.specs.Flow as records
 use Rattle.local_host.specs.Live.{flow_in}
-use Rattle.scenario_runs.specs.Worlds.{World, host_at, frames_of_entries, frames_of_flows, frames_of_log, frames_of_hosts}
+use Rattle.scenario_runs.specs.Worlds.{World, host_at, frames_of_entries, frames_of_flows, frames_of_hosts}
 use Rattle.sent_frames.specs.declared.counts.SentCounts.{SentCounts}
 use Rattle.sent_frames.specs.Sending.{of_tick, sent_by, sent_before, answers_in, LinesBefore}
 use Rattle.scenario_world.specs.Playing.{IsCounted, IsCountedBefore, AreCounted, AreCountedBefore, AreEarly}

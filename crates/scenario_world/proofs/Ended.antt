@@ -1,5 +1,5 @@
 -- What the hosts of a world leave.
-use Rattle.std.proofs.Common.{◌≡◌, ℕ, List, [], ◌∷◌, ◌++◌, length, map, refl, sym, ap, ◌∙◌, subst, suc}
+use Rattle.std.proofs.Common.{◌≡◌, ℕ, List, [], ◌∷◌, ◌++◌, length, refl, sym, ap, ◌∙◌, subst, suc}
 use Rattle.host_rounds.specs.Logs.{HostRun, Flow}
 use Rattle.host_rounds.specs.Hosts.{run_of, flows_of}
 use Rattle.host_rounds.specs.Lists.{Each}

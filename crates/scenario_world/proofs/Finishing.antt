@@ -1,15 +1,15 @@
 -- The ticks of a run to its end.
-use Rattle.std.proofs.Common.{◌≡◌, ℕ, zero, suc, ◌+◌, ◌-◌, ◌<◌, ◌≤◌, not, Bool, true, false, List, Result, Ok, Err, IfOk}
-use Rattle.std.proofs.Common.{length, refl, sym, ap, ◌∙◌, subst, arith, true≢false}
+use Rattle.std.proofs.Common.{◌≡◌, ℕ, zero, suc, ◌+◌, ◌-◌, ◌<◌, not, Bool, true, false, List, Result, Ok, Err, IfOk}
+use Rattle.std.proofs.Common.{refl, sym, ap, ◌∙◌, subst, arith, true≢false}
 use Rattle.host_rounds.specs.Logs.{HostRun, RunLog}
 use Rattle.scenario_text.specs.declared.scenario.Scenario.{Scenario}
 use Rattle.scenario_runs.specs.Worlds.{World, at_start, all_ended, is_at_rest}
-use Rattle.scenario_runs.specs.Runs.{IsTick, End, RunsFrom, Run, serial_world, serial_from, hosts_of, scenario_log}
+use Rattle.scenario_runs.specs.Runs.{IsTick, End, RunsFrom, Run, serial_world, serial_from, scenario_log}
 use Rattle.scenario_runs.specs.Runs.{serial_run}
 use Rattle.scenario_world.specs.declared.world.WorldEnd.{WorldEnd}
 use Rattle.scenario_world.specs.Ends.{AreEnds, host_runs, log_of}
 use Rattle.scenario_world.specs.Playing.{params_of, line_params}
-use Rattle.scenario_world.proofs.Ended.{ends_shown, ends_len}
+use Rattle.scenario_world.proofs.Ended.{ends_shown}
 
 abbrev pub end_by : World → (ticks : ℕ) → (stalled : Bool) → End
 end_by world ticks stalled = record { world = world; ticks = ticks; stalled = stalled }

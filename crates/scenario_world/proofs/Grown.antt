@@ -1,27 +1,25 @@
 -- The frames of histories that grew in a tick: those of other ticks are the same.
-use Rattle.std.proofs.Common.{◌≡◌, ℕ, zero, suc, ◌+◌, ◌-◌, ◌<◌, ◌≤◌, ◌==◌, Bool, true, false, cond, eqb, ltb, List, [], ◌∷◌, ◌++◌}
+use Rattle.std.proofs.Common.{◌≡◌, ℕ, suc, ◌+◌, ◌-◌, ◌<◌, Bool, true, false, eqb, ltb, List, [], ◌∷◌, ◌++◌}
 use Rattle.std.proofs.Common.{length, map, filter, replicate, Option, Some, None, refl, sym, ap, ◌∙◌, subst, arith, append-nil}
-use Rattle.std.proofs.Common.{append_assoc}
 use Rattle.std.proofs.lemmas.Bool.Decides.{nat_tests}
 use Rattle.std.proofs.lemmas.List.Elements.{filter-append}
 use Rattle.tas_model.specs.declared.entry.FourTuple.{FourTuple}
 use Rattle.tas_model.specs.declared.entry.Head.{Head}
 use Rattle.tas_model.specs.declared.entry.Seg.{Seg}
 use Rattle.tas_model.specs.declared.entry.Entry.{Entry}
-use Rattle.tas_model.specs.Segments.{bare}
 use Rattle.tas_model.specs.Outputs.{segments_in}
 use Rattle.host_rounds.specs.declared.log.LogLine.{LogLine}
 use Rattle.host_rounds.specs.Lists.{Each}
-use Rattle.host_rounds.specs.Hosts.{Live, Host}
-use Rattle.host_rounds.specs.Passing.{AllAt, LinesAt, Grew, LogGrew, AllGrew, Went}
+use Rattle.host_rounds.specs.Hosts.{Live}
+use Rattle.host_rounds.specs.Passing.{AllAt, LinesAt, Grew, LogGrew, AllGrew}
 use Rattle.host_rounds.specs.Openings.{Opening, opening_of}
 use Rattle.host_rounds.proofs.Keeps.{openings}
 use Rattle.link_script.specs.declared.frames.Sent.{Sent}
-use Rattle.scenario_runs.specs.Worlds.{World, host_at, no_flow, frames_of_segments, frames_of_entries, frames_of_flows}
+use Rattle.scenario_runs.specs.Worlds.{World, host_at, frames_of_entries, frames_of_flows}
 use Rattle.scenario_runs.specs.Worlds.{answer_on, frames_of_answer, frames_of_log}
 use Rattle.sent_frames.specs.declared.frames.Origin.{Origin}
 use Rattle.sent_frames.specs.Sending.{of_tick, entry_frames, segment_frames, sent_by, sent_before, answers_in, EntriesBefore, LinesBefore}
-use Rattle.sent_frames.proofs.Numbered.{sent_by-append, entry_frames-append, answers_in-append, frames_of_log-append}
+use Rattle.sent_frames.proofs.Numbered.{entry_frames-append, frames_of_log-append}
 
 -- ----- a tick's frames have no other tick
 other_segments : (o : Origin) (n t k : ℕ) (segs : List Seg) → eqb t k ≡ false → of_tick k (segment_frames o n t segs) ≡ []

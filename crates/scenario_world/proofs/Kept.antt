@@ -1,5 +1,5 @@
 -- In a tick every flow keeps its opening, its four-tuple among it, and the host its parameters.
-use Rattle.std.proofs.Common.{◌≡◌, ℕ, ◌&&◌, Bool, true, false, List, [], ◌∷◌, ◌++◌, map, fold, Option, Some, None, refl}
+use Rattle.std.proofs.Common.{◌≡◌, ℕ, ◌&&◌, Bool, true, false, List, [], ◌∷◌, ◌++◌, fold, Option, Some, None, refl}
 use Rattle.std.proofs.Common.{sym, subst, ap, ◌∙◌, append_assoc, append-nil}
 use Rattle.tas_model.specs.declared.entry.FourTuple.{FourTuple}
 use Rattle.tas_model.specs.declared.entry.FrameId.{FrameId}

@@ -1,11 +1,9 @@
 -- A tick of a world leads to the world before the next one.
-use Rattle.std.proofs.Common.{◌≡◌, ℕ, ◌+◌, ◌<◌, ◌≤◌, ◌||◌, Bool, nat_lt, eqb, List, [], ◌∷◌, ◌++◌, map, length, filter}
+use Rattle.std.proofs.Common.{◌≡◌, ℕ, ◌+◌, ◌<◌, ◌≤◌, ◌||◌, Bool, nat_lt, List, [], ◌∷◌, ◌++◌, length}
 use Rattle.std.proofs.Common.{suc, refl, sym, ap, ◌∙◌, subst, arith}
 use Rattle.std.specs.List.{list_any}
 use Rattle.std.proofs.lemmas.List.{length-map}
-use Rattle.std.proofs.lemmas.List.Elements.{filter-append}
 use Rattle.tas_model.specs.declared.entry.HostParams.{HostParams}
-use Rattle.host_rounds.specs.Lists.{Each}
 use Rattle.host_rounds.specs.Scripts.{Site}
 use Rattle.link_script.specs.declared.frames.Sent.{Sent}
 use Rattle.link_script.specs.DueFrames.{due}
@@ -18,7 +16,7 @@ use Rattle.scenario_runs.specs.Runs.{AreRounds, IsTick, serial_sites, serial_wor
 use Rattle.sent_frames.specs.declared.counts.SentCounts.{SentCounts}
 use Rattle.sent_frames.specs.Sending.{addresses_of, of_tick, AreUpTo}
 use Rattle.scenario_world.specs.declared.playing.Playing.{Playing}
-use Rattle.scenario_world.specs.Playing.{FramesBefore, AreCounted, AreCountedBefore, AreEarly, params_of, line_params}
+use Rattle.scenario_world.specs.Playing.{FramesBefore, AreCounted, AreCountedBefore, AreEarly, params_of}
 use Rattle.scenario_world.specs.Playing.{AreKept, IsWorldOf, IsWorld, IsPlayed}
 use Rattle.scenario_world.proofs.ByTick.{SameBut, same_next, any_next, tick_frames}
 use Rattle.scenario_world.proofs.WorldTicks.{AreTicked, world_ticked, serial_is_tick, next_are_early, same_addresses}

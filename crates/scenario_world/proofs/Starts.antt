@@ -1,9 +1,8 @@
 -- The world of a scenario before the first tick.
-use Rattle.std.proofs.Common.{◌≡◌, ℕ, ◌+◌, ◌<◌, ◌≤◌, false, List, [], ◌∷◌, ◌++◌, ltb, map, refl, sym, ap, ◌∙◌, subst, arith}
+use Rattle.std.proofs.Common.{◌≡◌, ℕ, ◌+◌, false, List, [], ◌∷◌, ltb, map, refl, sym, ap, ◌∙◌, subst, arith}
 use Rattle.std.specs.List.{list_any}
 use Rattle.std.proofs.lemmas.Bool.Decides.{nat_tests}
 use Rattle.tas_model.specs.declared.entry.HostParams.{HostParams}
-use Rattle.link_script.specs.declared.frames.Sent.{Sent}
 use Rattle.scenario_text.specs.declared.scenario.Scenario.{Scenario}
 use Rattle.scenario_text.specs.declared.scenario.HostLine.{HostLine}
 use Rattle.scenario_runs.specs.Worlds.{World, site_of, at_start, frames_of_hosts, sent_in, is_under_way}

@@ -1,6 +1,6 @@
 -- A tick of a world: what its hosts keep, and the frames that they sent.
-use Rattle.std.proofs.Common.{◌≡◌, ℕ, zero, suc, ◌+◌, ◌<◌, ◌≤◌, Bool, true, false, eqb, List, [], ◌∷◌, ◌++◌, map, filter}
-use Rattle.std.proofs.Common.{refl, sym, ap, ◌∙◌, subst, arith}
+use Rattle.std.proofs.Common.{◌≡◌, ℕ, ◌+◌, ◌<◌, ◌≤◌, Bool, false, eqb, List, [], ◌∷◌, ◌++◌}
+use Rattle.std.proofs.Common.{refl, sym, ap, ◌∙◌, arith}
 use Rattle.std.proofs.lemmas.List.Elements.{filter-append}
 use Rattle.tas_model.specs.declared.entry.HostParams.{HostParams}
 use Rattle.tas_model.specs.declared.entry.Entry.{Entry}
@@ -21,7 +21,7 @@ use Rattle.scenario_runs.specs.Worlds.{World, scripts_of, due_at, frames_of_flow
 use Rattle.scenario_runs.specs.Runs.{AreRounds, IsTick, serial_sites, serial_world}
 use Rattle.scenario_runs.proofs.ByMoves.{scenarios_by_moves}
 use Rattle.sent_frames.specs.declared.frames.Origin.{Origin}
-use Rattle.sent_frames.specs.Sending.{addresses_of, of_tick, EntriesBefore, LinesBefore}
+use Rattle.sent_frames.specs.Sending.{addresses_of, of_tick, EntriesBefore}
 use Rattle.sent_frames.proofs.Ticks.{none_of_tick, no_answers}
 use Rattle.sent_frames.proofs.Addresses.{frames_go_by}
 use Rattle.scenario_world.specs.Playing.{IsEarly, AreEarly}

@@ -2,10 +2,8 @@
 use Rattle.std.specs.Prelude.{◌≡◌, false, List, [], ◌∷◌, map, ⊤}
 use Rattle.host_rounds.specs.Logs.{HostRun, RunLog}
 use Rattle.host_rounds.specs.Hosts.{Host, flows_of}
-use Rattle.host_rounds.specs.Scripts.{Site}
 use Rattle.scenario_text.specs.declared.scenario.Scenario.{Scenario}
 use Rattle.scenario_text.specs.declared.scenario.HostLine.{HostLine}
-use Rattle.scenario_runs.specs.Applications.{Script}
 use Rattle.scenario_runs.specs.Worlds.{World}
 use Rattle.local_host.specs.declared.host.HostEnd.{HostEnd}
 use Rattle.local_host.specs.Live.{flow_in}

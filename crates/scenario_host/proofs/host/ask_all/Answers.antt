@@ -1,4 +1,4 @@
-use Rattle.std.proofs.Common.{◌≡◌, ◌<◌, List, Some, length, slice_get, get_or, ap, ◌∙◌, arith}
+use Rattle.std.proofs.Common.{◌≡◌, List, Some, length, slice_get, get_or, ap, ◌∙◌, arith}
 use Rattle.tas_model.specs.declared.entry.HostParams.{HostParams}
 use Rattle.scenario_text.specs.declared.scenario.HostLine.{HostLine}
 use Rattle.scenario_runs.specs.Applications.{Script, turn}

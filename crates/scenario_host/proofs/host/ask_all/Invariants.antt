@@ -1,4 +1,3 @@
-use Rattle.std.proofs.Common.{◌≡◌}
 use Rattle.scenario_runs.specs.Worlds.{numbers_of, address_in}
 use Rattle.scenario_host.specs.Turns.{site_with}
 use Rattle.scenario_host.proofs.Walking.{Walks}

@@ -1,7 +1,6 @@
-use Rattle.std.proofs.Common.{◌≡◌, map, ◌∙◌}
+use Rattle.std.proofs.Common.{map, ◌∙◌}
 use Rattle.local_host.specs.Arriving.{arrival_in}
 use Rattle.local_host.proofs.Places.{ok_by}
-use Rattle.scenario_host.proofs.Lasting.{Lasts}
 use Rattle.scenario_host.proofs.Playing.{sound_later, lasts_deliveries, played}
 use Rattle.scenario_host.proofs.host.play_tick.Goals.{In_ok-deliver_all}
 use Rattle.scenario_host.proofs.host.play_tick.Goals as goal

@@ -1,4 +1,3 @@
-use Rattle.std.proofs.Common.{◌≡◌}
 use Rattle.scenario_host.proofs.Sockets.{still_below}
 use Rattle.scenario_host.proofs.Aborting.{aborted_held, aborted_free}
 use Rattle.scenario_host.proofs.kill.abort.Goals as goal

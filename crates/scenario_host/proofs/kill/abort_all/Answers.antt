@@ -1,4 +1,4 @@
-use Rattle.std.proofs.Common.{◌≡◌, ◌<◌, ◌≤◌, length, arith}
+use Rattle.std.proofs.Common.{◌<◌, ◌≤◌, length, arith}
 use Rattle.scenario_host.proofs.Aborting.{aborts_count, aborts_more, aborts_all}
 use Rattle.scenario_host.proofs.kill.abort_all.Goals as goal
 

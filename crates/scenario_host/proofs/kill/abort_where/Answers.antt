@@ -1,4 +1,4 @@
-use Rattle.std.proofs.Common.{◌≡◌, Bool, ap, ◌∙◌}
+use Rattle.std.proofs.Common.{Bool, ap, ◌∙◌}
 use Rattle.host_rounds.specs.Hosts.{at_flow}
 use Rattle.scenario_runs.specs.Applications.{aborted_where}
 use Rattle.scenario_host.proofs.Aborting.{aborted_not}

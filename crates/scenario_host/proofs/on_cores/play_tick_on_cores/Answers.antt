@@ -1,4 +1,4 @@
-use Rattle.std.proofs.Common.{◌≡◌, map, fold, ap, ◌∙◌}
+use Rattle.std.proofs.Common.{map, fold, ap, ◌∙◌}
 use Rattle.tas_model.specs.declared.entry.Caller.TheVariants.{Slow}
 use Rattle.host_rounds.specs.Deliveries.{received, delivered}
 use Rattle.local_host.specs.Arriving.{arrival_in}

@@ -1,4 +1,4 @@
-use Rattle.std.proofs.Common.{rules, ◌≡◌, not, bytes_eq}
+use Rattle.std.proofs.Common.{rules, not, bytes_eq}
 use Rattle.std.proofs.lemmas.Fn.{filter_same}
 use Rattle.scenario_host.specs.declared.script.Named.{Named}
 use Rattle.scenario_host.proofs.script.drop_named.Goals as goal

@@ -1,4 +1,4 @@
-use Rattle.std.proofs.Common.{◌≡◌, ◌==◌, ◌++◌, ◌∷◌, [], map, filter, take, sym, ap, ◌∙◌}
+use Rattle.std.proofs.Common.{◌==◌, ◌++◌, ◌∷◌, [], map, filter, take, sym, ap, ◌∙◌}
 use Rattle.std.proofs.lemmas.List.{map-append}
 use Rattle.std.proofs.lemmas.List.Elements.{filter-append}
 use Rattle.link_script.specs.declared.frames.Sent.{Sent}

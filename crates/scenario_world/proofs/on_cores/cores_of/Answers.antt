@@ -1,4 +1,4 @@
-use Rattle.std.proofs.Common.{◌≡◌, ◌+◌, [], ◌∷◌, ◌++◌, length, sym, ap, ◌∙◌, arith, length-append}
+use Rattle.std.proofs.Common.{[], ◌∷◌, length, sym, ap, ◌∙◌, arith, length-append}
 use Rattle.local_host.specs.Steered.{Steered}
 use Rattle.scenario_world.proofs.CoresPlayed.{numbered_more}
 use Rattle.scenario_world.proofs.on_cores.cores_of.Goals as goal

@@ -1,4 +1,4 @@
-use Rattle.std.proofs.Common.{◌≡◌, ◌==◌, map, filter, ap, ◌∙◌}
+use Rattle.std.proofs.Common.{◌==◌, map, filter, ap, ◌∙◌}
 use Rattle.link_script.specs.declared.frames.Sent.{Sent}
 use Rattle.local_host.specs.Arriving.{arrival_in}
 use Rattle.local_host.proofs.Places.{ok_by}

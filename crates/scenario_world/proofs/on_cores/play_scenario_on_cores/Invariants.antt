@@ -1,4 +1,4 @@
-use Rattle.std.proofs.Common.{◌≡◌, length}
+use Rattle.std.proofs.Common.{length}
 use Rattle.scenario_world.specs.Playing.{IsWorld, AreCoresOf}
 use Rattle.scenario_world.proofs.Finishing.{LeadsRight}
 use Rattle.scenario_world.proofs.on_cores.play_scenario_on_cores.Given as goal

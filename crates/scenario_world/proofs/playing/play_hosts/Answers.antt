@@ -1,4 +1,4 @@
-use Rattle.std.proofs.Common.{◌≡◌, ◌<◌, ◌==◌, map, filter, length, get_or, refl, ap, ◌∙◌, arith}
+use Rattle.std.proofs.Common.{◌<◌, ◌==◌, map, filter, length, get_or, refl, ap, ◌∙◌, arith}
 use Rattle.link_script.specs.declared.frames.Sent.{Sent}
 use Rattle.local_host.specs.Arriving.{arrival_in}
 use Rattle.scenario_runs.specs.Worlds.{arrival}

@@ -1,5 +1,5 @@
 use Rattle.std.proofs.Common.{◌≡◌, ◌≤◌, ◌+◌, ◌-◌, ◌%◌, ℕ, List, take, drop, min, vec_len, ap, ◌∙◌, arith}
-use Rattle.scenario_runs.specs.Applications.{most, filling}
+use Rattle.scenario_runs.specs.Applications.{most}
 use Rattle.scenario_host.proofs.Offers.{offered_again}
 use Rattle.scenario_host.proofs.filling.FillBytes.rest.Goals as goal
 

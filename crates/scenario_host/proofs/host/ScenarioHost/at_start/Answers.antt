@@ -1,6 +1,5 @@
 use Rattle.std.proofs.Common.{◌≡◌, List, ℕ, sym, ap, subst, ◌∙◌}
 use Rattle.host_rounds.specs.Hosts.{Host}
-use Rattle.scenario_runs.specs.Applications.{Script}
 use Rattle.scenario_runs.specs.Worlds.{site_of, scripts_on}
 use Rattle.scenario_host.specs.Sound.{IsSound}
 use Rattle.scenario_host.specs.Turns.{site_with}

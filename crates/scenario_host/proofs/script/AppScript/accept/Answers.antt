@@ -1,4 +1,4 @@
-use Rattle.std.proofs.Common.{◌≡◌, sym, ◌∙◌}
+use Rattle.std.proofs.Common.{sym, ◌∙◌}
 use Rattle.host_rounds.specs.Hosts.{is_ready}
 use Rattle.scenario_host.proofs.Sockets.{ready_runs, found_below, still_below}
 use Rattle.scenario_host.proofs.Stepping.{accepts_by}

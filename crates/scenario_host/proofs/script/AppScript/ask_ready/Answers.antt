@@ -1,4 +1,4 @@
-use Rattle.std.proofs.Common.{◌≡◌, ℕ, [], length, sym, ◌∙◌}
+use Rattle.std.proofs.Common.{ℕ, [], length, sym, ◌∙◌}
 use Rattle.tas_model.specs.declared.entry.Call.TheVariants as calls
 use Rattle.scenario_runs.specs.Applications.{waits_for}
 use Rattle.scenario_host.specs.Turns.{turn_of}

@@ -1,4 +1,4 @@
-use Rattle.std.proofs.Common.{◌≡◌, ◌+◌, ◌≤◌, ◌-◌, ℕ, length, take, drop, sym, ap, ◌∙◌, arith, length-take}
+use Rattle.std.proofs.Common.{◌≡◌, ◌+◌, ◌≤◌, ℕ, length, take, drop, sym, ap, ◌∙◌, arith, length-take}
 use Rattle.std.proofs.Common.{length-drop}
 use Rattle.scenario_runs.specs.Applications.{sends, filling, most}
 use Rattle.scenario_host.specs.Turns.{turn_of}

@@ -1,4 +1,4 @@
-use Rattle.std.proofs.Common.{◌≡◌, ◌<◌, ℕ, length, sym, ◌∙◌}
+use Rattle.std.proofs.Common.{◌<◌, ℕ, length, sym, ◌∙◌}
 use Rattle.flow_state.specs.Calls.{call_of}
 use Rattle.scenario_runs.specs.Applications.{ends}
 use Rattle.scenario_host.specs.Turns.{turn_of}

@@ -1,4 +1,4 @@
-use Rattle.std.proofs.Common.{◌≡◌, ◌+◌, ◌≤◌, ℕ, length, arith}
+use Rattle.std.proofs.Common.{◌≤◌, length, arith}
 use Rattle.tas_model.specs.declared.entry.Call.TheVariants as calls
 use Rattle.local_host.specs.Live.{took}
 use Rattle.scenario_host.proofs.Answering.{asked_as, took_few, sends_by}

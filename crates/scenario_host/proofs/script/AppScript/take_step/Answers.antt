@@ -1,4 +1,4 @@
-use Rattle.std.proofs.Common.{◌≡◌, ℕ, List, sym, ap, ◌∙◌}
+use Rattle.std.proofs.Common.{ℕ, List, sym, ap, ◌∙◌}
 use Rattle.scenario_text.specs.declared.scenario.Step.{Step}
 use Rattle.scenario_runs.specs.Applications.{Turn, on_socket, sends, filling, step_of}
 use Rattle.scenario_runs.specs.Worlds.{numbers_of, address_in}

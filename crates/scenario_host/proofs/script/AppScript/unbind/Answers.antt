@@ -1,5 +1,5 @@
-use Rattle.std.proofs.Common.{◌≡◌, List, ℕ, map, ap, ◌∙◌}
-use Rattle.scenario_runs.specs.Applications.{Bound, Script, unbind}
+use Rattle.std.proofs.Common.{List, ℕ, map, ap, ◌∙◌}
+use Rattle.scenario_runs.specs.Applications.{Bound, unbind}
 use Rattle.scenario_host.specs.Scripts.{named, script_of}
 use Rattle.scenario_host.proofs.Naming.{map-filter_named}
 use Rattle.scenario_host.proofs.script.AppScript.unbind.Goals as goal
