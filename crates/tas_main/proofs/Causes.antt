@@ -75,7 +75,7 @@ text_of_one text s other read again = cc (read, again)
 
 run_has_ends : (input : Input) (b : List ℕ) (log : RunLog) → HasClients input → IsRunOf input b log
     → AreEndsOf input b log
-run_has_ends Scenario b log clients run s read faithful =
+run_has_ends Scenario b log clients run = λ s read faithful.
     let same : run.0 ≡ s = text_of_one b s run.0 read run.1 in
     text_reads b s log read faithful (subst (λ (x : scenarios.Scenario). Run x log) same run.2)
 run_has_ends (Made clients) b log few run =
