@@ -12,7 +12,10 @@ use Rattle.tas_num.specs.declared.outside.IoFault.TheVariants.{Failed, OutOfMemo
 use Rattle.host_rounds.specs.Lists.{Each}
 use Rattle.host_rounds.specs.Logs.{RunLog}
 use Rattle.scenario_text.specs.Bulk.{bulk_text}
+use Rattle.scenario_text.specs.Reads.{reads}
+use Rattle.scenario_text.specs.declared.scenario.Scenario as scenarios
 use Rattle.scenario_text.specs.declared.scenario.HostLine.{HostLine}
+use Rattle.scenario_text.proofs.MadeTexts.{made, bulk_read}
 use Rattle.scenario_ranges.specs.Ranges.{IsHostInRange}
 use Rattle.scenario_ranges.proofs.Drafts.{read_in_range}
 use Rattle.scenario_runs.specs.Runs.{Run}
@@ -22,12 +25,13 @@ use Rattle.tas_runs.specs.Replays.{Replay}
 use Rattle.tas_runs.specs.SerialOrder.{serial_replay}
 use Rattle.tas_runs.proofs.SerialRun.{serial_is_replay}
 use Rattle.tas_runs.proofs.Runs.{replays_sound}
+use Rattle.two_ends.proofs.Texts.{text_reads}
 use Rattle.tas_main.specs.declared.stop.Stop.{Stop}
 use Rattle.tas_main.specs.declared.stop.Stop.TheVariants.{Stalled, Words, Line, Record, Read, Write, Memory, TooLong}
 use Rattle.tas_main.specs.Words.{Form, Unknown, IsForm, form_of, Input, Scenario, Made, Capture, Request}
-use Rattle.tas_main.specs.Words.{Asks, IsMade, most_in, most_bytes}
+use Rattle.tas_main.specs.Words.{Asks, IsMade, HasClients, most_in, most_bytes}
 use Rattle.tas_main.specs.Words as forms
-use Rattle.tas_main.specs.Runs.{bytes_of, IsInput, IsSerialRun, IsRunOf, IsRun, Given, Ran}
+use Rattle.tas_main.specs.Runs.{bytes_of, IsInput, IsSerialRun, IsRunOf, AreEndsOf, IsRun, Given, Ran}
 use Rattle.tas_main.specs.Stops.{Cause, IsNoInput, Unrun, Unasked, Unwritten, ReadsAll, ReadsFor, IsReadFor, ReadBefore}
 use Rattle.tas_main.specs.Stops.{IsOfMade, Unread, status_of}
 use Rattle.tas_main.specs.Outputs.{IsWhole, WritesAll, WritesFront, output, end_status}
@@ -65,17 +69,43 @@ run_is_sound (Made clients) b log run =
     runs_sound run.0 log (hosts_in_range run.0.hosts (read_in_range (bulk_text clients) run.0 run.1).hosts) run.2
 run_is_sound (Capture local loose) b log run = replays_sound (ipv4_bits local) b loose log run
 
+-- a text is of one scenario
+text_of_one : (text : List ℕ) (s other : scenarios.Scenario) → reads text ≡ Ok s → reads text ≡ Ok other → other ≡ s
+text_of_one text s other read again = cc (read, again)
+
+run_has_ends : (input : Input) (b : List ℕ) (log : RunLog) → HasClients input → IsRunOf input b log
+    → AreEndsOf input b log
+run_has_ends Scenario b log clients run = λ s read faithful.
+    let same : run.0 ≡ s = text_of_one b s run.0 read run.1 in
+    text_reads b s log read faithful (subst (λ (x : scenarios.Scenario). Run x log) same run.2)
+run_has_ends (Made clients) b log few run =
+    let same : run.0 ≡ made clients =
+    text_of_one (bulk_text clients) (made clients) run.0 (bulk_read clients few.1) run.1 in
+    text_reads (bulk_text clients) (made clients) log (bulk_read clients few.1) tt
+    (subst (λ (x : scenarios.Scenario). Run x log) same run.2)
+run_has_ends (Capture local loose) b log clients run = tt
+
 -- the run without cores, in serial order
-pub is_run_serially : (r : Request) (b : List ℕ) (log : RunLog) → IsSerialRun r.input b log → IsRun r b log
-is_run_serially r b log serial =
+pub is_run_serially : (r : Request) (b : List ℕ) (log : RunLog) → HasClients r.input → IsSerialRun r.input b log
+    → IsRun r b log
+is_run_serially r b log clients serial =
     let run : IsRunOf r.input b log = run_in_serial_order r.input b log serial in
-    record { run = run; sound = run_is_sound r.input b log run; serial = λ none. serial }
+    record {
+      run = run;
+      sound = run_is_sound r.input b log run;
+      ends = run_has_ends r.input b log clients run;
+      serial = λ none. serial;
+    }
 
 -- the run with cores, in any order
-pub is_run_on_cores : (r : Request) (n : ℕ) (b : List ℕ) (log : RunLog) → r.cores ≡ Some n → IsRunOf r.input b log
-    → IsRun r b log
-is_run_on_cores r n b log cores run =
-    record { run = run; sound = run_is_sound r.input b log run; serial = λ none. absurd (cc (cores, none)) }
+pub is_run_on_cores : (r : Request) (n : ℕ) (b : List ℕ) (log : RunLog) → HasClients r.input → r.cores ≡ Some n
+    → IsRunOf r.input b log → IsRun r b log
+is_run_on_cores r n b log clients cores run = record {
+  run = run;
+  sound = run_is_sound r.input b log run;
+  ends = run_has_ends r.input b log clients run;
+  serial = λ none. absurd (cc (cores, none));
+}
 
 pub if_ok : {T : Type 0} (r : Result T Stop) (P Q : T → Type 0) → ((x : T) → P x → Q x) → IfOk r P → IfOk r Q
 if_ok (Ok x) P Q f h = f x h

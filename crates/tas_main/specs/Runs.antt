@@ -3,7 +3,8 @@ use Rattle.std.specs.Prelude.{◌≡◌, ℕ, List, [], Option, None, Some, Ok, 
 use Rattle.std.specs.Net.Addr.{ipv4_bits}
 use Rattle.tas_num.specs.Captures as captures
 use Rattle.tas_num.specs.Streams.{SourceState, SinkState}
-use Rattle.host_rounds.specs.Logs.{RunLog}
+use Rattle.host_rounds.specs.Lists.{Each}
+use Rattle.host_rounds.specs.Logs.{HostRun, RunLog}
 use Rattle.scenario_text.specs.declared.scenario.Scenario as scenarios
 use Rattle.scenario_text.specs.Reads.{reads}
 use Rattle.scenario_text.specs.Bulk.{bulk_text}
@@ -11,6 +12,7 @@ use Rattle.scenario_runs.specs.Runs.{Run, serial_run}
 use Rattle.scenario_runs.specs.Histories.{AreSound}
 use Rattle.tas_runs.specs.Replays.{Replay}
 use Rattle.tas_runs.specs.SerialOrder.{serial_replay}
+use Rattle.two_ends.specs.Ends.{IsFaithful, ReadsOtherEnd}
 use Rattle.tas_main.specs.Words.{form_of, Input, Scenario, Made, Capture, Request, Asks}
 
 -- ----- a kind of input
@@ -38,13 +40,27 @@ IsRunOf Scenario b log = (s : scenarios.Scenario) × (reads b ≡ Ok s) × Run s
 IsRunOf (Made clients) b log = (s : scenarios.Scenario) × (reads (bulk_text clients) ≡ Ok s) × Run s log
 IsRunOf (Capture local loose) b log = Replay (ipv4_bits local) b loose log
 
+-- ----- both ends
+-- What the application of a flow with one other end read is a prefix of what the other end's application sent.
+abbrev pub EndsAgree : RunLog → Type 0
+EndsAgree log = Each (λ (h : HostRun). Each (ReadsOtherEnd log.hosts) h.flows) log.hosts
+
+-- So it is in a run of a scenario whose link damages nothing, and in each of a made one, whose link only loses frames.
+-- Of a capture nothing is said here: it is of one host.
+abbrev pub AreEndsOf : Input → List ℕ → RunLog → Type 0
+AreEndsOf Scenario b log = (s : scenarios.Scenario) → reads b ≡ Ok s → IsFaithful s.link → EndsAgree log
+AreEndsOf (Made clients) b log = EndsAgree log
+AreEndsOf (Capture local loose) b log = ⊤
+
 -- ----- the run
 -- The log is that of a run that is asked for, of all bytes of its input. It is a run of this input; each flow in it is
 -- sound: it has a history of the endpoint, has read a prefix of every one stream that its peer may have sent, and
--- acknowledged only what stands in order; and where no cores are asked for, it is the run in serial order.
+-- acknowledged only what stands in order; what is read at one end of a connection was sent at the other, where the link
+-- damages nothing; and where no cores are asked for, it is the run in serial order.
 pub record IsRun (r : Request) (b : List ℕ) (log : RunLog) : Type 0 where
   pub run : IsRunOf r.input b log
   pub sound : AreSound log.hosts
+  pub ends : AreEndsOf r.input b log
   pub serial : r.cores ≡ None → IsSerialRun r.input b log
 
 -- What a call was given, and what became of its source and its sink.

@@ -12,7 +12,7 @@ returns-in-None-clause-ok g c =
     let bytes = c.args.bytes.now in
     if_ok c.serial_run_of.result (λ (log : code.RunLog). IsSerialRun r.input bytes (log_in log))
     (λ (log : code.RunLog). IsRun r bytes (log_in log))
-    (λ log serial. is_run_serially r bytes (log_in log) serial) c.serial_run_of.ensures.ok
+    (λ log serial. is_run_serially r bytes (log_in log) c.requires.clients serial) c.serial_run_of.ensures.ok
 
 pub returns-in-Some-clause-ok : goal.returns-in-Some-clause-ok
 returns-in-Some-clause-ok g c =
@@ -21,4 +21,5 @@ returns-in-Some-clause-ok g c =
     let cores : r.cores ≡ Some c.in-Some.count = search rules in
     if_ok c.run_on_cores.result (λ (log : code.RunLog). IsRunOf r.input bytes (log_in log))
     (λ (log : code.RunLog). IsRun r bytes (log_in log))
-    (λ log run. is_run_on_cores r c.in-Some.count bytes (log_in log) cores run) c.run_on_cores.ensures.ok
+    (λ log run. is_run_on_cores r c.in-Some.count bytes (log_in log) c.requires.clients cores run)
+    c.run_on_cores.ensures.ok
