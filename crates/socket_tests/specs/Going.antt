@@ -1,8 +1,9 @@
 -- What an application may do next.
 use Rattle.std.specs.Prelude.{◌≡◌, ◌<◌, true, []}
 use Rattle.atomic_table.specs.Seated.{TableId}
-use Rattle.flow_lock.specs.Callers.{IsTurned, IsKeeper}
+use Rattle.flow_lock.specs.Callers.{IsTurned, IsUser, IsKeeper}
 use Rattle.flow_lock.specs.Passes.{Seen}
+use Rattle.tas_model.specs.declared.entry.FlowId.{FlowId}
 use Rattle.libtas_sockets.specs.Apps.{Application, IsSocket}
 use Rattle.libtas_sockets.specs.declared.socket.Socket.{Socket}
 
@@ -25,3 +26,7 @@ pub record IsFresh (t : TableId) (s : Seen) : Type 0 where
   pub parts : 4000 < s.view.parts
   pub slots : t.slots ≡ 2
   pub unopened : s.view.opened ≡ 0
+
+-- a pass that has pinned this flow of the table
+abbrev pub MayAsk : TableId → FlowId → Seen → Type 0
+MayAsk t f s = IsUser t f s × (f.slot < t.slots)

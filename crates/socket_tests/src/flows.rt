@@ -1,7 +1,8 @@
 //! A table of two slots, its passes, and an application with one flow.
-ghost use Rattle.std.specs.Prelude.{◌≡◌, ℕ, ◌+◌, ◌<◌, ◌≤◌, [], true, IfOk, IfSome};
+ghost use Rattle.std.specs.Prelude.{◌≡◌, ℕ, ◌+◌, ◌<◌, ◌≤◌, [], length, true, IfOk, IfErr, IfSome};
 ghost use Rattle.tas_model.specs.Valid.{InRange};
-ghost use Rattle.flow_lock.specs.Callers.{IsTurned, IsGuest, IsUser, IsKeeper};
+ghost use Rattle.flow_lock.specs.Answers.{next_in};
+ghost use Rattle.flow_lock.specs.Callers.{IsGuest, IsUser, IsKeeper, IsOwner};
 ghost use Rattle.flow_state.specs.Calls.{IsSmall, IsTimely};
 ghost use Rattle.tas_model.specs.declared.entry.Phase.{Phase};
 ghost use Rattle.socket_tests.specs.Going.{IsGoing, HasOpened, IsIdle};
@@ -66,6 +67,44 @@ pub fn farewell(
     table.join(slow, pass);
 }
 
+/// The slow path opens the next flow for the record.
+fn open_next(
+    table: &FlowTable<FlowRecord>,
+    slow: &mut SlowPass<FlowRecord>,
+    flow: FlowRecord,
+) -> Option<Pin>
+    requires slow { IsKeeper table.now slow.old × (slow.old.view.opened < 1000) }
+    requires flow { IfSome (next_in slow.old.view.marks) (λ id. flow.id ≡ id) × (length flow.entries ≡ 1) }
+    ensures pin { IfSome result (λ p. (p.slot < table.now.slots) × IsOwner p slow.new) }
+    ensures keeper { IsKeeper table.now slow.new × (slow.new.view.opened ≤ slow.old.view.opened + 1) }
+{
+    match table.open_flow(slow, flow) {
+        Ok(opened) => Some(opened.1),
+        Err((_, flow)) => {
+            drop(flow);
+            None
+        }
+    }
+}
+
+/// The slow path opens a flow.
+pub fn opened(
+    alloc: Global,
+    table: &FlowTable<FlowRecord>,
+    slow: &mut SlowPass<FlowRecord>,
+) -> Option<Pin>
+    requires { IsKeeper table.now slow.old × (slow.old.view.opened < 1000) }
+    ensures pin { IfSome result (λ p. (p.slot < table.now.slots) × IsOwner p slow.new) }
+    ensures keeper { IsKeeper table.now slow.new × (slow.new.view.opened ≤ slow.old.view.opened + 1) }
+{
+    let id = slow.next_flow()?;
+    let made = FlowRecord::connect(alloc, id, TUPLE, &PARAMS, Seq(5000), Caller::Slow, 1);
+    let Ok(flow) = made else {
+        return None;
+    };
+    open_next(table, slow, flow)
+}
+
 pub fn enter(
     table: &FlowTable<FlowRecord>,
     pass: &mut Pass<FlowRecord>,
@@ -73,12 +112,21 @@ pub fn enter(
 ) -> Result<Pin, Word>
     requires { IsGuest table.now pass.old × (id.slot < table.now.slots) }
     ensures pinned { IfOk result (λ p. (p ≡ id) × IsUser table.now id pass.new) }
+    ensures refused { IfErr result (λ _. IsGuest table.now pass.new) }
 {
     match table.pin(pass, id) {
         Ok(pin) => Ok(pin),
         Err(PinRefused::Stale(word)) => Err(word),
         Err(PinRefused::Moved(_, word)) => Err(word),
     }
+}
+
+/// Gives a pin up.
+pub fn leave(table: &FlowTable<FlowRecord>, pass: &mut Pass<FlowRecord>, pin: Pin)
+    requires { IsUser table.now pin pass.old × (pin.slot < table.now.slots) }
+    ensures { IsGuest table.now pass.new }
+{
+    table.unpin(pass, pin);
 }
 
 /// Application 1, with no sockets.

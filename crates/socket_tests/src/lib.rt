@@ -1,4 +1,4 @@
-//! Tests of sockets, and of applications that end. This crate has tests alone.
+//! Tests of sockets, of applications that end, and of flows that threads share. This crate has tests alone.
 #![tactic(auto)]
 
 #[cfg(test)]
@@ -7,3 +7,5 @@ mod flows;
 mod reaped;
 #[cfg(test)]
 mod sockets;
+#[cfg(test)]
+mod threads;
