@@ -1,22 +1,25 @@
 -- Where the segments that a flow took came from.
-use Rattle.std.specs.Prelude.{◌≡◌, true, false, List, None, Contains, if◌then◌else◌, ⊤}
+use Rattle.std.specs.Prelude.{◌≡◌, true, false, List, [], ◌∷◌, ◌++◌, Some, None, Contains, if◌then◌else◌, ⊤}
 use Rattle.tas_model.specs.declared.entry.FourTuple.{FourTuple}
 use Rattle.tas_model.specs.declared.entry.Call.{Call}
 use Rattle.tas_model.specs.declared.entry.Call.TheVariants as calls
 use Rattle.tas_model.specs.declared.entry.Entry.{Entry}
+use Rattle.tas_model.specs.declared.entry.Head.{Head}
 use Rattle.tas_model.specs.declared.entry.Seg.{Seg}
-use Rattle.tas_model.specs.Segments.{is_rst, is_syn}
+use Rattle.tas_model.specs.Segments.{bare, is_rst, is_syn}
 use Rattle.tas_model.specs.Receive.{is_heard}
 use Rattle.tas_model.specs.Outputs.{sent}
+use Rattle.host_rounds.specs.declared.log.LogLine.{LogLine}
 use Rattle.host_rounds.specs.Lists.{Each}
 use Rattle.host_rounds.specs.Logs.{Flow, HostRun}
+use Rattle.scenario_runs.specs.Worlds.{answer_on}
 use Rattle.two_ends.specs.Ends.{reversed, flows_in}
 
 -- A segment as it is read: an MSS counts in a SYN alone.
 abbrev pub as_read : Seg → Seg
 as_read seg = record seg { head = record (seg.head) { mss = if is_syn seg then seg.head.mss else None } }
 
--- A reset without payload and FIN, as a segment is answered that met no flow.
+-- A reset without payload and FIN.
 abbrev pub IsReset : Seg → Type 0
 IsReset seg = (is_rst seg ≡ true) × (is_heard seg ≡ false)
 
@@ -29,10 +32,24 @@ pub record WasSent (hosts : List HostRun) (tuple : FourTuple) (seg : Seg) : Type
   pub one : Contains (sent flow.entries) said
   pub read : seg ≡ as_read said
 
--- A segment with this four-tuple, as its sender sees it: of a flow, or a host's answer to a segment of no flow.
+-- All lines of a run's logs.
+abbrev pub lines_in : List HostRun → List LogLine
+lines_in [] = []
+lines_in (h ∷ hs) = h.log ++ lines_in hs
+
+-- A host answered a segment of no flow by it, as a line of its log shows: it is a reset.
+pub record WasAnswered (hosts : List HostRun) (tuple : FourTuple) (seg : Seg) : Type 0 where
+  pub line : LogLine
+  pub head : Head
+  pub among : Contains (lines_in hosts) line
+  pub shows : answer_on line.event ≡ Some (tuple, head)
+  pub read : seg ≡ as_read (bare head)
+  pub reset : IsReset seg
+
+-- Where a segment with this four-tuple, as its sender sees it, came from.
 pub data Origin (hosts : List HostRun) (tuple : FourTuple) (seg : Seg) : Type 0 where
   OfFlow : WasSent hosts tuple seg → Origin hosts tuple seg
-  OfHost : IsReset seg → Origin hosts tuple seg
+  OfHost : WasAnswered hosts tuple seg → Origin hosts tuple seg
 
 abbrev pub HasOrigin : List HostRun → FourTuple → Call → Type 0
 HasOrigin hosts tuple (calls.Rx frame seg) = Origin hosts (reversed tuple) seg

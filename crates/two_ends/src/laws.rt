@@ -12,7 +12,8 @@ ghost use Rattle.two_ends.specs.Origins.{TookWhatWasSent};
 ghost use Rattle.two_ends.specs.WorkedEnds.{other_end_counts};
 
 /// In every run of a scenario without `corrupt` lines, whatever the order of its ticks: each segment that a flow took
-/// is one that a flow of the run with the four-tuple reversed has sent, or a reset by which a host answered a stray.
+/// is one that a flow of the run with the four-tuple reversed has sent, or a reset by which a host answered a segment
+/// of no flow, as a line of its log shows.
 pub fn what_is_taken_was_sent()
     ensures { (s : Scenario) (log : RunLog) → IsFaithful s.link → Run s log
         → Each (λ (h : HostRun). Each (TookWhatWasSent log.hosts) h.flows) log.hosts }
