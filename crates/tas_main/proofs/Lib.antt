@@ -1,4 +1,2 @@
 pub mod Causes
-pub mod Clients
 pub mod Puts
-pub mod Spelling

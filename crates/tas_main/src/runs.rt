@@ -4,14 +4,14 @@ ghost use Rattle.scenario_text.specs.Reads.{reads};
 ghost use Rattle.scenario_runs.specs.Runs.{serial_run};
 ghost use Rattle.tas_runs.specs.SerialOrder.{serial_replay};
 ghost use Rattle.tas_round.specs.Runs.{log_in};
-ghost use Rattle.tas_main.specs.Words as asked;
-ghost use Rattle.tas_main.specs.Requests.{input_in};
+ghost use Rattle.program_words.specs.Words as asked;
+ghost use Rattle.program_words.specs.Requests.{input_in};
 ghost use Rattle.tas_main.specs.Runs.{IsSerialRun};
 ghost use Rattle.tas_main.specs.Stops.{Unrun};
 ghost use Rattle.tas_main.specs.declared.stop.Stop.{Stop};
 
 use crate::stop::Stop;
-use crate::words::Input;
+use program_words::Input;
 use scenario_ranges::what_is_read_is_in_range;
 use scenario_text::{Scenario, ScenarioFault, bulk_scenario, read_scenario};
 use std::alloc::Global;

@@ -1,10 +1,11 @@
--- A made scenario that the words ask for has from 1 to 1,000 clients.
+-- What words ask for: those of a form that is built ask for a run, and a made scenario has from 1 to 1,000 clients.
 use Rattle.std.proofs.Common.{◌≡◌, ℕ, zero, suc, ◌≤◌, ◌&&◌, not, Bool, true, false, List, [], ◌∷◌, Option, Some, None}
 use Rattle.std.proofs.Common.{bytes_eq, codes, decimal, subst, refl, sym, if◌then◌else◌, arith}
+use Rattle.std.proofs.lemmas.Bool.{true≢false}
 use Rattle.std.specs.Prelude.{⊤}
-use Rattle.tas_main.specs.Words as forms
-use Rattle.tas_main.specs.Words.{Form, Unknown, Run, Bulk, Replay, Options, Progress, Refused, Reads, WantsCores}
-use Rattle.tas_main.specs.Words.{WantsAddress, Request, Asks, HasClients, form_of}
+use Rattle.program_words.specs.Words as forms
+use Rattle.program_words.specs.Words.{Form, Unknown, Run, Bulk, Replay, Options, Progress, Refused, Reads, WantsCores}
+use Rattle.program_words.specs.Words.{WantsAddress, Request, Asks, HasClients, form_of, IsForm, is_built}
 
 abbrev InRange : (n most : ℕ) → Type 0
 InRange n most = (1 ≤ n) × (n ≤ most)
@@ -81,3 +82,13 @@ asked_few Unknown r few asked = absurd asked
 
 pub clients_in_range : (words : List (List ℕ)) (r : Request) → Asks (form_of words) r → HasClients r.input
 clients_in_range words r asked = asked_few (form_of words) r (few_words words) asked
+
+-- words of a form that is built ask for a run
+pub form_is_asked : (form : Form) → IsForm form → is_built form ≡ true → (r : Request) × Asks form r
+form_is_asked (Run None pcap) is built = (_, refl)
+form_is_asked (Bulk clients None) is built = (_, refl)
+form_is_asked (Replay text None pcap loose) is built = (_, (is.0, is.1, refl))
+form_is_asked (Run (Some n) pcap) is built = absurd (true≢false (sym built))
+form_is_asked (Bulk clients (Some n)) is built = absurd (true≢false (sym built))
+form_is_asked (Replay text (Some n) pcap loose) is built = absurd (true≢false (sym built))
+form_is_asked Unknown is built = absurd is
