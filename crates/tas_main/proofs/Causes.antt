@@ -28,11 +28,11 @@ use Rattle.tas_runs.proofs.Runs.{replays_sound}
 use Rattle.two_ends.proofs.Texts.{text_reads}
 use Rattle.tas_main.specs.declared.stop.Stop.{Stop}
 use Rattle.tas_main.specs.declared.stop.Stop.TheVariants.{Stalled, Words, Line, Record, Read, Write, Memory, TooLong}
-use Rattle.tas_main.specs.Words.{Form, Unknown, IsForm, form_of, Input, Scenario, Made, Capture, Request}
-use Rattle.tas_main.specs.Words.{Asks, IsMade, HasClients, most_in, most_bytes}
-use Rattle.tas_main.specs.Words as forms
+use Rattle.program_words.specs.Words.{Form, Unknown, IsForm, form_of, Input, Scenario, Made, Capture, Request}
+use Rattle.program_words.specs.Words.{Asks, IsMade, HasClients, most_in, most_bytes}
+use Rattle.program_words.specs.Words as forms
 use Rattle.tas_main.specs.Runs.{bytes_of, IsInput, IsSerialRun, IsRunOf, AreEndsOf, IsRun, Given, Ran}
-use Rattle.tas_main.specs.Stops.{Cause, IsNoInput, Unrun, Unasked, Unwritten, ReadsAll, ReadsFor, IsReadFor, ReadBefore}
+use Rattle.tas_main.specs.Stops.{Cause, IsNoInput, Unrun, Untaken, Unwritten, ReadsAll, ReadsFor, IsReadFor, ReadBefore}
 use Rattle.tas_main.specs.Stops.{IsOfMade, Unread, status_of}
 use Rattle.tas_main.specs.Outputs.{IsWhole, WritesAll, WritesFront, output, end_status}
 
@@ -159,9 +159,9 @@ reads_all limit most before after b few same short end =
 
 -- so for each input that is asked for
 reads_for_input : (form : Form) (input : Input) (cores : Option ℕ) (pcap : Bool) (limit : ℕ)
-    (before after : SourceState) (b : List ℕ) → Asks form (record { input = input; cores = cores; pcap = pcap }) → limit ≡ most_in form
-    → IfSome (bytes_of input before.left) (λ bytes. b ≡ bytes) → length b ≤ limit → IsReadFor input before after
-    → ReadsFor form before after
+    (before after : SourceState) (b : List ℕ) → Asks form (record { input = input; cores = cores; pcap = pcap })
+    → limit ≡ most_in form → IfSome (bytes_of input before.left) (λ bytes. b ≡ bytes) → length b ≤ limit
+    → IsReadFor input before after → ReadsFor form before after
 reads_for_input (forms.Run c p) Scenario cores pcap limit before after b asked few same short end =
     reads_all limit 1048576 before after b few same short end
 reads_for_input (forms.Bulk n c) (Made clients) cores pcap limit before after b asked few same short end = end
@@ -211,7 +211,7 @@ made_is_read {T} form r stop result P made asked sure failed =
     let is = made_input form r made asked in
     absurd (false≢true (subst (λ (x : Result T Stop). IsOk x) failed (sure is.0 is.1)))
 
-pub made_words : (words : List (List ℕ)) (stop : Stop) → Unasked words stop → IsOfMade stop
+pub made_words : (words : List (List ℕ)) (stop : Stop) → Untaken words stop → IsOfMade stop
 made_words words Words why = tt
 made_words words Stalled why = tt
 made_words words Memory why = tt

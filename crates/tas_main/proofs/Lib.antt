@@ -1,4 +1,2 @@
 pub mod Causes
 pub mod Puts
-pub mod Ranges
-pub mod Spelling

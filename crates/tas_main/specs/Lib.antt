@@ -1,5 +1,3 @@
-pub mod Words
-pub mod Requests
 pub mod Runs
 pub mod Stops
 pub mod Outputs

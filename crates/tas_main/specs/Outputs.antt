@@ -7,7 +7,7 @@ use Rattle.host_rounds.specs.Logs.{RunLog}
 use Rattle.tas_runs.specs.Report.{report}
 use Rattle.tas_runs.specs.Summary.{summary}
 use Rattle.tas_runs.specs.SentFrames.{capture}
-use Rattle.tas_main.specs.Words.{form_of, Input, Made, Request, Asks, most_bytes}
+use Rattle.program_words.specs.Words.{form_of, Input, Made, Request, Asks, most_bytes}
 use Rattle.tas_main.specs.Runs.{bytes_of, IsInput, Given, Ran}
 
 -- the text of a run: of a made scenario its summary, and else its report

@@ -13,7 +13,7 @@ use Rattle.scenario_runs.specs.Histories.{AreSound}
 use Rattle.tas_runs.specs.Replays.{Replay}
 use Rattle.tas_runs.specs.SerialOrder.{serial_replay}
 use Rattle.two_ends.specs.Ends.{IsFaithful, ReadsOtherEnd}
-use Rattle.tas_main.specs.Words.{form_of, Input, Scenario, Made, Capture, Request, Asks}
+use Rattle.program_words.specs.Words.{form_of, Input, Scenario, Made, Capture, Request, Asks}
 
 -- ----- a kind of input
 -- The bytes of the input, where they are told: all that the source has, and none for a made scenario.

@@ -8,8 +8,8 @@ use Rattle.tas_num.specs.Streams.{SourceState, SinkState, Wrote}
 use Rattle.tas_num.specs.declared.outside.IoFault.TheVariants.{Failed, OutOfMemory}
 use Rattle.scenario_text.specs.Reads.{reads}
 use Rattle.scenario_text.specs.declared.reading.ScenarioFault.TheVariants as faults
-use Rattle.tas_main.specs.Words.{Form, Bulk, form_of, IsForm, IsAsked, Input, Scenario, Made, Capture}
-use Rattle.tas_main.specs.Words.{Request, Asks, most_in, most_bytes}
+use Rattle.program_words.specs.Words.{Form, Bulk, form_of, IsForm, IsAsked, Input, Scenario, Made, Capture}
+use Rattle.program_words.specs.Words.{Request, Asks, most_in, most_bytes}
 use Rattle.tas_main.specs.Runs.{Given, Ran, bytes_of}
 use Rattle.tas_main.specs.declared.stop.Stop.{Stop}
 use Rattle.tas_main.specs.declared.stop.Stop.TheVariants.{Stalled, Words, Line, Record, Read, Write, Memory, TooLong}
@@ -29,6 +29,12 @@ status_of TooLong = 7
 abbrev pub Unasked : (words : List (List ℕ)) → Stop → Type 0
 Unasked words Words = ¬ IsForm (form_of words)
 Unasked words _ = ⊥
+
+-- why no run was taken from them: they ask for none, or there was no memory to read them
+abbrev pub Untaken : (words : List (List ℕ)) → Stop → Type 0
+Untaken words Words = Unasked words Words
+Untaken words Memory = IsAsked words
+Untaken words _ = ⊥
 
 -- why the input is none of its kind, where its bytes are told: they are no scenario, and this is the first line that is
 -- refused; or no capture, and this record is at fault, or the file header where it is 0

@@ -1,13 +1,13 @@
 ghost use Rattle.std.specs.Prelude.{◌≡◌, ℕ, ◌≤◌, ◌++◌, length, IsOk, IfOk, IfErr, IfSome, OnOk, Err};
 ghost use Rattle.std.specs.Io.KnownBytes.{IsAtEnd};
-ghost use Rattle.tas_main.specs.Words as asked;
-ghost use Rattle.tas_main.specs.Requests.{input_in};
+ghost use Rattle.program_words.specs.Words as asked;
+ghost use Rattle.program_words.specs.Requests.{input_in};
 ghost use Rattle.tas_main.specs.Runs.{bytes_of};
 ghost use Rattle.tas_main.specs.Stops.{IsReadFor, ReadsPast, SourceCalm, Unread};
 ghost use Rattle.tas_main.specs.declared.stop.Stop.{Stop};
 
 use crate::stop::Stop;
-use crate::words::Input;
+use program_words::Input;
 use std::alloc::{AllocError, Global};
 use tas_num::{IoFault, Source};
 

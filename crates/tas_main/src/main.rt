@@ -1,6 +1,7 @@
 //! The program: its words, its streams, and the one call that runs it.
 #![tactic(auto)]
 
+mod asking;
 mod input;
 mod runs;
 mod stop;
@@ -9,7 +10,6 @@ mod telling;
 #[cfg(test)]
 mod tests;
 mod top;
-mod words;
 
 use std::alloc::{AllocError, Global};
 use std::env;

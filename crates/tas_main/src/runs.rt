@@ -4,14 +4,14 @@ ghost use Rattle.scenario_text.specs.Reads.{reads};
 ghost use Rattle.scenario_text.specs.Bulk.{bulk_text};
 ghost use Rattle.scenario_ranges.specs.Ranges.{IsInRange};
 ghost use Rattle.tas_round.specs.Runs.{log_in, Refuses};
-ghost use Rattle.tas_main.specs.Words as asked;
-ghost use Rattle.tas_main.specs.Requests.{input_in, request_in};
+ghost use Rattle.program_words.specs.Words as asked;
+ghost use Rattle.program_words.specs.Requests.{input_in, request_in};
 ghost use Rattle.tas_main.specs.Runs.{IsRun, IsRunOf, IsSerialRun};
 ghost use Rattle.tas_main.specs.Stops.{Unrun};
 ghost use Rattle.tas_main.specs.declared.stop.Stop.{Stop};
 
 use crate::stop::Stop;
-use crate::words::{Input, Request};
+use program_words::{Input, Request};
 use scenario_ranges::what_is_read_is_in_range;
 use scenario_text::{Scenario, ScenarioFault, bulk_scenario, read_scenario};
 use std::alloc::Global;

@@ -9,15 +9,16 @@ ghost use Rattle.tas_main.specs.Stops.{Cause, status_of, writes_nothing, Unwritt
 ghost use Rattle.tas_main.specs.Stops.{ReadsFor, ReadsPast, ReadBefore, IsOfMade, SourceCalm, SinkCalm};
 ghost use Rattle.tas_main.specs.Telling.{IsTold};
 ghost use Rattle.tas_main.specs.Outputs.{output, text_of, WritesAll, WritesFront, IsWhole};
-ghost use Rattle.tas_main.specs.Requests.{input_in, request_in};
-ghost use Rattle.tas_main.specs.Words.{form_of, IsAsked, IsMade, most_bytes};
+ghost use Rattle.program_words.specs.Requests.{input_in, request_in};
+ghost use Rattle.program_words.specs.Words.{form_of, IsAsked, IsMade, most_bytes};
 ghost use Rattle.tas_main.specs.declared.stop.Stop.{Stop};
 
+use crate::asking::asked_by;
 use crate::input::read_input;
 use crate::runs::run_of;
 use crate::stop::Stop;
 use crate::telling::tell;
-use crate::words::{Input, Request, read_words};
+use program_words::{Input, Request};
 use std::alloc::Global;
 use std::sync::Wait;
 use std::thread::Threads;
@@ -129,7 +130,7 @@ fn serve<R: Threads + Wait + Sync, S: Source, K: Sink, G: Gate>(
     ensures writes_calmly { OnOk result ((K.state sink.new).faults ≡ (K.state sink.old).faults) }
     ensures sink_calm { IfErr result (SinkCalm (K.state sink.old) (K.state sink.new)) }
 {
-    let asked = read_words(words)?;
+    let asked = asked_by(alloc, words)?;
     let bytes = read_input(alloc, asked.input, asked.most_bytes(), source)?;
     let log = run_of(rt, alloc, &asked, &bytes, gate)?;
     write_log(alloc, &asked, &log, sink)?;

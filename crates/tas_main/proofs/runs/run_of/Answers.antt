@@ -1,7 +1,7 @@
 use Rattle.std.proofs.Common.{rules, ◌≡◌, Some}
 use Rattle.tas_round.specs.Runs.{log_in}
 use Rattle.tas_round.specs.declared.logs.RunLog as code
-use Rattle.tas_main.specs.Requests.{request_in}
+use Rattle.program_words.specs.Requests.{request_in}
 use Rattle.tas_main.specs.Runs.{IsRun, IsRunOf, IsSerialRun}
 use Rattle.tas_main.proofs.Causes.{if_ok, is_run_serially, is_run_on_cores}
 use Rattle.tas_main.proofs.runs.run_of.Goals as goal

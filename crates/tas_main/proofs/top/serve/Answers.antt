@@ -1,14 +1,14 @@
 use Rattle.std.proofs.Common.{rules, ◌≡◌, IfSome, List, ℕ, map, string_bytes}
 use Rattle.tas_round.specs.Runs.{log_in}
-use Rattle.tas_main.specs.Words.{most_in, form_of, HasClients, HasCores}
+use Rattle.program_words.specs.Words.{most_in, form_of, HasClients, HasCores}
 use Rattle.tas_main.specs.Runs.{given, bytes_of, IsRun}
 use Rattle.tas_main.specs.Outputs.{output}
 use Rattle.tas_main.specs.Stops.{Cause, ReadsFor, ReadBefore, Unread, Unrun, Unwritten, IsOfMade}
-use Rattle.tas_main.specs.Requests.{request_in}
+use Rattle.program_words.specs.Requests.{request_in}
 use Rattle.tas_main.proofs.Causes.{writes_all, writes_front, reads_for, unrun_why, unrun_read, at_err, whichever}
 use Rattle.tas_main.proofs.Causes.{unread_why, unwritten_read, made_unread, made_is_read, made_words, made_unrun}
 use Rattle.tas_main.proofs.Causes.{made_unwritten}
-use Rattle.tas_main.proofs.Ranges.{clients_in_range, cores_in_range}
+use Rattle.program_words.proofs.Asked.{clients_in_range, cores_in_range}
 use Rattle.tas_main.proofs.top.serve.Goals as goal
 
 pub returns-clause-done : goal.returns-clause-done

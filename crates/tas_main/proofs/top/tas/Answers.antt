@@ -2,7 +2,7 @@ use Rattle.std.proofs.Common.{◌≡◌, ◌≢◌, ◌⊎◌, inr, ℕ, Bool, E
 use Rattle.std.proofs.Common.{if◌then◌else◌}
 use Rattle.tas_main.specs.Runs.{given}
 use Rattle.tas_main.specs.Outputs.{WritesAll}
-use Rattle.tas_main.specs.Words.{form_of}
+use Rattle.program_words.specs.Words.{form_of}
 use Rattle.tas_main.specs.declared.stop.Stop.{Stop}
 use Rattle.tas_main.specs.declared.stop.Stop.TheVariants.{Stalled}
 use Rattle.tas_main.proofs.Causes.{never_whole, read_at, made_status, stalled_why, whole_ends_well}

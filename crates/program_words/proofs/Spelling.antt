@@ -1,7 +1,7 @@
 -- What single words spell: a number, a value behind a name, an address.
 use Rattle.std.proofs.Common.{◌≡◌, ◌≢◌, ℕ, zero, suc, ◌+◌, ◌≤◌, ◌<◌, ◌^◌, ◌&&◌, nat_le, Bool, true, false, cond, List}
 use Rattle.std.proofs.Common.{◌++◌, length, take, drop, decimal, Option, Some, None, Result, Ok, Err, MatchOption}
-use Rattle.std.proofs.Common.{option_map, bytes_eq, Bor, refl, sym, ap, subst, ◌∙◌, arith}
+use Rattle.std.proofs.Common.{option_map, bytes_eq, Bor, IfNone, is_some, refl, sym, ap, subst, ◌∙◌, arith}
 use Rattle.std.proofs.Math.Seq.{take-append_seam}
 use Rattle.std.proofs.lemmas.Bool.{true≢false}
 use Rattle.std.proofs.lemmas.Bool.Decides.{nat_tests}
@@ -12,7 +12,7 @@ use Rattle.std.specs.Net.Grammar.{IsIpv4Text}
 use Rattle.std.specs.declared.net.ipv4_addr.Ipv4Addr.{Ipv4Addr}
 use Rattle.std.specs.Str.Parse.{ParsesUnsigned}
 use Rattle.std.specs.Str.Pattern.{FindsTextPrefix}
-use Rattle.tas_main.specs.Words.{number_in, behind, Form, Replay, IsForm, form_of}
+use Rattle.program_words.specs.Words.{number_in, behind, Form, Replay, IsForm}
 
 -- ----- equal texts
 apart : (xs ys : List ℕ) → bytes_eq xs ys ≡ false → xs ≢ ys
@@ -117,8 +117,9 @@ stripped name word (Some x) strips =
 
 -- ----- an address
 -- a text that is no address makes no replay
-pub no_address : (words : List (List ℕ)) (text : List ℕ) (cores : Option ℕ) (pcap loose : Bool)
-    → Replay text cores pcap loose ≡ form_of words → ((local : Ipv4Addr) → ¬ IsIpv4Text text local)
-    → ¬ IsForm (form_of words)
-no_address words text cores pcap loose is none = subst (λ (f : Form). ¬ IsForm f) is
-    (λ (form : IsForm (Replay text cores pcap loose)). none form.0 form.1)
+pub no_address : (form : Form) (text : List ℕ) (cores : Option ℕ) (pcap loose : Bool) (address : Option Ipv4Addr)
+    → form ≡ Replay text cores pcap loose → is_some address ≡ false
+    → IfNone address ((a : Ipv4Addr) → ¬ IsIpv4Text text a) → ¬ IsForm form
+no_address form text cores pcap loose None is e none = subst (λ (f : Form). ¬ IsForm f) (sym is)
+    (λ (right : IsForm (Replay text cores pcap loose)). none right.0 right.1)
+no_address form text cores pcap loose (Some a) is e none = absurd (true≢false e)

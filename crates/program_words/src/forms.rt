@@ -1,56 +1,15 @@
-ghost use Rattle.std.specs.Prelude.{◌≡◌, ℕ, ◌≤◌, ◌<◌, ◌^◌, List, map, decimal, string_bytes, fold, option_map};
-ghost use Rattle.std.specs.Prelude.{bytes_eq, nat_le, ◌&&◌, IfOk, IfErr, IfSome, IfNone};
-ghost use Rattle.std.specs.Net.Grammar.{IsIpv4Text};
-ghost use Rattle.tas_main.specs.Words as forms;
-ghost use Rattle.tas_main.specs.Requests.{request_in, progress_in, options_in, form_in};
-ghost use Rattle.tas_main.specs.Stops.{Unasked};
-ghost use Rattle.std.specs.declared.net.ipv4_addr.Ipv4Addr.{Ipv4Addr};
+ghost use Rattle.std.specs.Prelude.{◌≡◌, List, map, decimal, string_bytes, fold, option_map};
+ghost use Rattle.std.specs.Prelude.{bytes_eq, nat_le, ◌&&◌};
+ghost use Rattle.program_words.specs.Words as forms;
+ghost use Rattle.program_words.specs.Requests.{progress_in, options_in, form_in};
 
-use crate::stop::Stop;
 use itoa::Buffer;
-use std::net::Ipv4Addr;
 
 /// The most cores that may be asked for.
 const MOST_CORES: u32 = 16;
 
 /// The most that `bulk` may be asked for.
 const MOST_BULK: u32 = 1000;
-
-/// What the input is.
-#[derive(Clone, Copy, Debug)]
-pub enum Input {
-    /// A scenario.
-    Scenario,
-    /// The scenario that is made for so many clients. Nothing is read.
-    Made { clients: u32 },
-    /// A capture of what the host with this address saw. With `loose` no checksum of a frame is looked at.
-    Capture { local: Ipv4Addr, loose: bool },
-}
-
-/// What the words ask for.
-#[derive(Clone, Copy, Debug)]
-pub struct Request {
-    pub input: Input,
-    /// On how many cores it runs, or on one thread, in serial order.
-    pub cores: Option<u32>,
-    /// Whether the frames sent are written as a capture, in place of the report.
-    pub pcap: bool,
-}
-
-impl Request {
-    /// The most bytes that its input may have: 1 MiB for a scenario, none for one that is made, and 64 MiB for a
-    /// capture.
-    pub fn most_bytes(&self) -> u32
-        ensures limit { (form : forms.Form) → forms.Asks form (request_in self.now) → result ≡ forms.most_in form }
-        ensures any { result ≤ 67108864 }
-    {
-        match self.input {
-            Input::Scenario => 1_048_576,
-            Input::Made { .. } => 0,
-            Input::Capture { .. } => 67_108_864,
-        }
-    }
-}
 
 /// What the words are.
 #[derive(Clone, Copy, Debug)]
@@ -99,54 +58,8 @@ pub enum Progress<'a> {
     WantsAddress(Options<'a>),
 }
 
-/// What the words ask for: `run`, with `--serial` or `--cores N`, and with `--pcap`, where they are wanted; `bulk N` for
-/// N clients, from 1 to 1,000, with `--serial` or `--cores N`; or `replay`, with `--local ADDRESS` or `--local=ADDRESS`,
-/// and with `--cores N`, `--pcap` and `--loose-sums`. N of `--cores N`, or of `--cores=N`, is from 1 to 16. Options
-/// stand in any order and each at most once. The error is `Words`, where they are of no form of the program.
-pub fn read_words(words: &[String]) -> Result<Request, Stop>
-    ensures ok { IfOk result (λ r. forms.Asks (forms.form_of (map string_bytes words.now)) (request_in r)) }
-    ensures err { IfErr result (Unasked (map string_bytes words.now)) }
-{
-    match form_of(words) {
-        Form::Unknown => Err(Stop::Words),
-        Form::Bulk { clients, cores } => Ok(Request {
-            input: Input::Made { clients },
-            cores,
-            pcap: false,
-        }),
-        Form::Run { cores, pcap } => Ok(Request {
-            input: Input::Scenario,
-            cores,
-            pcap,
-        }),
-        Form::Replay {
-            local,
-            cores,
-            pcap,
-            loose,
-        } => {
-            let Some(local) = address_in(local) else {
-                return Err(Stop::Words);
-            };
-            Ok(Request {
-                input: Input::Capture { local, loose },
-                cores,
-                pcap,
-            })
-        }
-    }
-}
-
-/// The address that the text writes.
-fn address_in(text: &str) -> Option<Ipv4Addr>
-    ensures some { IfSome result (IsIpv4Text text.now) }
-    ensures none { IfNone result ((address : Ipv4Addr) → ¬ IsIpv4Text text.now address) }
-{
-    text.parse().ok()
-}
-
 /// The form of all words.
-fn form_of(words: &[String]) -> Form<'_>
+pub fn form_of(words: &[String]) -> Form<'_>
     ensures { form_in result ≡ forms.form_of (map string_bytes words.now) }
 {
     match words {

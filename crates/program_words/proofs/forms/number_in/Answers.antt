@@ -1,6 +1,6 @@
 use Rattle.std.proofs.Common.{rules, ◌<◌, ◌^◌, ◌∙◌, sym}
-use Rattle.tas_main.proofs.Spelling.{passes_found, passes_not, unparsed}
-use Rattle.tas_main.proofs.words.number_in.Goals as goal
+use Rattle.program_words.proofs.Spelling.{passes_found, passes_not, unparsed}
+use Rattle.program_words.proofs.forms.number_in.Goals as goal
 
 pub returns-then-passes : goal.returns-then-passes
 returns-then-passes c =

@@ -1,10 +1,11 @@
--- The numbers that words ask for: from 1 to 1,000 clients of a made scenario, and from 1 to 16 cores.
+-- What words ask for: words of a form ask for a run; a made scenario has from 1 to 1,000 clients, and there are from 1
+-- to 16 cores.
 use Rattle.std.proofs.Common.{◌≡◌, ℕ, zero, suc, ◌≤◌, ◌&&◌, not, Bool, true, false, List, [], ◌∷◌, Option, Some, None}
 use Rattle.std.proofs.Common.{is_some, fold, bytes_eq, codes, decimal, subst, refl, sym, if◌then◌else◌, arith}
 use Rattle.std.specs.Prelude.{⊤}
-use Rattle.tas_main.specs.Words as forms
-use Rattle.tas_main.specs.Words.{Form, Unknown, Run, Bulk, Replay, Options, Progress, Refused, Reads, WantsCores}
-use Rattle.tas_main.specs.Words.{WantsAddress, Request, Asks, HasClients, HasCores, form_of}
+use Rattle.program_words.specs.Words as forms
+use Rattle.program_words.specs.Words.{Form, Unknown, Run, Bulk, Replay, Options, Progress, Refused, Reads, WantsCores}
+use Rattle.program_words.specs.Words.{WantsAddress, Request, Asks, HasClients, HasCores, form_of, IsForm}
 
 abbrev InRange : (n most : ℕ) → Type 0
 InRange n most = (1 ≤ n) × (n ≤ most)
@@ -151,3 +152,10 @@ asked_cores Unknown r few asked = absurd asked
 
 pub cores_in_range : (words : List (List ℕ)) (r : Request) → Asks (form_of words) r → HasCores r.cores
 cores_in_range words r asked = asked_cores (form_of words) r (words_in_range words) asked
+
+-- words of a form ask for a run
+pub form_is_asked : (form : Form) → IsForm form → (r : Request) × Asks form r
+form_is_asked (Run cores pcap) is = (_, refl)
+form_is_asked (Bulk clients cores) is = (_, refl)
+form_is_asked (Replay text cores pcap loose) is = (_, (is.0, is.1, refl))
+form_is_asked Unknown is = absurd is

@@ -1,7 +1,7 @@
 use Rattle.std.proofs.Common.{◌≡◌, map, drop, fold, string_bytes}
-use Rattle.tas_main.specs.Words as forms
-use Rattle.tas_main.specs.Requests.{progress_in}
-use Rattle.tas_main.proofs.words.options_of.Given as goal
+use Rattle.program_words.specs.Words as forms
+use Rattle.program_words.specs.Requests.{progress_in}
+use Rattle.program_words.proofs.forms.options_of.Given as goal
 
 abbrev pub invariant-loop-word : goal.invariant-loop-word
 invariant-loop-word l =

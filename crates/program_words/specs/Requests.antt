@@ -1,15 +1,15 @@
 -- What the code's words, options and requests are.
 use Rattle.std.specs.Prelude.{option_map}
-use Rattle.tas_main.specs.Words.{Options, Progress, Refused, Reads, WantsCores, WantsAddress, Form, Unknown, Run, Bulk}
-use Rattle.tas_main.specs.Words.{Replay, Input, Scenario, Made, Capture, Request}
-use Rattle.tas_main.specs.declared.words.Options as code_options
-use Rattle.tas_main.specs.declared.words.Progress as code_progress
-use Rattle.tas_main.specs.declared.words.Progress.TheVariants as progress
-use Rattle.tas_main.specs.declared.words.Form as code_form
-use Rattle.tas_main.specs.declared.words.Form.TheVariants as form
-use Rattle.tas_main.specs.declared.words.Input as code_input
-use Rattle.tas_main.specs.declared.words.Input.TheVariants as input
-use Rattle.tas_main.specs.declared.words.Request as code_request
+use Rattle.program_words.specs.Words.{Options, Progress, Refused, Reads, WantsCores, WantsAddress, Form, Unknown}
+use Rattle.program_words.specs.Words.{Run, Bulk, Replay, Input, Scenario, Made, Capture, Request}
+use Rattle.program_words.specs.declared.forms.Options as code_options
+use Rattle.program_words.specs.declared.forms.Progress as code_progress
+use Rattle.program_words.specs.declared.forms.Progress.TheVariants as progress
+use Rattle.program_words.specs.declared.forms.Form as code_form
+use Rattle.program_words.specs.declared.forms.Form.TheVariants as form
+use Rattle.program_words.specs.declared.requests.Input as code_input
+use Rattle.program_words.specs.declared.requests.Input.TheVariants as input
+use Rattle.program_words.specs.declared.requests.Request as code_request
 
 abbrev pub options_in : code_options.Options → Options
 options_in o = record {

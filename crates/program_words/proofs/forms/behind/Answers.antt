@@ -1,5 +1,5 @@
-use Rattle.tas_main.proofs.Spelling.{stripped}
-use Rattle.tas_main.proofs.words.behind.Goals as goal
+use Rattle.program_words.proofs.Spelling.{stripped}
+use Rattle.program_words.proofs.forms.behind.Goals as goal
 
 pub returns : goal.returns
 returns c = stripped c.args.name.now c.args.word.now c.strip_prefix.result c.strip_prefix.ensures.cases

@@ -1,0 +1,6 @@
+pub mod Words
+pub mod Requests
+pub mod Faults
+pub mod Command
+pub mod Canonical
+pub mod Found

@@ -1,0 +1,62 @@
+ghost use Rattle.std.specs.Prelude.{◌≡◌, IfOk, false};
+ghost use Rattle.clap.specs.Words.{app_of, rule_of};
+ghost use Rattle.program_words.specs.Command as commands;
+ghost use Rattle.program_words.specs.Command.{Stands};
+
+use clap::{Arg, ArgAction, Command};
+use std::alloc::{AllocError, Global};
+
+/// The program as a command with three subcommands, one for each form.
+pub fn program<'a>(alloc: Global) -> Result<Command<'a>, AllocError>
+    ensures { IfOk result (λ command. app_of command ≡ commands.program) }
+{
+    Command::new(alloc, "tas")
+        .subcommand(run_command(alloc)?)?
+        .subcommand(bulk_command(alloc)?)?
+        .subcommand(replay_command(alloc)?)
+}
+
+/// `run`, with `--cores` and `--pcap`.
+fn run_command<'a>(alloc: Global) -> Result<Command<'a>, AllocError>
+    ensures { IfOk result (Stands commands.run) }
+{
+    Command::new(alloc, "run")
+        .arg(valued(alloc, "cores"))?
+        .arg(switch(alloc, "pcap"))
+}
+
+/// `bulk`, with `--cores` and its number.
+fn bulk_command<'a>(alloc: Global) -> Result<Command<'a>, AllocError>
+    ensures { IfOk result (Stands commands.bulk) }
+{
+    Command::new(alloc, "bulk")
+        .arg(valued(alloc, "cores"))?
+        .arg(Arg::new(alloc, "clients"))
+}
+
+/// `replay`, with `--local`, `--cores`, `--pcap` and `--loose-sums`.
+fn replay_command<'a>(alloc: Global) -> Result<Command<'a>, AllocError>
+    ensures { IfOk result (Stands commands.replay) }
+{
+    Command::new(alloc, "replay")
+        .arg(valued(alloc, "local"))?
+        .arg(valued(alloc, "cores"))?
+        .arg(switch(alloc, "pcap"))?
+        .arg(switch(alloc, "loose-sums"))
+}
+
+/// The option `--NAME`, which has no value.
+fn switch<'a>(alloc: Global, name: &'a str) -> Arg<'a>
+    ensures rule { rule_of result ≡ commands.switch name.entry.now }
+    ensures own { result.global ≡ false }
+{
+    Arg::new(alloc, name).long(name).action(ArgAction::SetTrue)
+}
+
+/// The option `--NAME=VALUE`.
+fn valued<'a>(alloc: Global, name: &'a str) -> Arg<'a>
+    ensures rule { rule_of result ≡ commands.valued name.entry.now }
+    ensures own { result.global ≡ false }
+{
+    Arg::new(alloc, name).long(name)
+}
