@@ -11,6 +11,7 @@ pub mod Staging
 pub mod Serving
 pub mod Recording
 mod CoreRecording
+mod LaneWork
 pub mod Timing
 pub mod Ports
 pub mod Holding

@@ -5,4 +5,5 @@ pub mod Script
 pub mod Arriving
 pub mod Ports
 pub mod Steered
+pub mod Lanes
 pub use Rattle.core_rounds.specs.CoreTicks
