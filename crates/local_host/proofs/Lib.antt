@@ -12,6 +12,7 @@ pub mod Serving
 pub mod Recording
 mod CoreRecording
 mod LaneWork
+mod LaneLists
 pub mod Timing
 pub mod Ports
 pub mod Holding

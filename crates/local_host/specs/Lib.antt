@@ -6,4 +6,5 @@ pub mod Arriving
 pub mod Ports
 pub mod Steered
 pub mod Lanes
+pub mod Handing
 pub use Rattle.core_rounds.specs.CoreTicks

@@ -6,6 +6,7 @@ mod arrival;
 mod calls;
 mod flows;
 mod host;
+mod jobs;
 mod lanes;
 mod live;
 mod numbers;

@@ -46,6 +46,18 @@ pub enum Holder {
     GivenUp,
 }
 
+/// The parameters of flows that stand in for others: they take the least memory.
+const SMALLEST: HostParams = HostParams {
+    addr: 0,
+    iss: 0,
+    ring: 256,
+    mss: 64,
+    rto: 1,
+    slots: 1,
+    backlog: 1,
+    fixed: true,
+};
+
 /// A flow of the host, seen as that flow in the middle of a run.
 #[derive(Drop)]
 pub struct LiveFlow {
@@ -282,6 +294,33 @@ impl LiveFlow {
             }
         }
         Ok(())
+    }
+
+    /// A flow that stands in the place of one that a core has. The index has it under no four-tuple. The error is want
+    /// of memory.
+    pub(crate) fn stand_in(alloc: Global) -> Result<LiveFlow, AllocError>
+        ensures { IfOk result (λ l. l.indexed ≡ false) }
+    {
+        let id = FlowId {
+            slot: 0,
+            generation: 0,
+        };
+        let nowhere = FourTuple {
+            laddr: 0,
+            lport: 0,
+            raddr: 0,
+            rport: 0,
+        };
+        let mut flow = LiveFlow::connected(alloc, id, nowhere, &SMALLEST, Seq(0), 0, 0)?;
+        flow.indexed = false;
+        Ok(flow)
+    }
+
+    /// Whether the index has it under its four-tuple.
+    pub(crate) fn is_indexed(&self) -> bool
+        ensures { result ≡ self.now.indexed }
+    {
+        self.indexed
     }
 
     /// A frame comes to it on a core, which takes it where it is one for the fast path, and says whether. The error is
