@@ -13,6 +13,7 @@ pub mod Recording
 mod CoreRecording
 mod LaneWork
 mod LaneLists
+mod HandingOut
 pub mod Timing
 pub mod Ports
 pub mod Holding

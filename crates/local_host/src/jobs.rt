@@ -90,9 +90,9 @@ fn hand<'a>(
     requires { core < 16 }
     ensures { (old : List Live) (frames : List ModelArrival)
         → AreHanded old flows.old.items handing.old.jobs.items handing.old.left.items frames
-        → place_in old (arrival_in handed.arrival).packet ≡ place
+        → place_in old (arrival_in handed.entry.arrival).packet ≡ place
         → OnOk result (AreHanded old flows.new.items handing.new.jobs.items handing.new.left.items
-        (frames ++ arrival_in handed.arrival ∷ [])) }
+        (frames ++ arrival_in handed.entry.arrival ∷ [])) }
 {
     let Some(place) = place else {
         handing.left.push(handed)?;
@@ -131,7 +131,7 @@ fn is_indexed(flows: &[LiveFlow], place: usize) -> bool
 
 /// The job has one frame more. The error is want of memory.
 fn add<'a>(job: &mut Job<'a>, handed: Handed<'a>) -> Result<(), AllocError>
-    ensures { OnOk result (HasMore handed job.old job.new) }
+    ensures { OnOk result (HasMore handed.entry job.old job.new) }
 {
     job.frames.push(handed)?;
     Ok(())
@@ -140,7 +140,7 @@ fn add<'a>(job: &mut Job<'a>, handed: Handed<'a>) -> Result<(), AllocError>
 /// Each job goes to the lane of its core. The error is want of memory.
 pub fn lanes_of<'a>(alloc: Global, jobs: Vec<Job<'a>>) -> Result<Vec<Lane<'a>>, AllocError>
     requires { All (λ (j : Job). j.core < 16) jobs.items }
-    ensures { IfOk result (λ lanes. AreLanes jobs.items lanes.items) }
+    ensures { IfOk result (λ lanes. AreLanes jobs.entry.items lanes.items) }
 {
     let mut lanes = Vec::new(alloc);
     for job in jobs {
@@ -153,7 +153,7 @@ pub fn lanes_of<'a>(alloc: Global, jobs: Vec<Job<'a>>) -> Result<Vec<Lane<'a>>, 
 fn give<'a>(alloc: Global, lanes: &mut Vec<Lane<'a>>, job: Job<'a>) -> Result<(), AllocError>
     requires { job.core < 16 }
     ensures { (jobs : List Job) → AreLanes jobs lanes.old.items
-        → OnOk result (AreLanes (jobs ++ job ∷ []) lanes.new.items) }
+        → OnOk result (AreLanes (jobs ++ job.entry ∷ []) lanes.new.items) }
 {
     let core = job.core;
     match lanes.iter().position(|lane| lane.core == core) {
@@ -177,30 +177,50 @@ fn give<'a>(alloc: Global, lanes: &mut Vec<Lane<'a>>, job: Job<'a>) -> Result<()
 /// The flows go back to their places, and the frames that cores left are gathered. The error is want of memory, also in
 /// a lane.
 pub fn put_back<'a>(
-    flows: &mut Vec<LiveFlow>,
+    flows: &mut [LiveFlow],
     left: &mut Vec<Handed<'a>>,
-    lanes: Vec<Lane<'a>>,
+    lanes: &mut [Lane<'a>],
 ) -> Result<(), AllocError>
-    ensures flows { OnOk result (flows.new.items ≡ put_jobs (jobs_in lanes.items) flows.old.items) }
-    ensures left { OnOk result (left.new.items ≡ left.old.items ++ left_in lanes.items) }
-    ensures done { OnOk result (All (λ (lane : Lane). lane.failed ≡ false) lanes.items) }
+    ensures flows { OnOk result (flows.new ≡ put_jobs (jobs_in lanes.old) flows.old) }
+    ensures left { OnOk result (left.new.items ≡ left.old.items ++ left_in lanes.old) }
+    ensures done { OnOk result (All (λ (lane : Lane). lane.failed ≡ false) lanes.old) }
 {
-    for lane in lanes {
-        if lane.failed {
-            return Err(AllocError);
-        }
-        left.extend_from_slice(&lane.left)?;
-        put_lane(flows, lane.jobs);
+    for k in 0..lanes.len() {
+        put_lane(flows, left, &mut lanes[k])?;
     }
     Ok(())
 }
 
-fn put_lane(flows: &mut Vec<LiveFlow>, jobs: Vec<Job<'_>>)
-    ensures { flows.new.items ≡ put_jobs jobs.items flows.old.items }
+fn put_lane<'a>(
+    flows: &mut [LiveFlow],
+    left: &mut Vec<Handed<'a>>,
+    lane: &mut Lane<'a>,
+) -> Result<(), AllocError>
+    ensures flows { OnOk result (flows.new ≡ put_jobs lane.old.jobs.items flows.old) }
+    ensures left { OnOk result (left.new.items ≡ left.old.items ++ lane.old.left.items) }
+    ensures done { OnOk result (lane.old.failed ≡ false) }
 {
-    for job in jobs {
-        if job.place < flows.len() {
-            flows[job.place] = job.flow;
-        }
+    if lane.failed {
+        return Err(AllocError);
+    }
+    left.extend_from_slice(&lane.left)?;
+    put_all(flows, &mut lane.jobs);
+    Ok(())
+}
+
+fn put_all(flows: &mut [LiveFlow], jobs: &mut [Job<'_>])
+    ensures { flows.new ≡ put_jobs jobs.old flows.old }
+{
+    for k in 0..jobs.len() {
+        put(flows, &mut jobs[k]);
+    }
+}
+
+/// The job's flow goes back to its place.
+fn put(flows: &mut [LiveFlow], job: &mut Job<'_>)
+    ensures { flows.new ≡ set flows.old job.old.place job.old.flow }
+{
+    if job.place < flows.len() {
+        mem::swap(&mut flows[job.place], &mut job.flow);
     }
 }
