@@ -108,17 +108,17 @@ jobs_shared t (j ∷ js) =
     (work_shared j.core t j.frames.items j.flow) (jobs_shared t js)))
 
 -- ----- what a job leaves of the flows
-taken_shape : (core t : ℕ) (frame : FrameId) (p : Packet) (l : Live) (tuple : FourTuple)
+pub taken_shape : (core t : ℕ) (frame : FrameId) (p : Packet) (l : Live) (tuple : FourTuple)
     → is_indexed_as tuple (packet_taken core t frame p l) ≡ is_indexed_as tuple l
 taken_shape core t frame (Damaged rule) l tuple = refl
 taken_shape core t frame (Segment other seg) l tuple = refl
 
-place_kept : (F : List Live) (i : ℕ) (l m : Live) (p : Packet) → slice_get F i ≡ Some l
+pub place_kept : (F : List Live) (i : ℕ) (l m : Live) (p : Packet) → slice_get F i ≡ Some l
     → ((tuple : FourTuple) → is_indexed_as tuple m ≡ is_indexed_as tuple l) → place_in (set F i m) p ≡ place_in F p
 place_kept F i l m (Damaged rule) here same = refl
 place_kept F i l m (Segment tuple seg) here same = position_kept (is_indexed_as tuple) F i l m here (same tuple)
 
-frame_done : (core t place : ℕ) (frame : FrameId) (p : Packet) (F : List Live) (l : Live)
+pub frame_done : (core t place : ℕ) (frame : FrameId) (p : Packet) (F : List Live) (l : Live)
     → slice_get F place ≡ Some l → place_in F p ≡ Some place
     → taken_packet core t frame p F ≡ set F place (packet_taken core t frame p l)
 frame_done core t place frame (Damaged rule) F l here led = absurd (cc (led))

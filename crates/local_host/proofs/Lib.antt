@@ -14,6 +14,8 @@ mod CoreRecording
 mod LaneWork
 mod LaneLists
 mod HandingOut
+mod SeenFrames
+mod CoreTaking
 pub mod Timing
 pub mod Ports
 pub mod Holding

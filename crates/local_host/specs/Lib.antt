@@ -7,4 +7,5 @@ pub mod Ports
 pub mod Steered
 pub mod Lanes
 pub mod Handing
+pub mod Keys
 pub use Rattle.core_rounds.specs.CoreTicks

@@ -37,6 +37,14 @@ impl<'a> Handing<'a> {
         }
     }
 
+    /// Its jobs, which leave it.
+    pub fn take_jobs(&mut self, alloc: Global) -> Vec<Job<'a>>
+        ensures jobs { result.items ≡ self.old.jobs.items }
+        ensures left { self.new.left.items ≡ self.old.left.items }
+    {
+        mem::replace(&mut self.jobs, Vec::new(alloc))
+    }
+
     /// The job that has the flow at this place, where this core has it.
     fn job_of(&self, place: usize, core: u32) -> Option<usize>
         ensures low { IfSome result (λ k. k < length self.now.jobs.items) }

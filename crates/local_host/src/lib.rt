@@ -4,6 +4,8 @@
 
 mod arrival;
 mod calls;
+mod cores;
+mod distinct;
 mod flows;
 mod host;
 mod jobs;
