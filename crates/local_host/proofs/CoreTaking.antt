@@ -14,6 +14,10 @@ use Rattle.host_rounds.specs.Deliveries.{Packet, Damaged, Segment, Arrival, rece
 use Rattle.host_rounds.specs.Deliveries.{delivered_packet}
 use Rattle.core_rounds.specs.CoreTicks.{Taken, taken_by_cores, IsCoresPhase}
 use Rattle.local_host.specs.declared.host.Listener as code
+use Rattle.local_host.specs.declared.arrival.Arrival as code_arrival
+use Rattle.local_host.specs.Arriving.{arrival_in}
+use Rattle.std.specs.Global.{Vec}
+use Rattle.std.proofs.Common.{Result, Ok, Err, IfOk}
 use Rattle.local_host.specs.declared.flows.Openings.{Openings}
 use Rattle.local_host.specs.declared.lanes.Handed.{Handed}
 use Rattle.local_host.specs.declared.lanes.Job.{Job}
@@ -219,3 +223,17 @@ took_phase t host after frames rest took = record {
   made = λ numbers. order_done numbers t took.order host took.known
       ∙ ap (λ (F : List Live). record host { flows = F }) took.made;
 }
+
+-- the frames alone, where memory was enough
+pub if_took : {E : Type 0} {t : ℕ} {old end : List Live} {frames : List Arrival} {shown : List Handed}
+    (r : Result (Vec code_arrival.Arrival) E) (rest : List Handed) → shown ≡ rest
+    → IfOk r (λ (v : Vec code_arrival.Arrival). v.items ≡ map (λ (h : Handed). h.arrival) shown)
+    → TookFrames t old frames (map arrival_of rest) end
+    → IfOk r (λ (v : Vec code_arrival.Arrival). TookFrames t old frames (map arrival_in v.items) end)
+if_took (Err e) rest same told took = tt
+if_took {E} {t} {old} {end} {frames} {shown} (Ok v) rest same told took =
+    subst (λ (xs : List Arrival). TookFrames t old frames xs end)
+    (sym (ap (map arrival_in) (told ∙ ap (map (λ (h : Handed). h.arrival)) same) ∙ twice rest)) took where
+      twice : (hs : List Handed) → map arrival_in (map (λ (h : Handed). h.arrival) hs) ≡ map arrival_of hs
+      twice [] = refl
+      twice (h ∷ hs) = ap (λ (xs : List Arrival). arrival_of h ∷ xs) (twice hs)

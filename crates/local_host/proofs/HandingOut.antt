@@ -113,7 +113,7 @@ passes_there (l ∷ ls) (suc p) d h =
     let low : p < length ls = rest.0 in
     (omega (arith, low), rest.1, rest.2)
 
-either : (b : Bool) → (b ≡ true) ⊎ (b ≡ false)
+pub either : (b : Bool) → (b ≡ true) ⊎ (b ≡ false)
 either true = inl refl
 either false = inr refl
 

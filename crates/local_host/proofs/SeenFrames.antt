@@ -58,6 +58,10 @@ key_itself k =
     (and_true (k.flow == k.flow) (k.number == k.number && k.copy == k.copy) (itself k.flow)
     (and_true (k.number == k.number) (k.copy == k.copy) (itself k.number) (itself k.copy)))
 
+pub not_seen : (b c : Bool) → b ≡ not c → b ≡ true → c ≡ false
+not_seen b true is h = sym h ∙ is
+not_seen b false is h = refl
+
 second_false : (a b : Bool) → cond a true b ≡ false → b ≡ false
 second_false true b h = absurd (true≢false h)
 second_false false b h = h

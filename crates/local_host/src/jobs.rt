@@ -185,11 +185,23 @@ fn give<'a>(alloc: Global, lanes: &mut Vec<Lane<'a>>, job: Job<'a>) -> Result<()
 /// The flows go back to their places, and the frames that cores left are gathered. The error is want of memory, also in
 /// a lane.
 pub fn put_back<'a>(
-    flows: &mut [LiveFlow],
+    flows: &mut Vec<LiveFlow>,
+    left: &mut Vec<Handed<'a>>,
+    lanes: &mut Vec<Lane<'a>>,
+) -> Result<(), AllocError>
+    ensures flows { OnOk result (flows.new.items ≡ put_jobs (jobs_in lanes.old.items) flows.old.items) }
+    ensures left { OnOk result (left.new.items ≡ left.old.items ++ left_in lanes.old.items) }
+    ensures done { OnOk result (All (λ (lane : Lane). lane.failed ≡ false) lanes.old.items) }
+{
+    put_lanes(flows, left, lanes)
+}
+
+fn put_lanes<'a>(
+    flows: &mut Vec<LiveFlow>,
     left: &mut Vec<Handed<'a>>,
     lanes: &mut [Lane<'a>],
 ) -> Result<(), AllocError>
-    ensures flows { OnOk result (flows.new ≡ put_jobs (jobs_in lanes.old) flows.old) }
+    ensures flows { OnOk result (flows.new.items ≡ put_jobs (jobs_in lanes.old) flows.old.items) }
     ensures left { OnOk result (left.new.items ≡ left.old.items ++ left_in lanes.old) }
     ensures done { OnOk result (All (λ (lane : Lane). lane.failed ≡ false) lanes.old) }
 {
@@ -200,11 +212,11 @@ pub fn put_back<'a>(
 }
 
 fn put_lane<'a>(
-    flows: &mut [LiveFlow],
+    flows: &mut Vec<LiveFlow>,
     left: &mut Vec<Handed<'a>>,
     lane: &mut Lane<'a>,
 ) -> Result<(), AllocError>
-    ensures flows { OnOk result (flows.new ≡ put_jobs lane.old.jobs.items flows.old) }
+    ensures flows { OnOk result (flows.new.items ≡ put_jobs lane.old.jobs.items flows.old.items) }
     ensures left { OnOk result (left.new.items ≡ left.old.items ++ lane.old.left.items) }
     ensures done { OnOk result (lane.old.failed ≡ false) }
 {
@@ -216,8 +228,8 @@ fn put_lane<'a>(
     Ok(())
 }
 
-fn put_all(flows: &mut [LiveFlow], jobs: &mut [Job<'_>])
-    ensures { flows.new ≡ put_jobs jobs.old flows.old }
+fn put_all(flows: &mut Vec<LiveFlow>, jobs: &mut Vec<Job<'_>>)
+    ensures { flows.new.items ≡ put_jobs jobs.old.items flows.old.items }
 {
     for k in 0..jobs.len() {
         put(flows, &mut jobs[k]);
@@ -225,8 +237,8 @@ fn put_all(flows: &mut [LiveFlow], jobs: &mut [Job<'_>])
 }
 
 /// The job's flow goes back to its place.
-fn put(flows: &mut [LiveFlow], job: &mut Job<'_>)
-    ensures { flows.new ≡ set flows.old job.old.place job.old.flow }
+fn put(flows: &mut Vec<LiveFlow>, job: &mut Job<'_>)
+    ensures { flows.new.items ≡ set flows.old.items job.old.place job.old.flow }
 {
     if job.place < flows.len() {
         mem::swap(&mut flows[job.place], &mut job.flow);

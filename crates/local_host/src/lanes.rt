@@ -41,6 +41,23 @@ pub struct Lane<'a> {
 /// The lanes work side by side, each on a thread of its own.
 pub fn work_all<R: Threads + Sync, G: Gate>(
     rt: &R,
+    lanes: &mut Vec<Lane<'_>>,
+    host: u32,
+    tick: u32,
+    gate: &G,
+)
+    requires host { host < 67108863 }
+    requires cores { All (λ (lane : Lane). lane.core < 16) lanes.old.items }
+    ensures len { length lanes.new.items ≡ length lanes.old.items }
+    ensures worked { (i : ℕ) (d : Lane) → i < length lanes.old.items
+        → (slice_index_or lanes.new.items i d).failed ≡ false
+        → IsWorked tick (slice_index_or lanes.old.items i d) (slice_index_or lanes.new.items i d) }
+{
+    work_each(rt, lanes, host, tick, gate);
+}
+
+fn work_each<R: Threads + Sync, G: Gate>(
+    rt: &R,
     lanes: &mut [Lane<'_>],
     host: u32,
     tick: u32,
