@@ -17,7 +17,7 @@ use Rattle.local_host.specs.declared.host.Listener as code
 use Rattle.local_host.specs.declared.arrival.Arrival as code_arrival
 use Rattle.local_host.specs.Arriving.{arrival_in}
 use Rattle.std.specs.Global.{Vec}
-use Rattle.std.proofs.Common.{Result, Ok, Err, IfOk}
+use Rattle.std.proofs.Common.{Result, Ok, Err, IfOk, OnOk, OnErr}
 use Rattle.local_host.specs.declared.flows.Openings.{Openings}
 use Rattle.local_host.specs.declared.lanes.Handed.{Handed}
 use Rattle.local_host.specs.declared.lanes.Job.{Job}
@@ -28,7 +28,7 @@ use Rattle.local_host.specs.Lanes.{worked_job, left_by, IsWorked, packet_taken}
 use Rattle.local_host.specs.Handing.{place_in, jobs_in, left_in, taken_packet, flow_taken, TookFrames}
 use Rattle.local_host.proofs.Indexing.{Keeps}
 use Rattle.local_host.proofs.Standing.{Stays, known_change, found_stands}
-use Rattle.local_host.proofs.Ports.{host_change}
+use Rattle.local_host.proofs.Ports.{host_change, host_none}
 use Rattle.local_host.proofs.Places.{found_change}
 use Rattle.local_host.proofs.Hosting.{known_is}
 use Rattle.local_host.specs.Lanes.{arrival_of, left_of}
@@ -237,3 +237,29 @@ if_took {E} {t} {old} {end} {frames} {shown} (Ok v) rest same told took =
       twice : (hs : List Handed) → map arrival_in (map (λ (h : Handed). h.arrival) hs) ≡ map arrival_of hs
       twice [] = refl
       twice (h ∷ hs) = ap (λ (xs : List Arrival). arrival_of h ∷ xs) (twice hs)
+
+-- ----- what a call gave
+abbrev Given : {E : Type 0} (t : ℕ) (old after : List Live) (frames : List Arrival)
+    → Result (Vec code_arrival.Arrival) E → Type 0
+Given t old after frames r =
+    IfOk r (λ (v : Vec code_arrival.Arrival). TookFrames t old frames (map arrival_in v.items) after)
+
+pub sound_took : {E : Type 0} {known : FourTuple → Option Openings} {slots : ℕ → Option ℕ} {places : List ℕ}
+    {given : ℕ} (t : ℕ) (old after : List Live) (frames : List Arrival) (r : Result (Vec code_arrival.Arrival) E)
+    → Given t old after frames r → IsKnown known slots places given old
+    → OnOk r (IsKnown known slots places given after)
+sound_took t old after frames (Ok v) took is = took_known took is
+sound_took t old after frames (Err e) took is = tt
+
+pub host_took : {E : Type 0} {params : HostParams} {listeners : List code.Listener} (t : ℕ) (old after : List Live)
+    (frames : List Arrival) (r : Result (Vec code_arrival.Arrival) E) → Given t old after frames r
+    → OnErr r (after ≡ []) → IsHost params listeners old → IsHost params listeners after
+host_took t old after frames (Ok v) took none is = took_host took is
+host_took {E} {params} {listeners} t old after frames (Err e) took none is = subst (IsHost params listeners) (sym none) (host_none is)
+
+pub phase_took : {E : Type 0} (t : ℕ) (host : Host) (after : List Live) (frames : List Arrival)
+    (r : Result (Vec code_arrival.Arrival) E) → Given t host.flows after frames r
+    → IfOk r (λ (v : Vec code_arrival.Arrival).
+    IsCoresPhase t host frames (map arrival_in v.items) (record host { flows = after }))
+phase_took t host after frames (Ok v) took = took_phase t host after frames (map arrival_in v.items) took
+phase_took t host after frames (Err e) took = tt
