@@ -11,6 +11,11 @@ pub mod Staging
 pub mod Serving
 pub mod Recording
 mod CoreRecording
+mod LaneWork
+mod LaneLists
+mod HandingOut
+mod SeenFrames
+mod CoreTaking
 pub mod Timing
 pub mod Ports
 pub mod Holding

@@ -5,4 +5,7 @@ pub mod Script
 pub mod Arriving
 pub mod Ports
 pub mod Steered
+pub mod Lanes
+pub mod Handing
+pub mod Keys
 pub use Rattle.core_rounds.specs.CoreTicks

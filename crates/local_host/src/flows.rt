@@ -1,6 +1,6 @@
 ghost use Rattle.std.specs.Prelude.{true, false, ◌≡◌, ℕ, ◌<◌, ◌+◌, ◌^◌, ◌==◌, ◌++◌, ◌∷◌, [], length, map, position};
 ghost use Rattle.std.specs.Prelude.{get_or, nat_eq, ◌||◌, List, slice_get, Some, None, cond, IfOk, IfSome, OnErr, OnOk};
-ghost use Rattle.std.specs.Prelude.{is_some, nat_le, count_by};
+ghost use Rattle.std.specs.Prelude.{is_some, nat_le, count_by, All};
 ghost use Rattle.std.specs.List.{list_any, list_all, filter};
 ghost use Rattle.std.specs.HashMap.{get};
 ghost use Rattle.capture_items.specs.Numbers.{equal_tuple};
@@ -12,7 +12,8 @@ ghost use Rattle.host_rounds.specs.Lists.{Each, change_at};
 ghost use Rattle.host_rounds.specs.Hosts.{Live, is_indexed_as, is_in_slot, free_from, next_generation, opened_as};
 ghost use Rattle.host_rounds.specs.Hosts.{flows_of, is_ready, is_over, waits_at, with_call, first_port};
 ghost use Rattle.host_rounds.specs.Upkeep.{swept, timed, quieted};
-ghost use Rattle.local_host.specs.Arriving.{taking_in};
+ghost use Rattle.local_host.specs.Arriving.{arrival_in, taking_in};
+ghost use Rattle.local_host.specs.Handing.{AreDistinct, TookFrames, place_in};
 ghost use Rattle.tas_runs.specs.Records.{Content, is_remote};
 ghost use Rattle.tas_runs.specs.LocalScript.{resets_here};
 ghost use Rattle.local_host.specs.Index.{IsSound, AreAtRest, is_standing, standing_places, passes_at, number_of};
@@ -21,7 +22,8 @@ ghost use Rattle.local_host.specs.Ports.{MayAsk};
 ghost use Rattle.local_host.specs.Script.{asked_all, asked_live};
 ghost use Rattle.local_host.specs.Live.{flow_in, holder_in, IsLegal};
 
-use crate::arrival::Taking;
+use crate::arrival::{Arrival, Packet, Taking};
+use crate::cores::take_on_cores;
 use crate::live::{Holder, LiveFlow};
 use crate::script::Shown;
 use flow_state::{Answer, CallIn, FlowRecord};
@@ -29,6 +31,8 @@ use segment_fields::Segment;
 use std::alloc::{AllocError, Global};
 use std::collections::HashMap;
 use std::marker::Model;
+use std::thread::Threads;
+use tas_num::Gate;
 use tas_model::{Caller, FourTuple, FrameId};
 
 /// Ports from this one on are given to connects, each once.
@@ -251,6 +255,62 @@ impl Flows {
     {
         let done = self.table.flows[i].receive(taking, tick, frame, seg);
         self.table.settle(done)
+    }
+
+    /// Cores take frames side by side, each on a thread of its own. The answer are the frames that were left, in the
+    /// order in which they came. The error is want of memory.
+    pub fn take_on_cores<'a, R: Threads + Sync, G: Gate>(
+        &mut self,
+        rt: &R,
+        alloc: Global,
+        tick: u32,
+        arrivals: &[Arrival<'a>],
+        steered: &[u32],
+        host: u32,
+        gate: &G,
+    ) -> Result<Vec<Arrival<'a>>, AllocError>
+        requires steered { length steered.now ≡ length arrivals.now }
+        requires cores { All (λ core. core < 16) steered.now }
+        requires host { host < 67108863 }
+        requires distinct { AreDistinct (map arrival_in arrivals.now) }
+        ensures made { IfOk result (λ rest. TookFrames tick self.old (map arrival_in arrivals.now)
+            (map arrival_in rest.items) self.new) }
+        ensures none { OnErr result (self.new ≡ []) }
+    {
+        match self.places(alloc, arrivals) {
+            Ok(places) => {
+                let flows = &mut self.table.flows;
+                let done =
+                    take_on_cores(rt, alloc, flows, &places, tick, arrivals, steered, host, gate);
+                self.table.settle(done)
+            }
+            Err(error) => self.table.settle(Err(error)),
+        }
+    }
+
+    /// The place of the flow that the index has for each frame. The error is want of memory.
+    fn places(
+        &self,
+        alloc: Global,
+        arrivals: &[Arrival<'_>],
+    ) -> Result<Vec<Option<usize>>, AllocError>
+        ensures { IfOk result (λ places. places.items
+            ≡ map (λ x. place_in self.now (arrival_in x).packet) arrivals.now) }
+    {
+        let mut places = Vec::with_capacity(alloc, arrivals.len())?;
+        for arrival in arrivals {
+            places.push(self.place_of(arrival))?;
+        }
+        Ok(places)
+    }
+
+    fn place_of(&self, arrival: &Arrival<'_>) -> Option<usize>
+        ensures { result ≡ place_in self.now (arrival_in arrival.now).packet }
+    {
+        match arrival.packet {
+            Packet::Damaged(_) => None,
+            Packet::Segment(tuple, _) => self.find(&tuple),
+        }
     }
 
     /// The flow at place `i` makes a call, by an application or where one was killed by the slow path. The error is

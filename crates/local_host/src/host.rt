@@ -26,6 +26,7 @@ ghost use Rattle.local_host.specs.Live.{flow_in, holder_in, IsLegal, connected_b
 ghost use Rattle.local_host.specs.Ports.{IsConnecting, MayAsk};
 
 use crate::arrival::{Arrival, Packet, Taking};
+use crate::distinct::are_distinct;
 use crate::flows::{FIRST_PORT, Flows};
 use crate::live::{Holder, LiveFlow};
 use crate::numbers::NumberSource;
@@ -561,22 +562,27 @@ impl LocalHost {
     /// more after it. The error is want of memory.
     pub fn receive_on_cores<'a, R: Threads + Sync, G: Gate>(
         &mut self,
-        _rt: &R,
+        rt: &R,
         tick: u32,
         arrivals: &[Arrival<'a>],
         steered: &[u32],
-        _host: u32,
+        host: u32,
         cores: u32,
-        _gate: &G,
+        gate: &G,
     ) -> Result<Vec<Arrival<'a>>, AllocError>
         requires steered { length steered.now ≡ length arrivals.now }
         requires below { All (λ core. core < cores) steered.now }
         requires cores { (0 < cores) × (cores ≤ 16) }
-        requires host { _host < 67108863 }
+        requires host { host < 67108863 }
         ensures made { IfOk result (λ rest. IsCoresPhase tick self.old (map arrival_in arrivals.now)
             (map arrival_in rest.items) self.new) }
         ensures params { self.new.params ≡ self.old.params }
     {
+        if are_distinct(self.alloc, arrivals)? {
+            return self
+                .flows
+                .take_on_cores(rt, self.alloc, tick, arrivals, steered, host, gate);
+        }
         let mut rest = Vec::new(self.alloc);
         rest.extend_from_slice(arrivals)?;
         Ok(rest)

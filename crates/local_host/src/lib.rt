@@ -4,8 +4,12 @@
 
 mod arrival;
 mod calls;
+mod cores;
+mod distinct;
 mod flows;
 mod host;
+mod jobs;
+mod lanes;
 mod live;
 mod numbers;
 mod pending;

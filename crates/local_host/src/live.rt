@@ -11,13 +11,14 @@ ghost use Rattle.tas_model.specs.ApplicationCalls.{column};
 ghost use Rattle.host_rounds.specs.Hosts.{same_tuple, is_indexed_as, is_in_slot, endpoint, with_call, is_over};
 ghost use Rattle.host_rounds.specs.Hosts.{is_running, is_held, first_entry, is_ready, waits_at, is_waiting_by};
 ghost use Rattle.host_rounds.specs.Upkeep.{swept, timed, controlled, quieted};
-ghost use Rattle.local_host.specs.Arriving.{taking_in};
+ghost use Rattle.local_host.specs.Arriving.{arrival_in, taking_in};
+ghost use Rattle.local_host.specs.Lanes.{is_taken, worked_frame};
 ghost use Rattle.local_host.specs.Index.{is_standing};
 ghost use Rattle.local_host.specs.declared.live.Holder.TheVariants as Holder;
 ghost use Rattle.local_host.specs.Live.{flow_in, holder_in, IsLegal, opened_live, IsNext};
 ghost use Rattle.local_host.specs.Ports.{MayAsk};
 
-use crate::arrival::Taking;
+use crate::arrival::{Arrival, Packet, Taking};
 use crate::calls::{make, taken};
 use crate::reading::{
     first_number, is_closed, is_control_tick, is_fast, may_send, sent_count, stage_of,
@@ -44,6 +45,18 @@ pub enum Holder {
     /// Nobody any more.
     GivenUp,
 }
+
+/// The parameters of flows that stand in for others: they take the least memory.
+const SMALLEST: HostParams = HostParams {
+    addr: 0,
+    iss: 0,
+    ring: 256,
+    mss: 64,
+    rto: 1,
+    slots: 1,
+    backlog: 1,
+    fixed: true,
+};
 
 /// A flow of the host, seen as that flow in the middle of a run.
 #[derive(Drop)]
@@ -281,6 +294,57 @@ impl LiveFlow {
             }
         }
         Ok(())
+    }
+
+    /// A flow that stands in the place of one that a core has. The index has it under no four-tuple. The error is want
+    /// of memory.
+    pub(crate) fn stand_in(alloc: Global) -> Result<LiveFlow, AllocError>
+        ensures { IfOk result (λ l. l.indexed ≡ false) }
+    {
+        let id = FlowId {
+            slot: 0,
+            generation: 0,
+        };
+        let nowhere = FourTuple {
+            laddr: 0,
+            lport: 0,
+            raddr: 0,
+            rport: 0,
+        };
+        let mut flow = LiveFlow::connected(alloc, id, nowhere, &SMALLEST, Seq(0), 0, 0)?;
+        flow.indexed = false;
+        Ok(flow)
+    }
+
+    /// Whether the index has it under its four-tuple.
+    pub(crate) fn is_indexed(&self) -> bool
+        ensures { result ≡ self.now.indexed }
+    {
+        self.indexed
+    }
+
+    /// A frame comes to it on a core, which takes it where it is one for the fast path, and says whether. The error is
+    /// want of memory.
+    pub(crate) fn take(
+        &mut self,
+        core: u32,
+        tick: u32,
+        arrival: &Arrival<'_>,
+    ) -> Result<bool, AllocError>
+        ensures made { OnOk result (self.new ≡ worked_frame core tick (arrival_in arrival.now) self.old) }
+        ensures taken { IfOk result (λ taken. taken ≡ is_taken (arrival_in arrival.now).packet self.old) }
+    {
+        match arrival.packet {
+            Packet::Segment(_, seg) if is_fast(&self.history, &seg) => {
+                let call = CallIn::Rx {
+                    frame: arrival.frame,
+                    seg,
+                };
+                make(&mut self.history, Caller::Core(core), tick, &call, &FastRx)?;
+                Ok(true)
+            }
+            _ => Ok(false),
+        }
     }
 
     /// An application accepts it, where it stands. The error is want of memory.

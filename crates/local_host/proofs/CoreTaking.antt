@@ -1,0 +1,265 @@
+-- What cores took, among the flows of a host: all that is known of the flows stays.
+use Rattle.std.proofs.Common.{◌≡◌, ℕ, zero, suc, arith, append_assoc, ◌<◌, ◌++◌, List, [], ◌∷◌, length, get_or, set, map, fold, All, Bool, true, false}
+use Rattle.std.proofs.Common.{Option, Some, None, is_some, slice_get, position, refl, sym, ap, subst, ◌∙◌, true≢false}
+use Rattle.std.specs.Prelude.{IsPermutation}
+use Rattle.std.proofs.lemmas.List.Elements.{All-head, All-tail}
+use Rattle.tas_model.specs.declared.entry.FourTuple.{FourTuple}
+use Rattle.tas_model.specs.declared.entry.FrameId.{FrameId}
+use Rattle.tas_model.specs.declared.entry.HostParams.{HostParams}
+use Rattle.tas_model.specs.declared.entry.Seg.{Seg}
+use Rattle.tas_model.specs.declared.entry.Caller.TheVariants.{Core}
+use Rattle.host_rounds.specs.Lists.{change_at}
+use Rattle.host_rounds.specs.Hosts.{Live, Host, Numbers, is_indexed_as, is_known, next_number}
+use Rattle.host_rounds.specs.Deliveries.{Packet, Damaged, Segment, Arrival, received, arrived, delivered}
+use Rattle.host_rounds.specs.Deliveries.{delivered_packet}
+use Rattle.core_rounds.specs.CoreTicks.{Taken, taken_by_cores, IsCoresPhase}
+use Rattle.local_host.specs.declared.host.Listener as code
+use Rattle.local_host.specs.declared.arrival.Arrival as code_arrival
+use Rattle.local_host.specs.Arriving.{arrival_in}
+use Rattle.std.specs.Global.{Vec}
+use Rattle.std.proofs.Common.{Result, Ok, Err, IfOk, OnOk, OnErr}
+use Rattle.local_host.specs.declared.flows.Openings.{Openings}
+use Rattle.local_host.specs.declared.lanes.Handed.{Handed}
+use Rattle.local_host.specs.declared.lanes.Job.{Job}
+use Rattle.local_host.specs.declared.lanes.Lane.{Lane}
+use Rattle.local_host.specs.Index.{IsKnown}
+use Rattle.local_host.specs.Ports.{IsHost}
+use Rattle.local_host.specs.Lanes.{worked_job, left_by, IsWorked, packet_taken}
+use Rattle.local_host.specs.Handing.{place_in, jobs_in, left_in, taken_packet, flow_taken, TookFrames}
+use Rattle.local_host.proofs.Indexing.{Keeps}
+use Rattle.local_host.proofs.Standing.{Stays, known_change, found_stands}
+use Rattle.local_host.proofs.Ports.{host_change, host_none}
+use Rattle.local_host.proofs.Places.{found_change}
+use Rattle.local_host.proofs.Hosting.{known_is}
+use Rattle.local_host.specs.Lanes.{arrival_of, left_of}
+use Rattle.local_host.specs.Handing.{AreHanded, AreDistinct, AreLanes, put_jobs}
+use Rattle.local_host.proofs.LaneWork.{taken_shape, place_kept, frame_done, took_frames}
+
+-- ----- lanes that worked
+left_both : (t : ℕ) (js ks : List Job) → left_by t (js ++ ks) ≡ left_by t js ++ left_by t ks
+left_both t [] ks = refl
+left_both t (j ∷ js) ks =
+    ap (λ (hs : List Handed). left_of j.core t j.frames.items j.flow ++ hs) (left_both t js ks)
+    ∙ sym (append_assoc (left_of j.core t j.frames.items j.flow) (left_by t js) (left_by t ks))
+
+map_both : {A B : Type 0} (f : A → B) (xs ys : List A) → map f (xs ++ ys) ≡ map f xs ++ map f ys
+map_both f [] ys = refl
+map_both {A} {B} f (x ∷ xs) ys = ap (λ (zs : List B). f x ∷ zs) (map_both f xs ys)
+
+-- what each lane did, all did
+pub lanes_worked : (t : ℕ) (lanes after : List Lane) → length after ≡ length lanes
+    → ((i : ℕ) (d : Lane) → i < length lanes → (get_or after i d).failed ≡ false
+    → IsWorked t (get_or lanes i d) (get_or after i d))
+    → All (λ (l : Lane). l.failed ≡ false) after → All (λ (l : Lane). l.left.items ≡ []) lanes
+    → (jobs_in after ≡ map (worked_job t) (jobs_in lanes)) × (left_in after ≡ left_by t (jobs_in lanes))
+lanes_worked t [] [] len each done fresh = (refl, refl)
+lanes_worked t [] (a ∷ bs) len each done fresh = absurd (omega (arith, len))
+lanes_worked t (l ∷ ls) [] len each done fresh = absurd (omega (arith, len))
+lanes_worked t (l ∷ ls) (a ∷ rest) len each done fresh =
+    let mine : IsWorked t l a = each 0 a (omega arith) (All-head (λ (m : Lane). m.failed ≡ false) a rest done) in
+    let others = lanes_worked t ls rest (omega (arith, len))
+    (λ i d low ok. each (suc i) d (omega (arith, low)) ok)
+    (All-tail (λ (m : Lane). m.failed ≡ false) a rest done) (All-tail (λ (m : Lane). m.left.items ≡ []) l ls fresh) in
+    (
+      ap (λ (js : List Job). js ++ jobs_in rest) mine.jobs
+          ∙ (ap (λ (js : List Job). map (worked_job t) l.jobs.items ++ js) others.0
+          ∙ sym (map_both (worked_job t) l.jobs.items (jobs_in ls))),
+      ap (λ (hs : List Handed). hs ++ left_in rest) (mine.left
+          ∙ ap (λ (hs : List Handed). hs ++ left_by t l.jobs.items)
+          (All-head (λ (m : Lane). m.left.items ≡ []) l ls fresh))
+          ∙ (ap (λ (hs : List Handed). left_by t l.jobs.items ++ hs) others.1
+          ∙ sym (left_both t l.jobs.items (jobs_in ls))),
+    )
+
+-- ----- the whole of a tick's frames
+pub cores_took : (t : ℕ) (old now end : List Live) (jobs : List Job) (left gathered rest : List Handed)
+    (frames : List Arrival) (lanes after : List Lane)
+    → AreHanded old now jobs left frames → AreDistinct frames → AreLanes jobs lanes
+    → length after ≡ length lanes
+    → ((i : ℕ) (d : Lane) → i < length lanes → (get_or after i d).failed ≡ false
+    → IsWorked t (get_or lanes i d) (get_or after i d))
+    → All (λ (l : Lane). l.failed ≡ false) after → end ≡ put_jobs (jobs_in after) now
+    → gathered ≡ left ++ left_in after → IsPermutation gathered rest
+    → TookFrames t old frames (map arrival_of rest) end
+cores_took t old now end jobs left gathered rest frames lanes after handed distinct are len each done put more sorted =
+    let worked = lanes_worked t lanes after len each done are.fresh in
+    subst (TookFrames t old frames (map arrival_of rest))
+    (sym (put ∙ ap (λ (js : List Job). put_jobs js now) worked.0))
+    (took_frames t old now jobs (jobs_in lanes) left rest frames handed distinct are.moved are.shuffled
+    (subst (λ (hs : List Handed). IsPermutation hs rest)
+    (more ∙ ap (λ (hs : List Handed). left ++ hs) worked.1) sorted))
+
+-- ----- one frame
+found_at : (F : List Live) (p : Packet) → is_some (place_in F p) ≡ true → (i : ℕ) × (place_in F p ≡ Some i)
+found_at F p known = by_place (place_in F p) refl known where
+  by_place : (o : Option ℕ) → place_in F p ≡ o → is_some o ≡ true → (i : ℕ) × (place_in F p ≡ Some i)
+  by_place None is h = absurd (true≢false (sym h))
+  by_place (Some i) is h = (i, is)
+
+core_keeps : (core t : ℕ) (frame : FrameId) (seg : Seg) → Keeps (received (Core core) t frame seg)
+core_keeps core t frame seg = record { same = λ l. record { tuple = refl; id = refl; index = λ h. h } }
+
+core_stays : (core t : ℕ) (frame : FrameId) (seg : Seg) → Stays (received (Core core) t frame seg)
+core_stays core t frame seg l = refl
+
+frame_known : (known : FourTuple → Option Openings) (slots : ℕ → Option ℕ) (places : List ℕ) (given core t : ℕ)
+    (frame : FrameId) (p : Packet) (F : List Live) → is_some (place_in F p) ≡ true
+    → IsKnown known slots places given F → IsKnown known slots places given (taken_packet core t frame p F)
+frame_known known slots places given core t frame (Damaged rule) F here is = is
+frame_known known slots places given core t frame (Segment tuple seg) F here is =
+    let f : Live → Live = received (Core core) t frame seg in
+    let at = found_at F (Segment tuple seg) here in
+    subst (IsKnown known slots places given) (found_change (is_indexed_as tuple) f F at.0 at.1).1
+    (known_change known slots places given f F at.0 (core_keeps core t frame seg) (core_stays core t frame seg)
+    (found_stands tuple F at.0 at.1 is.filed) is)
+
+frame_host : {params : HostParams} {listeners : List code.Listener} (core t : ℕ) (frame : FrameId) (p : Packet)
+    (F : List Live) → is_some (place_in F p) ≡ true → IsHost params listeners F
+    → IsHost params listeners (taken_packet core t frame p F)
+frame_host core t frame (Damaged rule) F here is = is
+frame_host {params} {listeners} core t frame (Segment tuple seg) F here is =
+    let f : Live → Live = received (Core core) t frame seg in
+    let at = found_at F (Segment tuple seg) here in
+    subst (IsHost params listeners) (found_change (is_indexed_as tuple) f F at.0 at.1).1
+    (host_change f at.0 (core_keeps core t frame seg) is)
+
+-- a frame leads to where it led
+there : (F : List Live) (i : ℕ) (d : Live) → i < length F → slice_get F i ≡ Some (get_or F i d)
+there [] i d low = absurd (omega (arith, low))
+there (l ∷ ls) zero d low = refl
+there (l ∷ ls) (suc i) d low = there ls i d (omega (arith, low))
+
+frame_leads : (core t : ℕ) (frame : FrameId) (p q : Packet) (F : List Live) → is_some (place_in F p) ≡ true
+    → place_in (taken_packet core t frame p F) q ≡ place_in F q
+frame_leads core t frame p q [] here = by_none p here where
+  by_none : (r : Packet) → is_some (place_in [] r) ≡ true → place_in (taken_packet core t frame r []) q ≡ place_in [] q
+  by_none (Damaged rule) h = refl
+  by_none (Segment tuple seg) h = refl
+frame_leads core t frame p q (l ∷ ls) here =
+    let F : List Live = l ∷ ls in
+    let at = found_at F p here in
+    let i : ℕ = at.0 in
+    let low : i < length F = place_below p F i at.1 in
+    let m : Live = get_or F i l in
+    let stands : slice_get F i ≡ Some m = there F i l low in
+    ap (λ (G : List Live). place_in G q) (frame_done core t i frame p F m stands at.1)
+    ∙ place_kept F i m (packet_taken core t frame p m) q stands (taken_shape core t frame p m)
+  where
+    place_below : (r : Packet) (G : List Live) (k : ℕ) → place_in G r ≡ Some k → k < length G
+    place_below (Damaged rule) G k h = absurd (cc (h))
+    place_below (Segment tuple seg) G k h = (found_change (is_indexed_as tuple) (λ (n : Live). n) G k h).0
+
+-- ----- all that were taken
+abbrev AreKnown : List Live → List Taken → Type 0
+AreKnown F order = All (λ (x : Taken). is_some (place_in F x.arrival.packet) ≡ true) order
+
+rest_known : (t : ℕ) (F : List Live) (x : Taken) (order : List Taken) → AreKnown F (x ∷ order)
+    → AreKnown (flow_taken t F x) order
+rest_known t F x order all = λ k d low.
+    ap is_some (frame_leads x.core t x.arrival.frame x.arrival.packet (get_or order k d).arrival.packet F
+    (All-head (λ (y : Taken). is_some (place_in F y.arrival.packet) ≡ true) x order all))
+    ∙ All-tail (λ (y : Taken). is_some (place_in F y.arrival.packet) ≡ true) x order all k d low
+
+first_known : (F : List Live) (x : Taken) (order : List Taken) → AreKnown F (x ∷ order)
+    → is_some (place_in F x.arrival.packet) ≡ true
+first_known F x order all = All-head (λ (y : Taken). is_some (place_in F y.arrival.packet) ≡ true) x order all
+
+order_known : (known : FourTuple → Option Openings) (slots : ℕ → Option ℕ) (places : List ℕ) (given t : ℕ)
+    (order : List Taken) (F : List Live) → AreKnown F order → IsKnown known slots places given F
+    → IsKnown known slots places given (fold (flow_taken t) F order)
+order_known known slots places given t [] F all is = is
+order_known known slots places given t (x ∷ order) F all is =
+    order_known known slots places given t order (flow_taken t F x) (rest_known t F x order all)
+    (frame_known known slots places given x.core t x.arrival.frame x.arrival.packet F (first_known F x order all) is)
+
+order_host : {params : HostParams} {listeners : List code.Listener} (t : ℕ) (order : List Taken) (F : List Live)
+    → AreKnown F order → IsHost params listeners F → IsHost params listeners (fold (flow_taken t) F order)
+order_host t [] F all is = is
+order_host {params} {listeners} t (x ∷ order) F all is =
+    order_host t order (flow_taken t F x) (rest_known t F x order all)
+    (frame_host x.core t x.arrival.frame x.arrival.packet F (first_known F x order all) is)
+
+pub took_known : {known : FourTuple → Option Openings} {slots : ℕ → Option ℕ} {places : List ℕ} {given t : ℕ}
+    {old after : List Live} {frames rest : List Arrival} → TookFrames t old frames rest after
+    → IsKnown known slots places given old → IsKnown known slots places given after
+took_known {known} {slots} {places} {given} {t} {old} {after} {frames} {rest} took is =
+    subst (IsKnown known slots places given) took.made
+    (order_known known slots places given t took.order old took.known is)
+
+pub took_host : {params : HostParams} {listeners : List code.Listener} {t : ℕ} {old after : List Live}
+    {frames rest : List Arrival} → TookFrames t old frames rest after → IsHost params listeners old
+    → IsHost params listeners after
+took_host {params} {listeners} {t} {old} {after} {frames} {rest} took is =
+    subst (IsHost params listeners) took.made (order_host t took.order old took.known is)
+
+-- ----- the host
+packet_done : (numbers : Numbers) (core t : ℕ) (host : Host) (frame : FrameId) (p : Packet)
+    → is_some (place_in host.flows p) ≡ true
+    → ◌≡◌ {A = Host} (delivered_packet (received (Core core)) numbers t host frame p)
+    (record host { flows = taken_packet core t frame p host.flows })
+packet_done numbers core t host frame (Damaged rule) here = absurd (true≢false (sym here))
+packet_done numbers core t host frame (Segment tuple seg) here =
+    let at = found_at host.flows (Segment tuple seg) here in
+    ap (λ (b : Bool). arrived b (received (Core core) t frame seg) (next_number numbers host tuple) t host frame tuple
+    seg)
+    (known_is tuple host at.0 at.1)
+
+order_done : (numbers : Numbers) (t : ℕ) (order : List Taken) (host : Host) → AreKnown host.flows order
+    → ◌≡◌ {A = Host} (taken_by_cores numbers t host order)
+    (record host { flows = fold (flow_taken t) host.flows order })
+order_done numbers t [] host all = refl
+order_done numbers t (x ∷ order) host all =
+    ap (λ (h : Host). taken_by_cores numbers t h order)
+    (packet_done numbers x.core t host x.arrival.frame x.arrival.packet (first_known host.flows x order all))
+    ∙ order_done numbers t order (record host { flows = flow_taken t host.flows x })
+    (rest_known t host.flows x order all)
+
+pub took_phase : (t : ℕ) (host : Host) (after : List Live) (frames rest : List Arrival)
+    → TookFrames t host.flows frames rest after
+    → IsCoresPhase t host frames rest (record host { flows = after })
+took_phase t host after frames rest took = record {
+  order = took.order;
+  shared = took.shared;
+  made = λ numbers. order_done numbers t took.order host took.known
+      ∙ ap (λ (F : List Live). record host { flows = F }) took.made;
+}
+
+-- the frames alone, where memory was enough
+pub if_took : {E : Type 0} {t : ℕ} {old end : List Live} {frames : List Arrival} {shown : List Handed}
+    (r : Result (Vec code_arrival.Arrival) E) (rest : List Handed) → shown ≡ rest
+    → IfOk r (λ (v : Vec code_arrival.Arrival). v.items ≡ map (λ (h : Handed). h.arrival) shown)
+    → TookFrames t old frames (map arrival_of rest) end
+    → IfOk r (λ (v : Vec code_arrival.Arrival). TookFrames t old frames (map arrival_in v.items) end)
+if_took (Err e) rest same told took = tt
+if_took {E} {t} {old} {end} {frames} {shown} (Ok v) rest same told took =
+    subst (λ (xs : List Arrival). TookFrames t old frames xs end)
+    (sym (ap (map arrival_in) (told ∙ ap (map (λ (h : Handed). h.arrival)) same) ∙ twice rest)) took where
+      twice : (hs : List Handed) → map arrival_in (map (λ (h : Handed). h.arrival) hs) ≡ map arrival_of hs
+      twice [] = refl
+      twice (h ∷ hs) = ap (λ (xs : List Arrival). arrival_of h ∷ xs) (twice hs)
+
+-- ----- what a call gave
+abbrev Given : {E : Type 0} (t : ℕ) (old after : List Live) (frames : List Arrival)
+    → Result (Vec code_arrival.Arrival) E → Type 0
+Given t old after frames r =
+    IfOk r (λ (v : Vec code_arrival.Arrival). TookFrames t old frames (map arrival_in v.items) after)
+
+pub sound_took : {E : Type 0} {known : FourTuple → Option Openings} {slots : ℕ → Option ℕ} {places : List ℕ}
+    {given : ℕ} (t : ℕ) (old after : List Live) (frames : List Arrival) (r : Result (Vec code_arrival.Arrival) E)
+    → Given t old after frames r → IsKnown known slots places given old
+    → OnOk r (IsKnown known slots places given after)
+sound_took t old after frames (Ok v) took is = took_known took is
+sound_took t old after frames (Err e) took is = tt
+
+pub host_took : {E : Type 0} {params : HostParams} {listeners : List code.Listener} (t : ℕ) (old after : List Live)
+    (frames : List Arrival) (r : Result (Vec code_arrival.Arrival) E) → Given t old after frames r
+    → OnErr r (after ≡ []) → IsHost params listeners old → IsHost params listeners after
+host_took t old after frames (Ok v) took none is = took_host took is
+host_took {E} {params} {listeners} t old after frames (Err e) took none is = subst (IsHost params listeners) (sym none) (host_none is)
+
+pub phase_took : {E : Type 0} (t : ℕ) (host : Host) (after : List Live) (frames : List Arrival)
+    (r : Result (Vec code_arrival.Arrival) E) → Given t host.flows after frames r
+    → IfOk r (λ (v : Vec code_arrival.Arrival).
+    IsCoresPhase t host frames (map arrival_in v.items) (record host { flows = after }))
+phase_took t host after frames (Ok v) took = took_phase t host after frames (map arrival_in v.items) took
+phase_took t host after frames (Err e) took = tt

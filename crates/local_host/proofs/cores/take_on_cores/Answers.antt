@@ -1,0 +1,20 @@
+use Rattle.std.proofs.Common.{◌++◌, ◌∙◌, List, map, ap, subst}
+use Rattle.local_host.specs.Arriving.{arrival_in}
+use Rattle.local_host.specs.Handing.{AreLanes, left_in}
+use Rattle.local_host.specs.declared.lanes.Handed.{Handed}
+use Rattle.local_host.specs.declared.lanes.Job.{Job}
+use Rattle.local_host.proofs.CoreTaking.{cores_took, if_took}
+use Rattle.local_host.proofs.cores.take_on_cores.Goals as goal
+
+pub returns : goal.returns
+returns g c =
+    if_took c.arrivals_of_handed.result c.sort_by_key.new.self.items c.deref.ensures.value c.arrivals_of_handed.ensures
+    (cores_took c.args.tick c.args.flows.now.items c.hand_out.new.flows.items c.put_back.new.flows.items
+    c.in_ok-handing.handing.jobs.items c.in_ok-handing.handing.left.items c.put_back.new.left.items
+    c.sort_by_key.new.self.items (map arrival_in c.args.arrivals.now) c.in_ok-lanes.lanes.items
+    c.work_all.new.lanes.items c.in_ok-handing.ensures c.requires.distinct
+    (subst (λ (js : List Job). AreLanes js c.in_ok-lanes.lanes.items) c.take_jobs.ensures.jobs c.in_ok-lanes.ensures)
+    c.work_all.ensures.len c.work_all.ensures.worked c.in_ok-put_back.ensures.done c.in_ok-put_back.ensures.flows
+    (c.in_ok-put_back.ensures.left
+    ∙ ap (λ (hs : List Handed). hs ++ left_in c.work_all.new.lanes.items) c.take_jobs.ensures.left)
+    c.in_ok-sort_by_key.ensures.permutation)

@@ -1,0 +1,110 @@
+-- How the frames that come to a host are handed out: those of flows that the index has become jobs of cores, and the
+-- others are left.
+use Rattle.std.specs.Prelude.{◌≡◌, ℕ, ◌++◌, ◌∷◌, [], ◌<◌, ◌≤◌, ◌==◌, Bool, true, false, List, All, map, set, fold, filter}
+use Rattle.std.specs.Prelude.{Option, Some, None, is_some, position, length, slice_get, count_by, IsPermutation}
+use Rattle.tas_model.specs.declared.entry.FrameId.{FrameId}
+use Rattle.tas_model.specs.declared.entry.Caller.TheVariants.{Core}
+use Rattle.host_rounds.specs.Lists.{change_first}
+use Rattle.host_rounds.specs.Hosts.{Live, is_indexed_as}
+use Rattle.host_rounds.specs.Deliveries.{Packet, Damaged, Segment, Arrival, received}
+use Rattle.core_rounds.specs.CoreTicks.{Taken, AreShared, is_frame}
+use Rattle.local_host.specs.declared.lanes.Handed.{Handed}
+use Rattle.local_host.specs.declared.lanes.Job.{Job}
+use Rattle.local_host.specs.declared.lanes.Lane.{Lane}
+use Rattle.local_host.specs.Lanes.{arrival_of, taken_of}
+
+-- each frame comes once
+abbrev pub AreDistinct : List Arrival → Type 0
+AreDistinct frames = (frame : FrameId) → count_by (is_frame frame) frames ≤ 1
+
+-- the place of the flow that the index has for a packet
+abbrev pub place_in : List Live → Packet → Option ℕ
+place_in flows (Damaged rule) = None
+place_in flows (Segment tuple seg) = position (is_indexed_as tuple) flows
+
+-- ----- jobs
+abbrev pub joined : {A B : Type 0} → (A → List B) → List A → List B
+joined g [] = []
+joined g (x ∷ xs) = g x ++ joined g xs
+
+abbrev pub frames_of : Job → List Arrival
+frames_of j = map arrival_of j.frames.items
+
+abbrev pub frames_by : List Job → List Arrival
+frames_by jobs = joined frames_of jobs
+
+abbrev pub jobs_of : Lane → List Job
+jobs_of l = l.jobs.items
+
+abbrev pub jobs_in : List Lane → List Job
+jobs_in lanes = joined jobs_of lanes
+
+abbrev pub left_in : List Lane → List Handed
+left_in lanes = joined (λ (l : Lane). l.left.items) lanes
+
+-- how many jobs have the flow at this place
+abbrev pub jobs_at : (place : ℕ) → List Job → ℕ
+jobs_at q jobs = count_by (λ (j : Job). j.place == q) jobs
+
+-- The job has a flow of these and frames that the index leads to it.
+pub record IsJobOf (flows : List Live) (j : Job) : Type 0 where
+  pub low : j.core < 16
+  pub here : slice_get flows j.place ≡ Some j.flow
+  pub led : All (λ (h : Handed). place_in flows (arrival_of h).packet ≡ Some j.place) j.frames.items
+
+-- These frames were handed out: each is in a job or left. The flows of the jobs were taken out, each once, and what
+-- stands in their places the index has under no four-tuple.
+pub record AreHanded (old now : List Live) (jobs : List Job) (left : List Handed) (frames : List Arrival)
+    : Type 0 where
+  pub len : length now ≡ length old
+  pub apart : (q : ℕ) → jobs_at q jobs ≡ 0 → slice_get now q ≡ slice_get old q
+  pub away : (q : ℕ) (l : Live) → slice_get now q ≡ Some l → l.indexed ≡ true → jobs_at q jobs ≡ 0
+  pub own : All (IsJobOf old) jobs
+  pub once : (q : ℕ) → jobs_at q jobs ≤ 1
+  pub shared : IsPermutation (frames_by jobs ++ map arrival_of left) frames
+
+abbrev pub is_in_index : Live → Bool
+is_in_index l = l.indexed
+
+-- the same job with one frame more
+pub record HasMore (h : Handed) (before after : Job) : Type 0 where
+  pub core : after.core ≡ before.core
+  pub place : after.place ≡ before.place
+  pub flow : after.flow ≡ before.flow
+  pub frames : after.frames.items ≡ before.frames.items ++ h ∷ []
+
+-- ----- lanes
+-- The lanes have these jobs, and have left nothing yet.
+pub record AreLanes (jobs : List Job) (lanes : List Lane) : Type 0 where
+  pub moved : IsPermutation jobs (jobs_in lanes)
+  pub shuffled : IsPermutation (frames_by jobs) (frames_by (jobs_in lanes))
+  pub low : All (λ (l : Lane). l.core < 16) lanes
+  pub fresh : All (λ (l : Lane). l.left.items ≡ []) lanes
+
+-- the flows of jobs are put back
+abbrev pub put_jobs : List Job → List Live → List Live
+put_jobs [] flows = flows
+put_jobs (j ∷ js) flows = put_jobs js (set flows j.place j.flow)
+
+-- ----- what cores took
+abbrev pub by_core : (core : ℕ) → Arrival → Taken
+by_core core x = record { core = core; arrival = x }
+
+abbrev pub order_by : (tick : ℕ) → List Job → List Taken
+order_by t [] = []
+order_by t (j ∷ js) = map (by_core j.core) (taken_of j.core t j.frames.items j.flow) ++ order_by t js
+
+abbrev pub taken_packet : (core tick : ℕ) → FrameId → Packet → List Live → List Live
+taken_packet core t frame (Damaged rule) flows = flows
+taken_packet core t frame (Segment tuple seg) flows =
+    change_first (is_indexed_as tuple) (received (Core core) t frame seg) flows
+
+abbrev pub flow_taken : (tick : ℕ) → List Live → Taken → List Live
+flow_taken t flows x = taken_packet x.core t x.arrival.frame x.arrival.packet flows
+
+-- What cores did to the flows is what one order of the frames leaves that they took, each of a flow of the index.
+pub record TookFrames (t : ℕ) (before : List Live) (frames rest : List Arrival) (after : List Live) : Type 0 where
+  pub order : List Taken
+  pub shared : AreShared frames order rest
+  pub known : All (λ (x : Taken). is_some (place_in before x.arrival.packet) ≡ true) order
+  pub made : fold (flow_taken t) before order ≡ after

@@ -1,0 +1,54 @@
+ghost use Rattle.std.specs.Prelude.{◌≡◌, ◌<◌, All, length, map, IfOk};
+ghost use Rattle.local_host.specs.Arriving.{arrival_in};
+ghost use Rattle.local_host.specs.Handing.{AreDistinct, TookFrames, place_in};
+
+use crate::arrival::Arrival;
+use crate::jobs::{hand_out, lanes_of, put_back};
+use crate::lanes::{Handed, work_all};
+use crate::live::LiveFlow;
+use std::alloc::{AllocError, Global};
+use std::thread::Threads;
+use tas_num::Gate;
+
+/// Cores take the frames of flows that stand at these places side by side. The answer are the frames that were left, in
+/// the order in which they came. The error is want of memory.
+pub fn take_on_cores<'a, R: Threads + Sync, G: Gate>(
+    rt: &R,
+    alloc: Global,
+    flows: &mut Vec<LiveFlow>,
+    places: &[Option<usize>],
+    tick: u32,
+    arrivals: &[Arrival<'a>],
+    steered: &[u32],
+    host: u32,
+    gate: &G,
+) -> Result<Vec<Arrival<'a>>, AllocError>
+    requires places { places.now ≡ map (λ x. place_in flows.old.items (arrival_in x).packet) arrivals.now }
+    requires steered { length steered.now ≡ length arrivals.now }
+    requires cores { All (λ core. core < 16) steered.now }
+    requires host { host < 67108863 }
+    requires distinct { AreDistinct (map arrival_in arrivals.now) }
+    ensures { IfOk result (λ rest. TookFrames tick flows.old.items (map arrival_in arrivals.now)
+        (map arrival_in rest.items) flows.new.items) }
+{
+    let mut handing = hand_out(alloc, flows, places, arrivals, steered)?;
+    let mut lanes = lanes_of(alloc, handing.take_jobs(alloc))?;
+    work_all(rt, &mut lanes, host, tick, gate);
+    put_back(flows, &mut handing.left, &mut lanes)?;
+    handing.left.sort_by_key(|handed| handed.index)?;
+    arrivals_of_handed(alloc, &handing.left)
+}
+
+/// The frames alone. The error is want of memory.
+fn arrivals_of_handed<'a>(
+    alloc: Global,
+    left: &[Handed<'a>],
+) -> Result<Vec<Arrival<'a>>, AllocError>
+    ensures { IfOk result (λ rest. rest.items ≡ map (λ h. h.arrival) left.now) }
+{
+    let mut rest = Vec::with_capacity(alloc, left.len())?;
+    for handed in left {
+        rest.push(handed.arrival)?;
+    }
+    Ok(rest)
+}
