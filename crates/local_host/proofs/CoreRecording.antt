@@ -23,7 +23,8 @@ use Rattle.local_host.specs.Arriving.{arrival_in}
 use Rattle.local_host.proofs.Recording.{asks, AreAlike}
 
 -- ----- the frames of a batch
-mapped_where : (o : Option arrivals.Arrival) → map arrival_in (cons_option o []) ≡ cons_option (option_map arrival_in o) []
+mapped_where : (o : Option arrivals.Arrival)
+    → map arrival_in (cons_option o []) ≡ cons_option (option_map arrival_in o) []
 mapped_where None = refl
 mapped_where (Some x) = refl
 
@@ -69,7 +70,8 @@ pub rests_less : (items : List Item) (t : ℕ) (site after end : Site (List Show
 rests_less items t site after end xs i d below made left =
     let rest : List Arrival = map arrival_in (drop (i + 1) xs) in
     ap (λ (s : Site (List Shown)). rests items t s rest) made
-    ∙ (sym (ap (λ (ys : List arrivals.Arrival). rests items t site (map arrival_in ys)) (drop_more xs i d below)) ∙ left)
+    ∙ (sym (ap (λ (ys : List arrivals.Arrival). rests items t site (map arrival_in ys)) (drop_more xs i d below))
+    ∙ left)
 
 -- ----- a tick
 pub played_on_cores : (items : List Item) (t : ℕ) (batch : List Item) (site : Site (List Shown)) (slow : Host)

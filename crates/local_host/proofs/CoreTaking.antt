@@ -1,6 +1,7 @@
 -- What cores took, among the flows of a host: all that is known of the flows stays.
-use Rattle.std.proofs.Common.{◌≡◌, ℕ, zero, suc, arith, append_assoc, ◌<◌, ◌++◌, List, [], ◌∷◌, length, get_or, set, map, fold, All, Bool, true, false}
-use Rattle.std.proofs.Common.{Option, Some, None, is_some, slice_get, position, refl, sym, ap, subst, ◌∙◌, true≢false}
+use Rattle.std.proofs.Common.{◌≡◌, ℕ, zero, suc, arith, append_assoc, ◌<◌, ◌++◌, List, [], ◌∷◌, length, get_or}
+use Rattle.std.proofs.Common.{map, fold, All, Bool, true, false}
+use Rattle.std.proofs.Common.{Option, Some, None, is_some, slice_get, refl, sym, ap, subst, ◌∙◌, true≢false}
 use Rattle.std.specs.Prelude.{IsPermutation}
 use Rattle.std.proofs.lemmas.List.Elements.{All-head, All-tail}
 use Rattle.tas_model.specs.declared.entry.FourTuple.{FourTuple}
@@ -8,9 +9,8 @@ use Rattle.tas_model.specs.declared.entry.FrameId.{FrameId}
 use Rattle.tas_model.specs.declared.entry.HostParams.{HostParams}
 use Rattle.tas_model.specs.declared.entry.Seg.{Seg}
 use Rattle.tas_model.specs.declared.entry.Caller.TheVariants.{Core}
-use Rattle.host_rounds.specs.Lists.{change_at}
-use Rattle.host_rounds.specs.Hosts.{Live, Host, Numbers, is_indexed_as, is_known, next_number}
-use Rattle.host_rounds.specs.Deliveries.{Packet, Damaged, Segment, Arrival, received, arrived, delivered}
+use Rattle.host_rounds.specs.Hosts.{Live, Host, Numbers, is_indexed_as, next_number}
+use Rattle.host_rounds.specs.Deliveries.{Packet, Damaged, Segment, Arrival, received, arrived}
 use Rattle.host_rounds.specs.Deliveries.{delivered_packet}
 use Rattle.core_rounds.specs.CoreTicks.{Taken, taken_by_cores, IsCoresPhase}
 use Rattle.local_host.specs.declared.host.Listener as code
@@ -59,8 +59,7 @@ lanes_worked t (l ∷ ls) (a ∷ rest) len each done fresh =
     let mine : IsWorked t l a = each 0 a (omega arith) (All-head (λ (m : Lane). m.failed ≡ false) a rest done) in
     let others = lanes_worked t ls rest (omega (arith, len))
     (λ i d low ok. each (suc i) d (omega (arith, low)) ok)
-    (All-tail (λ (m : Lane). m.failed ≡ false) a rest done) (All-tail (λ (m : Lane). m.left.items ≡ []) l ls fresh) in
-    (
+    (All-tail (λ (m : Lane). m.failed ≡ false) a rest done) (All-tail (λ (m : Lane). m.left.items ≡ []) l ls fresh) in (
       ap (λ (js : List Job). js ++ jobs_in rest) mine.jobs
           ∙ (ap (λ (js : List Job). map (worked_job t) l.jobs.items ++ js) others.0
           ∙ sym (map_both (worked_job t) l.jobs.items (jobs_in ls))),
@@ -255,7 +254,8 @@ pub host_took : {E : Type 0} {params : HostParams} {listeners : List code.Listen
     (frames : List Arrival) (r : Result (Vec code_arrival.Arrival) E) → Given t old after frames r
     → OnErr r (after ≡ []) → IsHost params listeners old → IsHost params listeners after
 host_took t old after frames (Ok v) took none is = took_host took is
-host_took {E} {params} {listeners} t old after frames (Err e) took none is = subst (IsHost params listeners) (sym none) (host_none is)
+host_took {E} {params} {listeners} t old after frames (Err e) took none is =
+    subst (IsHost params listeners) (sym none) (host_none is)
 
 pub phase_took : {E : Type 0} (t : ℕ) (host : Host) (after : List Live) (frames : List Arrival)
     (r : Result (Vec code_arrival.Arrival) E) → Given t host.flows after frames r

@@ -1,7 +1,7 @@
 -- Frames that are handed out one by one, jobs that are given to lanes, and flows that are put back.
 use Rattle.std.proofs.Common.{◌≡◌, ℕ, zero, suc, ◌+◌, ◌<◌, ◌≤◌, ◌++◌, ◌==◌, List, [], ◌∷◌, length, get_or, set, map}
-use Rattle.std.proofs.Common.{take, drop, All, Bool, true, false, Option, Some, None, slice_get, refl, sym, ap, subst}
-use Rattle.std.proofs.Common.{◌∙◌, arith, tests, append_assoc, append-nil, true≢false, ◌⊎◌, inl, inr}
+use Rattle.std.proofs.Common.{take, drop, All, Bool, true, false, Option, Some, slice_get, refl, sym, ap, subst}
+use Rattle.std.proofs.Common.{◌∙◌, arith, tests, append_assoc, true≢false, ◌⊎◌, inl, inr}
 use Rattle.std.specs.Prelude.{IsPermutation}
 use Rattle.std.proofs.lemmas.List.{drop_more, take_more, map-append}
 use Rattle.std.proofs.lemmas.List.Sums.{sum_by_push}
@@ -19,7 +19,7 @@ use Rattle.local_host.specs.Index.{passes_at}
 use Rattle.local_host.specs.Lanes.{arrival_of}
 use Rattle.local_host.specs.Handing.{place_in, joined, frames_of, frames_by, jobs_of, jobs_in, left_in, jobs_at}
 use Rattle.local_host.specs.Handing.{IsJobOf, AreHanded, is_in_index, HasMore, AreLanes, put_jobs}
-use Rattle.local_host.proofs.LaneLists.{set_there, set_elsewhere, length_set, there_below, tally, count_cons}
+use Rattle.local_host.proofs.LaneLists.{set_there, set_elsewhere, length_set, tally, count_cons}
 use Rattle.local_host.proofs.LaneLists.{perm_by, joined_push, joined_more}
 
 -- ----- one frame
@@ -330,8 +330,7 @@ put_more old now k d lane flows next end left more all low same put gathered don
     let here : get_or now k d ≡ l = get_front now k d ∙ (ap (λ (ls : List Lane). get_or ls 0 d) same
     ∙ sym (get_front old k d)) in
     let rest : List Lane = drop (k + 1) old in
-    let split : drop k old ≡ l ∷ rest = drop_more old k d low in
-    (
+    let split : drop k old ≡ l ∷ rest = drop_more old k d low in (
       set_behind now k lane ∙ rest_is now old k same,
       ap (put_jobs (jobs_in rest)) (put ∙ ap (λ (m : Lane). put_jobs m.jobs.items flows) here)
           ∙ (sym (put_both l.jobs.items (jobs_in rest) flows)

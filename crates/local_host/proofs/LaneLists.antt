@@ -1,5 +1,5 @@
 -- Lists: what stands at a place after a write, lists with the same elements, and those that are joined.
-use Rattle.std.proofs.Common.{◌≡◌, ℕ, zero, suc, ◌+◌, ◌<◌, ◌≤◌, ◌++◌, List, [], ◌∷◌, length, get_or, set, map, fold}
+use Rattle.std.proofs.Common.{◌≡◌, ℕ, zero, suc, ◌+◌, ◌<◌, ◌≤◌, ◌++◌, List, [], ◌∷◌, length, get_or, set}
 use Rattle.std.proofs.Common.{Bool, true, false, cond, Option, Some, None, slice_get, refl, sym, ap, subst, ◌∙◌, arith}
 use Rattle.std.proofs.Common.{true≢false, append_assoc, All, not, position, append-nil, nat_lt, ◌⊎◌, inl, inr}
 use Rattle.std.specs.Prelude.{count_by, IsPermutation}

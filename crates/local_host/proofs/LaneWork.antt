@@ -1,6 +1,6 @@
 -- Jobs that are worked one after the other, and what they leave of all flows.
 use Rattle.std.proofs.Common.{◌≡◌, ℕ, zero, suc, ◌+◌, ◌<◌, ◌≤◌, ◌++◌, ◌==◌, List, [], ◌∷◌, length, get_or, set, map}
-use Rattle.std.proofs.Common.{take, drop, fold, All, Bool, true, false, cond, Some, None, is_some, slice_get}
+use Rattle.std.proofs.Common.{take, drop, fold, All, Bool, true, false, cond, Some, is_some, slice_get}
 use Rattle.std.proofs.Common.{refl, sym, ap, subst, ◌∙◌, arith, tests, append_assoc, true≢false, ◌⊎◌, inl, inr}
 use Rattle.std.specs.Prelude.{IsPermutation}
 use Rattle.std.proofs.lemmas.List.{drop_more, map-append}
@@ -8,7 +8,8 @@ use Rattle.std.proofs.lemmas.List.Elements.{All-head, All-tail, All-map, All-app
 use Rattle.std.proofs.lemmas.List.Sorted.{IsPermutation-refl, IsPermutation-trans, IsPermutation-cons}
 use Rattle.std.proofs.lemmas.List.Sorted.{IsPermutation-middle, IsPermutation-append, All-permutation}
 use Rattle.std.proofs.lemmas.List.Sorted.{sum_by-IsPermutation, IsPermutation-sym, IsPermutation-map}
-use Rattle.std.proofs.lemmas.List.Sorted.{IsPermutation-append_left, IsPermutation-append_right, IsPermutation-append_comm}
+use Rattle.std.proofs.lemmas.List.Sorted.{IsPermutation-append_left, IsPermutation-append_right}
+use Rattle.std.proofs.lemmas.List.Sorted.{IsPermutation-append_comm}
 use Rattle.tas_model.specs.declared.entry.FrameId.{FrameId}
 use Rattle.tas_model.specs.declared.entry.FourTuple.{FourTuple}
 use Rattle.tas_model.specs.declared.entry.Caller.TheVariants.{Core}
@@ -99,7 +100,8 @@ jobs_shared t (j ∷ js) =
     map-append arrival_of (left_of j.core t j.frames.items j.flow) (left_by t js) in
     IsPermutation-trans (arrivals_taken (order_by t (j ∷ js)) ++ map arrival_of (left_by t (j ∷ js)))
     ((ts ++ rest) ++ (ls ++ kept)) (frames_by (j ∷ js))
-    (perm_by (arrivals_taken (order_by t (j ∷ js)) ++ map arrival_of (left_by t (j ∷ js))) ((ts ++ rest) ++ (ls ++ kept))
+    (perm_by (arrivals_taken (order_by t (j ∷ js)) ++ map arrival_of (left_by t (j ∷ js)))
+    ((ts ++ rest) ++ (ls ++ kept))
     (ap (λ (xs : List Arrival). xs ++ map arrival_of (left_by t (j ∷ js))) taken
     ∙ ap (λ (xs : List Arrival). (ts ++ rest) ++ xs) left))
     (IsPermutation-trans ((ts ++ rest) ++ (ls ++ kept)) ((ts ++ ls) ++ (rest ++ kept)) (frames_by (j ∷ js))

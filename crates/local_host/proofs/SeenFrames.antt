@@ -1,9 +1,8 @@
 -- Frames that are seen one by one, each for the first time.
 use Rattle.std.proofs.Common.{◌≡◌, ℕ, ◌+◌, ◌<◌, ◌≤◌, ◌++◌, ◌==◌, ◌&&◌, not, Bool, true, false, cond, List, [], ◌∷◌}
-use Rattle.std.proofs.Common.{length, get_or, map, take, refl, sym, ap, subst, ◌∙◌, arith, tests, true≢false}
+use Rattle.std.proofs.Common.{length, get_or, map, take, refl, sym, ap, ◌∙◌, arith, tests, true≢false}
 use Rattle.std.proofs.Common.{◌⊎◌, inl, inr}
 use Rattle.std.specs.Prelude.{count_by}
-use Rattle.std.specs.HashSet.{contains, HashSet}
 use Rattle.std.proofs.lemmas.List.{take_more, map-append}
 use Rattle.std.proofs.lemmas.List.Sums.{sum_by_push}
 use Rattle.tas_model.specs.declared.entry.FrameId.{FrameId}
@@ -12,7 +11,6 @@ use Rattle.core_rounds.specs.CoreTicks.{is_frame}
 use Rattle.local_host.specs.declared.arrival.Arrival as code
 use Rattle.local_host.specs.declared.distinct.FrameKey.{FrameKey}
 use Rattle.local_host.specs.Arriving.{arrival_in}
-use Rattle.local_host.specs.Handing.{AreDistinct}
 use Rattle.local_host.specs.Keys.{key_in, same_key}
 use Rattle.local_host.proofs.LaneLists.{tally}
 use Rattle.local_host.proofs.HandingOut.{either}

@@ -1,6 +1,6 @@
 -- How the frames that come to a host are handed out: those of flows that the index has become jobs of cores, and the
 -- others are left.
-use Rattle.std.specs.Prelude.{◌≡◌, ℕ, ◌++◌, ◌∷◌, [], ◌<◌, ◌≤◌, ◌==◌, Bool, true, false, List, All, map, set, fold, filter}
+use Rattle.std.specs.Prelude.{◌≡◌, ℕ, ◌++◌, ◌∷◌, [], ◌<◌, ◌≤◌, ◌==◌, Bool, true, List, All, map, set, fold}
 use Rattle.std.specs.Prelude.{Option, Some, None, is_some, position, length, slice_get, count_by, IsPermutation}
 use Rattle.tas_model.specs.declared.entry.FrameId.{FrameId}
 use Rattle.tas_model.specs.declared.entry.Caller.TheVariants.{Core}

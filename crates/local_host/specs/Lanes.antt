@@ -1,6 +1,6 @@
 -- What a core does with the frames that are handed to it for one flow: those for the fast path are taken, in their
 -- order, and the others are left.
-use Rattle.std.specs.Prelude.{◌≡◌, ℕ, ◌++◌, ◌∷◌, [], ◌<◌, Bool, true, false, List, map, cond}
+use Rattle.std.specs.Prelude.{◌≡◌, ℕ, ◌++◌, ◌∷◌, [], Bool, true, false, List, map, cond}
 use Rattle.tas_model.specs.declared.entry.FrameId.{FrameId}
 use Rattle.tas_model.specs.declared.entry.Caller.TheVariants.{Core}
 use Rattle.host_rounds.specs.Hosts.{Live, endpoint}

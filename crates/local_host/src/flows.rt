@@ -32,8 +32,8 @@ use std::alloc::{AllocError, Global};
 use std::collections::HashMap;
 use std::marker::Model;
 use std::thread::Threads;
-use tas_num::Gate;
 use tas_model::{Caller, FourTuple, FrameId};
+use tas_num::Gate;
 
 /// Ports from this one on are given to connects, each once.
 pub const FIRST_PORT: u16 = 49152;
@@ -280,8 +280,9 @@ impl Flows {
         match self.places(alloc, arrivals) {
             Ok(places) => {
                 let flows = &mut self.table.flows;
-                let done =
-                    take_on_cores(rt, alloc, flows, &places, tick, arrivals, steered, host, gate);
+                let done = take_on_cores(
+                    rt, alloc, flows, &places, tick, arrivals, steered, host, gate,
+                );
                 self.table.settle(done)
             }
             Err(error) => self.table.settle(Err(error)),

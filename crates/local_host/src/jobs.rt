@@ -1,4 +1,5 @@
-ghost use Rattle.std.specs.Prelude.{◌≡◌, ℕ, ◌<◌, ◌++◌, ◌∷◌, [], All, List, false, length, set, map, get_or, OnOk, IfOk, IfSome};
+ghost use Rattle.std.specs.Prelude.{◌≡◌, ℕ, ◌<◌, ◌++◌, ◌∷◌, [], All, List, false, length, set, map, get_or};
+ghost use Rattle.std.specs.Prelude.{OnOk, IfOk, IfSome};
 ghost use Rattle.host_rounds.specs.Hosts.{Live};
 ghost use Rattle.host_rounds.specs.Deliveries.{Arrival as ModelArrival};
 ghost use Rattle.local_host.specs.Arriving.{arrival_in};

@@ -1,4 +1,5 @@
-ghost use Rattle.std.specs.Prelude.{◌≡◌, ℕ, ◌<◌, ◌+◌, ◌*◌, ◌^◌, ◌++◌, All, false, [], map, length, slice_index_or, OnOk, IfOk};
+ghost use Rattle.std.specs.Prelude.{◌≡◌, ℕ, ◌<◌, ◌+◌, ◌*◌, ◌^◌, ◌++◌, All, false, [], map, length};
+ghost use Rattle.std.specs.Prelude.{slice_index_or, OnOk, IfOk};
 ghost use Rattle.local_host.specs.Arriving.{arrival_in};
 ghost use Rattle.local_host.specs.Lanes.{worked_flow, worked_frame, is_taken, more_unless};
 ghost use Rattle.local_host.specs.Lanes.{left_of, left_by, worked_job, IsWorked};
@@ -117,7 +118,15 @@ fn work_job<'a, G: Gate>(
     ensures left { OnOk result (left.new.items
         ≡ left.old.items ++ left_of job.old.core tick job.old.frames.items job.old.flow) }
 {
-    work_flow(&mut job.flow, job.core, &job.frames, left, point, tick, gate)
+    work_flow(
+        &mut job.flow,
+        job.core,
+        &job.frames,
+        left,
+        point,
+        tick,
+        gate,
+    )
 }
 
 /// A core takes the frames of a flow that are for the fast path, and leaves the others. The gate's points are `point`

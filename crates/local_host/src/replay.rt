@@ -128,7 +128,8 @@ impl LocalReplay {
         gate: &G,
     ) -> Result<(), AllocError>
         ensures tick { (items : List model.Item) → AreNumbersOf items numbers.now
-            → OnOk result (IsCoresTick (capture_scripts items) tick (due_in (map item_in batch.now)) self.old self.new) }
+            → OnOk result (IsCoresTick (capture_scripts items) tick (due_in (map item_in batch.now))
+            self.old self.new) }
         ensures cores { cores.new ≡ cores.old }
     {
         self.host.pass_time(tick)?;

@@ -12,8 +12,12 @@ returns-in_ok-push-in-Some c = λ jobs are.
 
 pub returns-in_ok-push-in-None-2 : goal.returns-in_ok-push-in-None-2
 returns-in_ok-push-in-None-2 c = λ jobs are.
-    let lane : Lane = record { core = c.args.job.core; jobs = c.push-in-None.new.self; left = c.new.result; failed = false }
-    in
+    let lane : Lane = record {
+      core = c.args.job.core;
+      jobs = c.push-in-None.new.self;
+      left = c.new.result;
+      failed = false;
+    } in
     new_lane c.args.job lane c.push-in-None-2.new.self.items c.in_ok-push-in-None-2.ensures.items c.requires
     c.new.ensures.items
     (c.in_ok-push-in-None.ensures.items ∙ ap (λ (js : List Job). js ++ c.args.job ∷ []) c.new-jobs.ensures.items) are

@@ -1,4 +1,4 @@
-use Rattle.std.proofs.Common.{◌≡◌, ◌++◌, ◌≤◌, All, false, length, take, subst, rules}
+use Rattle.std.proofs.Common.{◌≡◌, ◌++◌, ◌≤◌, All, false, length, subst, rules}
 use Rattle.std.proofs.lemmas.List.{take_all}
 use Rattle.local_host.specs.declared.lanes.Lane.{Lane}
 use Rattle.local_host.specs.Handing.{put_jobs, jobs_in, left_in}

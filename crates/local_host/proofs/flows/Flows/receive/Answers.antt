@@ -10,9 +10,11 @@ index_mut-requires c = omega (arith, stands_below c.args.i c.self.view_is c.requ
 
 pub settle-requires : goal.settle-requires
 settle-requires c =
-    sound_by_change c.receive-done.result (taking_in c.args.taking c.args.tick c.args.frame (seg_of c.args.seg.now)) c.args.i
-    c.index_mut.result.now c.receive-done.new.self (received_keeps c.args.taking c.args.tick c.args.frame (seg_of c.args.seg.now))
-    (received_stays c.args.taking c.args.tick c.args.frame (seg_of c.args.seg.now)) c.self.invariant c.self.view_is c.requires
+    sound_by_change c.receive-done.result
+    (taking_in c.args.taking c.args.tick c.args.frame (seg_of c.args.seg.now)) c.args.i c.index_mut.result.now
+    c.receive-done.new.self (received_keeps c.args.taking c.args.tick c.args.frame (seg_of c.args.seg.now))
+    (received_stays c.args.taking c.args.tick c.args.frame (seg_of c.args.seg.now)) c.self.invariant c.self.view_is
+    c.requires
     c.index_mut.ensures.value c.receive-done.ensures
 
 pub returns-clause-made : goal.returns-clause-made

@@ -16,7 +16,8 @@ pub invariant_of-self : goal.invariant_of-self
 invariant_of-self g c =
     let f : Live → Live = taking_in c.args.taking c.args.tick c.args.frame (seg_of c.args.seg.now) in
     host_done c.receive.result (change_at c.in-Some.i f c.self.inside.flows) c.receive.new.self c.self.invariant
-    (host_change f c.in-Some.i (received_keeps c.args.taking c.args.tick c.args.frame (seg_of c.args.seg.now)) c.self.invariant)
+    (host_change f c.in-Some.i (received_keeps c.args.taking c.args.tick c.args.frame (seg_of c.args.seg.now))
+    c.self.invariant)
     c.receive.ensures.made c.receive.ensures.none
 
 pub returns-in-Some-clause-made : goal.returns-in-Some-clause-made

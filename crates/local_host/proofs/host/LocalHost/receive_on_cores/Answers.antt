@@ -22,4 +22,5 @@ returns-then-branch-clause-made g c =
     IfOk c.take_on_cores.result (λ (v : Vec Arrival). IsCoresPhase c.args.tick h (map arrival_in c.args.arrivals.now)
     (map arrival_in v.items) (record host { flows = c.take_on_cores.new.self })))
     c.self.view_is
-    (phase_took c.args.tick host c.take_on_cores.new.self (map arrival_in c.args.arrivals.now) c.take_on_cores.result c.take_on_cores.ensures.made)
+    (phase_took c.args.tick host c.take_on_cores.new.self (map arrival_in c.args.arrivals.now)
+    c.take_on_cores.result c.take_on_cores.ensures.made)
