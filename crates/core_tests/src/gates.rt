@@ -188,11 +188,11 @@ fn receives<R: Threads + Wait + Sync + Abort>(
 /// The flow's group is on core 1.
 #[test]
 fn frames_go_to_the_core_of_their_group(rt: HostRuntime) -> Result<(), Fail> {
-    receives(&rt, rt.alloc(), FULL_RING, 0, 6)
+    receives(&rt, rt.alloc(), FULL_RING, 0, 9)
 }
 
 /// The group moves to core 0 before the first segment that is for a core.
 #[test]
 fn frames_of_a_group_that_moved_go_to_its_core(rt: HostRuntime) -> Result<(), Fail> {
-    receives(&rt, rt.alloc(), FULL_RING_MOVED, 6, 0)
+    receives(&rt, rt.alloc(), FULL_RING_MOVED, 9, 0)
 }
