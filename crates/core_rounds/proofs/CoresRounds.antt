@@ -181,5 +181,5 @@ cores_round {S} scripts t due before after by_moves each tick =
       workers = order_workers t before due order tick.rest asked;
       made = cores_made scripts t before due tick.middle order tick.rest tick.phase.made;
       quiet = all_quiet t asked.host.flows
-      (asks_legal scripts t before due tick.middle order tick.rest tick.phase.made by_moves each);
+          (asks_legal scripts t before due tick.middle order tick.rest tick.phase.made by_moves each);
     })

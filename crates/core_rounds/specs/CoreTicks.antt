@@ -43,7 +43,8 @@ rest_phase scripts t host rest = fold (delivered (received Slow) scripts.numbers
 
 -- The slow path gives up closed flows and lets time pass; cores take frames side by side; the slow path takes the
 -- others; the applications ask in their order; and all that may go is sent.
-pub record IsCoresTick {S A : Type 0} (scripts : Scripts S A) (t : ℕ) (due : Due A) (before after : Site S) : Type 0 where
+pub record IsCoresTick {S A : Type 0} (scripts : Scripts S A) (t : ℕ) (due : Due A) (before after : Site S)
+    : Type 0 where
   pub rest : List Arrival
   pub middle : Host
   pub phase : IsCoresPhase t (slow_phase t before.host) due.frames rest middle
