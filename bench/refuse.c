@@ -12,10 +12,12 @@ static const char *told;
 
 static void *(*real_malloc)(size_t);
 static void *(*real_realloc)(void *, size_t);
+static void (*real_exit)(int);
 
 __attribute__((constructor)) static void begin(void) {
     real_malloc = (void *(*)(size_t))dlsym(RTLD_NEXT, "malloc");
     real_realloc = (void *(*)(void *, size_t))dlsym(RTLD_NEXT, "realloc");
+    real_exit = (void (*)(int))dlsym(RTLD_NEXT, "_exit");
     const char *number = getenv("REFUSED");
     refused = number ? atol(number) : -1;
     told = getenv("COUNT_TO");
@@ -23,7 +25,7 @@ __attribute__((constructor)) static void begin(void) {
 }
 
 static int is_refused(void) {
-    return (long)count++ == refused;
+    return (long)__atomic_fetch_add(&count, 1, __ATOMIC_RELAXED) == refused;
 }
 
 void *malloc(size_t size) {
@@ -38,11 +40,22 @@ void *realloc(void *old, size_t size) {
     return real_realloc(old, size);
 }
 
-__attribute__((destructor)) static void end(void) {
+static void tell(void) {
     if (!told) return;
     FILE *file;
     unsigned long all = count;
     refused = -1;
     file = fopen(told, "w");
     if (file) { fprintf(file, "%lu\n", all); fclose(file); }
+}
+
+// A program with threads ends here, where no destructor runs.
+void _exit(int status) {
+    tell();
+    real_exit(status);
+    __builtin_unreachable();
+}
+
+__attribute__((destructor)) static void end(void) {
+    tell();
 }
