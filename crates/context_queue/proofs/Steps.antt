@@ -79,7 +79,8 @@ posts n pass v x may own items views _ h at =
         seat,
         sent',
         got,
-        (λ p. let e = ap (notes_of p) (sym (append_assoc got items (x ∷ []))) ∙ notes-append p (got ++ items) (x ∷ []) in
+        (λ p. let e = ap (notes_of p) (sym (append_assoc got items (x ∷ [])))
+            ∙ notes-append p (got ++ items) (x ∷ []) in
             dite (ℕ_discrete p v.number)
             (λ same. e ∙ ((λ i. (h.4 p ∙ (ap sent same ∙ sym mine.1)) i ++ notes_own p x (own ∙ sym same) i)
             ∙ sym (upd_same sent v.number p (v.posts ++ x.note ∷ []) same)))

@@ -1,9 +1,12 @@
-ghost use Rattle.std.specs.Prelude.{◌≡◌, ℕ, ◌+◌, ◌-◌, ◌<◌, ◌≤◌, ◌==◌, ◌&&◌, ◌||◌, Some, max, min, length, nat_lt, nat_le, if◌then◌else◌};
+ghost use Rattle.std.specs.Prelude.{◌≡◌, ℕ, ◌+◌, ◌-◌, ◌<◌, ◌≤◌, ◌==◌, ◌&&◌, ◌||◌, Some, max, min, length, nat_lt};
+ghost use Rattle.std.specs.Prelude.{nat_le, if◌then◌else◌};
 ghost use Rattle.tas_model.specs.declared.entry.Phase.TheVariants as phases;
 ghost use Rattle.tas_model.specs.declared.entry.Reason.TheVariants as reasons;
 ghost use Rattle.tas_model.specs.Endpoint.{Endpoint, is_fin_acked, counted};
 ghost use Rattle.tas_model.specs.Segments.{seq_at};
-ghost use Rattle.tas_model.specs.Receive.{after_ack, after_advance, with_window, rate_after, closes, begins_wait, ack_verdict, Good, is_duplicate as model_duplicate, moves_window as model_moves};
+ghost use Rattle.tas_model.specs.Receive.{after_ack, after_advance, with_window, rate_after, closes, begins_wait};
+ghost use Rattle.tas_model.specs.Receive.{ack_verdict, Good, is_duplicate as model_duplicate};
+ghost use Rattle.tas_model.specs.Receive.{moves_window as model_moves};
 ghost use Rattle.tas_model.specs.Valid.{Valid, ValidSending};
 ghost use Rattle.flow_state.specs.Stands.{Stands};
 ghost use Rattle.fast_rx.specs.Phases.{phase_after_ack as model_phase};
@@ -20,9 +23,11 @@ pub fn number_at(first: Seq, place: u128) -> Seq
     first.plus((place % 0x1_0000_0000) as u32)
 }
 
-/// Takes an acknowledgement of the place `a`, which may be acknowledged, in a segment of `len` places from `q` on (RFC 9293, section 3.10.7.4, fifth; RFC 5681, sections 2 and 3.2). `ended` tells whether the peer's FIN was taken before.
+/// Takes an acknowledgement of the place `a`, which may be acknowledged, in a segment of `len` places from `q` on (RFC
+/// 9293, section 3.10.7.4, fifth; RFC 5681, sections 2 and 3.2). `ended` tells whether the peer's FIN was taken before.
 pub fn take_ack(parts: &mut Parts, a: u128, q: u128, len: u128, window: u16, ended: bool, tick: u32)
-    ensures stands { (e : Endpoint) → Valid e → Stands parts.old e → ended ≡ e.rx.ended → ack_verdict e.tx a ≡ Good → Stands parts.new (after_ack e tick a q len window) }
+    ensures stands { (e : Endpoint) → Valid e → Stands parts.old e → ended ≡ e.rx.ended → ack_verdict e.tx a ≡ Good
+        → Stands parts.new (after_ack e tick a q len window) }
     ensures rx { parts.new.rx ≡ parts.old.rx }
     ensures params { parts.new.params ≡ parts.old.params }
     ensures tuple { parts.new.tuple ≡ parts.old.tuple }
@@ -68,9 +73,12 @@ fn fast_after(fast: u32, goes_back: bool) -> u32
     fast.saturating_add(u32::from(goes_back))
 }
 
-/// Counts what is acknowledged for the first time, and a third duplicate. The counts begin where the own SYN is acknowledged.
+/// Counts what is acknowledged for the first time, and a third duplicate. The counts begin where the own SYN is
+/// acknowledged.
 fn count(parts: &mut Parts, una: u128, a: u128, duplicate: bool)
-    ensures stands { (e : Endpoint) (len window : ℕ) → Stands parts.old e → una ≡ e.tx.una → duplicate ≡ model_duplicate e.tx a len window → Stands parts.new (record e { rate = rate_after e.rate e.tx a len window }) }
+    ensures stands { (e : Endpoint) (len window : ℕ) → Stands parts.old e → una ≡ e.tx.una
+        → duplicate ≡ model_duplicate e.tx a len window
+        → Stands parts.new (record e { rate = rate_after e.rate e.tx a len window }) }
     ensures rx { parts.new.rx ≡ parts.old.rx }
     ensures params { parts.new.params ≡ parts.old.params }
     ensures tuple { parts.new.tuple ≡ parts.old.tuple }
@@ -103,7 +111,9 @@ fn phase_after_ack(phase: Phase, ended: bool, fin_acked: bool) -> Phase
 
 /// Lets go what is acknowledged for the first time, where the place `a` is past `una`.
 fn advance(parts: &mut Parts, una: u128, nxt: u128, a: u128, ended: bool)
-    ensures stands { (e : Endpoint) → ValidSending e.params.ring e.tx → Stands parts.old e → una ≡ e.tx.una → nxt ≡ e.tx.nxt → ended ≡ e.rx.ended → a ≤ e.tx.max → Stands parts.new (record e { tx = after_advance e.tx a }) }
+    ensures stands { (e : Endpoint) → ValidSending e.params.ring e.tx → Stands parts.old e → una ≡ e.tx.una
+        → nxt ≡ e.tx.nxt → ended ≡ e.rx.ended → a ≤ e.tx.max
+        → Stands parts.new (record e { tx = after_advance e.tx a }) }
     ensures rx { parts.new.rx ≡ parts.old.rx }
     ensures params { parts.new.params ≡ parts.old.params }
     ensures tuple { parts.new.tuple ≡ parts.old.tuple }
@@ -124,7 +134,12 @@ fn advance(parts: &mut Parts, una: u128, nxt: u128, a: u128, ended: bool)
 
 /// Counts a duplicate. The third one goes back to the first place that is not acknowledged.
 fn count_duplicate(parts: &mut Parts, duplicate: bool)
-    ensures stands { (e : Endpoint) → Stands parts.old e → Stands parts.new (record e { tx = if duplicate then record (e.tx) { dup = min 3 (e.tx.dup + 1); nxt = if e.tx.dup == 2 then e.tx.una else e.tx.nxt } else e.tx }) }
+    ensures stands { (e : Endpoint) → Stands parts.old e
+        → Stands parts.new (record e {
+          tx = if duplicate
+              then record (e.tx) { dup = min 3 (e.tx.dup + 1); nxt = if e.tx.dup == 2 then e.tx.una else e.tx.nxt }
+              else e.tx;
+        }) }
     ensures rx { parts.new.rx ≡ parts.old.rx }
     ensures params { parts.new.params ≡ parts.old.params }
     ensures tuple { parts.new.tuple ≡ parts.old.tuple }
@@ -145,7 +160,8 @@ fn unless(condition: bool, number: u32) -> u32
 
 /// Takes the peer's window, where it is a newer one.
 fn take_window(parts: &mut Parts, a: u128, q: u128, window: u16, moves: bool)
-    ensures stands { (e : Endpoint) → Stands parts.old e → Stands parts.new (record e { tx = if moves then with_window e.tx a q window else e.tx }) }
+    ensures stands { (e : Endpoint) → Stands parts.old e
+        → Stands parts.new (record e { tx = if moves then with_window e.tx a q window else e.tx }) }
     ensures rx { parts.new.rx ≡ parts.old.rx }
     ensures params { parts.new.params ≡ parts.old.params }
     ensures tuple { parts.new.tuple ≡ parts.old.tuple }
@@ -164,7 +180,11 @@ fn take_window(parts: &mut Parts, a: u128, q: u128, window: u16, moves: bool)
 
 /// The acknowledgement of the own FIN ends LAST-ACK, and begins TIME-WAIT in CLOSING.
 fn settle(parts: &mut Parts, before: Phase, fin_acked: bool, tick: u32)
-    ensures stands { (e : Endpoint) → Stands parts.old e → fin_acked ≡ is_fin_acked e.tx → Stands parts.new (record e { reason = if closes before e.tx then Some reasons.Done else e.reason; entered = if begins_wait before e.tx then tick else e.entered }) }
+    ensures stands { (e : Endpoint) → Stands parts.old e → fin_acked ≡ is_fin_acked e.tx
+        → Stands parts.new (record e {
+          reason = if closes before e.tx then Some reasons.Done else e.reason;
+          entered = if begins_wait before e.tx then tick else e.entered;
+        }) }
     ensures rx { parts.new.rx ≡ parts.old.rx }
     ensures params { parts.new.params ≡ parts.old.params }
     ensures tuple { parts.new.tuple ≡ parts.old.tuple }

@@ -6,7 +6,8 @@ ghost use Rattle.tas_model.specs.Valid.{Valid};
 ghost use Rattle.flow_state.specs.Stands.{Stands, IsNear};
 ghost use Rattle.flow_state.specs.Calls.{seg_of, answer_len};
 ghost use Rattle.flow_state.specs.Made.{IsOutcome};
-ghost use Rattle.fast_rx.specs.Exceptions.{is_control as model_control, is_common as model_common, exception as model_exception, why_of, OnDone};
+ghost use Rattle.fast_rx.specs.Exceptions.{is_control as model_control, is_common as model_common};
+ghost use Rattle.fast_rx.specs.Exceptions.{exception as model_exception, why_of, OnDone};
 
 use crate::receiving::receive;
 use flow_state::{Answer, CallIn, Engine, Parts};
@@ -69,13 +70,16 @@ fn exception(phase: Phase, seg: &Segment<'_>) -> Option<Why>
     }
 }
 
-/// Receives a segment in the common case (RFC 9293, section 3.10.7.4): one with ACK and without SYN, FIN, RST and URG, in ESTABLISHED, FIN-WAIT-1, FIN-WAIT-2 or CLOSE-WAIT. `tick` is the time.
+/// Receives a segment in the common case (RFC 9293, section 3.10.7.4): one with ACK and without SYN, FIN, RST and URG,
+/// in ESTABLISHED, FIN-WAIT-1, FIN-WAIT-2 or CLOSE-WAIT. `tick` is the time.
 ///
-/// `Done`: the parts stand for the model's next endpoint, and the answer, which has no bytes, is its reply. `Exception`: nothing changed. No memory is taken.
+/// `Done`: the parts stand for the model's next endpoint, and the answer, which has no bytes, is its reply.
+/// `Exception`: nothing changed. No memory is taken.
 pub fn fast_rx(parts: &mut Parts, seg: &Segment<'_>, tick: u32) -> FastAnswer
     requires near { IsNear parts.old }
     ensures why { why_of result ≡ model_exception parts.old.phase seg.now }
-    ensures done { OnDone result (λ answer. (out : List ℕ) (e : Endpoint) → Valid e → Stands parts.old e → IsOutcome parts.new answer out (rx e tick (seg_of seg.now))) }
+    ensures done { OnDone result (λ answer. (out : List ℕ) (e : Endpoint) → Valid e → Stands parts.old e
+        → IsOutcome parts.new answer out (rx e tick (seg_of seg.now))) }
     ensures len { OnDone result (λ answer. answer_len answer ≡ 0) }
     ensures exception { IsSome (why_of result) → parts.new ≡ parts.old }
     ensures params { parts.new.params ≡ parts.old.params }

@@ -1,8 +1,11 @@
-ghost use Rattle.std.specs.Prelude.{◌≡◌, ℕ, ◌+◌, ◌-◌, ◌%◌, ◌^◌, ◌<◌, ◌==◌, ◌&&◌, IfSome, nat_lt, nat_le, not, if◌then◌else◌};
+ghost use Rattle.std.specs.Prelude.{◌≡◌, ℕ, ◌+◌, ◌-◌, ◌%◌, ◌^◌, ◌<◌, ◌==◌, ◌&&◌, IfSome, nat_lt, nat_le, not};
+ghost use Rattle.std.specs.Prelude.{if◌then◌else◌};
 ghost use Rattle.tas_num.specs.Places.{nearest};
 ghost use Rattle.tas_model.specs.Endpoint.{Endpoint};
 ghost use Rattle.tas_model.specs.Segments.{seg_len, is_rst, is_syn};
-ghost use Rattle.tas_model.specs.Receive.{verdict, verdict_at, refused as model_refused, is_acceptable as model_acceptable, is_within as model_within, place_of_ack, ack_verdict, BareAck, Good, Stray, TooFar};
+ghost use Rattle.tas_model.specs.Receive.{verdict, verdict_at, refused as model_refused};
+ghost use Rattle.tas_model.specs.Receive.{is_acceptable as model_acceptable, is_within as model_within, place_of_ack};
+ghost use Rattle.tas_model.specs.Receive.{ack_verdict, BareAck, Good, Stray, TooFar};
 ghost use Rattle.tas_model.specs.Valid.{Valid};
 ghost use Rattle.flow_state.specs.Stands.{Stands, IsNear};
 ghost use Rattle.flow_state.specs.Calls.{seg_of};
@@ -119,7 +122,8 @@ fn hear_at(next: u128, window: u16, q: u128, seg: &Segment<'_>) -> Hearing
 
 /// What becomes of a segment that is not acceptable: one that comes in order to a window of 0 still acknowledges.
 fn hear_outside(next: u128, window: u16, q: u128, seg: &Segment<'_>) -> Hearing
-    ensures verdict { verdict_of result ≡ (if window == 0 && q == next && not (is_rst (seg_of seg.now)) && not (is_syn (seg_of seg.now)) then BareAck else model_refused (seg_of seg.now)) }
+    ensures verdict { verdict_of result ≡ (if window == 0 && q == next && not (is_rst (seg_of seg.now))
+        && not (is_syn (seg_of seg.now)) then BareAck else model_refused (seg_of seg.now)) }
     ensures placed { IsPlaced result }
 {
     if window > 0 || q != next {
@@ -131,7 +135,8 @@ fn hear_outside(next: u128, window: u16, q: u128, seg: &Segment<'_>) -> Hearing
     Hearing::BareAck
 }
 
-/// What becomes of a segment, by its place, its flags and the window (RFC 9293, section 3.10.7.4, first to fifth; RFC 5961, section 3.2).
+/// What becomes of a segment, by its place, its flags and the window (RFC 9293, section 3.10.7.4, first to fifth; RFC
+/// 5961, section 3.2).
 pub fn hear(parts: &Parts, seg: &Segment<'_>) -> Hearing
     requires { IsNear parts.now }
     ensures verdict { (e : Endpoint) → Valid e → Stands parts.now e → verdict_of result ≡ verdict e (seg_of seg.now) }
@@ -154,7 +159,8 @@ pub fn acknowledged(parts: &Parts, seg: &Segment<'_>) -> u128
 
 /// Whether the place may be acknowledged: the SYN's at least, and nothing that was not sent.
 fn accept_at(una: u128, max: u128, a: u128) -> Acceptance
-    ensures { ack_verdict_of result ≡ (if una == 0 then (if nat_le 1 a && nat_le a max then Good else Stray) else if nat_lt max a then TooFar else Good) }
+    ensures { ack_verdict_of result ≡ (if una == 0 then (if nat_le 1 a && nat_le a max then Good else Stray)
+        else if nat_lt max a then TooFar else Good) }
 {
     if una > 0 {
         return if a > max {

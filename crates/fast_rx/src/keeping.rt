@@ -22,11 +22,13 @@ fn trimmed(next: u128, window: u16, q: u128, payload: &[u8]) -> &[u8]
     &rest[..kept]
 }
 
-/// Receives the bytes of a payload, whose first one has the place `q`, that lie in the window, where the peer's FIN was not taken (RFC 9293, section 3.10.7.4, seventh). Those in order are received, and one stretch past a gap is kept.
+/// Receives the bytes of a payload, whose first one has the place `q`, that lie in the window, where the peer's FIN was
+/// not taken (RFC 9293, section 3.10.7.4, seventh). Those in order are received, and one stretch past a gap is kept.
 pub fn take_data(parts: &mut Parts, q: u128, window: u16, payload: &[u8])
     requires room { window ≤ room_of parts.old.rx }
     requires near { end_of parts.old.rx + 2 < 2 ^ 126 }
-    ensures stands { (e : Endpoint) → ValidReceiving e.params.ring e.rx → e.rx.ended ≡ false → Stands parts.old e → Stands parts.new (record e { rx = with_data e.rx window q payload.now }) }
+    ensures stands { (e : Endpoint) → ValidReceiving e.params.ring e.rx → e.rx.ended ≡ false → Stands parts.old e
+        → Stands parts.new (record e { rx = with_data e.rx window q payload.now }) }
     ensures params { parts.new.params ≡ parts.old.params }
     ensures tuple { parts.new.tuple ≡ parts.old.tuple }
 {
@@ -71,7 +73,8 @@ fn rest(island: Option<(u32, u32)>, count: u32) -> Option<(u32, u32)>
 fn grow(parts: &mut Parts, part: &[u8])
     requires room { length part.now ≤ room_of parts.old.rx }
     requires near { end_of parts.old.rx + 2 < 2 ^ 126 }
-    ensures stands { (e : Endpoint) → ValidReceiving e.params.ring e.rx → e.rx.ended ≡ false → Stands parts.old e → Stands parts.new (record e { rx = grown e.rx part.now }) }
+    ensures stands { (e : Endpoint) → ValidReceiving e.params.ring e.rx → e.rx.ended ≡ false → Stands parts.old e
+        → Stands parts.new (record e { rx = grown e.rx part.now }) }
     ensures params { parts.new.params ≡ parts.old.params }
     ensures tuple { parts.new.tuple ≡ parts.old.tuple }
 {
@@ -88,7 +91,8 @@ fn grow(parts: &mut Parts, part: &[u8])
 fn keep_apart(parts: &mut Parts, at: u128, part: &[u8])
     requires past { end_of parts.old.rx < at }
     requires within { at + length part.now ≤ parts.old.rx.base + parts.old.rx.size }
-    ensures stands { (e : Endpoint) → ValidReceiving e.params.ring e.rx → 0 < length part.now → Stands parts.old e → Stands parts.new (record e { rx = record (e.rx) { island = kept_apart e.rx.island at part.now } }) }
+    ensures stands { (e : Endpoint) → ValidReceiving e.params.ring e.rx → 0 < length part.now → Stands parts.old e
+        → Stands parts.new (record e { rx = record (e.rx) { island = kept_apart e.rx.island at part.now } }) }
     ensures params { parts.new.params ≡ parts.old.params }
     ensures tuple { parts.new.tuple ≡ parts.old.tuple }
 {
@@ -103,11 +107,14 @@ fn keep_apart(parts: &mut Parts, at: u128, part: &[u8])
     }
 }
 
-/// Joins bytes to those that are kept, `len` bytes from `first` past the end on, where they overlap or touch. Bytes that are held already stay.
+/// Joins bytes to those that are kept, `len` bytes from `first` past the end on, where they overlap or touch. Bytes
+/// that are held already stay.
 fn join(parts: &mut Parts, first: u32, len: u32, at: u128, part: &[u8])
     requires past { end_of parts.old.rx < at }
     requires within { at + length part.now ≤ parts.old.rx.base + parts.old.rx.size }
-    ensures stands { (e : Endpoint) (i : Island) → ValidReceiving e.params.ring e.rx → e.rx.island ≡ Some i → 0 < length part.now → first ≡ i.at - end_of parts.old.rx → len ≡ length i.bytes → Stands parts.old e → Stands parts.new (record e { rx = record (e.rx) { island = kept_apart (Some i) at part.now } }) }
+    ensures stands { (e : Endpoint) (i : Island) → ValidReceiving e.params.ring e.rx → e.rx.island ≡ Some i
+        → 0 < length part.now → first ≡ i.at - end_of parts.old.rx → len ≡ length i.bytes → Stands parts.old e
+        → Stands parts.new (record e { rx = record (e.rx) { island = kept_apart (Some i) at part.now } }) }
     ensures params { parts.new.params ≡ parts.old.params }
     ensures tuple { parts.new.tuple ≡ parts.old.tuple }
 {

@@ -1,10 +1,13 @@
-ghost use Rattle.std.specs.Prelude.{◌≡◌, ℕ, List, ◌+◌, ◌-◌, ◌^◌, ◌<◌, ◌≤◌, ◌==◌, ◌&&◌, Some, nat_le, false, length, min, if◌then◌else◌};
+ghost use Rattle.std.specs.Prelude.{◌≡◌, ℕ, List, ◌+◌, ◌-◌, ◌^◌, ◌<◌, ◌≤◌, ◌==◌, ◌&&◌, Some, nat_le, false, length};
+ghost use Rattle.std.specs.Prelude.{min, if◌then◌else◌};
 ghost use Rattle.payload_ring.specs.Window.{end_of, room_of};
 ghost use Rattle.tas_model.specs.declared.entry.Reason.TheVariants as reasons;
 ghost use Rattle.tas_model.specs.Endpoint.{Endpoint, phase, wnd};
 ghost use Rattle.tas_model.specs.Segments.{acks, resets, is_fin};
 ghost use Rattle.tas_model.specs.OneStream.{IsSynchronized};
-ghost use Rattle.tas_model.specs.Receive.{rx, by_verdict, taken, bare_ack as model_bare_ack, Good, ack_verdict, place_of_ack, BareAck, with_fin, is_fin_wait_2, is_heard as model_heard, after_data as model_after_data};
+ghost use Rattle.tas_model.specs.Receive.{rx, by_verdict, taken, bare_ack as model_bare_ack, Good, ack_verdict};
+ghost use Rattle.tas_model.specs.Receive.{place_of_ack, BareAck, with_fin, is_fin_wait_2, is_heard as model_heard};
+ghost use Rattle.tas_model.specs.Receive.{after_data as model_after_data};
 ghost use Rattle.tas_model.specs.Valid.{Valid, ValidReceiving};
 ghost use Rattle.flow_state.specs.Stands.{Stands, IsNear};
 ghost use Rattle.flow_state.specs.Calls.{seg_of, reply_of, answer_len};
@@ -72,7 +75,12 @@ fn entered_after_fin(phase: Phase, entered: u32, tick: u32) -> u32
 
 /// Takes the peer's FIN, behind all of its bytes.
 fn take_fin(parts: &mut Parts, tick: u32)
-    ensures stands { (e : Endpoint) → e.rx.ended ≡ false → Stands parts.old e → Stands parts.new (record e { rx = with_fin e.rx e.tx.shut; entered = if is_fin_wait_2 (phase e) then tick else e.entered }) }
+    ensures stands { (e : Endpoint) → e.rx.ended ≡ false → Stands parts.old e
+        → Stands parts.new (record e {
+          rx = with_fin e.rx e.tx.shut;
+          entered = if is_fin_wait_2 (phase e) then tick
+              else e.entered;
+        }) }
     ensures params { parts.new.params ≡ parts.old.params }
     ensures tuple { parts.new.tuple ≡ parts.old.tuple }
 {
@@ -89,12 +97,14 @@ fn follows(fin: bool, at: u128, limit: u128, next: u128) -> bool
     fin && at <= limit && at == next
 }
 
-/// Takes the payload, whose first byte has the place `q`, and the FIN behind it. `ended` tells whether the peer's FIN was taken before, and `window` what is advertised.
+/// Takes the payload, whose first byte has the place `q`, and the FIN behind it. `ended` tells whether the peer's FIN
+/// was taken before, and `window` what is advertised.
 fn take_rest(parts: &mut Parts, seg: &Segment<'_>, q: u128, window: u16, ended: bool, tick: u32)
     requires room { window ≤ room_of parts.old.rx }
     requires near { end_of parts.old.rx + 2 < 2 ^ 126 }
     requires far { q < 2 ^ 127 }
-    ensures stands { (e : Endpoint) → ValidReceiving e.params.ring e.rx → ended ≡ e.rx.ended → Stands parts.old e → Stands parts.new (model_after_data e tick window q (seg_of seg.now)) }
+    ensures stands { (e : Endpoint) → ValidReceiving e.params.ring e.rx → ended ≡ e.rx.ended → Stands parts.old e
+        → Stands parts.new (model_after_data e tick window q (seg_of seg.now)) }
     ensures params { parts.new.params ≡ parts.old.params }
     ensures tuple { parts.new.tuple ≡ parts.old.tuple }
 {
@@ -120,7 +130,8 @@ fn is_heard(seg: &Segment<'_>) -> bool
 fn take_good(parts: &mut Parts, seg: &Segment<'_>, a: u128, q: u128, tick: u32) -> Answer
     requires near { IsNear parts.old }
     requires far { q < 2 ^ 127 }
-    ensures made { (out : List ℕ) (e : Endpoint) → Valid e → Stands parts.old e → a ≡ place_of_ack e (seg_of seg.now) → ack_verdict e.tx a ≡ Good → IsOutcome parts.new result out (taken e tick q (seg_of seg.now) Good) }
+    ensures made { (out : List ℕ) (e : Endpoint) → Valid e → Stands parts.old e → a ≡ place_of_ack e (seg_of seg.now)
+        → ack_verdict e.tx a ≡ Good → IsOutcome parts.new result out (taken e tick q (seg_of seg.now) Good) }
     ensures len { answer_len result ≡ 0 }
     ensures params { parts.new.params ≡ parts.old.params }
     ensures tuple { parts.new.tuple ≡ parts.old.tuple }
@@ -139,7 +150,9 @@ fn take_good(parts: &mut Parts, seg: &Segment<'_>, a: u128, q: u128, tick: u32) 
 fn take(parts: &mut Parts, seg: &Segment<'_>, q: u128, tick: u32) -> Answer
     requires near { IsNear parts.old }
     requires far { q < 2 ^ 127 }
-    ensures made { (out : List ℕ) (e : Endpoint) → Valid e → Stands parts.old e → IsOutcome parts.new result out (taken e tick q (seg_of seg.now) (ack_verdict e.tx (place_of_ack e (seg_of seg.now)))) }
+    ensures made { (out : List ℕ) (e : Endpoint) → Valid e → Stands parts.old e
+        → IsOutcome parts.new result out
+        (taken e tick q (seg_of seg.now) (ack_verdict e.tx (place_of_ack e (seg_of seg.now)))) }
     ensures len { answer_len result ≡ 0 }
     ensures params { parts.new.params ≡ parts.old.params }
     ensures tuple { parts.new.tuple ≡ parts.old.tuple }
@@ -154,7 +167,8 @@ fn take(parts: &mut Parts, seg: &Segment<'_>, q: u128, tick: u32) -> Answer
 
 /// Takes the good acknowledgement of the place `a` alone, of a segment that comes in order to a window of 0.
 fn take_bare(parts: &mut Parts, seg: &Segment<'_>, a: u128, tick: u32) -> Answer
-    ensures made { (out : List ℕ) (e : Endpoint) → Valid e → Stands parts.old e → a ≡ place_of_ack e (seg_of seg.now) → ack_verdict e.tx a ≡ Good → IsOutcome parts.new result out (model_bare_ack e tick (seg_of seg.now) Good) }
+    ensures made { (out : List ℕ) (e : Endpoint) → Valid e → Stands parts.old e → a ≡ place_of_ack e (seg_of seg.now)
+        → ack_verdict e.tx a ≡ Good → IsOutcome parts.new result out (model_bare_ack e tick (seg_of seg.now) Good) }
     ensures len { answer_len result ≡ 0 }
     ensures params { parts.new.params ≡ parts.old.params }
     ensures tuple { parts.new.tuple ≡ parts.old.tuple }
@@ -168,7 +182,8 @@ fn take_bare(parts: &mut Parts, seg: &Segment<'_>, a: u128, tick: u32) -> Answer
 /// Hears the acknowledgement alone.
 fn bare_ack(parts: &mut Parts, seg: &Segment<'_>, tick: u32) -> Answer
     requires near { IsNear parts.old }
-    ensures made { (out : List ℕ) (e : Endpoint) → Valid e → Stands parts.old e → IsOutcome parts.new result out (by_verdict e tick (seg_of seg.now) BareAck) }
+    ensures made { (out : List ℕ) (e : Endpoint) → Valid e → Stands parts.old e
+        → IsOutcome parts.new result out (by_verdict e tick (seg_of seg.now) BareAck) }
     ensures len { answer_len result ≡ 0 }
     ensures params { parts.new.params ≡ parts.old.params }
     ensures tuple { parts.new.tuple ≡ parts.old.tuple }
@@ -198,7 +213,8 @@ fn reset(parts: &mut Parts)
 fn receive_as(parts: &mut Parts, hearing: Hearing, seg: &Segment<'_>, tick: u32) -> Answer
     requires near { IsNear parts.old }
     requires placed { IsPlaced hearing }
-    ensures made { (out : List ℕ) (e : Endpoint) → Valid e → Stands parts.old e → IsOutcome parts.new result out (by_verdict e tick (seg_of seg.now) (verdict_of hearing)) }
+    ensures made { (out : List ℕ) (e : Endpoint) → Valid e → Stands parts.old e
+        → IsOutcome parts.new result out (by_verdict e tick (seg_of seg.now) (verdict_of hearing)) }
     ensures len { answer_len result ≡ 0 }
     ensures params { parts.new.params ≡ parts.old.params }
     ensures tuple { parts.new.tuple ≡ parts.old.tuple }
@@ -217,12 +233,14 @@ fn receive_as(parts: &mut Parts, hearing: Hearing, seg: &Segment<'_>, tick: u32)
 
 /// Receives any segment in any state past SYN-SENT and before CLOSED (RFC 9293, section 3.10.7.4). `tick` is the time.
 ///
-/// The parts then stand for the model's next endpoint, and the answer, which has no bytes, is its reply. No memory is taken.
+/// The parts then stand for the model's next endpoint, and the answer, which has no bytes, is its reply. No memory is
+/// taken.
 
 pub fn receive(parts: &mut Parts, seg: &Segment<'_>, tick: u32) -> Answer
     requires later { IsSynchronized parts.old.phase }
     requires near { IsNear parts.old }
-    ensures made { (out : List ℕ) (e : Endpoint) → Valid e → Stands parts.old e → IsOutcome parts.new result out (rx e tick (seg_of seg.now)) }
+    ensures made { (out : List ℕ) (e : Endpoint) → Valid e → Stands parts.old e
+        → IsOutcome parts.new result out (rx e tick (seg_of seg.now)) }
     ensures len { answer_len result ≡ 0 }
     ensures params { parts.new.params ≡ parts.old.params }
     ensures tuple { parts.new.tuple ≡ parts.old.tuple }

@@ -1,5 +1,6 @@
 -- What the column of an endpoint says of its phase and its places.
-use Rattle.std.proofs.Common.{◌≡◌, ℕ, ◌≤◌, Bool, true, false, cond, eqb, Option, Some, None, refl, ◌∙◌, ap, arith, tests}
+use Rattle.std.proofs.Common.{◌≡◌, ℕ, ◌≤◌, Bool, true, false, cond, eqb, Option, Some, None, refl, ◌∙◌, ap, arith}
+use Rattle.std.proofs.Common.{tests}
 use Rattle.tas_model.specs.declared.entry.Reason.{Reason}
 use Rattle.tas_model.specs.declared.entry.Phase.{Phase}
 use Rattle.tas_model.specs.declared.entry.Phase.TheVariants as phases
@@ -19,7 +20,10 @@ stage_of Running = stages.Running
 
 -- a phase past the peer's SYN, by tests: z is whether its own SYN waits
 abbrev pub phase_of : (z s f d a : Bool) → Phase
-phase_of z s f d a = cond z phases.SynReceived (cond s (cond d (cond a phases.LastAck (cond f phases.TimeWait phases.Closing)) (cond f phases.FinWait2 phases.FinWait1)) (cond d phases.CloseWait phases.Established))
+phase_of z s f d a =
+    cond z phases.SynReceived
+    (cond s (cond d (cond a phases.LastAck (cond f phases.TimeWait phases.Closing))
+    (cond f phases.FinWait2 phases.FinWait1)) (cond d phases.CloseWait phases.Established))
 
 staged : (z s f d a : Bool) → stage_by None (phase_of z s f d a) ≡ stage_of (cond z Opening Running)
 staged true s f d a = refl
@@ -32,14 +36,17 @@ staged false true false false a = refl
 staged false false f true a = refl
 staged false false f false a = refl
 
-pub stage_is : (r : Option Reason) (peer : Option ℕ) (una : ℕ) (s f d a : Bool) → stage_by r (phase_by r peer una s f d a) ≡ stage_of (column_by r peer una)
+pub stage_is : (r : Option Reason) (peer : Option ℕ) (una : ℕ) (s f d a : Bool)
+    → stage_by r (phase_by r peer una s f d a) ≡ stage_of (column_by r peer una)
 stage_is (Some why) peer una s f d a = refl
 stage_is None None una s f d a = refl
 stage_is None (Some first) una s f d a = staged (eqb una 0) s f d a
 
 pub parts_stage : (p : Parts) (e : Endpoint) → Stands p e → stage_by p.reason p.phase ≡ stage_of (column e)
 parts_stage p e s =
-    ap (λ (r : Option Reason). stage_by r p.phase) s.reason ∙ (ap (λ (ph : Phase). stage_by e.reason ph) s.phase ∙ stage_is e.reason e.peer e.tx.una e.tx.shut (is_fin_acked e.tx) e.rx.ended e.rx.ended_first)
+    ap (λ (r : Option Reason). stage_by r p.phase) s.reason
+    ∙ (ap (λ (ph : Phase). stage_by e.reason ph) s.phase
+    ∙ stage_is e.reason e.peer e.tx.una e.tx.shut (is_fin_acked e.tx) e.rx.ended e.rx.ended_first)
 
 -- ----- running
 ends : (z s f d a : Bool) → cond z Opening Running ≡ Running → is_shut_phase (phase_of z s f d a) ≡ s
@@ -53,14 +60,16 @@ ends false true false false a c = refl
 ends false false f true a c = refl
 ends false false f false a c = refl
 
-ends_by : (r : Option Reason) (peer : Option ℕ) (una : ℕ) (s f d a : Bool) → column_by r peer una ≡ Running → is_shut_phase (phase_by r peer una s f d a) ≡ s
+ends_by : (r : Option Reason) (peer : Option ℕ) (una : ℕ) (s f d a : Bool) → column_by r peer una ≡ Running
+    → is_shut_phase (phase_by r peer una s f d a) ≡ s
 ends_by (Some why) peer una s f d a c = absurd (cc (c))
 ends_by None None una s f d a c = absurd (cc (c))
 ends_by None (Some first) una s f d a c = ends (eqb una 0) s f d a c
 
 -- the phase tells whether the own stream was ended
 pub shut_told : (p : Parts) (e : Endpoint) → Stands p e → column e ≡ Running → is_shut_phase p.phase ≡ e.tx.shut
-shut_told p e s c = ap is_shut_phase s.phase ∙ ends_by e.reason e.peer e.tx.una e.tx.shut (is_fin_acked e.tx) e.rx.ended e.rx.ended_first c
+shut_told p e s c = ap is_shut_phase s.phase
+    ∙ ends_by e.reason e.peer e.tx.una e.tx.shut (is_fin_acked e.tx) e.rx.ended e.rx.ended_first c
 
 positive : (una : ℕ) (z : Bool) → eqb una 0 ≡ z → cond z Opening Running ≡ Running → 1 ≤ una
 positive una true t c = absurd (cc (c))
@@ -80,7 +89,8 @@ nothing : (una : ℕ) (z : Bool) → eqb una 0 ≡ z → cond z Opening Running 
 nothing una true t c = grind (arith, tests, t)
 nothing una false t c = absurd (cc (c))
 
-before_by : (r : Option Reason) (peer : Option ℕ) (una : ℕ) → column_by r peer una ≡ Opening → IsUnopened peer una → una ≡ 0
+before_by : (r : Option Reason) (peer : Option ℕ) (una : ℕ) → column_by r peer una ≡ Opening → IsUnopened peer una
+    → una ≡ 0
 before_by (Some why) peer una c u = absurd (cc (c))
 before_by None None una c u = u
 before_by None (Some first) una c u = nothing una (eqb una 0) refl c
@@ -90,7 +100,8 @@ pub before_syn : (e : Endpoint) → Valid e → column e ≡ Opening → e.tx.un
 before_syn e v c = before_by e.reason e.peer e.tx.una c v.unopened
 
 -- the peer's SYN was not taken in SYN-SENT, and was in the other phase of the opening
-sent_by : (r : Option Reason) (peer : Option ℕ) (una : ℕ) (s f d a : Bool) → column_by r peer una ≡ Opening → phase_by r peer una s f d a ≡ phases.SynSent → peer ≡ None
+sent_by : (r : Option Reason) (peer : Option ℕ) (una : ℕ) (s f d a : Bool) → column_by r peer una ≡ Opening
+    → phase_by r peer una s f d a ≡ phases.SynSent → peer ≡ None
 sent_by r None una s f d a c is = refl
 sent_by (Some why) (Some first) una s f d a c is = absurd (cc (c))
 sent_by None (Some first) una s f d a c is = absurd (received (eqb una 0) c is) where
@@ -98,7 +109,8 @@ sent_by None (Some first) una s f d a c is = absurd (received (eqb una 0) c is) 
   received true c is = absurd (cc (is))
   received false c is = absurd (cc (c))
 
-first_by : (r : Option Reason) (peer : Option ℕ) (una : ℕ) (s f d a : Bool) → column_by r peer una ≡ Opening → (phase_by r peer una s f d a ≡ phases.SynSent → ⊥) → (x : ℕ) × (peer ≡ Some x)
+first_by : (r : Option Reason) (peer : Option ℕ) (una : ℕ) (s f d a : Bool) → column_by r peer una ≡ Opening
+    → (phase_by r peer una s f d a ≡ phases.SynSent → ⊥) → (x : ℕ) × (peer ≡ Some x)
 first_by (Some why) peer una s f d a c is = absurd (cc (c))
 first_by None None una s f d a c is = absurd (is refl)
 first_by None (Some first) una s f d a c is = (first, refl)

@@ -1,5 +1,7 @@
--- Which segment goes next, told by the compact record alone. Its numbers are kept modulo 2^32, so the rules of the model are said of differences here.
-use Rattle.std.specs.Prelude.{ℕ, ◌+◌, ◌-◌, ◌%◌, ◌^◌, ◌==◌, ◌&&◌, Bool, length, min, nat_lt, Option, Some, None, IsSome, if◌then◌else◌}
+-- Which segment goes next, told by the compact record alone. Its numbers are kept modulo 2^32, so the rules of the
+-- model are said of differences here.
+use Rattle.std.specs.Prelude.{ℕ, ◌+◌, ◌-◌, ◌%◌, ◌^◌, ◌==◌, ◌&&◌, Bool, length, min, nat_lt, Option, Some, None, IsSome}
+use Rattle.std.specs.Prelude.{if◌then◌else◌}
 use Rattle.payload_ring.specs.Window.{end_of}
 use Rattle.tas_num.specs.declared.seq.Seq.{Seq}
 use Rattle.tas_model.specs.Segments.{seq_at, one_if}
@@ -29,9 +31,11 @@ is_next p place = p.nxt.0 == (seq_at p.iss.0 place).0
 abbrev pub bytes_waiting : Parts → ℕ
 bytes_waiting p = length p.tx.bytes - in_flight p
 
--- How many bytes may go: a segment's, those that wait, what the peer's window and the congestion window leave, and what the bucket holds.
+-- How many bytes may go: a segment's, those that wait, what the peer's window and the congestion window leave, and what
+-- the bucket holds.
 abbrev pub bytes_due : Parts → ℕ
-bytes_due p = min p.smss (min (bytes_waiting p) (min (p.window - in_flight p) (min (p.cwnd - in_flight p) p.bucket.tokens)))
+bytes_due p =
+    min p.smss (min (bytes_waiting p) (min (p.window - in_flight p) (min (p.cwnd - in_flight p) p.bucket.tokens)))
 
 -- A probe of the peer's window of 0 is due, and a byte waits for it (RFC 9293, section 3.8.6.1).
 abbrev pub is_probe_due : Parts → Bool

@@ -1,14 +1,17 @@
-ghost use Rattle.std.specs.Prelude.{◌≡◌, ℕ, ◌+◌, ◌-◌, ◌^◌, ◌==◌, ◌≤◌, ◌<◌, ◌↔◌, max, List, length, take, drop, Some, None, IsSome, IfSome, if◌then◌else◌};
+ghost use Rattle.std.specs.Prelude.{◌≡◌, ℕ, ◌+◌, ◌-◌, ◌^◌, ◌==◌, ◌≤◌, ◌<◌, ◌↔◌, max, List, length, take, drop, Some};
+ghost use Rattle.std.specs.Prelude.{None, IsSome, IfSome, if◌then◌else◌};
 ghost use Rattle.tas_model.specs.declared.entry.Phase.TheVariants as phases;
 ghost use Rattle.tas_model.specs.Endpoint.{Endpoint, wnd, phase};
 ghost use Rattle.tas_model.specs.Segments.{seq_of, ack_of};
 ghost use Rattle.tas_model.specs.ApplicationCalls.{column, Opening, Running};
-ghost use Rattle.tas_model.specs.NextSegment.{Going, going as model_going, past, syn_head, waiting, going_data, going_probe, going_fin};
+ghost use Rattle.tas_model.specs.NextSegment.{Going, going as model_going, past, syn_head, waiting, going_data};
+ghost use Rattle.tas_model.specs.NextSegment.{going_probe, going_fin};
 ghost use Rattle.tas_model.specs.Valid.{Valid};
 ghost use Rattle.flow_state.specs.declared.parts.Parts.{Parts};
 ghost use Rattle.flow_state.specs.Stands.{Stands};
 ghost use Rattle.fast_tx.specs.declared.piece.Piece.TheVariants as pieces;
-ghost use Rattle.fast_tx.specs.Piece.{next_piece as piece_of, piece_len, len_of, in_flight as flight_of, bytes_waiting as waiting_of, left_of};
+ghost use Rattle.fast_tx.specs.Piece.{next_piece as piece_of, piece_len, len_of, in_flight as flight_of};
+ghost use Rattle.fast_tx.specs.Piece.{bytes_waiting as waiting_of, left_of};
 ghost use Rattle.fast_tx.specs.Going.{going_as, going_by, out_of, next_out_of, HasGone, WasNext, left_in};
 
 use crate::piece::{Piece, bytes_waiting, in_flight, next_piece};
@@ -64,7 +67,8 @@ fn len_for(piece: Piece) -> u32
 
 /// A header of the next place.
 fn head_with(parts: &Parts, flags: u8) -> Head
-    ensures { (e : Endpoint) → Stands parts.now e → result ≡ record { flags = flags; seq = seq_of e e.tx.nxt; ack = ack_of e; window = wnd e; mss = None } }
+    ensures { (e : Endpoint) → Stands parts.now e
+        → result ≡ record { flags = flags; seq = seq_of e e.tx.nxt; ack = ack_of e; window = wnd e; mss = None } }
 {
     Head {
         flags,
@@ -107,7 +111,8 @@ fn data_flags(parts: &Parts, len: u32) -> u8
 
 /// The header of the piece that goes next.
 fn head_for(parts: &Parts, piece: Piece) -> Head
-    ensures { (e : Endpoint) → Valid e → Stands parts.now e → piece_of parts.now ≡ Some piece → result ≡ (going_as piece e).seg.head }
+    ensures { (e : Endpoint) → Valid e → Stands parts.now e → piece_of parts.now ≡ Some piece
+        → result ≡ (going_as piece e).seg.head }
 {
     match piece {
         Piece::Syn => syn_header(parts),
@@ -119,7 +124,8 @@ fn head_for(parts: &Parts, piece: Piece) -> Head
 
 /// The segment of the piece that goes next.
 fn out_for(parts: &Parts, piece: Piece) -> Out
-    ensures segment { (e : Endpoint) → Valid e → Stands parts.now e → piece_of parts.now ≡ Some piece → result ≡ out_of (going_as piece e) }
+    ensures segment { (e : Endpoint) → Valid e → Stands parts.now e → piece_of parts.now ≡ Some piece
+        → result ≡ out_of (going_as piece e) }
     ensures len { result.len ≡ piece_len piece }
 {
     Out {
@@ -175,7 +181,8 @@ fn move_past(parts: &mut Parts, piece: Piece)
 /// Takes the tokens for so many bytes.
 fn pay(parts: &mut Parts, len: u32)
     requires { len ≤ parts.old.bucket.tokens }
-    ensures after { (e : Endpoint) → Stands parts.old e → Stands parts.new (record e { rate = record (e.rate) { tokens = e.rate.tokens - len } }) }
+    ensures after { (e : Endpoint) → Stands parts.old e
+        → Stands parts.new (record e { rate = record (e.rate) { tokens = e.rate.tokens - len } }) }
     ensures tuple { parts.new.tuple ≡ parts.old.tuple }
     ensures params { parts.new.params ≡ parts.old.params }
 {
@@ -184,7 +191,8 @@ fn pay(parts: &mut Parts, len: u32)
 
 /// Past the highest place sent, once so many places from the next one on are sent.
 fn max_after(parts: &Parts, places: u32) -> Seq
-    ensures { (e : Endpoint) → Stands parts.now e → e.tx.nxt ≤ e.tx.max → e.tx.max < e.tx.nxt + 2 ^ 32 → result ≡ seq_of e (max e.tx.max (e.tx.nxt + places)) }
+    ensures { (e : Endpoint) → Stands parts.now e → e.tx.nxt ≤ e.tx.max → e.tx.max < e.tx.nxt + 2 ^ 32
+        → result ≡ seq_of e (max e.tx.max (e.tx.nxt + places)) }
 {
     if parts.max.minus(parts.nxt) < places {
         parts.nxt.plus(places)
@@ -195,7 +203,8 @@ fn max_after(parts: &Parts, places: u32) -> Seq
 
 /// So many places more are sent.
 fn move_next(parts: &mut Parts, places: u32)
-    ensures after { (e : Endpoint) → Stands parts.old e → e.tx.nxt ≤ e.tx.max → e.tx.max < e.tx.nxt + 2 ^ 32 → Stands parts.new (record e { tx = past e.tx places }) }
+    ensures after { (e : Endpoint) → Stands parts.old e → e.tx.nxt ≤ e.tx.max → e.tx.max < e.tx.nxt + 2 ^ 32
+        → Stands parts.new (record e { tx = past e.tx places }) }
     ensures tuple { parts.new.tuple ≡ parts.old.tuple }
     ensures params { parts.new.params ≡ parts.old.params }
 {
@@ -205,7 +214,8 @@ fn move_next(parts: &mut Parts, places: u32)
 
 /// A probe was sent. Its byte stays the next.
 fn note_probe(parts: &mut Parts)
-    ensures after { (e : Endpoint) → Stands parts.old e → e.tx.nxt ≤ e.tx.max → e.tx.max < e.tx.nxt + 2 ^ 32 → Stands parts.new (going_probe e).after }
+    ensures after { (e : Endpoint) → Stands parts.old e → e.tx.nxt ≤ e.tx.max → e.tx.max < e.tx.nxt + 2 ^ 32
+        → Stands parts.new (going_probe e).after }
     ensures tuple { parts.new.tuple ≡ parts.old.tuple }
     ensures params { parts.new.params ≡ parts.old.params }
 {
@@ -213,7 +223,8 @@ fn note_probe(parts: &mut Parts)
     parts.probe = false;
 }
 
-/// How much is left to send: the places up to past the FIN's, and a probe that is due. Each emission makes it less, so a loop over `emit` ends.
+/// How much is left to send: the places up to past the FIN's, and a probe that is due. Each emission makes it less, so
+/// a loop over `emit` ends.
 pub fn left_to_send(parts: &Parts) -> u64
     ensures exact { result ≡ left_of parts.now }
     ensures left { (e : Endpoint) → Valid e → Stands parts.now e → result ≡ left_in e }
@@ -226,5 +237,6 @@ pub fn left_to_send(parts: &Parts) -> u64
 /// Each emission leaves less to send: of the endpoint, and so of the parts that stand for it.
 pub fn emission_ends()
     ensures ends { (e : Endpoint) (g : Going) → model_going e ≡ Some g → left_in g.after < left_in e }
-    ensures falls { (before after : Parts) (e : Endpoint) (g : Going) → Valid e → Stands before e → model_going e ≡ Some g → Stands after g.after → left_of after < left_of before }
+    ensures falls { (before after : Parts) (e : Endpoint) (g : Going) → Valid e → Stands before e
+        → model_going e ≡ Some g → Stands after g.after → left_of after < left_of before }
 {}

@@ -18,7 +18,8 @@ pub struct FastTx;
 /// Emits where something may go.
 fn emit_next(parts: &mut Parts, out: &mut [u8]) -> Option<Answer>
     requires room { parts.old.smss ≤ length out.old }
-    ensures made { IfSome result (λ answer. (e : Endpoint) → Valid e → Stands parts.old e → IsStep parts.new answer out.new (emitted (model_going e))) }
+    ensures made { IfSome result (λ answer. (e : Endpoint) → Valid e → Stands parts.old e
+        → IsStep parts.new answer out.new (emitted (model_going e))) }
     ensures bytes { IfSome result (λ answer. answer_len answer ≤ parts.old.smss) }
     ensures tuple { parts.new.tuple ≡ parts.old.tuple }
     ensures params { parts.new.params ≡ parts.old.params }

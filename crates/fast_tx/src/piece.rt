@@ -5,7 +5,9 @@ ghost use Rattle.tas_model.specs.NextSegment.{going as model_going};
 ghost use Rattle.tas_model.specs.Valid.{Valid};
 ghost use Rattle.flow_state.specs.declared.parts.Parts.{Parts};
 ghost use Rattle.flow_state.specs.Stands.{Stands};
-ghost use Rattle.fast_tx.specs.Piece.{next_piece as piece_of, running_piece as running_of, in_flight as flight_of, bytes_waiting as waiting_of, bytes_due as due_of, is_next as is_next_at, is_probe_due as probe_due, is_fin_due as fin_due, IsEmission};
+ghost use Rattle.fast_tx.specs.Piece.{next_piece as piece_of, running_piece as running_of, in_flight as flight_of};
+ghost use Rattle.fast_tx.specs.Piece.{bytes_waiting as waiting_of, bytes_due as due_of, is_next as is_next_at};
+ghost use Rattle.fast_tx.specs.Piece.{is_probe_due as probe_due, is_fin_due as fin_due, IsEmission};
 ghost use Rattle.flow_state.specs.declared.call.CallIn.TheVariants as ins;
 ghost use Rattle.fast_tx.specs.Going.{going_by};
 
@@ -102,8 +104,10 @@ fn is_fin_due(parts: &Parts) -> bool
     parts.is_shut() && is_next(parts, 1 + parts.tx.end())
 }
 
-/// The piece that the parts tell is the segment of the model: nothing may go exactly where the endpoint that they stand for has no next segment.
+/// The piece that the parts tell is the segment of the model: nothing may go exactly where the endpoint that they stand
+/// for has no next segment.
 pub fn piece_is_next_segment()
     ensures segment { (p : Parts) (e : Endpoint) → Valid e → Stands p e → model_going e ≡ going_by (piece_of p) e }
-    ensures serves { (p : Parts) (e : Endpoint) → Valid e → Stands p e → (IsEmission p ins.Emit ↔ IsSome (model_going e)) }
+    ensures serves { (p : Parts) (e : Endpoint) → Valid e → Stands p e
+        → (IsEmission p ins.Emit ↔ IsSome (model_going e)) }
 {}

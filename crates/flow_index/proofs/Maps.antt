@@ -46,7 +46,8 @@ all_inserted P [] k v a p = (p, a)
 all_inserted P (e ∷ es) k v a p = by (key_cmp k e.0) (all_inserted P es k v a.1 p)
   where
     by : (r : Ordering) → AllByRecursion P (keys_of (insert_entry key_cmp es k v))
-        → AllByRecursion P (keys_of (match_ordering r ((k, v) ∷ e ∷ es) ((e.0, v) ∷ es) (e ∷ insert_entry key_cmp es k v)))
+        → AllByRecursion P
+        (keys_of (match_ordering r ((k, v) ∷ e ∷ es) ((e.0, v) ∷ es) (e ∷ insert_entry key_cmp es k v)))
     by Less h = (p, a)
     by Equal h = a
     by Greater h = (a.0, h)
@@ -174,7 +175,8 @@ same_key t u =
     both_equal a (ordering_then b (ordering_then c d))
     ∙ ((λ i. equal_numbers t.laddr u.laddr i && both_equal b (ordering_then c d) i)
     ∙ ((λ i. t.laddr == u.laddr && (equal_numbers t.lport u.lport i && both_equal c d i))
-    ∙ (λ i. t.laddr == u.laddr && (t.lport == u.lport && (equal_numbers t.raddr u.raddr i && equal_numbers t.rport u.rport i)))))
+    ∙ (λ i. t.laddr == u.laddr && (t.lport == u.lport
+    && (equal_numbers t.raddr u.raddr i && equal_numbers t.rport u.rport i)))))
 
 answered : (b : Bool) (x y : Option FlowId) → answer (cond b x y) ≡ cond b (answer x) (answer y)
 answered true x y = refl

@@ -18,7 +18,8 @@ parts g b d l p hb hd hl hp = (omega arith, omega arith, omega arith, omega arit
 
 pub reads_back : (w : Word) → Small w → word_of (code w) ≡ w
 reads_back w s =
-    let t = parts w.generation (flag w.busy) (flag w.doomed) (flag w.live) w.pins (flag_le w.busy) (flag_le w.doomed) (flag_le w.live) s.1 in
+    let t = parts w.generation (flag w.busy) (flag w.doomed) (flag w.live) w.pins (flag_le w.busy) (flag_le w.doomed)
+    (flag_le w.live) s.1 in
     λ i. record {
       generation = t.0 i;
       pins = t.1 i;
@@ -28,5 +29,7 @@ reads_back w s =
     }
 
 -- a word with no bits but these
-pub writes : (g p : ℕ) (l : Bool) → code (record { generation = g; pins = p; live = l; doomed = false; busy = false }) ≡ g * 4294967296 + flag l * 65536 + p
+pub writes : (g p : ℕ) (l : Bool)
+    → code (record { generation = g; pins = p; live = l; doomed = false; busy = false })
+    ≡ g * 4294967296 + flag l * 65536 + p
 writes g p l = omega arith

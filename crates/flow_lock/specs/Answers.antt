@@ -81,7 +81,8 @@ IsKnownOf v id h = IsAlone v → h ≡ known_of id v.base
 abbrev pub IsFreed : FlowId → View → View → Type 0
 IsFreed id v w =
     IsKnown v id.slot (sole_word id.generation)
-    × (w ≡ restored (freed id (counted id.slot (sole_word id.generation) (counted id.slot (sole_word id.generation) v))))
+    × (w ≡ restored
+    (freed id (counted id.slot (sole_word id.generation) (counted id.slot (sole_word id.generation) v))))
 
 -- One counted step, or two, found so many pins last, which isn't 1.
 abbrev pub IsHeldBack : FlowId → View → View → ℕ → Type 0

@@ -31,4 +31,5 @@ IsKeeper t s = (s.table ≡ t) × HasTurn s.view × (s.view.held ≡ [])
 
 -- it has a pin of the flow, whose slot is live
 abbrev pub IsOwner : FlowId → Seen → Type 0
-IsOwner f s = HasPin s.view f × ((doomed : Bool) × (get_elem? s.view.marks f.slot ≡ O.some (mark f.generation true doomed)))
+IsOwner f s = HasPin s.view f
+    × ((doomed : Bool) × (get_elem? s.view.marks f.slot ≡ O.some (mark f.generation true doomed)))

@@ -87,5 +87,6 @@ module _ {R : Type 0} (flow : R → FlowId) (history : R → History) where
     pub parts : total (λ v. v.parts) s.views ≡ 4097
     pub one_slow : total (λ v. flag v.slow) s.views ≡ 1
     -- a flow that was not opened has no entries
-    pub fresh : (i : ℕ) (w : Word) (g : ℕ) → get_elem? ws i ≡ O.some w → w.generation < g → (H (flow_at i g)).entries ≡ []
+    pub fresh : (i : ℕ) (w : Word) (g : ℕ) → get_elem? ws i ≡ O.some w → w.generation < g
+        → (H (flow_at i g)).entries ≡ []
     pub ordered : Ordered H ws s.views

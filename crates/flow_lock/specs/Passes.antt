@@ -57,7 +57,13 @@ right v = record spent { parts = 1; seen = v.seen; turns = new_turn v.made ∷ [
 
 -- the slow path takes in what a pass has seen and done
 abbrev pub both : View → View → View
-both v w = record v { parts = v.parts + w.parts; seen = v.seen ++ w.seen; mine = v.mine ++ w.mine; turns = v.turns ++ w.turns }
+both v w = record v {
+  parts = v.parts + w.parts;
+  seen = v.seen ++ w.seen;
+  mine = v.mine ++ w.mine;
+  turns = v.turns
+      ++ w.turns;
+}
 
 -- a turn is made, and goes to another view
 abbrev pub lender : View → View
@@ -99,7 +105,8 @@ Carries m = m.1 ≡ map (λ (h : Held). (h.flow.slot, None)) m.0.held ++ map (λ
 abbrev pub IsOne : View → Type 0
 IsOne v = v.slow ≡ false → v.parts ≡ 1
 
--- what holds of the slow path's pass: its marks are its view's, one for each slot, and it counts the passes that are out
+-- what holds of the slow path's pass: its marks are its view's, one for each slot, and it counts the passes that are
+-- out
 pub record IsSlow (s : Seen) (ms : List Mark) (out : ℕ) : Type 0 where
   pub slow : s.view.slow ≡ true
   pub marks : s.view.marks ≡ ms

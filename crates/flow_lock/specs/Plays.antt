@@ -44,7 +44,8 @@ dooms st m n m' = (f : FlowId) → HasPin m.0 f → f.slot ≡ st.word → m' �
 abbrev pub inspects : {S : Type 0} → Step S → Me S View → ℕ → Me S View → Type 0
 inspects st m n m' =
     glances st m n m'
-    × ((f : FlowId) → HasPin m.0 f → f.slot ≡ st.word → get_elem? m.0.marks f.slot ≡ O.some (mark f.generation true true)
+    × ((f : FlowId) → HasPin m.0 f → f.slot ≡ st.word
+    → get_elem? m.0.marks f.slot ≡ O.some (mark f.generation true true)
     → holds_on f.slot m.0 ≡ 0 → (word_of n).pins ≡ 1 → n ≡ code (sole_word f.generation))
 
 -- What the barrier tells. There is an order of what was done in the turns that the view has,
@@ -56,7 +57,8 @@ IsOrdered order v w =
     × IsRun v.base order
     × (w ≡ record v { turns = []; made = 0; base = played v.base order; words = w.words })
 
--- The words have the pins that the turns leave and the slow path's marks, and none is busy but the one of a record held.
+-- The words have the pins that the turns leave and the slow path's marks, and none is busy but the one of a record
+-- held.
 abbrev pub IsCounted : View → View → Type 0
 IsCounted v w =
     ((i : ℕ) → pins_at w.words i + lost_on i v ≡ pins_at v.words i + won_on i v)
@@ -75,7 +77,8 @@ module _ {R : Type 0} (flow : R → FlowId) (history : R → History) where
   -- and alone it is the one that is known.
   pub record Comes (v : View) (i : ℕ) (item : R) : Type 0 where
     pub own : (f : FlowId) → HasPin v f → f.slot ≡ i → flow item ≡ f
-    pub begun : (k : ℕ) (h : Held) → get_elem? v.seen k ≡ O.some h → h.flow ≡ flow item → Begins h.history (history item)
+    pub begun : (k : ℕ) (h : Held) → get_elem? v.seen k ≡ O.some h → h.flow ≡ flow item
+        → Begins h.history (history item)
     pub known : IsAlone v → history item ≡ known_of (flow item) v.base
 
   pub record Came (st : Step (Option R)) (m : Me (Option R) View) (n : ℕ) (m' : Me (Option R) View) : Type 0 where

@@ -72,7 +72,8 @@ impl<R: Recorded + Drop> FlowTable<R> {
 
     /// The records by slots, put into `room`.
     fn close_into(self, pass: Pass<R>, room: Vec<R>) -> Vec<R>
-        requires pass { (pass.table ≡ self) × (pass.view.slow ≡ true) × (pass.view.parts ≡ 4097) × (pass.view.held ≡ []) }
+        requires pass { (pass.table ≡ self) × (pass.view.slow ≡ true) × (pass.view.parts ≡ 4097)
+            × (pass.view.held ≡ []) }
         requires marks { length pass.view.marks ≡ self.slots }
         requires room { (room.items ≡ []) × (self.slots ≤ vec_capacity room) }
         ensures flows { map R.id result.items ≡ flows_from 0 pass.view.marks }

@@ -31,7 +31,8 @@ impl<R: Recorded + Drop> FlowTable<R> {
         ensures table { slow.new.table ≡ slow.old.table }
         ensures next { IfOk result (λ o. next_in slow.old.view.marks ≡ Some o.0) }
         ensures slot { IfOk result (λ o. o.0.slot < self.now.slots) }
-        ensures opened { IfOk result (λ o. (o.1 ≡ o.0) × (slow.new.view ≡ opened o.0 (history_of R.tuple R.params R.entries item) slow.old.view)) }
+        ensures opened { IfOk result (λ o. (o.1 ≡ o.0)
+            × (slow.new.view ≡ opened o.0 (history_of R.tuple R.params R.entries item) slow.old.view)) }
         ensures full { IfErr result (λ e. (next_in slow.old.view.marks ≡ None) × (e.1 ≡ item) × (slow.new ≡ slow.old)) }
     {
         let Some(slot) = first_free(&slow.marks) else {
@@ -56,9 +57,13 @@ impl<R: Recorded + Drop> FlowTable<R> {
     fn open_at(&self, pass: &mut Pass<R>, item: R, flow: FlowId)
         requires slot { flow.slot < self.now.slots }
         requires pass { (pass.old.table ≡ self.now) × MayAct pass.old.view × (pass.old.view.slow ≡ true) }
-        requires free { (m : Mark) × (get_elem? pass.old.view.marks flow.slot ≡ some m) × (m.live ≡ false) × (flow.generation ≡ m.generation + 1) }
+        requires free { (m : Mark) × (get_elem? pass.old.view.marks flow.slot ≡ some m) × (m.live ≡ false)
+            × (flow.generation ≡ m.generation + 1) }
         requires item { (R.id item ≡ flow) × (length (R.entries item) ≡ 1) }
-        ensures { pass.new ≡ record pass.old { view = opened flow (history_of R.tuple R.params R.entries item) pass.old.view } }
+        ensures { pass.new ≡ record pass.old {
+          view = opened flow
+              (history_of R.tuple R.params R.entries item) pass.old.view;
+        } }
     {
         let at = flow.slot as usize;
         let shared = &self.table.shared;
@@ -85,7 +90,8 @@ impl<R: Recorded + Drop> FlowTable<R> {
 
     fn doom_word(&self, pass: &mut Pass<R>, pin: &Pin)
         requires slot { pin.now.slot < self.now.slots }
-        requires pass { (pass.old.table ≡ self.now) × HasPin pass.old.view pin.now × MayAct pass.old.view × (pass.old.view.slow ≡ true) }
+        requires pass { (pass.old.table ≡ self.now) × HasPin pass.old.view pin.now × MayAct pass.old.view
+            × (pass.old.view.slow ≡ true) }
         ensures { pass.new ≡ record pass.old { view = condemned pin.now pass.old.view } }
     {
         let slot = pin.flow.slot as usize;
@@ -100,7 +106,8 @@ impl<R: Recorded + Drop> FlowTable<R> {
         requires doomed { get_elem? slow.old.view.marks pin.slot ≡ some (mark pin.generation true true) }
         requires idle { holds_on pin.slot slow.old.view ≡ 0 }
         ensures table { slow.new.table ≡ slow.old.table }
-        ensures own { IfOk result (λ r. (R.id r ≡ pin) × HasSeen slow.old.view pin (history_of R.tuple R.params R.entries r)) }
+        ensures own { IfOk result (λ r. (R.id r ≡ pin)
+            × HasSeen slow.old.view pin (history_of R.tuple R.params R.entries r)) }
         ensures known { IfOk result (λ r. IsKnownOf slow.old.view pin (history_of R.tuple R.params R.entries r)) }
         ensures freed { IfOk result (λ _. IsFreed pin slow.old.view slow.new.view) }
         ensures pinned { IfErr result (λ e. (e.1 ≡ pin) × IsHeldBack pin slow.old.view slow.new.view e.0.0) }
@@ -121,11 +128,13 @@ impl<R: Recorded + Drop> FlowTable<R> {
 
     fn free_word(&self, pass: &mut Pass<R>, pin: &Pin) -> Result<R, Pinned>
         requires slot { pin.now.slot < self.now.slots }
-        requires pass { (pass.old.table ≡ self.now) × HasPin pass.old.view pin.now × MayAct pass.old.view × (pass.old.view.slow ≡ true) }
+        requires pass { (pass.old.table ≡ self.now) × HasPin pass.old.view pin.now × MayAct pass.old.view
+            × (pass.old.view.slow ≡ true) }
         requires doomed { get_elem? pass.old.view.marks pin.now.slot ≡ some (mark pin.now.generation true true) }
         requires idle { holds_on pin.now.slot pass.old.view ≡ 0 }
         ensures table { pass.new.table ≡ pass.old.table }
-        ensures own { IfOk result (λ r. (R.id r ≡ pin.now) × HasSeen pass.old.view pin.now (history_of R.tuple R.params R.entries r)) }
+        ensures own { IfOk result (λ r. (R.id r ≡ pin.now)
+            × HasSeen pass.old.view pin.now (history_of R.tuple R.params R.entries r)) }
         ensures known { IfOk result (λ r. IsKnownOf pass.old.view pin.now (history_of R.tuple R.params R.entries r)) }
         ensures freed { IfOk result (λ _. IsFreed pin.now pass.old.view pass.new.view) }
         ensures pinned { IfErr result (λ e. IsHeldBack pin.now pass.old.view pass.new.view e.0) }
@@ -179,7 +188,8 @@ impl<R: Recorded + Drop> FlowTable<R> {
         ensures table { slow.new.table ≡ slow.old.table }
         ensures own { IfOk result (λ r. R.id r ≡ pin.now) }
         ensures seen { IfOk result (λ r. HasSeen slow.old.view pin.now (history_of R.tuple R.params R.entries r)) }
-        ensures taken { IfOk result (λ r. IsTaken pin.now (history_of R.tuple R.params R.entries r) slow.old.view slow.new.view) }
+        ensures taken { IfOk result (λ r. IsTaken pin.now
+            (history_of R.tuple R.params R.entries r) slow.old.view slow.new.view) }
         ensures busy { IfErr result (IsBusy pin.now slow.old.view slow.new.view) }
         ensures alone { IfErr result (λ _. ¬ IsAlone slow.old.view) }
         ensures known { IfOk result (λ r. IsKnownOf slow.old.view pin.now (history_of R.tuple R.params R.entries r)) }
@@ -193,7 +203,10 @@ impl<R: Recorded + Drop> FlowTable<R> {
         requires slow { (slow.old.table ≡ self.now) × MayAct slow.old.view }
         requires held { Holds slow.old.view pin.now (history_of R.tuple R.params R.entries item) }
         requires own { R.id item ≡ pin.now }
-        ensures { slow.new ≡ record slow.old { view = gave pin.now (history_of R.tuple R.params R.entries item) slow.old.view } }
+        ensures { slow.new ≡ record slow.old {
+          view = gave pin.now
+              (history_of R.tuple R.params R.entries item) slow.old.view;
+        } }
     {
         self.give(&mut slow.pass, pin, item);
     }

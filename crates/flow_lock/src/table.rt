@@ -28,7 +28,8 @@ impl<R: Recorded + Drop> Model for FlowTable<R> {
 
     ghost view = { λ t. t.table.shared.table_id };
 
-    ghost invariant = { λ t. (t.table.shared.table_id.words ≡ t.table.shared.table_id.slots) × (0 < t.table.shared.table_id.slots) };
+    ghost invariant = { λ t. (t.table.shared.table_id.words ≡ t.table.shared.table_id.slots)
+        × (0 < t.table.shared.table_id.slots) };
 }
 
 impl<R: Recorded + Drop> FlowTable<R> {
@@ -112,7 +113,8 @@ impl<R: Recorded + Drop> FlowTable<R> {
         ensures table { pass.new.table ≡ pass.old.table }
         ensures own { IfOk result (λ r. R.id r ≡ pin.now) }
         ensures seen { IfOk result (λ r. HasSeen pass.old.view pin.now (history_of R.tuple R.params R.entries r)) }
-        ensures taken { IfOk result (λ r. IsTaken pin.now (history_of R.tuple R.params R.entries r) pass.old.view pass.new.view) }
+        ensures taken { IfOk result (λ r. IsTaken pin.now
+            (history_of R.tuple R.params R.entries r) pass.old.view pass.new.view) }
         ensures busy { IfErr result (IsBusy pin.now pass.old.view pass.new.view) }
         ensures alone { IfErr result (λ _. ¬ IsAlone pass.old.view) }
         ensures known { IfOk result (λ r. IsKnownOf pass.old.view pin.now (history_of R.tuple R.params R.entries r)) }
@@ -135,7 +137,10 @@ impl<R: Recorded + Drop> FlowTable<R> {
         requires pass { (pass.old.table ≡ self.now) × MayAct pass.old.view }
         requires held { Holds pass.old.view pin.now (history_of R.tuple R.params R.entries item) }
         requires own { R.id item ≡ pin.now }
-        ensures { pass.new ≡ record pass.old { view = gave pin.now (history_of R.tuple R.params R.entries item) pass.old.view } }
+        ensures { pass.new ≡ record pass.old {
+          view = gave pin.now
+              (history_of R.tuple R.params R.entries item) pass.old.view;
+        } }
     {
         let slot = pin.flow.slot as usize;
         let shared = &self.table.shared;

@@ -1,5 +1,6 @@
 -- A record with one entry more.
-use Rattle.std.proofs.Common.{◌≡◌, ℕ, ◌+◌, ◌^◌, ◌<◌, ◌≤◌, cond, List, [], ◌∷◌, ◌++◌, length, take, drop, max, Option, Some, None, refl, sym, ◌∙◌, ap, subst, arith, take-append-drop, length-append}
+use Rattle.std.proofs.Common.{◌≡◌, ℕ, ◌+◌, ◌^◌, ◌<◌, ◌≤◌, cond, List, [], ◌∷◌, ◌++◌, length, take, drop, max, Option}
+use Rattle.std.proofs.Common.{Some, None, refl, sym, ◌∙◌, ap, subst, arith, take-append-drop, length-append}
 use Rattle.tas_model.specs.declared.entry.HostParams.{HostParams}
 use Rattle.tas_model.specs.declared.entry.Entry.{Entry}
 use Rattle.tas_model.specs.declared.entry.Caller.{Caller}
@@ -8,7 +9,8 @@ use Rattle.tas_model.specs.declared.entry.Reply.TheVariants as replies
 use Rattle.tas_model.specs.Endpoint.{Endpoint}
 use Rattle.tas_model.specs.Segments.{Outcome}
 use Rattle.tas_model.specs.Valid.{InRange}
-use Rattle.tas_model.specs.LegalHistory.{Legal, shown, opened, extended_by, reply_or, MayFollow, Gives, IsFirst, replay, step, state_or, moved, last_tick, next_number, same_caller}
+use Rattle.tas_model.specs.LegalHistory.{Legal, shown, opened, extended_by, reply_or, MayFollow, Gives, IsFirst, replay}
+use Rattle.tas_model.specs.LegalHistory.{step, state_or, moved, last_tick, next_number, same_caller}
 use Rattle.tas_model.proofs.ValidCalls.{valid_replay}
 use Rattle.tas_model.proofs.Histories.{legal_push, replay_push, replay_first}
 use Rattle.flow_state.specs.declared.parts.Parts.{Parts}
@@ -36,19 +38,22 @@ use Rattle.flow_state.proofs.Runs.{last_push}
 use Rattle.flow_state.proofs.Sending.{step_again, answer_is}
 
 -- what an outcome that is there says
-outcome_of : (e : Endpoint) (after : Parts) (answer : Answer) (out : List ℕ) (o : Option Outcome) → IsStep after answer out o
+outcome_of : (e : Endpoint) (after : Parts) (answer : Answer) (out : List ℕ) (o : Option Outcome)
+    → IsStep after answer out o
     → (p : Outcome) × (o ≡ Some p) × (p.reply ≡ reply_of answer out) × Stands after p.state
 outcome_of e after answer out None is = absurd is
 outcome_of e after answer out (Some p) is = (p, refl, is.reply, is.state)
 
 -- what was made: the entry may follow, it is the one that the step makes, and the answer is its reply
-record Follows (params : HostParams) (h : List Entry) (caller : Caller) (tick : ℕ) (call : CallIn) (after : Parts) (a : Answer) (x : Entry) : Type 0 where
+record Follows (params : HostParams) (h : List Entry) (caller : Caller) (tick : ℕ) (call : CallIn) (after : Parts)
+    (a : Answer) (x : Entry) : Type 0 where
   legal : Legal params (h ++ x ∷ [])
   stands : Stands after (replay params (h ++ x ∷ []))
   exact : h ++ x ∷ [] ≡ extended_by params h caller tick (call_of call) (offer_of call)
   answer : a ≡ answer_of (reply_to params h tick (call_of call) (offer_of call))
 
-follows : (params : HostParams) (h : List Entry) (caller : Caller) (tick : ℕ) (call : CallIn) (before after : Parts) (arena : List ℕ) (answer : Answer) (slot : Slot) (out : List ℕ)
+follows : (params : HostParams) (h : List Entry) (caller : Caller) (tick : ℕ) (call : CallIn) (before after : Parts)
+    (arena : List ℕ) (answer : Answer) (slot : Slot) (out : List ℕ)
     → InRange params → Legal params h → Stands before (replay params h)
     → IsMadeWith before after arena caller (next_number caller h) (max tick (last_tick 0 h)) call answer slot out
     → Follows params h caller tick call after answer (next_entry h caller tick (call_of call) (reply_of answer out))
@@ -57,13 +62,18 @@ follows params h caller tick call before after arena answer slot out fits legal 
     let t : ℕ = max tick (last_tick 0 h) in
     let reply : Reply = reply_of answer out in
     let x : Entry = next_entry h caller tick (call_of call) reply in
-    let is : (p : Outcome) × (step e t (call_of call) (shown e (offer_of call)) ≡ Some p) × (p.reply ≡ reply) × Stands after p.state =
-    outcome_of e after answer out (step e t (call_of call) (shown e (offer_of call))) (made.makes e (valid_replay params h fits legal) stands).step in
-    let again : step e t (call_of call) reply ≡ Some is.0 = subst (λ (r : Reply). step e t (call_of call) r ≡ Some is.0) is.2 (step_again e t call is.0 is.1) in
-    let gives : Gives (step e t (call_of call) reply) reply = subst (λ (o : Option Outcome). Gives o reply) (sym again) is.2 in
+    let is : (p : Outcome) × (step e t (call_of call) (shown e (offer_of call)) ≡ Some p) × (p.reply ≡ reply)
+    × Stands after p.state =
+    outcome_of e after answer out (step e t (call_of call) (shown e (offer_of call)))
+    (made.makes e (valid_replay params h fits legal) stands).step in
+    let again : step e t (call_of call) reply ≡ Some is.0 =
+    subst (λ (r : Reply). step e t (call_of call) r ≡ Some is.0) is.2 (step_again e t call is.0 is.1) in
+    let gives : Gives (step e t (call_of call) reply) reply =
+    subst (λ (o : Option Outcome). Gives o reply) (sym again) is.2 in
     let to : Stands after (moved e x) = subst (λ (o : Option Outcome). Stands after (state_or e o)) (sym again) is.3 in
     let may : MayFollow params h x = record { step = gives; number = refl; tick = omega arith } in
-    let same : reply ≡ reply_to params h tick (call_of call) (offer_of call) = sym (ap (λ (o : Option Outcome). reply_or o replies.Nothing) is.1 ∙ is.2) in
+    let same : reply ≡ reply_to params h tick (call_of call) (offer_of call) =
+    sym (ap (λ (o : Option Outcome). reply_or o replies.Nothing) is.1 ∙ is.2) in
     record {
       legal = legal_push params h x legal may;
       stands = subst (Stands after) (sym (replay_push params h x legal)) to;
@@ -83,7 +93,10 @@ reply_longer n m (rs.Got bytes update) le is = omega arith
 reply_longer n m _ le is = tt
 
 stretch_longer : (n m : ℕ) (s : Stretch) → n ≤ m → StretchWithin n s → StretchWithin m s
-stretch_longer n m (One s) le is = record { call = call_longer n m s.call le is.call; reply = reply_longer n m s.reply le is.reply }
+stretch_longer n m (One s) le is = record {
+  call = call_longer n m s.call le is.call;
+  reply = reply_longer n m s.reply le is.reply;
+}
 stretch_longer n m (Quiet r) le is = is
 
 within_longer : (n m : ℕ) (stretches : List Stretch) → n ≤ m → AllWithin n stretches → AllWithin m stretches
@@ -94,47 +107,66 @@ within_longer n m (s ∷ stretches) le all = (stretch_longer n m s le all.0, wit
 pub record Added (before after : List Stretch) (s : Slot) : Type 0 where
   pub entries : (arena : List ℕ) → entries_of arena after ≡ entries_of arena before ++ entry_of arena s ∷ []
   pub within : (n : ℕ) → AllWithin n before → IsWithin n s → AllWithin n after
-  pub few : (arena : List ℕ) → last_tick 0 (entries_of arena before) ≤ s.tick → length before + last_tick 0 (entries_of arena before) + 1 ≤ length after + s.tick
+  pub few : (arena : List ℕ) → last_tick 0 (entries_of arena before) ≤ s.tick
+      → length before + last_tick 0 (entries_of arena before) + 1 ≤ length after + s.tick
 
 -- their entries in memory that grew
-entries_push : (old new : List ℕ) (before after : List Stretch) (s : Slot) (x : Entry) → take (length old) new ≡ old → AllWithin (length old) before
+entries_push : (old new : List ℕ) (before after : List Stretch) (s : Slot) (x : Entry) → take (length old) new ≡ old
+    → AllWithin (length old) before
     → entry_of new s ≡ x → Added before after s → entries_of new after ≡ entries_of old before ++ x ∷ []
 entries_push old new before after s x front within is added =
-    let whole : old ++ drop (length old) new ≡ new = ap (λ (f : List ℕ). f ++ drop (length old) new) (sym front) ∙ take-append-drop (length old) new in
-    let kept : entries_of new before ≡ entries_of old before = subst (λ (n : List ℕ). entries_of n before ≡ entries_of old before) whole (entries_kept old (drop (length old) new) before within) in
-    added.entries new ∙ (ap (λ (es : List Entry). es ++ entry_of new s ∷ []) kept ∙ ap (λ (y : Entry). entries_of old before ++ y ∷ []) is)
+    let whole : old ++ drop (length old) new ≡ new = ap (λ (f : List ℕ). f ++ drop (length old) new) (sym front)
+    ∙ take-append-drop (length old) new in
+    let kept : entries_of new before ≡ entries_of old before =
+    subst (λ (n : List ℕ). entries_of n before ≡ entries_of old before) whole
+    (entries_kept old (drop (length old) new) before within) in
+    added.entries new ∙ (ap (λ (es : List Entry). es ++ entry_of new s ∷ []) kept
+    ∙ ap (λ (y : Entry). entries_of old before ++ y ∷ []) is)
 
 -- what one more entry leaves
-pub record Grown (before after : Parts) (old new : List ℕ) (stretches stretches' : List Stretch) (counts : List CallerCount) (made last : ℕ) (caller : Caller) (tick : ℕ) (call : CallIn) (a : Answer) : Type 0 where
+pub record Grown (before after : Parts) (old new : List ℕ) (stretches stretches' : List Stretch)
+    (counts : List CallerCount) (made last : ℕ) (caller : Caller) (tick : ℕ) (call : CallIn) (a : Answer) : Type 0 where
   pub kept : IsRecord after new stretches' counts made last
-  pub exact : entries_of new stretches' ≡ extended_by before.params (entries_of old stretches) caller tick (call_of call) (offer_of call)
+  pub exact : entries_of new stretches' ≡ extended_by before.params (entries_of old stretches) caller tick
+      (call_of call) (offer_of call)
   pub answer : a ≡ answer_of (reply_to before.params (entries_of old stretches) tick (call_of call) (offer_of call))
 
 -- all that the record keeps true, after one more entry
-pub kept_after : (before after : Parts) (old new : List ℕ) (stretches stretches' : List Stretch) (s : Slot) (counts counts' : List CallerCount) (made last : ℕ) (caller : Caller) (tick number t : ℕ) (call : CallIn) (answer : Answer)
-    → IsRecord before old stretches counts made last → after.params ≡ before.params → take (length old) new ≡ old → length old ≤ length new
+pub kept_after : (before after : Parts) (old new : List ℕ) (stretches stretches' : List Stretch) (s : Slot)
+    (counts counts' : List CallerCount) (made last : ℕ) (caller : Caller) (tick number t : ℕ) (call : CallIn)
+    (answer : Answer)
+    → IsRecord before old stretches counts made last → after.params ≡ before.params → take (length old) new ≡ old
+    → length old ≤ length new
     → number ≡ counted_for caller counts → t ≡ max tick last → t < 2 ^ 32 → Added stretches stretches' s
     → ((other : Caller) → counted_for other counts' ≡ counted_for other counts + cond (same_caller caller other) 1 0)
-    → IsMadeAt before after new caller number t call answer s → Grown before after old new stretches stretches' counts' (made + 1) t caller tick call answer
-kept_after before after old new stretches stretches' s counts counts' made last caller tick number t call answer is same front longer n-is t-at low added more done =
+    → IsMadeAt before after new caller number t call answer s
+    → Grown before after old new stretches stretches' counts' (made + 1) t caller tick call answer
+kept_after before after old new stretches stretches' s counts counts' made last caller tick number t call answer is same
+    front longer n-is t-at low added more done =
     let h : List Entry = entries_of old stretches in
     let n-is' : number ≡ next_number caller h = n-is ∙ is.counts caller in
     let t-is : t ≡ max tick (last_tick 0 h) = t-at ∙ ap (max tick) is.last in
-    let done' : IsMadeWith before after new caller (next_number caller h) (max tick (last_tick 0 h)) call answer s done.0 = rw (← n-is', ← t-is) done.1 in
+    let done' : IsMadeWith before after new caller (next_number caller h)
+    (max tick (last_tick 0 h)) call answer s done.0 = rw (← n-is', ← t-is) done.1 in
     let x : Entry = next_entry h caller tick (call_of call) (reply_of answer done.0) in
-    let grown : entries_of new stretches' ≡ h ++ x ∷ [] = entries_push old new stretches stretches' s x front is.within done'.entry added in
+    let grown : entries_of new stretches' ≡ h ++ x ∷ [] =
+    entries_push old new stretches stretches' s x front is.within done'.entry added in
     let at : s.tick ≡ t = ap (λ (y : Entry). y.tick) done'.entry ∙ sym t-is in
-    let all = follows before.params h caller tick call before after new answer s done.0 is.fits is.legal is.stands done' in
+    let all = follows before.params h caller tick call before after new answer s done.0 is.fits is.legal is.stands
+    done' in
     let P : HostParams → List Entry → Type 0 = λ p es. Legal p es × Stands after (replay p es) in
     let there : P after.params (entries_of new stretches') =
-    subst (λ (p : HostParams). P p (entries_of new stretches')) (sym same) (subst (P before.params) (sym grown) (all.legal, all.stands)) in
-    let few : length stretches + last_tick 0 h + 1 ≤ length stretches' + s.tick = added.few old (omega (arith, at, t-is)) in
+    subst (λ (p : HostParams). P p (entries_of new stretches')) (sym same)
+    (subst (P before.params) (sym grown) (all.legal, all.stands)) in
+    let few : length stretches + last_tick 0 h + 1 ≤ length stretches' + s.tick =
+    added.few old (omega (arith, at, t-is)) in
     record {
       kept = record {
         fits = subst InRange (sym same) is.fits;
         legal = there.0;
         stands = there.1;
-        within = added.within (length new) (within_longer (length old) (length new) stretches longer is.within) done'.within;
+        within = added.within (length new)
+            (within_longer (length old) (length new) stretches longer is.within) done'.within;
         counts = subst (AreCounts counts') (sym grown) (counts_push counts counts' h x is.counts more);
         made = omega (arith, is.made, ap (length {A = Entry}) grown, length-append h (x ∷ []));
         last = t-is ∙ sym (ap (last_tick 0) grown ∙ last_push 0 h x);
@@ -146,20 +178,27 @@ kept_after before after old new stretches stretches' s counts counts' made last 
     }
 
 -- a record with its first entry
-pub opens_record : (p : Parts) (params : HostParams) (arena : List ℕ) (stretches : List Stretch) (counts : List CallerCount) (s : Slot) (x : Entry)
-    → x.tick < 2 ^ 32 → InRange params → p.params ≡ params → stretches ≡ One s ∷ [] → entry_of arena s ≡ x → IsWithin (length arena) s → IsFirst x
-    → counts ≡ record { caller = x.caller; made = 1 } ∷ [] → Stands p (opened params x.call) → IsRecord p arena stretches counts 1 x.tick
+pub opens_record : (p : Parts) (params : HostParams) (arena : List ℕ) (stretches : List Stretch)
+    (counts : List CallerCount) (s : Slot) (x : Entry)
+    → x.tick < 2 ^ 32 → InRange params → p.params ≡ params → stretches ≡ One s ∷ [] → entry_of arena s ≡ x
+    → IsWithin (length arena) s → IsFirst x
+    → counts ≡ record { caller = x.caller; made = 1 } ∷ [] → Stands p (opened params x.call)
+    → IsRecord p arena stretches counts 1 x.tick
 opens_record p params arena stretches counts s x low fits same one is within first counted stands =
     let entries : entries_of arena stretches ≡ x ∷ [] = ap (entries_of arena) one ∙ ap (λ (y : Entry). y ∷ []) is in
     let P : HostParams → List Entry → Type 0 = λ q es. Legal q es × Stands p (replay q es) in
     let begun : P params (x ∷ []) = ((first, tt), subst (Stands p) (sym (replay_first params x)) stands) in
-    let there : P p.params (entries_of arena stretches) = subst (λ (q : HostParams). P q (entries_of arena stretches)) (sym same) (subst (P params) (sym entries) begun) in
+    let there : P p.params (entries_of arena stretches) =
+    subst (λ (q : HostParams). P q (entries_of arena stretches)) (sym same)
+    (subst (P params) (sym entries) begun) in
     record {
       fits = subst InRange (sym same) fits;
       legal = there.0;
       stands = there.1;
       within = subst (AllWithin (length arena)) (sym one) (within, tt);
-      counts = subst (λ (cs : List CallerCount). AreCounts cs (entries_of arena stretches)) (sym counted) (subst (AreCounts (record { caller = x.caller; made = 1 } ∷ [])) (sym entries) (counts_first x.caller x refl));
+      counts = subst (λ (cs : List CallerCount). AreCounts cs (entries_of arena stretches)) (sym counted)
+          (subst (AreCounts (record { caller = x.caller; made = 1 } ∷ [])) (sym entries)
+          (counts_first x.caller x refl));
       made = sym (ap (length {A = Entry}) entries);
       last = sym (ap (last_tick 0) entries);
       few = omega (arith, ap (length {A = Stretch}) one);

@@ -7,8 +7,10 @@ use Rattle.flow_state.specs.Stands.{Stands, IsNear, acked_bytes}
 
 pub near_of : (p : Parts) (e : Endpoint) (n : ℕ) → Stands p e → PlacesWithin (65536 * (n + 1)) e → n < 2 ^ 64 → IsNear p
 near_of p e n s w fits =
-    let sent : length p.tx.bytes ≡ length e.tx.out - acked_bytes e.tx = omega (arith, ap (length {A = ℕ}) s.tx.bytes, length-drop (acked_bytes e.tx) e.tx.out) in
-    let got : length p.rx.bytes ≡ length e.rx.got - e.rx.read = omega (arith, ap (length {A = ℕ}) s.rx.bytes, length-drop e.rx.read e.rx.got) in
+    let sent : length p.tx.bytes ≡ length e.tx.out - acked_bytes e.tx =
+    omega (arith, ap (length {A = ℕ}) s.tx.bytes, length-drop (acked_bytes e.tx) e.tx.out) in
+    let got : length p.rx.bytes ≡ length e.rx.got - e.rx.read =
+    omega (arith, ap (length {A = ℕ}) s.rx.bytes, length-drop e.rx.read e.rx.got) in
     record {
       tx = omega (arith, s.tx.base, w.out);
       rx = omega (arith, s.rx.base, w.next, w.read);

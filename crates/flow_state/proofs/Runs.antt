@@ -1,5 +1,6 @@
 -- Runs of quiet ticks, and one tick more.
-use Rattle.std.proofs.Common.{◌≡◌, ℕ, zero, suc, ◌+◌, ◌<◌, Bool, true, false, ◌&&◌, eqb, List, [], ◌∷◌, ◌++◌, length, get_or, set, slice_get, Some, refl, sym, ◌∙◌, ap, arith, append_assoc, append-nil}
+use Rattle.std.proofs.Common.{◌≡◌, ℕ, zero, suc, ◌+◌, ◌<◌, Bool, true, false, ◌&&◌, eqb, List, [], ◌∷◌, ◌++◌, length}
+use Rattle.std.proofs.Common.{get_or, set, slice_get, Some, refl, sym, ◌∙◌, ap, arith, append_assoc, append-nil}
 use Rattle.std.proofs.lemmas.Bool.Decides.{nat_tests}
 use Rattle.tas_model.specs.declared.entry.Caller.{Caller}
 use Rattle.tas_model.specs.declared.entry.Entry.{Entry}
@@ -13,11 +14,13 @@ use Rattle.flow_state.specs.declared.stretch.QuietRun.{QuietRun}
 use Rattle.flow_state.specs.declared.stretch.Stretch.{Stretch}
 use Rattle.flow_state.specs.declared.stretch.Stretch.TheVariants.{Quiet}
 use Rattle.flow_state.specs.Slots.{entry_of, call_in, reply_in}
-use Rattle.flow_state.specs.Stretches.{quiet_tick, quiet_ticks, run_entries, entries_in, entries_of, StretchWithin, AllWithin, is_quiet_pair, is_quiet_tick, comes_next}
+use Rattle.flow_state.specs.Stretches.{quiet_tick, quiet_ticks, run_entries, entries_in, entries_of, StretchWithin}
+use Rattle.flow_state.specs.Stretches.{AllWithin, is_quiet_pair, is_quiet_tick, comes_next}
 use Rattle.flow_state.proofs.Counting.{caller_is}
 
 -- the last of so many and one more
-pub ticks_push : (c : Caller) (n t k : ℕ) → quiet_ticks c n t (suc k) ≡ quiet_ticks c n t k ++ quiet_tick c (n + k) (t + k) ∷ []
+pub ticks_push : (c : Caller) (n t k : ℕ) → quiet_ticks c n t (suc k) ≡ quiet_ticks c n t k
+    ++ quiet_tick c (n + k) (t + k) ∷ []
 ticks_push c n t zero =
     let number : n ≡ n + 0 = omega arith in
     let tick : t ≡ t + 0 = omega arith in
@@ -27,9 +30,11 @@ ticks_push c n t (suc k) =
     let number : n + 1 + k ≡ n + suc k = omega arith in
     let tick : t + 1 + k ≡ t + suc k = omega arith in
     let same : quiet_tick c (n + 1 + k) (t + 1 + k) ≡ quiet_tick c (n + suc k) (t + suc k) = cc (number, tick) in
-    ap (λ (xs : List Entry). quiet_tick c n t ∷ xs) (ticks_push c (n + 1) (t + 1) k ∙ ap (λ (x : Entry). quiet_ticks c (n + 1) (t + 1) k ++ x ∷ []) same)
+    ap (λ (xs : List Entry). quiet_tick c n t ∷ xs) (ticks_push c (n + 1) (t + 1) k
+    ∙ ap (λ (x : Entry). quiet_ticks c (n + 1) (t + 1) k ++ x ∷ []) same)
 
-pub tick_at : (c : Caller) (n t k j : ℕ) → j < k → slice_get (quiet_ticks c n t k) j ≡ Some (quiet_tick c (n + j) (t + j))
+pub tick_at : (c : Caller) (n t k j : ℕ) → j < k
+    → slice_get (quiet_ticks c n t k) j ≡ Some (quiet_tick c (n + j) (t + j))
 tick_at c n t zero j below = absurd (omega arith)
 tick_at c n t (suc k) zero below =
     let number : n ≡ n + 0 = omega arith in
@@ -60,36 +65,48 @@ three false b c h = absurd (cc (h))
 equal : (k j : ℕ) → eqb k j ≡ true → k ≡ j
 equal k j h = grind (arith, nat_tests)
 
-pub next_is : (r : QuietRun) (s : Slot) → comes_next r s ≡ true → (r.caller ≡ s.caller) × (s.number ≡ r.number + r.more + 1) × (s.tick ≡ r.tick + r.more + 1)
+pub next_is : (r : QuietRun) (s : Slot) → comes_next r s ≡ true
+    → (r.caller ≡ s.caller) × (s.number ≡ r.number + r.more + 1) × (s.tick ≡ r.tick + r.more + 1)
 next_is r s h =
-    let all = three (same_caller r.caller s.caller) (eqb s.number (r.number + r.more + 1)) (eqb s.tick (r.tick + r.more + 1)) h in
+    let all = three (same_caller r.caller s.caller) (eqb s.number (r.number + r.more + 1))
+    (eqb s.tick (r.tick + r.more + 1)) h in
     (caller_is r.caller s.caller all.0, equal _ _ all.1, equal _ _ all.2)
 
-pub quiet_entry : (arena : List ℕ) (s : Slot) → is_quiet_tick s ≡ true → entry_of arena s ≡ quiet_tick s.caller s.number s.tick
+pub quiet_entry : (arena : List ℕ) (s : Slot) → is_quiet_tick s ≡ true
+    → entry_of arena s ≡ quiet_tick s.caller s.number s.tick
 quiet_entry arena s h = let is : (s.call ≡ cs.Tick) × (s.reply ≡ rs.Quiet) = pair_is s.call s.reply h in
     cc (ap (call_in arena) is.0, ap (reply_in arena) is.1)
 
 run_longer : (arena : List ℕ) (r : QuietRun) (s : Slot) → is_quiet_tick s ≡ true → comes_next r s ≡ true
     → run_entries (record r { more = r.more + 1 }) ≡ run_entries r ++ entry_of arena s ∷ []
 run_longer arena r s quiet next =
-    let is : (r.caller ≡ s.caller) × (s.number ≡ r.number + r.more + 1) × (s.tick ≡ r.tick + r.more + 1) = next_is r s next in
+    let is : (r.caller ≡ s.caller) × (s.number ≡ r.number + r.more + 1) × (s.tick ≡ r.tick + r.more + 1) =
+    next_is r s next in
     let number : r.number + suc r.more ≡ s.number = omega (arith, is.1) in
     let tick : r.tick + suc r.more ≡ s.tick = omega (arith, is.2) in
-    let same : quiet_tick r.caller (r.number + suc r.more) (r.tick + suc r.more) ≡ entry_of arena s = cc (quiet_entry arena s quiet, is.0, number, tick) in
+    let same : quiet_tick r.caller (r.number + suc r.more) (r.tick + suc r.more) ≡ entry_of arena s =
+    cc (quiet_entry arena s quiet, is.0, number, tick) in
     let count : suc (r.more + 1) ≡ suc (suc r.more) = omega arith in
-    ap (quiet_ticks r.caller r.number r.tick) count ∙ (ticks_push r.caller r.number r.tick (suc r.more) ∙ ap (λ (x : Entry). run_entries r ++ x ∷ []) same)
+    ap (quiet_ticks r.caller r.number r.tick) count
+    ∙ (ticks_push r.caller r.number r.tick (suc r.more) ∙ ap (λ (x : Entry). run_entries r ++ x ∷ []) same)
 
 -- the history with its last run lengthened
-pub longer : (arena : List ℕ) (ss : List Stretch) (i : ℕ) (d : Stretch) (r : QuietRun) (s : Slot) → length ss ≡ suc i → get_or ss i d ≡ Quiet r → is_quiet_tick s ≡ true → comes_next r s ≡ true
-    → entries_of arena (set ss i (Quiet (record r { more = r.more + 1 }))) ≡ entries_of arena ss ++ entry_of arena s ∷ []
+pub longer : (arena : List ℕ) (ss : List Stretch) (i : ℕ) (d : Stretch) (r : QuietRun) (s : Slot) → length ss ≡ suc i
+    → get_or ss i d ≡ Quiet r → is_quiet_tick s ≡ true → comes_next r s ≡ true
+    → entries_of arena (set ss i (Quiet (record r { more = r.more + 1 }))) ≡ entries_of arena ss
+    ++ entry_of arena s ∷ []
 longer arena [] i d r s len is quiet next = absurd (omega (arith, len))
 longer arena (x ∷ []) zero d r s len is quiet next =
     let run : entries_in arena x ≡ run_entries r = ap (entries_in arena) is in
-    append-nil (run_entries (record r { more = r.more + 1 })) ∙ (run_longer arena r s quiet next ∙ ap (λ (xs : List Entry). xs ++ entry_of arena s ∷ []) (sym run ∙ sym (append-nil (entries_in arena x))))
+    append-nil (run_entries (record r { more = r.more + 1 }))
+    ∙ (run_longer arena r s quiet next
+    ∙ ap (λ (xs : List Entry). xs ++ entry_of arena s ∷ []) (sym run ∙ sym (append-nil (entries_in arena x))))
 longer arena (x ∷ []) (suc i) d r s len is quiet next = absurd (omega (arith, len))
 longer arena (x ∷ y ∷ ss) zero d r s len is quiet next = absurd (omega (arith, len))
 longer arena (x ∷ y ∷ ss) (suc i) d r s len is quiet next =
-    ap (λ (xs : List Entry). entries_in arena x ++ xs) (longer arena (y ∷ ss) i d r s (omega (arith, len)) is quiet next) ∙ sym (append_assoc (entries_in arena x) (entries_of arena (y ∷ ss)) (entry_of arena s ∷ []))
+    ap (λ (xs : List Entry). entries_in arena x ++ xs)
+    (longer arena (y ∷ ss) i d r s (omega (arith, len)) is quiet next)
+    ∙ sym (append_assoc (entries_in arena x) (entries_of arena (y ∷ ss)) (entry_of arena s ∷ []))
 
 -- ----- the last tick
 last_both : (t : ℕ) (xs ys : List Entry) → last_tick t (xs ++ ys) ≡ last_tick (last_tick t xs) ys
@@ -100,21 +117,28 @@ pub last_push : (t : ℕ) (xs : List Entry) (x : Entry) → last_tick t (xs ++ x
 last_push t xs x = last_both t xs (x ∷ [])
 
 last_run : (t : ℕ) (r : QuietRun) → last_tick t (run_entries r) ≡ r.tick + r.more
-last_run t r = ap (last_tick t) (ticks_push r.caller r.number r.tick r.more) ∙ last_push t (quiet_ticks r.caller r.number r.tick r.more) (quiet_tick r.caller (r.number + r.more) (r.tick + r.more))
+last_run t r = ap (last_tick t) (ticks_push r.caller r.number r.tick r.more)
+    ∙ last_push t (quiet_ticks r.caller r.number r.tick r.more)
+    (quiet_tick r.caller (r.number + r.more) (r.tick + r.more))
 
-pub last_is : (arena : List ℕ) (t : ℕ) (ss : List Stretch) (i : ℕ) (d : Stretch) (r : QuietRun) → length ss ≡ suc i → get_or ss i d ≡ Quiet r → last_tick t (entries_of arena ss) ≡ r.tick + r.more
+pub last_is : (arena : List ℕ) (t : ℕ) (ss : List Stretch) (i : ℕ) (d : Stretch) (r : QuietRun) → length ss ≡ suc i
+    → get_or ss i d ≡ Quiet r → last_tick t (entries_of arena ss) ≡ r.tick + r.more
 last_is arena t [] i d r len is = absurd (omega (arith, len))
-last_is arena t (x ∷ []) zero d r len is = ap (last_tick t) (append-nil (entries_in arena x) ∙ ap (entries_in arena) is) ∙ last_run t r
+last_is arena t (x ∷ []) zero d r len is = ap (last_tick t) (append-nil (entries_in arena x) ∙ ap (entries_in arena) is)
+    ∙ last_run t r
 last_is arena t (x ∷ []) (suc i) d r len is = absurd (omega (arith, len))
 last_is arena t (x ∷ y ∷ ss) zero d r len is = absurd (omega (arith, len))
-last_is arena t (x ∷ y ∷ ss) (suc i) d r len is = last_both t (entries_in arena x) (entries_of arena (y ∷ ss)) ∙ last_is arena (last_tick t (entries_in arena x)) (y ∷ ss) i d r (omega (arith, len)) is
+last_is arena t (x ∷ y ∷ ss) (suc i) d r len is = last_both t (entries_in arena x) (entries_of arena (y ∷ ss))
+    ∙ last_is arena (last_tick t (entries_in arena x)) (y ∷ ss) i d r (omega (arith, len)) is
 
 -- ----- what lies in memory
-pub within_set : (n : ℕ) (ss : List Stretch) (i : ℕ) (s : Stretch) → StretchWithin n s → AllWithin n ss → AllWithin n (set ss i s)
+pub within_set : (n : ℕ) (ss : List Stretch) (i : ℕ) (s : Stretch) → StretchWithin n s → AllWithin n ss
+    → AllWithin n (set ss i s)
 within_set n [] i s is all = tt
 within_set n (x ∷ ss) zero s is all = (is, all.1)
 within_set n (x ∷ ss) (suc i) s is all = (all.0, within_set n ss i s is all.1)
 
-pub within_push : (n : ℕ) (ss : List Stretch) (s : Stretch) → StretchWithin n s → AllWithin n ss → AllWithin n (ss ++ s ∷ [])
+pub within_push : (n : ℕ) (ss : List Stretch) (s : Stretch) → StretchWithin n s → AllWithin n ss
+    → AllWithin n (ss ++ s ∷ [])
 within_push n [] s is all = (is, tt)
 within_push n (x ∷ ss) s is all = (all.0, within_push n ss s is all.1)

@@ -1,5 +1,6 @@
 -- A step that is made again with its own reply gives the same: a Send reads from it the bytes that it took.
-use Rattle.std.proofs.Common.{◌≡◌, ℕ, ◌+◌, ◌≤◌, Bool, true, false, cond, eqb, not, ◌&&◌, List, ◌++◌, length, take, min, Option, Some, None, refl, sym, ◌∙◌, ap, subst, arith, length-take}
+use Rattle.std.proofs.Common.{◌≡◌, ℕ, ◌+◌, ◌≤◌, Bool, true, false, cond, eqb, not, ◌&&◌, List, ◌++◌, length, take, min}
+use Rattle.std.proofs.Common.{Option, Some, None, refl, sym, ◌∙◌, ap, subst, arith, length-take}
 use Rattle.tas_model.specs.declared.entry.Reply.TheVariants as replies
 use Rattle.tas_model.specs.Endpoint.{Endpoint, send_room}
 use Rattle.tas_model.specs.Segments.{Outcome, unchanged}
@@ -14,26 +15,37 @@ use Rattle.flow_state.specs.Calls.{call_of, offer_of, reply_of, answer_of, answe
 some_is : {A : Type 0} (x y : A) → ◌≡◌ {A = Option A} (Some x) (Some y) → x ≡ y
 some_is x y h = cc (h)
 
-takes_these : (t : Bool) (f : List ℕ → Outcome) (bytes : List ℕ) (o : Outcome) → ((xs : List ℕ) → taken_bytes (f xs).reply ≡ xs) → cond t (Some (f bytes)) None ≡ Some o → taken_bytes o.reply ≡ bytes
-takes_these true f bytes o tells is = ap (λ (x : Outcome). taken_bytes x.reply) (sym (some_is (f bytes) o is)) ∙ tells bytes
+takes_these : (t : Bool) (f : List ℕ → Outcome) (bytes : List ℕ) (o : Outcome)
+    → ((xs : List ℕ) → taken_bytes (f xs).reply ≡ xs) → cond t (Some (f bytes)) None ≡ Some o
+    → taken_bytes o.reply ≡ bytes
+takes_these true f bytes o tells is = ap (λ (x : Outcome). taken_bytes x.reply) (sym (some_is (f bytes) o is))
+    ∙ tells bytes
 takes_these false f bytes o tells is = absurd (cc (is))
 
-again : (t u : Bool) (a b : Option Outcome) (n : ℕ) (f : List ℕ → Outcome) (bytes : List ℕ) (o : Outcome) → ((xs : List ℕ) → taken_bytes (f xs).reply ≡ xs)
+again : (t u : Bool) (a b : Option Outcome) (n : ℕ) (f : List ℕ → Outcome) (bytes : List ℕ) (o : Outcome)
+    → ((xs : List ℕ) → taken_bytes (f xs).reply ≡ xs)
     → cond t a (cond u b (cond (eqb (length bytes) n) (Some (f bytes)) None)) ≡ Some o
     → cond t a (cond u b (cond (eqb (length (taken_bytes o.reply)) n) (Some (f (taken_bytes o.reply))) None)) ≡ Some o
 again true u a b n f bytes o tells is = is
 again false true a b n f bytes o tells is = is
 again false false a b n f bytes o tells is =
-    subst (λ (xs : List ℕ). cond (eqb (length xs) n) (Some (f xs)) None ≡ Some o) (sym (takes_these (eqb (length bytes) n) f bytes o tells is)) is
+    subst (λ (xs : List ℕ). cond (eqb (length xs) n) (Some (f xs)) None ≡ Some o)
+    (sym (takes_these (eqb (length bytes) n) f bytes o tells is)) is
 
-send_again : (c : Column) (e : Endpoint) (offered : ℕ) (bytes : List ℕ) (o : Outcome) → send_in c e offered bytes ≡ Some o → send_in c e offered (taken_bytes o.reply) ≡ Some o
+send_again : (c : Column) (e : Endpoint) (offered : ℕ) (bytes : List ℕ) (o : Outcome)
+    → send_in c e offered bytes ≡ Some o → send_in c e offered (taken_bytes o.reply) ≡ Some o
 send_again Opening e offered bytes o is = is
 send_again (Over why) e offered bytes o is = is
 send_again Running e offered bytes o is =
-    again e.tx.shut (eqb (min offered (send_room e)) 0 && not (eqb offered 0)) (Some (unchanged e replies.Shut)) (Some (unchanged e replies.NotYet)) (min offered (send_room e))
-    (λ (xs : List ℕ). record { state = record e { tx = record (e.tx) { out = e.tx.out ++ xs } }; reply = replies.Took xs }) bytes o (λ xs. refl) is
+    again e.tx.shut (eqb (min offered (send_room e)) 0 && not (eqb offered 0)) (Some (unchanged e replies.Shut))
+    (Some (unchanged e replies.NotYet)) (min offered (send_room e))
+    (λ (xs : List ℕ). record {
+      state = record e { tx = record (e.tx) { out = e.tx.out ++ xs } };
+      reply = replies.Took xs;
+    }) bytes o (λ xs. refl) is
 
-pub step_again : (e : Endpoint) (tick : ℕ) (call : CallIn) (o : Outcome) → step e tick (call_of call) (shown e (offer_of call)) ≡ Some o → step e tick (call_of call) o.reply ≡ Some o
+pub step_again : (e : Endpoint) (tick : ℕ) (call : CallIn) (o : Outcome)
+    → step e tick (call_of call) (shown e (offer_of call)) ≡ Some o → step e tick (call_of call) o.reply ≡ Some o
 unfolding step
 step_again e tick (ins.Send bytes) o is = send_again (column e) e (length bytes.now) (take (send_room e) bytes.now) o is
 step_again e tick _ o is = is
@@ -58,7 +70,8 @@ answer_is answers.TimedOut out fits = refl
 answer_is (answers.Window cwnd ssthresh) out fits = refl
 
 -- of memory a reply reads its own bytes alone
-pub same_reply : (a : Answer) (xs ys : List ℕ) → take (answer_len a) xs ≡ take (answer_len a) ys → reply_of a xs ≡ reply_of a ys
+pub same_reply : (a : Answer) (xs ys : List ℕ) → take (answer_len a) xs ≡ take (answer_len a) ys
+    → reply_of a xs ≡ reply_of a ys
 same_reply (answers.Sent head len) xs ys same = ap (λ bs. replies.Sent (record { head = head; bytes = bs })) same
 same_reply (answers.Took len) xs ys same = ap (λ bs. replies.Took bs) same
 same_reply (answers.Got len update) xs ys same = ap (λ bs. replies.Got bs update) same
@@ -72,7 +85,8 @@ room_within_cost mss (ins.Passive frame iss seg) = omega arith
 room_within_cost mss (ins.Rx frame seg) = omega arith
 room_within_cost mss _ = omega arith
 
-pub bytes_within_cost : (mss : ℕ) (call : CallIn) (n : ℕ) → n ≤ reply_room mss call → n + length (payload_of call) ≤ cost_of mss call
+pub bytes_within_cost : (mss : ℕ) (call : CallIn) (n : ℕ) → n ≤ reply_room mss call
+    → n + length (payload_of call) ≤ cost_of mss call
 bytes_within_cost mss (ins.Send bytes) n h = omega arith
 bytes_within_cost mss (ins.Recv most) n h = omega arith
 bytes_within_cost mss ins.Emit n h = omega arith

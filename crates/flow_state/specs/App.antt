@@ -1,5 +1,6 @@
 -- The calls of an application, by what the parts tell.
-use Rattle.std.specs.Prelude.{ℕ, ◌/◌, ◌&&◌, not, Bool, true, false, min, nat_lt, nat_le, Option, Some, None, if◌then◌else◌, ⊤}
+use Rattle.std.specs.Prelude.{ℕ, ◌/◌, ◌&&◌, not, Bool, true, false, min, nat_lt, nat_le, Option, Some, None}
+use Rattle.std.specs.Prelude.{if◌then◌else◌, ⊤}
 use Rattle.tas_model.specs.declared.entry.Head.{Head}
 use Rattle.tas_model.specs.declared.entry.Reason.{Reason}
 use Rattle.tas_model.specs.declared.entry.Phase.{Phase}

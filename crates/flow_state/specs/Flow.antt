@@ -29,7 +29,13 @@ pub record Flow : Type 0 where
 
 -- the entry that comes next
 abbrev pub next_entry : List Entry → Caller → ℕ → Call → Reply → Entry
-next_entry h caller tick call reply = record { caller = caller; number = next_number caller h; tick = max tick (last_tick 0 h); call = call; reply = reply }
+next_entry h caller tick call reply = record {
+  caller = caller;
+  number = next_number caller h;
+  tick = max tick (last_tick 0 h);
+  call = call;
+  reply = reply;
+}
 
 -- what the endpoint of a history replies to a call at this tick or a later one; `offer` has the bytes of a Send
 abbrev pub reply_to : HostParams → List Entry → ℕ → Call → (offer : List ℕ) → Reply
@@ -45,8 +51,20 @@ last_reply (x ∷ y ∷ xs) = last_reply (y ∷ xs)
 
 -- the first entry of a flow that a peer's SYN opens
 abbrev pub first_passive : ℕ → FrameId → Seq → Seg → Entry
-first_passive tick frame iss seg = record { caller = Slow; number = 0; tick = tick; call = calls.Passive frame iss seg; reply = replies.Ok }
+first_passive tick frame iss seg = record {
+  caller = Slow;
+  number = 0;
+  tick = tick;
+  call = calls.Passive frame iss seg;
+  reply = replies.Ok;
+}
 
 -- the first entry of a flow that the own host opens
 abbrev pub first_connect : Caller → ℕ → Seq → Entry
-first_connect caller tick iss = record { caller = caller; number = 0; tick = tick; call = calls.Connect iss; reply = replies.Ok }
+first_connect caller tick iss = record {
+  caller = caller;
+  number = 0;
+  tick = tick;
+  call = calls.Connect iss;
+  reply = replies.Ok;
+}

@@ -24,16 +24,26 @@ IsStep after answer out None = ⊥
 IsStep after answer out (Some o) = IsOutcome after answer out o
 
 -- The call was made. The step of a Send reads which bytes are taken from a reply; these are the first of its own.
-pub record Makes (e : Endpoint) (tick : ℕ) (call : CallIn) (after : Parts) (out : List ℕ) (answer : Answer) : Type 0 where
+pub record Makes (e : Endpoint) (tick : ℕ) (call : CallIn) (after : Parts) (out : List ℕ)
+    (answer : Answer) : Type 0 where
   pub step : IsStep after answer out (step e tick (call_of call) (shown e (offer_of call)))
 
 -- the call was made, and the slot has its entry, `out` having the reply's bytes
-pub record IsMadeWith (before after : Parts) (arena : List ℕ) (caller : Caller) (number tick : ℕ) (call : CallIn) (answer : Answer) (slot : Slot) (out : List ℕ) : Type 0 where
+pub record IsMadeWith (before after : Parts) (arena : List ℕ) (caller : Caller) (number tick : ℕ) (call : CallIn)
+    (answer : Answer) (slot : Slot) (out : List ℕ) : Type 0 where
   pub makes : (e : Endpoint) → Valid e → Stands before e → Makes e tick call after out answer
-  pub entry : entry_of arena slot ≡ record { caller = caller; number = number; tick = tick; call = call_of call; reply = reply_of answer out }
+  pub entry : entry_of arena slot ≡ record {
+    caller = caller;
+    number = number;
+    tick = tick;
+    call = call_of call;
+    reply = reply_of answer out;
+  }
   pub within : IsWithin (length arena) slot
   pub bytes : answer_len answer ≤ length out
 
 -- the same, whatever memory the reply's bytes stood in first
-abbrev pub IsMadeAt : (before after : Parts) (arena : List ℕ) (caller : Caller) (number tick : ℕ) (call : CallIn) (answer : Answer) (slot : Slot) → Type 0
-IsMadeAt before after arena caller number tick call answer slot = (out : List ℕ) × IsMadeWith before after arena caller number tick call answer slot out
+abbrev pub IsMadeAt : (before after : Parts) (arena : List ℕ) (caller : Caller) (number tick : ℕ) (call : CallIn)
+    (answer : Answer) (slot : Slot) → Type 0
+IsMadeAt before after arena caller number tick call answer slot = (out : List ℕ)
+    × IsMadeWith before after arena caller number tick call answer slot out

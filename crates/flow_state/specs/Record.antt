@@ -9,8 +9,10 @@ use Rattle.flow_state.specs.Stretches.{AllWithin, entries_of}
 use Rattle.flow_state.specs.Counts.{AreCounts}
 use Rattle.flow_state.specs.Stands.{Stands}
 
--- The parts stand for the endpoint that the entries lead to, and these are a legal history. Their number is kept, and the tick of the last; a run has no more of them than ticks passed.
-pub record IsRecord (parts : Parts) (arena : List ℕ) (stretches : List Stretch) (table : List CallerCount) (n t : ℕ) : Type 0 where
+-- The parts stand for the endpoint that the entries lead to, and these are a legal history. Their number is kept, and
+-- the tick of the last; a run has no more of them than ticks passed.
+pub record IsRecord (parts : Parts) (arena : List ℕ) (stretches : List Stretch) (table : List CallerCount)
+    (n t : ℕ) : Type 0 where
   pub fits : InRange parts.params
   pub legal : Legal parts.params (entries_of arena stretches)
   pub stands : Stands parts (replay parts.params (entries_of arena stretches))

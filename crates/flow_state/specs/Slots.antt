@@ -27,7 +27,8 @@ SpanWithin n s = s.from + s.len ≤ n
 -- the call of a slot
 abbrev pub call_in : List ℕ → CallSlot → Call
 call_in arena (cs.Connect iss) = calls.Connect iss
-call_in arena (cs.Passive frame iss head bytes) = calls.Passive frame iss (record { head = head; bytes = bytes_at arena bytes })
+call_in arena (cs.Passive frame iss head bytes) =
+    calls.Passive frame iss (record { head = head; bytes = bytes_at arena bytes })
 call_in arena (cs.Rx frame head bytes) = calls.Rx frame (record { head = head; bytes = bytes_at arena bytes })
 call_in arena cs.Emit = calls.Emit
 call_in arena cs.Tick = calls.Tick
@@ -61,7 +62,13 @@ reply_in arena (rs.Window cwnd ssthresh) = replies.Window cwnd ssthresh
 
 -- the entry of a slot
 abbrev pub entry_of : List ℕ → Slot → Entry
-entry_of arena s = record { caller = s.caller; number = s.number; tick = s.tick; call = call_in arena s.call; reply = reply_in arena s.reply }
+entry_of arena s = record {
+  caller = s.caller;
+  number = s.number;
+  tick = s.tick;
+  call = call_in arena s.call;
+  reply = reply_in arena s.reply;
+}
 
 -- ----- spans that lie in memory
 -- of a call

@@ -1,5 +1,6 @@
 -- Which endpoint the compact record stands for: one equation a field.
-use Rattle.std.specs.Prelude.{◌≡◌, ℕ, ◌+◌, ◌-◌, ◌^◌, ◌<◌, List, true, false, length, take, drop, min, Option, Some, None}
+use Rattle.std.specs.Prelude.{◌≡◌, ℕ, ◌+◌, ◌-◌, ◌^◌, ◌<◌, List, true, false, length, take, drop, min, Option, Some}
+use Rattle.std.specs.Prelude.{None}
 use Rattle.payload_ring.specs.Window.{Holds}
 use Rattle.tas_num.specs.declared.seq.Seq.{Seq}
 use Rattle.tas_model.specs.Endpoint.{Endpoint, Sending, Island, phase}
@@ -15,12 +16,15 @@ abbrev pub IsPeer : Seq → Option ℕ → Type 0
 IsPeer irs None = irs.0 ≡ 0
 IsPeer irs (Some first) = irs.0 ≡ first
 
--- The island by its distance from the end of what is in order and its length. Its bytes are those that stand there in the cells ahead.
+-- The island by its distance from the end of what is in order and its length. Its bytes are those that stand there in
+-- the cells ahead.
 abbrev pub IsIsland : Option (ℕ × ℕ) → (ahead : List ℕ) → (end : ℕ) → Option Island → Type 0
 IsIsland kept ahead end None = kept ≡ None
-IsIsland kept ahead end (Some i) = (kept ≡ Some (i.at - end, length i.bytes)) × (take (length i.bytes) (drop (i.at - end) ahead) ≡ i.bytes)
+IsIsland kept ahead end (Some i) = (kept ≡ Some (i.at - end, length i.bytes))
+    × (take (length i.bytes) (drop (i.at - end) ahead) ≡ i.bytes)
 
--- The parts stand for the endpoint. Numbers are kept modulo 2^32; of the stream that is sent the bytes from the first one not acknowledged on are kept, of the one received those from the first unread one on.
+-- The parts stand for the endpoint. Numbers are kept modulo 2^32; of the stream that is sent the bytes from the first
+-- one not acknowledged on are kept, of the one received those from the first unread one on.
 pub record Stands (p : Parts) (e : Endpoint) : Type 0 where
   pub params : p.params ≡ e.params
   pub phase : p.phase ≡ phase e
@@ -52,7 +56,8 @@ pub record Stands (p : Parts) (e : Endpoint) : Type 0 where
   pub tries : p.tries ≡ e.tx.tries
   pub probe : p.probe ≡ e.tx.probe
   pub entered : p.entered ≡ e.entered
-  pub order : e.rx.ended ≡ true → e.tx.shut ≡ false → e.rx.ended_first ≡ true  -- not kept, but told: an end that was taken before the own one came first
+  -- not kept, but told: an end that was taken before the own one came first
+  pub order : e.rx.ended ≡ true → e.tx.shut ≡ false → e.rx.ended_first ≡ true
 
 -- every place of the parts is below 2^126, the last ones those of the two FINs
 pub record IsNear (p : Parts) : Type 0 where

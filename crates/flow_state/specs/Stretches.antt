@@ -17,7 +17,13 @@ use Rattle.flow_state.specs.Slots.{entry_of, IsWithin}
 
 -- a call of Tick that nothing came of
 abbrev pub quiet_tick : Caller → (number tick : ℕ) → Entry
-quiet_tick caller number tick = record { caller = caller; number = number; tick = tick; call = calls.Tick; reply = replies.Quiet }
+quiet_tick caller number tick = record {
+  caller = caller;
+  number = number;
+  tick = tick;
+  call = calls.Tick;
+  reply = replies.Quiet;
+}
 
 -- so many of one caller, each at the tick after the one before; the first has this number and tick
 abbrev pub quiet_ticks : Caller → (number tick count : ℕ) → List Entry

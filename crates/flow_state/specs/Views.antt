@@ -57,7 +57,13 @@ seen_reply (rv.Window cwnd ssthresh) = replies.Window cwnd ssthresh
 
 -- all of it
 abbrev pub seen_entry : EntryView → Entry
-seen_entry x = record { caller = x.caller; number = x.number; tick = x.tick; call = seen_call x.call; reply = seen_reply x.reply }
+seen_entry x = record {
+  caller = x.caller;
+  number = x.number;
+  tick = x.tick;
+  call = seen_call x.call;
+  reply = seen_reply x.reply;
+}
 
 -- the entries of a stretch
 abbrev pub seen_stretch : StretchView → List Entry

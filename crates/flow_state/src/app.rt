@@ -13,14 +13,16 @@ use crate::engine::Engine;
 use crate::parts::Parts;
 use crate::stage::Stage;
 
-/// The engine of the calls of an application (RFC 9293, section 3.9.1): Accept, Ready, Send, Recv, Shut, Close and Abort. It answers `None` exactly on the other calls.
+/// The engine of the calls of an application (RFC 9293, section 3.9.1): Accept, Ready, Send, Recv, Shut, Close and
+/// Abort. It answers `None` exactly on the other calls.
 #[derive(Clone, Copy)]
 pub struct AppCalls;
 
 /// Accept, where the connection stands.
 fn accept(parts: &Parts) -> Answer
     requires { is_running parts.now.phase ≡ true }
-    ensures made { (out : List ℕ) (e : Endpoint) → Stands parts.now e → IsStep parts.now result out (accept_in (column e) e) }
+    ensures made { (out : List ℕ) (e : Endpoint) → Stands parts.now e
+        → IsStep parts.now result out (accept_in (column e) e) }
     ensures len { answer_len result ≡ 0 }
 {
     let _phase = parts.phase;
@@ -29,7 +31,8 @@ fn accept(parts: &Parts) -> Answer
 
 /// Ready in any phase.
 fn ready(parts: &Parts) -> Answer
-    ensures made { (out : List ℕ) (e : Endpoint) → Stands parts.now e → IsOutcome parts.now result out (ready_in (column e) e) }
+    ensures made { (out : List ℕ) (e : Endpoint) → Stands parts.now e
+        → IsOutcome parts.now result out (ready_in (column e) e) }
     ensures len { answer_len result ≡ 0 }
 {
     match parts.stage() {

@@ -1,7 +1,8 @@
 ghost use Rattle.std.specs.Prelude.{◌≡◌, ℕ, List};
 ghost use Rattle.tas_model.specs.declared.entry.Reason.TheVariants as reasons;
 ghost use Rattle.tas_model.specs.Endpoint.{Endpoint};
-ghost use Rattle.tas_model.specs.ApplicationCalls.{column, Running, shut_in, close_in, abort_in, shutting, ended_by, abort_reply};
+ghost use Rattle.tas_model.specs.ApplicationCalls.{column, Running, shut_in, close_in, abort_in, shutting, ended_by};
+ghost use Rattle.tas_model.specs.ApplicationCalls.{abort_reply};
 ghost use Rattle.tas_model.specs.Valid.{Valid};
 ghost use Rattle.flow_state.specs.Stands.{Stands};
 ghost use Rattle.flow_state.specs.Calls.{reply_of, answer_len};
@@ -16,7 +17,8 @@ use tas_num::Seq;
 
 /// Shut in any phase: the own stream ends, the peer's goes on.
 pub fn shut(parts: &mut Parts) -> Answer
-    ensures made { (out : List ℕ) (e : Endpoint) → Valid e → Stands parts.old e → IsOutcome parts.new result out (shut_in (column e) e) }
+    ensures made { (out : List ℕ) (e : Endpoint) → Valid e → Stands parts.old e
+        → IsOutcome parts.new result out (shut_in (column e) e) }
     ensures len { answer_len result ≡ 0 }
     ensures params { parts.new.params ≡ parts.old.params }
     ensures tuple { parts.new.tuple ≡ parts.old.tuple }
@@ -30,7 +32,8 @@ pub fn shut(parts: &mut Parts) -> Answer
 
 /// Shut where the connection stands.
 fn shut_open(parts: &mut Parts) -> Answer
-    ensures made { (out : List ℕ) (e : Endpoint) → Valid e → Stands parts.old e → column e ≡ Running → IsOutcome parts.new result out (shut_in Running e) }
+    ensures made { (out : List ℕ) (e : Endpoint) → Valid e → Stands parts.old e → column e ≡ Running
+        → IsOutcome parts.new result out (shut_in Running e) }
     ensures len { answer_len result ≡ 0 }
     ensures params { parts.new.params ≡ parts.old.params }
     ensures tuple { parts.new.tuple ≡ parts.old.tuple }
@@ -44,7 +47,8 @@ fn shut_open(parts: &mut Parts) -> Answer
 
 /// Close in any phase: the application leaves (RFC 9293, section 3.10.4).
 pub fn close(parts: &mut Parts) -> Answer
-    ensures made { (out : List ℕ) (e : Endpoint) → Valid e → Stands parts.old e → IsOutcome parts.new result out (close_in (column e) e) }
+    ensures made { (out : List ℕ) (e : Endpoint) → Valid e → Stands parts.old e
+        → IsOutcome parts.new result out (close_in (column e) e) }
     ensures len { answer_len result ≡ 0 }
     ensures params { parts.new.params ≡ parts.old.params }
     ensures tuple { parts.new.tuple ≡ parts.old.tuple }
@@ -59,7 +63,8 @@ pub fn close(parts: &mut Parts) -> Answer
 
 /// Ends the own stream, where it stands still.
 fn end_stream(parts: &mut Parts)
-    ensures stands { (e : Endpoint) → Valid e → Stands parts.old e → column e ≡ Running → Stands parts.new (shutting e) }
+    ensures stands { (e : Endpoint) → Valid e → Stands parts.old e → column e ≡ Running
+        → Stands parts.new (shutting e) }
     ensures params { parts.new.params ≡ parts.old.params }
     ensures tuple { parts.new.tuple ≡ parts.old.tuple }
 {
@@ -78,7 +83,8 @@ fn after_shut(phase: Phase) -> Phase
 
 /// Abort in any phase (RFC 9293, section 3.10.5): a peer that may still send is told.
 pub fn abort(parts: &mut Parts) -> Answer
-    ensures made { (out : List ℕ) (e : Endpoint) → Stands parts.old e → IsOutcome parts.new result out (abort_in (column e) e) }
+    ensures made { (out : List ℕ) (e : Endpoint) → Stands parts.old e
+        → IsOutcome parts.new result out (abort_in (column e) e) }
     ensures len { answer_len result ≡ 0 }
     ensures params { parts.new.params ≡ parts.old.params }
     ensures tuple { parts.new.tuple ≡ parts.old.tuple }

@@ -1,6 +1,7 @@
 ghost use Rattle.std.specs.Prelude.{◌≡◌, ℕ, List, ◌+◌, ◌-◌, ◌^◌, ◌<◌, ◌≤◌, length, take, drop, min};
 ghost use Rattle.tas_model.specs.Endpoint.{Endpoint};
-ghost use Rattle.tas_model.specs.ApplicationCalls.{column, recv_open as model_recv_open, recv_given, recv_in, empty_reply};
+ghost use Rattle.tas_model.specs.ApplicationCalls.{column, recv_open as model_recv_open, recv_given, recv_in};
+ghost use Rattle.tas_model.specs.ApplicationCalls.{empty_reply};
 ghost use Rattle.tas_model.specs.Valid.{Valid};
 ghost use Rattle.flow_state.specs.Stands.{Stands};
 ghost use Rattle.flow_state.specs.Calls.{reply_of, answer_len};
@@ -16,7 +17,8 @@ use tas_model::{Head, Reason};
 /// Recv in any phase.
 pub fn recv(parts: &mut Parts, most: u32, out: &mut [u8]) -> Answer
     requires { most ≤ length out.old }
-    ensures made { (e : Endpoint) → Valid e → Stands parts.old e → IsOutcome parts.new result out.new (recv_in (column e) e most) }
+    ensures made { (e : Endpoint) → Valid e → Stands parts.old e
+        → IsOutcome parts.new result out.new (recv_in (column e) e most) }
     ensures len { answer_len result ≤ most }
     ensures params { parts.new.params ≡ parts.old.params }
     ensures tuple { parts.new.tuple ≡ parts.old.tuple }
@@ -31,7 +33,8 @@ pub fn recv(parts: &mut Parts, most: u32, out: &mut [u8]) -> Answer
 /// Recv where bytes may be left.
 fn recv_open(parts: &mut Parts, most: u32, out: &mut [u8]) -> Answer
     requires { most ≤ length out.old }
-    ensures made { (e : Endpoint) → Valid e → Stands parts.old e → IsOutcome parts.new result out.new (model_recv_open e most) }
+    ensures made { (e : Endpoint) → Valid e → Stands parts.old e
+        → IsOutcome parts.new result out.new (model_recv_open e most) }
     ensures len { answer_len result ≤ most }
     ensures params { parts.new.params ≡ parts.old.params }
     ensures tuple { parts.new.tuple ≡ parts.old.tuple }
@@ -44,7 +47,8 @@ fn recv_open(parts: &mut Parts, most: u32, out: &mut [u8]) -> Answer
 
 /// The answer where nothing is unread.
 fn empty_answer(parts: &Parts) -> Answer
-    ensures made { (out : List ℕ) (e : Endpoint) → Valid e → Stands parts.now e → reply_of result out ≡ empty_reply e.reason e.rx.ended }
+    ensures made { (out : List ℕ) (e : Endpoint) → Valid e → Stands parts.now e
+        → reply_of result out ≡ empty_reply e.reason e.rx.ended }
     ensures len { answer_len result ≡ 0 }
 {
     if parts.is_ended() {
@@ -59,7 +63,8 @@ fn empty_answer(parts: &Parts) -> Answer
 /// Gives the first unread bytes.
 fn recv_some(parts: &mut Parts, most: u32, out: &mut [u8]) -> Answer
     requires room { most ≤ length out.old }
-    ensures made { (e : Endpoint) → Valid e → Stands parts.old e → IsOutcome parts.new result out.new (recv_given e most) }
+    ensures made { (e : Endpoint) → Valid e → Stands parts.old e
+        → IsOutcome parts.new result out.new (recv_given e most) }
     ensures len { answer_len result ≤ most }
     ensures params { parts.new.params ≡ parts.old.params }
     ensures tuple { parts.new.tuple ≡ parts.old.tuple }

@@ -16,7 +16,8 @@ pub fn send(parts: &mut Parts, bytes: &[u8], out: &mut [u8]) -> Answer
     requires room { length bytes.now ≤ length out.old }
     requires small { length bytes.now < 2 ^ 32 }
     requires near { IsNear parts.old }
-    ensures made { (e : Endpoint) → Valid e → Stands parts.old e → IsStep parts.new result out.new (send_in (column e) e (length bytes.now) (take (send_room e) bytes.now)) }
+    ensures made { (e : Endpoint) → Valid e → Stands parts.old e
+        → IsStep parts.new result out.new (send_in (column e) e (length bytes.now) (take (send_room e) bytes.now)) }
     ensures len { answer_len result ≤ length bytes.now }
     ensures params { parts.new.params ≡ parts.old.params }
     ensures tuple { parts.new.tuple ≡ parts.old.tuple }
@@ -33,7 +34,8 @@ fn send_open(parts: &mut Parts, bytes: &[u8], out: &mut [u8]) -> Answer
     requires room { length bytes.now ≤ length out.old }
     requires small { length bytes.now < 2 ^ 32 }
     requires near { IsNear parts.old }
-    ensures made { (e : Endpoint) → Valid e → Stands parts.old e → column e ≡ Running → IsStep parts.new result out.new (send_in Running e (length bytes.now) (take (send_room e) bytes.now)) }
+    ensures made { (e : Endpoint) → Valid e → Stands parts.old e → column e ≡ Running
+        → IsStep parts.new result out.new (send_in Running e (length bytes.now) (take (send_room e) bytes.now)) }
     ensures len { answer_len result ≤ length bytes.now }
     ensures params { parts.new.params ≡ parts.old.params }
     ensures tuple { parts.new.tuple ≡ parts.old.tuple }
@@ -54,7 +56,12 @@ fn take_bytes(parts: &mut Parts, piece: &[u8], out: &mut [u8]) -> Answer
     requires fits { length piece.now ≤ parts.old.tx.size - length parts.old.tx.bytes }
     requires small { length piece.now < 2 ^ 32 }
     requires near { IsNear parts.old }
-    ensures made { (e : Endpoint) → Valid e → Stands parts.old e → e.tx.shut ≡ false → IsOutcome parts.new result out.new (record { state = record e { tx = record (e.tx) { out = e.tx.out ++ piece.now } }; reply = replies.Took piece.now }) }
+    ensures made { (e : Endpoint) → Valid e → Stands parts.old e → e.tx.shut ≡ false
+        → IsOutcome parts.new result out.new
+        (record {
+          state = record e { tx = record (e.tx) { out = e.tx.out ++ piece.now } };
+          reply = replies.Took piece.now;
+        }) }
     ensures len { answer_len result ≡ length piece.now }
     ensures params { parts.new.params ≡ parts.old.params }
     ensures tuple { parts.new.tuple ≡ parts.old.tuple }

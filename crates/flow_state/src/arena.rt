@@ -1,4 +1,5 @@
-ghost use Rattle.std.specs.Prelude.{◌≡◌, ◌↔◌, ℕ, List, ◌+◌, ◌-◌, ◌≤◌, ◌++◌, [], length, take, drop, vec_len, vec_capacity, IfOk, IfSome, IfNone, IsSome, OnOk, IsOk};
+ghost use Rattle.std.specs.Prelude.{◌≡◌, ◌↔◌, ℕ, List, ◌+◌, ◌-◌, ◌≤◌, ◌++◌, [], length, take, drop, vec_len};
+ghost use Rattle.std.specs.Prelude.{vec_capacity, IfOk, IfSome, IfNone, IsSome, OnOk, IsOk};
 ghost use Rattle.flow_state.specs.Calls.{call_of, reply_of, payload_of, answer_len, cost_of, IsSmall, IsTimely};
 ghost use Rattle.flow_state.specs.Made.{IsMadeAt};
 ghost use Rattle.flow_state.specs.Slots.{entry_of, IsWithin};
@@ -15,8 +16,10 @@ use tas_model::Caller;
 
 /// The bytes of a record's entries, one after the other, and room behind them.
 ///
-/// An engine puts the bytes of its reply there. The room keeps what was written to it, so that it is filled once and not anew for each call.
-/// A reply whose bytes are those that were kept last, as when a payload is read as soon as it came, shares these with the earlier entry.
+/// An engine puts the bytes of its reply there. The room keeps what was written to it, so that it is filled once and
+/// not anew for each call.
+/// A reply whose bytes are those that were kept last, as when a payload is read as soon as it came, shares these with
+/// the earlier entry.
 #[derive(Drop)]
 pub struct Arena {
     bytes: Vec<u8>,
@@ -74,7 +77,8 @@ impl Arena {
         self.bytes.reserve(more.saturating_sub(room))
     }
 
-    /// Makes the call by the engine, and keeps the bytes of its entry. Where the engine does not answer the call, nothing changes.
+    /// Makes the call by the engine, and keeps the bytes of its entry. Where the engine does not answer the call,
+    /// nothing changes.
     pub fn answer<E: Engine>(
         &mut self,
         engine: &E,
@@ -88,7 +92,8 @@ impl Arena {
         requires timely { IsTimely parts.old.phase call.now }
         requires near { IsNear parts.old }
         requires room { cost_of parts.old.smss call.now ≤ self.old.spare }
-        ensures made { IfSome result (λ r. IsMadeAt parts.old parts.new self.new.bytes caller number tick call.now r.0 r.1) }
+        ensures made { IfSome result
+            (λ r. IsMadeAt parts.old parts.new self.new.bytes caller number tick call.now r.0 r.1) }
         ensures unmade { IfNone result (parts.new ≡ parts.old) }
         ensures unmade_bytes { IfNone result (self.new.bytes ≡ self.old.bytes) }
         ensures serves { IsSome result ↔ E.serves engine.now parts.old call.now }
@@ -113,7 +118,8 @@ impl Arena {
     }
 }
 
-/// Makes the call, and puts the bytes of its entry behind the first `used`; those of its reply may be the last of these. Also gives where they start.
+/// Makes the call, and puts the bytes of its entry behind the first `used`; those of its reply may be the last of
+/// these. Also gives where they start.
 fn answer_behind<E: Engine>(
     engine: &E,
     parts: &mut Parts,
@@ -129,11 +135,14 @@ fn answer_behind<E: Engine>(
     requires near { IsNear parts.old }
     requires within { used ≤ vec_len bytes.old }
     requires room { used + cost_of parts.old.smss call.now ≤ vec_capacity bytes.old }
-    ensures made { IfSome result (λ r. IsMadeAt parts.old parts.new (take (r.2 + answer_len r.0 + length (payload_of call.now)) bytes.new.items) caller number tick call.now r.0 r.1) }
+    ensures made { IfSome result (λ r. IsMadeAt parts.old parts.new
+        (take (r.2 + answer_len r.0 + length (payload_of call.now)) bytes.new.items) caller number tick call.now r.0
+        r.1) }
     ensures few { IfSome result (λ r. r.2 + answer_len r.0 + length (payload_of call.now) ≤ vec_len bytes.new) }
     ensures before { IfSome result (λ r. r.2 ≤ used) }
     ensures past { IfSome result (λ r. used ≤ r.2 + answer_len r.0) }
-    ensures cost { IfSome result (λ r. answer_len r.0 + length (payload_of call.now) ≤ cost_of parts.old.smss call.now) }
+    ensures cost { IfSome result (λ r. answer_len r.0 + length (payload_of call.now)
+        ≤ cost_of parts.old.smss call.now) }
     ensures unmade { IfNone result (parts.new ≡ parts.old) }
     ensures serves { IsSome result ↔ E.serves engine.now parts.old call.now }
     ensures kept { take used bytes.new.items ≡ take used bytes.old.items }
@@ -148,7 +157,8 @@ fn answer_behind<E: Engine>(
     Some((answer, slot, start))
 }
 
-/// The slot of an entry whose reply's bytes stand in memory from `used` on, the call's bytes put behind them. Also gives where they are kept.
+/// The slot of an entry whose reply's bytes stand in memory from `used` on, the call's bytes put behind them. Also
+/// gives where they are kept.
 fn keep_entry(
     bytes: &mut Vec<u8>,
     used: usize,
@@ -161,7 +171,14 @@ fn keep_entry(
     requires small { IsSmall call.now }
     requires room { used + answer_len answer.now + length (payload_of call.now) ≤ vec_len bytes.old }
     ensures kept { take used bytes.new.items ≡ take used bytes.old.items }
-    ensures entry { entry_of (take (result.1 + answer_len answer.now + length (payload_of call.now)) bytes.new.items) result.0 ≡ record { caller = caller; number = number; tick = tick; call = call_of call.now; reply = reply_of answer.now (drop used bytes.old.items) } }
+    ensures entry { entry_of (take (result.1 + answer_len answer.now + length (payload_of call.now)) bytes.new.items)
+        result.0 ≡ record {
+          caller = caller;
+          number = number;
+          tick = tick;
+          call = call_of call.now;
+          reply = reply_of answer.now (drop used bytes.old.items);
+        } }
     ensures before { result.1 ≤ used }
     ensures past { used ≤ result.1 + answer_len answer.now }
     ensures len { vec_len bytes.new ≡ vec_len bytes.old }
@@ -173,7 +190,8 @@ fn keep_entry(
     (slot, start)
 }
 
-/// Where to keep the `n` bytes that stand from `used` on: at the `n` before them where these are the same, else where they stand.
+/// Where to keep the `n` bytes that stand from `used` on: at the `n` before them where these are the same, else where
+/// they stand.
 fn start_of(bytes: &[u8], used: usize, n: usize) -> usize
     requires { used + n ≤ length bytes.now }
     ensures before { result ≤ used }
@@ -204,8 +222,16 @@ fn close_entry(
 ) -> Slot
     requires small { IsSmall call.now }
     requires room { start + answer_len answer.now + length (payload_of call.now) ≤ vec_len bytes.old }
-    ensures kept { take (start + answer_len answer.now) bytes.new.items ≡ take (start + answer_len answer.now) bytes.old.items }
-    ensures entry { entry_of (take (start + answer_len answer.now + length (payload_of call.now)) bytes.new.items) result ≡ record { caller = caller; number = number; tick = tick; call = call_of call.now; reply = reply_of answer.now (drop start bytes.old.items) } }
+    ensures kept { take (start + answer_len answer.now) bytes.new.items
+        ≡ take (start + answer_len answer.now) bytes.old.items }
+    ensures entry { entry_of (take (start + answer_len answer.now + length (payload_of call.now)) bytes.new.items)
+        result ≡ record {
+          caller = caller;
+          number = number;
+          tick = tick;
+          call = call_of call.now;
+          reply = reply_of answer.now (drop start bytes.old.items);
+        } }
     ensures len { vec_len bytes.new ≡ vec_len bytes.old }
     ensures capacity { vec_capacity bytes.new ≡ vec_capacity bytes.old }
     ensures within { IsWithin (start + answer_len answer.now + length (payload_of call.now)) result }
@@ -224,7 +250,8 @@ fn close_entry(
 /// Writes a piece over the bytes from `at` on.
 fn put(bytes: &mut Vec<u8>, at: usize, piece: &[u8])
     requires { at + length piece.now ≤ vec_len bytes.old }
-    ensures items { bytes.new.items ≡ take at bytes.old.items ++ (piece.now ++ drop (at + length piece.now) bytes.old.items) }
+    ensures items { bytes.new.items ≡ take at bytes.old.items
+        ++ (piece.now ++ drop (at + length piece.now) bytes.old.items) }
     ensures len { vec_len bytes.new ≡ vec_len bytes.old }
     ensures capacity { vec_capacity bytes.new ≡ vec_capacity bytes.old }
 {

@@ -47,7 +47,9 @@ pub fn number_of(counts: &[CallerCount], caller: Caller) -> u64
 pub fn count_one(counts: &mut Vec<CallerCount>, caller: Caller)
     requires small { counted_for caller counts.old.items < 2 ^ 64 - 1 }
     requires room { vec_len counts.old < vec_capacity counts.old }
-    ensures counted { (other : Caller) → counted_for other counts.new.items ≡ counted_for other counts.old.items + (if same_caller caller other then 1 else 0) }
+    ensures counted { (other : Caller)
+        → counted_for other counts.new.items ≡ counted_for other counts.old.items + (if same_caller caller other then 1
+        else 0) }
     ensures size { vec_len counts.new ≤ vec_len counts.old + 1 }
     ensures capacity { vec_capacity counts.old ≤ vec_capacity counts.new }
 {

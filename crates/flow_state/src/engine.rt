@@ -23,7 +23,8 @@ pub fn cost(parts: &Parts, call: &CallIn<'_>) -> usize
 
 /// What answers some of the calls.
 ///
-/// Of a received segment the addresses and ports are not read: whoever makes the call gives a flow its own segments. What is promised holds of any segment.
+/// Of a received segment the addresses and ports are not read: whoever makes the call gives a flow its own segments.
+/// What is promised holds of any segment.
 pub trait Engine {
     ghost use Rattle.flow_state.specs.declared.parts.Parts.{Parts};
     ghost use Rattle.flow_state.specs.declared.call.CallIn.{CallIn};
@@ -31,7 +32,8 @@ pub trait Engine {
     /// Which calls it answers, at which parts.
     ghost serves: { Self → Parts → CallIn → Type 0 };
 
-    /// Makes the call at this tick. `Some`: the parts stand for the next endpoint, and the reply's bytes stand first in `out`. `None`: nothing changed.
+    /// Makes the call at this tick. `Some`: the parts stand for the next endpoint, and the reply's bytes stand first in
+    /// `out`. `None`: nothing changed.
     ///
     /// Accept and Control are calls only past SYN-RECEIVED and before CLOSED, Tick only before CLOSED.
     fn run(&self, parts: &mut Parts, tick: u32, call: &CallIn<'_>, out: &mut [u8]) -> Option<Answer>
@@ -39,7 +41,8 @@ pub trait Engine {
         requires small { IsSmall call.now }
         requires timely { IsTimely parts.old.phase call.now }
         requires near { IsNear parts.old }
-        ensures made { IfSome result (λ answer. (e : Endpoint) → Valid e → Stands parts.old e → Makes e tick call.now parts.new out.new answer) }
+        ensures made { IfSome result (λ answer. (e : Endpoint) → Valid e → Stands parts.old e
+            → Makes e tick call.now parts.new out.new answer) }
         ensures bytes { IfSome result (λ answer. answer_len answer ≤ reply_room parts.old.smss call.now) }
         ensures tuple { parts.new.tuple ≡ parts.old.tuple }
         ensures params { parts.new.params ≡ parts.old.params }

@@ -55,9 +55,11 @@ fn refill(mss: u16, cwnd: u32) -> u32
 }
 
 impl Parts {
-    /// Sets the rate to that of a flow whose peer's SYN was just taken, by the SYN's MSS option (RFC 5681, section 3.1). The bucket is full.
+    /// Sets the rate to that of a flow whose peer's SYN was just taken, by the SYN's MSS option (RFC 5681, section
+    /// 3.1). The bucket is full.
     pub fn begin_rate(&mut self, theirs: Option<u16>)
-        ensures stands { (e : Endpoint) → Stands self.old e → Stands self.new (record e { rate = first_rate e.params theirs }) }
+        ensures stands { (e : Endpoint) → Stands self.old e
+            → Stands self.new (record e { rate = first_rate e.params theirs }) }
         ensures params { self.new.params ≡ self.old.params }
         ensures tuple { self.new.tuple ≡ self.old.tuple }
     {
@@ -84,7 +86,8 @@ pub fn passive_parts(
     seg: &Segment<'_>,
 ) -> Result<Parts, AllocError>
     requires { InRange params.now }
-    ensures stands { (frame : FrameId) → IfOk result (λ p. Stands p (opened params.now (calls.Passive frame iss (seg_of seg.now)))) }
+    ensures stands { (frame : FrameId)
+        → IfOk result (λ p. Stands p (opened params.now (calls.Passive frame iss (seg_of seg.now)))) }
     ensures params { IfOk result (λ p. p.params ≡ params.now) }
     ensures tuple { IfOk result (λ p. p.tuple ≡ tuple) }
 {

@@ -5,7 +5,8 @@ use tas_num::Seq;
 
 /// The compact record of one endpoint (RFC 9293, section 3.3.1): what is left of its whole history.
 ///
-/// Engines write its fields, so it keeps nothing true by itself: `Stands` says which endpoint it stands for. Sequence numbers are kept modulo 2^32; the places that may stay old for longer than 32 bits can tell are whole.
+/// Engines write its fields, so it keeps nothing true by itself: `Stands` says which endpoint it stands for. Sequence
+/// numbers are kept modulo 2^32; the places that may stay old for longer than 32 bits can tell are whole.
 #[derive(Drop)]
 pub struct Parts {
     /// The connection's ends.

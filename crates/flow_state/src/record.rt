@@ -1,9 +1,12 @@
-ghost use Rattle.std.specs.Prelude.{◌≡◌, ℕ, ◌+◌, ◌-◌, ◌^◌, ◌<◌, ◌≤◌, ◌++◌, ◌∷◌, ◌↔◌, [], List, length, take, slice_get, Some, replicate, max, vec_len, vec_capacity, flat_map, IfOk, IfSome, IfNone, IsSome, OnErr, OnOk, IsOk};
+ghost use Rattle.std.specs.Prelude.{◌≡◌, ℕ, ◌+◌, ◌-◌, ◌^◌, ◌<◌, ◌≤◌, ◌++◌, ◌∷◌, ◌↔◌, [], List, length, take, slice_get};
+ghost use Rattle.std.specs.Prelude.{Some, replicate, max, vec_len, vec_capacity, flat_map, IfOk, IfSome, IfNone};
+ghost use Rattle.std.specs.Prelude.{IsSome, OnErr, OnOk, IsOk};
 ghost use Rattle.tas_model.specs.Endpoint.{phase};
 ghost use Rattle.tas_model.specs.LegalHistory.{Legal, replay, extended_by};
 ghost use Rattle.tas_model.specs.Valid.{InRange};
 ghost use Rattle.flow_state.specs.Stands.{Stands, IsNear};
-ghost use Rattle.flow_state.specs.Calls.{call_of, offer_of, answer_of, reply_bytes, payload_of, seg_of, cost_of, IsSmall, IsTimely};
+ghost use Rattle.flow_state.specs.Calls.{call_of, offer_of, answer_of, reply_bytes, payload_of, seg_of, cost_of};
+ghost use Rattle.flow_state.specs.Calls.{IsSmall, IsTimely};
 ghost use Rattle.flow_state.specs.Flow.{Flow, reply_to, last_reply, first_passive, first_connect};
 ghost use Rattle.flow_state.specs.Stretches.{entries_of, entries_in, StretchWithin};
 ghost use Rattle.flow_state.specs.Made.{IsMadeAt};
@@ -27,7 +30,8 @@ use tas_num::Seq;
 
 /// The record of one flow, seen as its history.
 ///
-/// The parts hold the present endpoint; the history stands in stretches of one size, whose bytes stand in one piece of memory: an entry each, or a run of quiet ticks, so that a flow that nothing comes to takes no memory with time.
+/// The parts hold the present endpoint; the history stands in stretches of one size, whose bytes stand in one piece of
+/// memory: an entry each, or a run of quiet ticks, so that a flow that nothing comes to takes no memory with time.
 #[derive(Drop)]
 pub struct FlowRecord {
     id: FlowId,
@@ -216,7 +220,9 @@ impl FlowRecord {
         &self.parts
     }
 
-    /// Makes the call by the engine, and appends its entry. The entry's tick is the greater of `tick` and the last entry's. Where the engine does not answer the call, nothing changes. The error is want of memory; then nothing changed either.
+    /// Makes the call by the engine, and appends its entry. The entry's tick is the greater of `tick` and the last
+    /// entry's. Where the engine does not answer the call, nothing changes. The error is want of memory; then nothing
+    /// changed either.
     pub fn act<E: Engine>(
         &mut self,
         caller: Caller,
@@ -226,14 +232,20 @@ impl FlowRecord {
     ) -> Result<Option<Answer>, AllocError>
         requires small { IsSmall call.now }
         requires timely { IsTimely self.old.parts.phase call.now }
-        ensures exact { IfOk result (λ r. IfSome r (λ a. self.new.entries ≡ extended_by self.old.params self.old.entries caller tick (call_of call.now) (offer_of call.now))) }
-        ensures answer { IfOk result (λ r. IfSome r (λ a. a ≡ answer_of (reply_to self.old.params self.old.entries tick (call_of call.now) (offer_of call.now)))) }
+        ensures exact { IfOk result
+            (λ r. IfSome r (λ a. self.new.entries ≡ extended_by self.old.params self.old.entries caller tick
+            (call_of call.now) (offer_of call.now))) }
+        ensures answer { IfOk result
+            (λ r. IfSome r
+            (λ a. a ≡ answer_of (reply_to self.old.params self.old.entries tick (call_of call.now)
+            (offer_of call.now)))) }
         ensures unmade { IfOk result (λ r. IfNone r (self.new.entries ≡ self.old.entries)) }
         ensures unmade_parts { IfOk result (λ r. IfNone r (self.new.parts ≡ self.old.parts)) }
         ensures err { OnErr result (self.new.entries ≡ self.old.entries) }
         ensures err_parts { OnErr result (self.new.parts ≡ self.old.parts) }
         ensures serves { IfOk result (λ r. IsSome r ↔ E.serves engine.now self.old.parts call.now) }
-        ensures spare { 1 ≤ self.old.spare_entries → cost_of self.old.parts.smss call.now ≤ self.old.spare_bytes → IsOk result }
+        ensures spare { 1 ≤ self.old.spare_entries → cost_of self.old.parts.smss call.now ≤ self.old.spare_bytes
+            → IsOk result }
         ensures spent_entries { self.old.spare_entries ≤ self.new.spare_entries + 1 }
         ensures spent_bytes { self.old.spare_bytes ≤ self.new.spare_bytes + cost_of self.old.parts.smss call.now }
         ensures legal { Legal self.new.params self.new.entries }

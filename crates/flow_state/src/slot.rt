@@ -1,5 +1,6 @@
 ghost use Rattle.std.specs.Prelude.{◌≡◌, ℕ, ◌+◌, ◌≤◌, List, take, drop, length, ◌<◌, ◌^◌, vec_len, vec_capacity};
-ghost use Rattle.flow_state.specs.Calls.{call_of, seg_of, head_of as model_head, reply_of, payload_of, answer_len, IsSmall};
+ghost use Rattle.flow_state.specs.Calls.{call_of, seg_of, head_of as model_head, reply_of, payload_of, answer_len};
+ghost use Rattle.flow_state.specs.Calls.{IsSmall};
 ghost use Rattle.flow_state.specs.Flow.{first_passive, first_connect};
 ghost use Rattle.flow_state.specs.Slots.{Holds, call_in, reply_in, CallWithin, ReplyWithin, IsWithin, entry_of};
 
@@ -96,7 +97,8 @@ fn head_of(seg: &Segment<'_>) -> Head
 pub fn call_slot(call: &CallIn<'_>, from: usize) -> CallSlot
     requires room { length (payload_of call.now) + from < 2 ^ 64 }
     requires small { IsSmall call.now }
-    ensures means { (arena : List ℕ) → Holds arena from (payload_of call.now) → call_in arena result ≡ call_of call.now }
+    ensures means { (arena : List ℕ) → Holds arena from (payload_of call.now)
+        → call_in arena result ≡ call_of call.now }
     ensures within { CallWithin (from + length (payload_of call.now)) result }
 {
     match call {
@@ -135,7 +137,9 @@ pub fn call_slot(call: &CallIn<'_>, from: usize) -> CallSlot
 
 /// The reply, with its bytes at `from`.
 pub fn reply_slot(answer: &Answer, from: usize) -> ReplySlot
-    ensures means { (arena out : List ℕ) → take (answer_len answer.now) (drop from arena) ≡ take (answer_len answer.now) out → reply_in arena result ≡ reply_of answer.now out }
+    ensures means { (arena out : List ℕ)
+        → take (answer_len answer.now) (drop from arena) ≡ take (answer_len answer.now) out
+        → reply_in arena result ≡ reply_of answer.now out }
     ensures within { ReplyWithin (from + answer_len answer.now) result }
 {
     match *answer {

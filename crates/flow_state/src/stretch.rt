@@ -1,7 +1,9 @@
-ghost use Rattle.std.specs.Prelude.{◌≡◌, ℕ, ◌+◌, ◌≤◌, ◌<◌, ◌++◌, ◌∷◌, [], List, length, true, false, slice_get, Some, vec_len, vec_capacity, IsTrue, IsFalse};
+ghost use Rattle.std.specs.Prelude.{◌≡◌, ℕ, ◌+◌, ◌≤◌, ◌<◌, ◌++◌, ◌∷◌, [], List, length, true, false, slice_get, Some};
+ghost use Rattle.std.specs.Prelude.{vec_len, vec_capacity, IsTrue, IsFalse};
 ghost use Rattle.tas_model.specs.LegalHistory.{last_tick};
 ghost use Rattle.flow_state.specs.Slots.{IsWithin, entry_of};
-ghost use Rattle.flow_state.specs.Stretches.{AllWithin, entries_of, entries_in, StretchWithin, IsRun, is_quiet_tick as model_quiet, comes_next as model_next};
+ghost use Rattle.flow_state.specs.Stretches.{AllWithin, entries_of, entries_in, StretchWithin, IsRun};
+ghost use Rattle.flow_state.specs.Stretches.{is_quiet_tick as model_quiet, comes_next as model_next};
 
 use crate::counts::is_same;
 use crate::slot::{CallSlot, ReplySlot, Slot};
@@ -46,8 +48,10 @@ fn comes_next(run: &QuietRun, slot: &Slot) -> bool
 
 /// Lengthens the last run by a quiet tick, where the entry is its next one, and tells whether it is.
 fn lengthen(stretches: &mut Vec<Stretch>, slot: &Slot) -> bool
-    ensures entries { (arena : List ℕ) → result ≡ true → entries_of arena stretches.new.items ≡ entries_of arena stretches.old.items ++ entry_of arena slot.now ∷ [] }
-    ensures tick { (arena : List ℕ) → result ≡ true → slot.now.tick ≡ last_tick 0 (entries_of arena stretches.old.items) + 1 }
+    ensures entries { (arena : List ℕ) → result ≡ true
+        → entries_of arena stretches.new.items ≡ entries_of arena stretches.old.items ++ entry_of arena slot.now ∷ [] }
+    ensures tick { (arena : List ℕ) → result ≡ true
+        → slot.now.tick ≡ last_tick 0 (entries_of arena stretches.old.items) + 1 }
     ensures within { (n : ℕ) → AllWithin n stretches.old.items → AllWithin n stretches.new.items }
     ensures unmade { result ≡ false → stretches.new ≡ stretches.old }
     ensures len { vec_len stretches.new ≡ vec_len stretches.old }
@@ -108,13 +112,17 @@ pub fn stretch_of(slot: &Slot) -> Stretch
     }
 }
 
-/// Adds an entry behind the others, which have room for one: a quiet tick to the run before it, where it is the next of that.
+/// Adds an entry behind the others, which have room for one: a quiet tick to the run before it, where it is the next of
+/// that.
 pub fn add(stretches: &mut Vec<Stretch>, slot: &Slot)
     requires { vec_len stretches.old < vec_capacity stretches.old }
-    ensures entries { (arena : List ℕ) → entries_of arena stretches.new.items ≡ entries_of arena stretches.old.items ++ entry_of arena slot.now ∷ [] }
+    ensures entries { (arena : List ℕ) → entries_of arena stretches.new.items ≡ entries_of arena stretches.old.items
+        ++ entry_of arena slot.now ∷ [] }
     ensures within { (n : ℕ) → AllWithin n stretches.old.items → IsWithin n slot.now → AllWithin n stretches.new.items }
     // Where no stretch came to the others, a tick passed.
-    ensures few { (arena : List ℕ) → last_tick 0 (entries_of arena stretches.old.items) ≤ slot.now.tick → vec_len stretches.old + last_tick 0 (entries_of arena stretches.old.items) + 1 ≤ vec_len stretches.new + slot.now.tick }
+    ensures few { (arena : List ℕ) → last_tick 0 (entries_of arena stretches.old.items) ≤ slot.now.tick
+        → vec_len stretches.old + last_tick 0 (entries_of arena stretches.old.items) + 1 ≤ vec_len stretches.new
+        + slot.now.tick }
     ensures len { vec_len stretches.new ≤ vec_len stretches.old + 1 }
     ensures capacity { vec_capacity stretches.old ≤ vec_capacity stretches.new }
 {

@@ -1,6 +1,7 @@
 ghost use Rattle.std.specs.Prelude.{◌≡◌, ℕ, ◌+◌, ◌≤◌, List, length, take, drop};
 ghost use Rattle.flow_state.specs.Calls.{reply_bytes};
-ghost use Rattle.flow_state.specs.Slots.{bytes_at, SpanWithin, CallWithin, ReplyWithin, IsWithin, call_in, reply_in, entry_of};
+ghost use Rattle.flow_state.specs.Slots.{bytes_at, SpanWithin, CallWithin, ReplyWithin, IsWithin, call_in, reply_in};
+ghost use Rattle.flow_state.specs.Slots.{entry_of};
 ghost use Rattle.flow_state.specs.Views.{seen_call, seen_reply, seen_entry};
 
 use crate::slot::{CallSlot, ReplySlot, Slot, Span};

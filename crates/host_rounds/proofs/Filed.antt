@@ -1,5 +1,6 @@
 -- A flow whose record was filed: nothing changes it any more, so that a program may put it away.
-use Rattle.std.proofs.Common.{◌≡◌, ℕ, ◌||◌, not, Bool, true, false, Option, Some, None, is_some, refl, sym, ap, ◌∙◌, true≢false, if◌then◌else◌}
+use Rattle.std.proofs.Common.{◌≡◌, ℕ, ◌||◌, not, Bool, true, false, Option, Some, None, is_some, refl, sym, ap, ◌∙◌}
+use Rattle.std.proofs.Common.{true≢false, if◌then◌else◌}
 use Rattle.tas_model.specs.declared.entry.FourTuple.{FourTuple}
 use Rattle.tas_model.specs.declared.entry.Reason.{Reason}
 use Rattle.tas_model.specs.declared.entry.Caller.{Caller}
@@ -18,7 +19,12 @@ pub record IsFiled (l : Live) : Type 0 where
   pub filed : l.filed ≡ true
 
 same_live : (flow : Flow) (indexed : Bool) (holder : Holder) (filed : Bool) → indexed ≡ false → filed ≡ true
-    → ◌≡◌ {A = Live} (record { flow = flow; indexed = false; holder = holder; filed = filed || not (is_held_by holder) })
+    → ◌≡◌ {A = Live} (record {
+      flow = flow;
+      indexed = false;
+      holder = holder;
+      filed = filed || not (is_held_by holder);
+    })
     (record { flow = flow; indexed = indexed; holder = holder; filed = filed })
 same_live flow false holder true i f = refl
 same_live flow true holder filed i f = absurd (true≢false i)
@@ -26,7 +32,8 @@ same_live flow false holder false i f = absurd (true≢false (sym f))
 
 pub filed_swept : (l : Live) → IsFiled l → swept l ≡ l
 filed_swept l is = swept_by (is_over l) is.over where
-  swept_by : (b : Bool) → b ≡ true → (if b then record l { indexed = false; filed = l.filed || not (is_held l) } else l) ≡ l
+  swept_by : (b : Bool) → b ≡ true
+      → (if b then record l { indexed = false; filed = l.filed || not (is_held l) } else l) ≡ l
   swept_by true h = same_live l.flow l.indexed l.holder l.filed is.indexed is.filed
   swept_by false h = absurd (true≢false (sym h))
 

@@ -1,5 +1,6 @@
 -- A tick takes nothing back: lists that grow by entries of a tick.
-use Rattle.std.proofs.Common.{◌≡◌, ℕ, zero, suc, ◌≤◌, Bool, true, false, List, [], ◌∷◌, ◌++◌, map, max, Option, Some, None, refl, sym, subst, ap, ◌∙◌, arith, append_assoc, append-nil}
+use Rattle.std.proofs.Common.{◌≡◌, ℕ, zero, suc, ◌≤◌, Bool, true, false, List, [], ◌∷◌, ◌++◌, map, max, Option, Some}
+use Rattle.std.proofs.Common.{None, refl, sym, subst, ap, ◌∙◌, arith, append_assoc, append-nil}
 use Rattle.tas_model.specs.declared.entry.Entry.{Entry}
 use Rattle.tas_model.specs.declared.entry.Caller.{Caller}
 use Rattle.tas_model.specs.declared.entry.Call.{Call}
@@ -27,13 +28,21 @@ pub grew_none : (t : ℕ) (h : List Entry) → Grew t h h
 grew_none t h = ([], sym (append-nil h), tt)
 
 pub grew_both : (t : ℕ) (h g k : List Entry) → Grew t h g → Grew t g k → Grew t h k
-grew_both t h g k a b = (a.0 ++ b.0, b.1 ∙ ap (λ (zs : List Entry). zs ++ b.0) a.1 ∙ append_assoc h a.0 b.0, at_append t a.0 b.0 a.2 b.2)
+grew_both t h g k a b = (
+  a.0 ++ b.0,
+  b.1 ∙ ap (λ (zs : List Entry). zs ++ b.0) a.1 ∙ append_assoc h a.0 b.0,
+  at_append t a.0 b.0 a.2 b.2,
+)
 
 pub log_none : (t : ℕ) (h : List LogLine) → LogGrew t h h
 log_none t h = ([], sym (append-nil h), tt)
 
 pub log_both : (t : ℕ) (h g k : List LogLine) → LogGrew t h g → LogGrew t g k → LogGrew t h k
-log_both t h g k a b = (a.0 ++ b.0, b.1 ∙ ap (λ (zs : List LogLine). zs ++ b.0) a.1 ∙ append_assoc h a.0 b.0, lines_append t a.0 b.0 a.2 b.2)
+log_both t h g k a b = (
+  a.0 ++ b.0,
+  b.1 ∙ ap (λ (zs : List LogLine). zs ++ b.0) a.1 ∙ append_assoc h a.0 b.0,
+  lines_append t a.0 b.0 a.2 b.2,
+)
 
 last_of : (t n : ℕ) (more : List Entry) → n ≤ t → AllAt t more → last_tick n more ≤ t
 last_of t n [] h a = h
@@ -54,7 +63,8 @@ Grows t l m = IsUpTo t l → Grew t l.flow.entries m.flow.entries
 pub stays : (t : ℕ) (l : Live) → Grows t l l
 stays t l low = grew_none t l.flow.entries
 
-pub call_grows : (by : Caller) (t : ℕ) (call : Call) (offer : List ℕ) (l : Live) → Grows t l (with_call l by t call offer)
+pub call_grows : (by : Caller) (t : ℕ) (call : Call) (offer : List ℕ) (l : Live)
+    → Grows t l (with_call l by t call offer)
 call_grows by t call offer l low =
     let same : max t (last_tick 0 l.flow.entries) ≡ t = omega arith in
     (_, refl, (same, tt))
@@ -96,23 +106,31 @@ pub all_both : (t : ℕ) (ls ms ps : List Live) → AllGrew t ls ms → AllGrew 
 all_both t [] [] [] a b = tt
 all_both t [] [] (p ∷ ps) a b = b
 all_both t [] (m ∷ ms) [] a b = absurd b
-all_both t [] (m ∷ ms) (p ∷ ps) a b = (grew_both t [] m.flow.entries p.flow.entries a.0 b.0, all_both t [] ms ps a.1 b.1)
+all_both t [] (m ∷ ms) (p ∷ ps) a b = (
+  grew_both t [] m.flow.entries p.flow.entries a.0 b.0,
+  all_both t [] ms ps a.1 b.1,
+)
 all_both t (l ∷ ls) [] ps a b = absurd a
 all_both t (l ∷ ls) (m ∷ ms) [] a b = absurd b
-all_both t (l ∷ ls) (m ∷ ms) (p ∷ ps) a b = (grew_both t l.flow.entries m.flow.entries p.flow.entries a.0 b.0, all_both t ls ms ps a.1 b.1)
+all_both t (l ∷ ls) (m ∷ ms) (p ∷ ps) a b =
+    (grew_both t l.flow.entries m.flow.entries p.flow.entries a.0 b.0, all_both t ls ms ps a.1 b.1)
 
-pub map_grows : (t : ℕ) (f : Live → Live) → ((l : Live) → Grows t l (f l)) → (ls : List Live) → Each (IsUpTo t) ls → AllGrew t ls (map f ls)
+pub map_grows : (t : ℕ) (f : Live → Live) → ((l : Live) → Grows t l (f l)) → (ls : List Live) → Each (IsUpTo t) ls
+    → AllGrew t ls (map f ls)
 map_grows t f each [] low = tt
 map_grows t f each (l ∷ ls) low = (each l low.0, map_grows t f each ls low.1)
 
-pub first_grows : (t : ℕ) (test : Live → Bool) (f : Live → Live) → ((l : Live) → Grows t l (f l)) → (ls : List Live) → Each (IsUpTo t) ls → AllGrew t ls (change_first test f ls)
+pub first_grows : (t : ℕ) (test : Live → Bool) (f : Live → Live) → ((l : Live) → Grows t l (f l)) → (ls : List Live)
+    → Each (IsUpTo t) ls → AllGrew t ls (change_first test f ls)
 first_grows t test f each [] low = tt
 first_grows t test f each (l ∷ ls) low = by_test (test l) (first_grows t test f each ls low.1) where
-  by_test : (b : Bool) → AllGrew t ls (change_first test f ls) → AllGrew t (l ∷ ls) (elim b [ true ↦ f l ∷ ls | false ↦ l ∷ change_first test f ls ])
+  by_test : (b : Bool) → AllGrew t ls (change_first test f ls)
+      → AllGrew t (l ∷ ls) (elim b [ true ↦ f l ∷ ls | false ↦ l ∷ change_first test f ls ])
   by_test true rest = (each l low.0, all_stay t ls)
   by_test false rest = (grew_none t l.flow.entries, rest)
 
-pub at_grows : (t n : ℕ) (f : Live → Live) → ((l : Live) → Grows t l (f l)) → (ls : List Live) → Each (IsUpTo t) ls → AllGrew t ls (change_at n f ls)
+pub at_grows : (t n : ℕ) (f : Live → Live) → ((l : Live) → Grows t l (f l)) → (ls : List Live) → Each (IsUpTo t) ls
+    → AllGrew t ls (change_at n f ls)
 at_grows t n f each [] low = tt
 at_grows t zero f each (l ∷ ls) low = (each l low.0, all_stay t ls)
 at_grows t (suc n) f each (l ∷ ls) low = (grew_none t l.flow.entries, at_grows t n f each ls low.1)

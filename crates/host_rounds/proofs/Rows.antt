@@ -1,12 +1,14 @@
 -- Rows of moves.
-use Rattle.std.proofs.Common.{◌≡◌, ℕ, zero, suc, List, [], ◌∷◌, ◌++◌, length, slice_get, Some, refl, sym, subst, ap, ◌∙◌}
+use Rattle.std.proofs.Common.{◌≡◌, ℕ, zero, suc, List, [], ◌∷◌, ◌++◌, length, slice_get, Some, refl, sym, subst, ap}
+use Rattle.std.proofs.Common.{◌∙◌}
 use Rattle.host_rounds.specs.Lists.{change_at}
 use Rattle.host_rounds.specs.Hosts.{Live, Host, Numbers}
 use Rattle.host_rounds.specs.Moves.{Move, MayMove, moved, AreMoves}
 
 -- ----- lists
 -- the change of an item that is known
-pub change_known : {X : Type 0} (n : ℕ) (f g : X → X) (xs : List X) (x : X) → slice_get xs n ≡ Some x → f x ≡ g x → change_at n f xs ≡ change_at n g xs
+pub change_known : {X : Type 0} (n : ℕ) (f g : X → X) (xs : List X) (x : X) → slice_get xs n ≡ Some x → f x ≡ g x
+    → change_at n f xs ≡ change_at n g xs
 change_known n f g [] x here same = refl
 change_known {X} zero f g (y ∷ xs) x here same =
     let e : y ≡ x = cc (here) in
@@ -14,7 +16,8 @@ change_known {X} zero f g (y ∷ xs) x here same =
 change_known {X} (suc n) f g (y ∷ xs) x here same = ap (λ (zs : List X). y ∷ zs) (change_known n f g xs x here same)
 
 -- two changes of one item
-pub change_twice : {X : Type 0} (n : ℕ) (f g : X → X) (xs : List X) → change_at n g (change_at n f xs) ≡ change_at n (λ (x : X). g (f x)) xs
+pub change_twice : {X : Type 0} (n : ℕ) (f g : X → X) (xs : List X)
+    → change_at n g (change_at n f xs) ≡ change_at n (λ (x : X). g (f x)) xs
 change_twice n f g [] = refl
 change_twice zero f g (x ∷ xs) = refl
 change_twice {X} (suc n) f g (x ∷ xs) = ap (λ (zs : List X). x ∷ zs) (change_twice n f g xs)
@@ -39,7 +42,8 @@ with_flows host ls = record host { flows = ls }
 pub same_row : (numbers : Numbers) (t : ℕ) (a b c : Host) → b ≡ c → Row numbers t a b → Row numbers t a c
 same_row numbers t a b c e row = subst (λ (h : Host). Row numbers t a h) e row
 
-pub joined : (numbers : Numbers) (t : ℕ) (a b c : Host) (ms : List Move) → AreMoves numbers t a ms b → Row numbers t b c → Row numbers t a c
+pub joined : (numbers : Numbers) (t : ℕ) (a b c : Host) (ms : List Move) → AreMoves numbers t a ms b → Row numbers t b c
+    → Row numbers t a c
 joined numbers t a b c [] same row = subst (λ (h : Host). Row numbers t h c) (sym same) row
 joined numbers t a b c (m ∷ ms) are row =
     let rest : Row numbers t (moved numbers t a m) c = joined numbers t (moved numbers t a m) b c ms are.1 row in

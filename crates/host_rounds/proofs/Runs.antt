@@ -17,11 +17,14 @@ use Rattle.host_rounds.proofs.OnePlace.{round_adds}
 use Rattle.host_rounds.proofs.Sound.{sound}
 
 -- ----- from a host to its flows
-pub flows_sound : (numbers : Numbers) (p : HostParams) (before : List Opening) (ls : List Live) → InRange p → AreOpened numbers p before (openings ls)
+pub flows_sound : (numbers : Numbers) (p : HostParams) (before : List Opening) (ls : List Live) → InRange p
+    → AreOpened numbers p before (openings ls)
     → Each HasHistory ls → Each IsSound (flows_of ls)
 flows_sound numbers p before [] fits opened each = tt
-flows_sound numbers p before (l ∷ ls) fits opened each =
-    (sound l.flow (subst InRange (sym opened.0.params) fits) each.0, flows_sound numbers p (before ++ opening_of l.flow ∷ []) ls fits opened.1 each.1)
+flows_sound numbers p before (l ∷ ls) fits opened each = (
+  sound l.flow (subst InRange (sym opened.0.params) fits) each.0,
+  flows_sound numbers p (before ++ opening_of l.flow ∷ []) ls fits opened.1 each.1,
+)
 
 pub flows_quiet : (ls : List Live) → Each IsQuiet ls → Each HasSentAll (flows_of ls)
 flows_quiet [] each = tt
@@ -32,22 +35,28 @@ flows_uses f [] = refl
 flows_uses f (l ∷ ls) = let rest : uses_flows f (flows_of ls) ≡ uses_live f ls = flows_uses f ls in omega arith
 
 -- ----- ticks one after the other
-pub rounds_quiet : {S A : Type 0} (scripts : Scripts S A) (t : ℕ) (dues : List (Due A)) (before after : Site S) → Rounds scripts t dues before after
+pub rounds_quiet : {S A : Type 0} (scripts : Scripts S A) (t : ℕ) (dues : List (Due A)) (before after : Site S)
+    → Rounds scripts t dues before after
     → Each IsQuiet before.host.flows → Each IsQuiet after.host.flows
 rounds_quiet {S} scripts t [] before after same each = subst (λ (s : Site S). Each IsQuiet s.host.flows) same each
-rounds_quiet scripts t (due ∷ dues) before after rounds each = rounds_quiet scripts (t + 1) dues rounds.0 after rounds.2 rounds.1.quiet
+rounds_quiet scripts t (due ∷ dues) before after rounds each =
+    rounds_quiet scripts (t + 1) dues rounds.0 after rounds.2 rounds.1.quiet
 
 -- how often the frame comes in all these ticks
 abbrev pub coming_in : {A : Type 0} → FrameId → List (Due A) → ℕ
 coming_in f [] = 0
 coming_in f (due ∷ dues) = coming f due.frames + coming_in f dues
 
-pub rounds_add : {S A : Type 0} (scripts : Scripts S A) (t : ℕ) (dues : List (Due A)) (before after : Site S) (f : FrameId) → AreByMoves scripts
-    → Rounds scripts t dues before after → AreLegal before.host → uses f after.host ≡ uses f before.host + coming_in f dues
+pub rounds_add : {S A : Type 0} (scripts : Scripts S A) (t : ℕ) (dues : List (Due A)) (before after : Site S)
+    (f : FrameId) → AreByMoves scripts
+    → Rounds scripts t dues before after → AreLegal before.host
+    → uses f after.host ≡ uses f before.host + coming_in f dues
 rounds_add {S} scripts t [] before after f by_moves same legal =
     let here : uses f after.host ≡ uses f before.host = sym (ap (λ (s : Site S). uses f s.host) same) in omega arith
 rounds_add scripts t (due ∷ dues) before after f by_moves rounds legal =
-    let one : uses f rounds.0.host ≡ uses f before.host + coming f due.frames = round_adds scripts t due before rounds.0 f by_moves rounds.1 legal in
+    let one : uses f rounds.0.host ≡ uses f before.host + coming f due.frames =
+    round_adds scripts t due before rounds.0 f by_moves rounds.1 legal in
     let rest : uses f after.host ≡ uses f rounds.0.host + coming_in f dues =
-    rounds_add scripts (t + 1) dues rounds.0 after f by_moves rounds.2 (round_kept scripts t due before rounds.0 by_moves rounds.1 legal) in
+    rounds_add scripts (t + 1) dues rounds.0 after f by_moves rounds.2
+    (round_kept scripts t due before rounds.0 by_moves rounds.1 legal) in
     omega arith

@@ -1,5 +1,6 @@
 -- The timers, the frames and the asks of a tick in serial order, as deeds.
-use Rattle.std.proofs.Common.{◌≡◌, ℕ, ◌+◌, Bool, true, false, List, [], ◌∷◌, ◌++◌, length, map, fold, refl, sym, ap, ◌∙◌, append_assoc, if◌then◌else◌}
+use Rattle.std.proofs.Common.{◌≡◌, ℕ, ◌+◌, Bool, true, false, List, [], ◌∷◌, ◌++◌, length, map, fold, refl, sym, ap}
+use Rattle.std.proofs.Common.{◌∙◌, append_assoc, if◌then◌else◌}
 use Rattle.tas_model.specs.declared.entry.FourTuple.{FourTuple}
 use Rattle.tas_model.specs.declared.entry.FrameId.{FrameId}
 use Rattle.tas_model.specs.declared.entry.Seg.{Seg}
@@ -8,7 +9,8 @@ use Rattle.tas_model.specs.declared.entry.Caller.TheVariants.{Slow, Core}
 use Rattle.host_rounds.specs.Lists.{Each, change_first, change_at}
 use Rattle.host_rounds.specs.Hosts.{Live, Host, Numbers, next_number, endpoint, is_known, is_indexed_as}
 use Rattle.host_rounds.specs.Upkeep.{timed}
-use Rattle.host_rounds.specs.Deliveries.{Packet, Damaged, Segment, Arrival, received, received_serially, rx_caller, is_fast, arrived, delivered_packet, delivered}
+use Rattle.host_rounds.specs.Deliveries.{Packet, Damaged, Segment, Arrival, received, received_serially, rx_caller}
+use Rattle.host_rounds.specs.Deliveries.{is_fast, arrived, delivered_packet, delivered}
 use Rattle.host_rounds.specs.Scripts.{Site, Scripts}
 use Rattle.host_rounds.specs.Rounds.{Action, Frame, Ask, Deed, does, on_host, timers_from, actions_of, IsWorker}
 use Rattle.host_rounds.proofs.Lists.{change_past, length_push}
@@ -29,7 +31,8 @@ abbrev pub at_flows : {S : Type 0} → Site S → List Live → Site S
 at_flows site ls = record site { host = record (site.host) { flows = ls } }
 
 pub timers_fold : {S A : Type 0} (scripts : Scripts S A) (t n : ℕ) (site : Site S) (pre ls : List Live) → n ≡ length pre
-    → fold (does scripts t) (at_flows site (pre ++ ls)) (by_slow (timers_from n ls)) ≡ at_flows site (pre ++ map (timed Slow t) ls)
+    → fold (does scripts t) (at_flows site (pre ++ ls)) (by_slow (timers_from n ls)) ≡ at_flows site (pre
+    ++ map (timed Slow t) ls)
 timers_fold scripts t n site pre [] h = refl
 timers_fold scripts t n site pre (l ∷ ls) h =
     let one : change_at n (timed Slow t) (pre ++ l ∷ ls) ≡ (pre ++ timed Slow t l ∷ []) ++ ls =
@@ -48,18 +51,32 @@ caller_of ls (Damaged rule) = Slow
 caller_of ls (Segment tuple seg) = first_caller (is_indexed_as tuple) seg ls
 
 first_change : (test : Live → Bool) (t : ℕ) (frame : FrameId) (seg : Seg) (ls : List Live)
-    → change_first test (received (first_caller test seg ls) t frame seg) ls ≡ change_first test (received_serially t frame seg) ls
+    → change_first test (received (first_caller test seg ls) t frame seg) ls
+    ≡ change_first test (received_serially t frame seg) ls
 first_change test t frame seg [] = refl
-first_change test t frame seg (l ∷ ls) = by_test (test l) (first_caller test seg (l ∷ ls)) refl (first_change test t frame seg ls) where
-  by_test : (b : Bool) (by : Caller) → by ≡ elim b [ true ↦ rx_caller (endpoint l) seg | false ↦ first_caller test seg ls ]
-      → change_first test (received (first_caller test seg ls) t frame seg) ls ≡ change_first test (received_serially t frame seg) ls
-      → ◌≡◌ {A = List Live} (elim b [ true ↦ received by t frame seg l ∷ ls | false ↦ l ∷ change_first test (received by t frame seg) ls ])
-      (elim b [ true ↦ received_serially t frame seg l ∷ ls | false ↦ l ∷ change_first test (received_serially t frame seg) ls ])
-  by_test true by k h = ap (λ (c : Caller). received c t frame seg l ∷ ls) k
-  by_test false by k h = ap (λ (c : Caller). l ∷ change_first test (received c t frame seg) ls) k ∙ ap (λ (zs : List Live). l ∷ zs) h
+first_change test t frame seg (l ∷ ls) =
+    by_test (test l) (first_caller test seg (l ∷ ls)) refl (first_change test t frame seg ls) where
+      by_test : (b : Bool) (by : Caller)
+          → by ≡ elim b [ true ↦ rx_caller (endpoint l) seg | false ↦ first_caller test seg ls ]
+          → change_first test (received (first_caller test seg ls) t frame seg) ls
+          ≡ change_first test (received_serially t frame seg) ls
+          → ◌≡◌ {A = List Live} (elim b [
+            | true ↦ received by t frame seg l ∷ ls
+            | false ↦ l
+                ∷ change_first test (received by t frame seg) ls
+          ])
+          (elim b [
+            | true ↦ received_serially t frame seg l ∷ ls
+            | false ↦ l
+                ∷ change_first test (received_serially t frame seg) ls
+          ])
+      by_test true by k h = ap (λ (c : Caller). received c t frame seg l ∷ ls) k
+      by_test false by k h = ap (λ (c : Caller). l ∷ change_first test (received c t frame seg) ls) k
+          ∙ ap (λ (zs : List Live). l ∷ zs) h
 
 arrived_same : (known : Bool) (number t : ℕ) (host : Host) (frame : FrameId) (tuple : FourTuple) (seg : Seg)
-    → arrived known (received (first_caller (is_indexed_as tuple) seg host.flows) t frame seg) number t host frame tuple seg
+    → arrived known (received (first_caller (is_indexed_as tuple) seg host.flows) t frame seg) number t host frame tuple
+    seg
     ≡ arrived known (received_serially t frame seg) number t host frame tuple seg
 arrived_same true number t host frame tuple seg =
     ap (λ (zs : List Live). record host { flows = zs }) (first_change (is_indexed_as tuple) t frame seg host.flows)
@@ -75,7 +92,8 @@ packet_same numbers t host frame (Segment tuple seg) =
 abbrev pub frames_made : {A : Type 0} → Numbers → ℕ → Host → List Arrival → List (Deed A)
 frames_made numbers t host [] = []
 frames_made numbers t host (x ∷ xs) =
-    (record { by = caller_of host.flows x.packet; action = Frame x }) ∷ frames_made numbers t (delivered received_serially numbers t host x) xs
+    (record { by = caller_of host.flows x.packet; action = Frame x })
+    ∷ frames_made numbers t (delivered received_serially numbers t host x) xs
 
 pub frames_fold : {S A : Type 0} (scripts : Scripts S A) (t : ℕ) (site : Site S) (frames : List Arrival)
     → fold (does scripts t) site (frames_made scripts.numbers t site.host frames)
@@ -91,7 +109,8 @@ pub frames_actions : {A : Type 0} (numbers : Numbers) (t : ℕ) (host : Host) (f
     → actions_of (frames_made {A = A} numbers t host frames) ≡ map Frame frames
 frames_actions numbers t host [] = refl
 frames_actions {A} numbers t host (x ∷ xs) =
-    ap (λ (zs : List (Action A)). Frame x ∷ zs) (frames_actions numbers t (delivered received_serially numbers t host x) xs)
+    ap (λ (zs : List (Action A)). Frame x ∷ zs)
+    (frames_actions numbers t (delivered received_serially numbers t host x) xs)
 
 rx_worker : (b : Bool) → IsWorker (if b then Core 0 else Slow)
 rx_worker true = tt
@@ -100,7 +119,8 @@ rx_worker false = tt
 first_worker : (test : Live → Bool) (seg : Seg) (ls : List Live) → IsWorker (first_caller test seg ls)
 first_worker test seg [] = tt
 first_worker test seg (l ∷ ls) = by_test (test l) (first_worker test seg ls) where
-  by_test : (b : Bool) → IsWorker (first_caller test seg ls) → IsWorker (elim b [ true ↦ rx_caller (endpoint l) seg | false ↦ first_caller test seg ls ])
+  by_test : (b : Bool) → IsWorker (first_caller test seg ls)
+      → IsWorker (elim b [ true ↦ rx_caller (endpoint l) seg | false ↦ first_caller test seg ls ])
   by_test true h = rx_worker (is_fast (endpoint l) seg)
   by_test false h = h
 

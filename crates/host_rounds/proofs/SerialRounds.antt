@@ -1,16 +1,19 @@
 -- The serial order is one of the right orders.
-use Rattle.std.proofs.Common.{◌≡◌, ℕ, ◌+◌, Bool, List, [], ◌∷◌, ◌++◌, map, fold, filter, refl, sym, subst, ap, ◌∙◌, append_assoc, append-nil}
+use Rattle.std.proofs.Common.{◌≡◌, ℕ, ◌+◌, Bool, List, [], ◌∷◌, ◌++◌, map, fold, filter, refl, sym, subst, ap, ◌∙◌}
+use Rattle.std.proofs.Common.{append_assoc, append-nil}
 use Rattle.host_rounds.specs.Lists.{Each}
 use Rattle.host_rounds.specs.Hosts.{Live, Host}
 use Rattle.host_rounds.specs.Upkeep.{swept, all_swept}
 use Rattle.host_rounds.specs.Scripts.{Site, Scripts}
 use Rattle.host_rounds.specs.Moves.{AreByMoves}
-use Rattle.host_rounds.specs.Rounds.{Action, Timer, Frame, Ask, Deed, does, on_host, Due, timers_from, due_actions, Agent, is_by, actions_of, IsWorker, IsQuiet, Round, Rounds}
+use Rattle.host_rounds.specs.Rounds.{Action, Timer, Frame, Ask, Deed, does, on_host, Due, timers_from, due_actions}
+use Rattle.host_rounds.specs.Rounds.{Agent, is_by, actions_of, IsWorker, IsQuiet, Round, Rounds}
 use Rattle.host_rounds.specs.SerialOrder.{slow_phase, frame_phase, ask_phase, serial_tick, serial_ticks}
 use Rattle.host_rounds.proofs.Lists.{fold_append, map_append, filter_append, each_append}
 use Rattle.host_rounds.proofs.AllLegal.{AreLegal, all_kept, all_swept_kept, round_kept}
 use Rattle.host_rounds.proofs.Quiet.{all_quiet}
-use Rattle.host_rounds.proofs.SerialFrames.{by_slow, slow_actions, slow_workers, timers_fold, frames_made, frames_fold, frames_actions, frames_workers, asks_fold}
+use Rattle.host_rounds.proofs.SerialFrames.{by_slow, slow_actions, slow_workers, timers_fold, frames_made, frames_fold}
+use Rattle.host_rounds.proofs.SerialFrames.{frames_actions, frames_workers, asks_fold}
 use Rattle.host_rounds.proofs.SerialEmissions.{emissions_from, emissions_fold, emissions_due, emissions_workers}
 
 -- ----- the phases
@@ -58,13 +61,15 @@ serial_made {S} {A} scripts t site due =
     ∙ emissions_fold scripts t 0 (after_asks scripts t site due) [] (after_asks scripts t site due).host.flows refl
 
 -- ----- that it does what is due
-timers_map : {A : Type 0} (f : Live → Live) (n : ℕ) (ls : List Live) → timers_from {A = A} n (map f ls) ≡ timers_from n ls
+timers_map : {A : Type 0} (f : Live → Live) (n : ℕ) (ls : List Live)
+    → timers_from {A = A} n (map f ls) ≡ timers_from n ls
 timers_map f n [] = refl
 timers_map {A} f n (l ∷ ls) = ap (λ (zs : List (Action A)). Timer n ∷ zs) (timers_map f (n + 1) ls)
 
 serial_actions : {S A : Type 0} (scripts : Scripts S A) (t : ℕ) (site : Site S) (due : Due A)
     → actions_of (serial_order scripts t site due)
-    ≡ timers_from 0 site.host.flows ++ (map Frame due.frames ++ (map Ask due.asks ++ actions_of (last_due scripts t site due)))
+    ≡ timers_from 0 site.host.flows ++ (map Frame due.frames
+    ++ (map Ask due.asks ++ actions_of (last_due scripts t site due)))
 serial_actions {S} {A} scripts t site due =
     let act : Deed A → Action A = λ m. m.action in
     let timers : List (Deed A) = timers_due site in
@@ -76,11 +81,13 @@ serial_actions {S} {A} scripts t site due =
     (slow_actions (timers_from 0 (map swept site.host.flows)) ∙ timers_map swept 0 site.host.flows)
     ∙ ap (λ (zs : List (Action A)). timers_from 0 site.host.flows ++ zs)
     (map_append act frames (asks ++ last)
-    ∙ ap (λ (zs : List (Action A)). zs ++ actions_of (asks ++ last)) (frames_actions scripts.numbers t (slow_phase t site.host) due.frames)
+    ∙ ap (λ (zs : List (Action A)). zs ++ actions_of (asks ++ last))
+    (frames_actions scripts.numbers t (slow_phase t site.host) due.frames)
     ∙ ap (λ (zs : List (Action A)). map Frame due.frames ++ zs)
     (map_append act asks last ∙ ap (λ (zs : List (Action A)). zs ++ actions_of last) (slow_actions (map Ask due.asks))))
 
-filter_end : {X : Type 0} (test : X → Bool) (a b c d : List X) → filter test d ≡ [] → filter test (a ++ (b ++ (c ++ d))) ≡ filter test (a ++ (b ++ c))
+filter_end : {X : Type 0} (test : X → Bool) (a b c d : List X) → filter test d ≡ []
+    → filter test (a ++ (b ++ (c ++ d))) ≡ filter test (a ++ (b ++ c))
 filter_end {X} test a b c d h =
     ap (filter test) (ap (λ (zs : List X). a ++ zs) (sym (append_assoc b c d)) ∙ sym (append_assoc a (b ++ c) d))
     ∙ filter_append test (a ++ (b ++ c)) d
@@ -88,10 +95,12 @@ filter_end {X} test a b c d h =
     ∙ append-nil (filter test (a ++ (b ++ c)))
 
 serial_due : {S A : Type 0} (scripts : Scripts S A) (t : ℕ) (site : Site S) (due : Due A) (a : Agent)
-    → filter (is_by scripts a) (actions_of (serial_order scripts t site due)) ≡ filter (is_by scripts a) (due_actions site.host.flows due)
+    → filter (is_by scripts a) (actions_of (serial_order scripts t site due))
+    ≡ filter (is_by scripts a) (due_actions site.host.flows due)
 serial_due scripts t site due a =
     ap (filter (is_by scripts a)) (serial_actions scripts t site due)
-    ∙ filter_end (is_by scripts a) (timers_from 0 site.host.flows) (map Frame due.frames) (map Ask due.asks) (actions_of (last_due scripts t site due))
+    ∙ filter_end (is_by scripts a) (timers_from 0 site.host.flows) (map Frame due.frames) (map Ask due.asks)
+    (actions_of (last_due scripts t site due))
     (emissions_due scripts a t 0 (after_asks scripts t site due).host.flows)
 
 serial_workers : {S A : Type 0} (scripts : Scripts S A) (t : ℕ) (site : Site S) (due : Due A)
@@ -104,11 +113,13 @@ serial_workers {S} {A} scripts t site due =
     let last : List (Deed A) = last_due scripts t site due in
     each_append W timers (frames ++ (asks ++ last)) (slow_workers (timers_from 0 (map swept site.host.flows)))
     (each_append W frames (asks ++ last) (frames_workers A scripts.numbers t (slow_phase t site.host) due.frames)
-    (each_append W asks last (slow_workers (map Ask due.asks)) (emissions_workers A t 0 (after_asks scripts t site due).host.flows)))
+    (each_append W asks last (slow_workers (map Ask due.asks))
+    (emissions_workers A t 0 (after_asks scripts t site due).host.flows)))
 
 -- ----- the tick
 -- the histories before the last phase
-asks_legal : {S A : Type 0} (scripts : Scripts S A) (t : ℕ) (site : Site S) (due : Due A) → AreByMoves scripts → AreLegal site.host
+asks_legal : {S A : Type 0} (scripts : Scripts S A) (t : ℕ) (site : Site S) (due : Due A) → AreByMoves scripts
+    → AreLegal site.host
     → AreLegal (after_asks scripts t site due).host
 asks_legal {S} {A} scripts t site due by_moves each =
     let L : Site S → Type 0 = λ s. AreLegal s.host in
@@ -122,14 +133,16 @@ asks_legal {S} {A} scripts t site due by_moves each =
     subst L (asks_fold scripts t (after_frames scripts t site due) due.asks)
     (all_kept scripts t (after_frames scripts t site due) (asks_due due) by_moves framed)
 
-serial_quiet : {S A : Type 0} (scripts : Scripts S A) (t : ℕ) (site : Site S) (due : Due A) → AreByMoves scripts → AreLegal site.host
+serial_quiet : {S A : Type 0} (scripts : Scripts S A) (t : ℕ) (site : Site S) (due : Due A) → AreByMoves scripts
+    → AreLegal site.host
     → Each IsQuiet (serial_tick scripts t site due).host.flows
 unfolding serial_tick
 serial_quiet scripts t site due by_moves each =
     all_quiet t (after_asks scripts t site due).host.flows (asks_legal scripts t site due by_moves each)
 
 -- The serial tick is a right one,
-pub serial_round : {S A : Type 0} (scripts : Scripts S A) (t : ℕ) (due : Due A) (site : Site S) → AreByMoves scripts → AreLegal site.host
+pub serial_round : {S A : Type 0} (scripts : Scripts S A) (t : ℕ) (due : Due A) (site : Site S) → AreByMoves scripts
+    → AreLegal site.host
     → Round scripts t due site (serial_tick scripts t site due)
 serial_round scripts t due site by_moves each =
     record {
@@ -141,11 +154,16 @@ serial_round scripts t due site by_moves each =
     }
 
 -- and so are the serial ticks of a run.
-pub serial_rounds : {S A : Type 0} (scripts : Scripts S A) (t : ℕ) (site : Site S) (dues : List (Due A)) → AreByMoves scripts → AreLegal site.host
+pub serial_rounds : {S A : Type 0} (scripts : Scripts S A) (t : ℕ) (site : Site S) (dues : List (Due A))
+    → AreByMoves scripts → AreLegal site.host
     → Rounds scripts t dues site (serial_ticks scripts t site dues)
 unfolding serial_ticks
 serial_rounds scripts t site [] by_moves each = refl
 serial_rounds {S} scripts t site (due ∷ dues) by_moves each =
     let next : Site S = serial_tick scripts t site due in
-    let round : Round scripts t due site next = serial_round scripts t due site by_moves each in
-    (next, round, serial_rounds scripts (t + 1) next dues by_moves (round_kept scripts t due site next by_moves round each))
+    let round : Round scripts t due site next = serial_round scripts t due site by_moves each in (
+      next,
+      round,
+      serial_rounds scripts (t + 1) next dues by_moves
+          (round_kept scripts t due site next by_moves round each),
+    )

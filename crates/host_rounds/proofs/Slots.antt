@@ -1,23 +1,29 @@
 -- The lowest free slot, for programs that find it in another way.
-use Rattle.std.proofs.Common.{◌≡◌, ℕ, zero, suc, ◌+◌, ◌≤◌, ◌<◌, ◌==◌, Bool, true, false, List, Option, Some, None, refl, sym, ◌∙◌, ap, true≢false, arith, tests}
+use Rattle.std.proofs.Common.{◌≡◌, ℕ, zero, suc, ◌+◌, ◌≤◌, ◌<◌, ◌==◌, Bool, true, false, List, Option, Some, None, refl}
+use Rattle.std.proofs.Common.{sym, ◌∙◌, ap, true≢false, arith, tests}
 use Rattle.std.specs.List.{list_any}
 use Rattle.host_rounds.specs.Hosts.{Live, Host, is_in_slot, free_from, lowest_free}
 
 abbrev is_used : List Live → ℕ → Bool
 is_used ls slot = list_any (is_in_slot slot) ls
 
-lowest_from : (most slot found : ℕ) (ls : List Live) → slot ≤ found → found < slot + most → is_used ls found ≡ false → ((r : ℕ) → slot ≤ r → r < found → is_used ls r ≡ true) → free_from most slot ls ≡ Some found
+lowest_from : (most slot found : ℕ) (ls : List Live) → slot ≤ found → found < slot + most → is_used ls found ≡ false
+    → ((r : ℕ) → slot ≤ r → r < found → is_used ls r ≡ true) → free_from most slot ls ≡ Some found
 lowest_from zero slot found ls low high free used = absurd (omega arith)
 lowest_from (suc most) slot found ls low high free used =
-    by_used (is_used ls slot) refl (λ above. lowest_from most (slot + 1) found ls above (omega arith) free (λ r a b. used r (omega arith) b))
+    by_used (is_used ls slot) refl (λ above. lowest_from most (slot + 1) found ls above (omega arith) free
+    (λ r a b. used r (omega arith) b))
   where
     same_slot : is_used ls slot ≡ false → (slot == found) ≡ false → ⊥
-    same_slot h g = let lower : slot < found = grind (arith, tests, g, low) in true≢false (sym (used slot (omega arith) lower) ∙ h)
+    same_slot h g = let lower : slot < found = grind (arith, tests, g, low) in
+        true≢false (sym (used slot (omega arith) lower) ∙ h)
 
-    by_used : (b : Bool) → is_used ls slot ≡ b → (slot + 1 ≤ found → free_from most (slot + 1) ls ≡ Some found) → ◌≡◌ {A = Option ℕ} (elim b [ true ↦ free_from most (slot + 1) ls | false ↦ Some slot ]) (Some found)
+    by_used : (b : Bool) → is_used ls slot ≡ b → (slot + 1 ≤ found → free_from most (slot + 1) ls ≡ Some found)
+        → ◌≡◌ {A = Option ℕ} (elim b [ true ↦ free_from most (slot + 1) ls | false ↦ Some slot ]) (Some found)
     by_used true h rest = by_same (slot == found) refl where
       by_same : (c : Bool) → (slot == found) ≡ c → free_from most (slot + 1) ls ≡ Some found
-      by_same true g = let same : slot ≡ found = grind (arith, tests, g) in absurd (true≢false (sym h ∙ ap (is_used ls) same ∙ free))
+      by_same true g = let same : slot ≡ found = grind (arith, tests, g) in
+          absurd (true≢false (sym h ∙ ap (is_used ls) same ∙ free))
       by_same false g = let other : slot < found = grind (arith, tests, g, low) in rest (omega arith)
     by_used false h rest = by_same (slot == found) refl where
       by_same : (c : Bool) → (slot == found) ≡ c → ◌≡◌ {A = Option ℕ} (Some slot) (Some found)
@@ -25,16 +31,23 @@ lowest_from (suc most) slot found ls low high free used =
       by_same false g = absurd (same_slot h g)
 
 -- a free slot below which all are used is the lowest free one
-pub lowest_is : (host : Host) (slot : ℕ) → slot < host.params.slots → list_any (is_in_slot slot) host.flows ≡ false → ((r : ℕ) → r < slot → list_any (is_in_slot r) host.flows ≡ true) → lowest_free host ≡ Some slot
-lowest_is host slot below free used = lowest_from host.params.slots 0 slot host.flows (omega arith) (omega arith) free (λ r a b. used r b)
+pub lowest_is : (host : Host) (slot : ℕ) → slot < host.params.slots → list_any (is_in_slot slot) host.flows ≡ false
+    → ((r : ℕ) → r < slot → list_any (is_in_slot r) host.flows ≡ true) → lowest_free host ≡ Some slot
+lowest_is host slot below free used =
+    lowest_from host.params.slots 0 slot host.flows (omega arith) (omega arith) free (λ r a b. used r b)
 
-none_from : (most slot : ℕ) (ls : List Live) → ((r : ℕ) → slot ≤ r → r < slot + most → is_used ls r ≡ true) → free_from most slot ls ≡ None
+none_from : (most slot : ℕ) (ls : List Live) → ((r : ℕ) → slot ≤ r → r < slot + most → is_used ls r ≡ true)
+    → free_from most slot ls ≡ None
 none_from zero slot ls used = refl
-none_from (suc most) slot ls used = by_used (is_used ls slot) (used slot (omega arith) (omega arith)) (none_from most (slot + 1) ls (λ r a b. used r (omega arith) (omega arith))) where
-  by_used : (b : Bool) → b ≡ true → free_from most (slot + 1) ls ≡ None → ◌≡◌ {A = Option ℕ} (elim b [ true ↦ free_from most (slot + 1) ls | false ↦ Some slot ]) None
-  by_used true h rest = rest
-  by_used false h rest = absurd (true≢false (sym h))
+none_from (suc most) slot ls used =
+    by_used (is_used ls slot) (used slot (omega arith) (omega arith))
+    (none_from most (slot + 1) ls (λ r a b. used r (omega arith) (omega arith))) where
+      by_used : (b : Bool) → b ≡ true → free_from most (slot + 1) ls ≡ None
+          → ◌≡◌ {A = Option ℕ} (elim b [ true ↦ free_from most (slot + 1) ls | false ↦ Some slot ]) None
+      by_used true h rest = rest
+      by_used false h rest = absurd (true≢false (sym h))
 
 -- where all are used, none is free
-pub none_is : (host : Host) → ((r : ℕ) → r < host.params.slots → list_any (is_in_slot r) host.flows ≡ true) → lowest_free host ≡ None
+pub none_is : (host : Host) → ((r : ℕ) → r < host.params.slots → list_any (is_in_slot r) host.flows ≡ true)
+    → lowest_free host ≡ None
 none_is host used = none_from host.params.slots 0 host.flows (λ r a b. used r (omega arith))

@@ -7,7 +7,8 @@ use Rattle.tas_model.specs.NextSegment.{going}
 use Rattle.tas_model.specs.Timers.{ticks, control}
 use Rattle.tas_model.specs.LegalHistory.{step, replay}
 use Rattle.host_rounds.specs.SerialOrder.{serial_tick, serial_ticks}
-use Rattle.host_rounds.specs.WorkedTicks.{marks, ids, visited, visited_marks, visited_log, crowded, crowded_marks, crowded_ids, crowded_log}
+use Rattle.host_rounds.specs.WorkedTicks.{marks, ids, visited, visited_marks, visited_log, crowded, crowded_marks}
+use Rattle.host_rounds.specs.WorkedTicks.{crowded_ids, crowded_log}
 
 pub visited_is : marks visited ≡ visited_marks
 unfolding nearest rx rx_later rx_syn_sent going ticks control step replay serial_tick serial_ticks

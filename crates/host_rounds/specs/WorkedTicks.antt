@@ -1,4 +1,5 @@
--- Worked ticks: hosts without applications' calls, what comes to them, and what is left, told by hand from the standard and from the rules of a host.
+-- Worked ticks: hosts without applications' calls, what comes to them, and what is left, told by hand from the standard
+-- and from the rules of a host.
 use Rattle.std.specs.Prelude.{⊤, ℕ, ◌+◌, ◌*◌, ◌-◌, ◌%◌, ◌^◌, Bool, true, false, List, [], ◌∷◌, map, Option, Some, None}
 use Rattle.tas_model.specs.declared.entry.HostParams.{HostParams}
 use Rattle.tas_model.specs.declared.entry.FourTuple.{FourTuple}
@@ -60,7 +61,16 @@ ticks_of frames = map (λ (xs : List Arrival). record { frames = xs; asks = [] }
 abbrev pub with_slots : (slots : ℕ) (fixed : Bool) → Host
 with_slots slots fixed =
     record {
-      params = record { addr = here; iss = 100; ring = 1024; mss = 1460; rto = 20; slots = slots; backlog = 1; fixed = fixed };
+      params = record {
+        addr = here;
+        iss = 100;
+        ring = 1024;
+        mss = 1460;
+        rto = 20;
+        slots = slots;
+        backlog = 1;
+        fixed = fixed;
+      };
       listeners = (record { port = 80; app = 3 }) ∷ [];
       log = [];
       flows = [];
@@ -113,8 +123,10 @@ abbrev pub stray : (k : ℕ) → FourTuple → Head → (answer : Option Head) �
 stray k tuple h answer = events.Stray (frame k) tuple (record { head = h; bytes = [] }) answer
 
 -- ----- a listener with a backlog of one
--- At tick 8 a SYN opens a flow and a second one finds the backlog full. Then come, of no flow: a SYN and a reset to a port where nobody listens, an acknowledgement to the listener,
--- and a packet with a wrong checksum. The handshake ends at tick 9; data comes at tick 10, in which the rate is controlled, and the peer's end at tick 11.
+-- At tick 8 a SYN opens a flow and a second one finds the backlog full. Then come, of no flow: a SYN and a reset to a
+-- port where nobody listens, an acknowledgement to the listener,
+-- and a packet with a wrong checksum. The handshake ends at tick 9; data comes at tick 10, in which the rate is
+-- controlled, and the peer's end at tick 11.
 abbrev pub visited : Host
 visited =
     after 8 (with_slots 4 false) (
@@ -152,15 +164,18 @@ visited_marks =
 abbrev pub visited_log : List LogLine
 visited_log =
     at 8 (events.Dropped (frame 2) true)
-    ∷ at 8 (stray 3 (from_port 1002 81) (head 2 500 0) (Some (record { flags = 20; seq = seq_at 0 0; ack = seq_at 0 501; window = 0; mss = None })))
+    ∷ at 8 (stray 3 (from_port 1002 81) (head 2 500 0)
+    (Some (record { flags = 20; seq = seq_at 0 0; ack = seq_at 0 501; window = 0; mss = None })))
     ∷ at 8 (stray 4 (from_port 1003 81) (head 4 500 0) None)
-    ∷ at 8 (stray 5 (from_port 1004 80) (head 16 7 900) (Some (record { flags = 4; seq = seq_at 0 900; ack = seq_at 0 0; window = 0; mss = None })))
+    ∷ at 8 (stray 5 (from_port 1004 80) (head 16 7 900)
+    (Some (record { flags = 4; seq = seq_at 0 900; ack = seq_at 0 0; window = 0; mss = None })))
     ∷ at 8 (events.Refused (frame 6) 9)
     ∷ at 11 (events.Dropped (frame 10) true)
     ∷ []
 
 -- ----- one slot, and every port listens
--- At tick 20 a SYN takes the slot, and a second one finds none. At tick 21 the peer resets the connection; a SYN of the same four-tuple still goes to the closed flow, and another one
+-- At tick 20 a SYN takes the slot, and a second one finds none. At tick 21 the peer resets the connection; a SYN of the
+-- same four-tuple still goes to the closed flow, and another one
 -- finds no slot. At tick 22 the slot is free again.
 abbrev pub crowded : Host
 crowded =

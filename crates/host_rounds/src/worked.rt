@@ -1,7 +1,9 @@
 ghost use Rattle.std.specs.Prelude.{◌≡◌};
-ghost use Rattle.host_rounds.specs.WorkedTicks.{marks, ids, visited, visited_marks, visited_log, crowded, crowded_marks, crowded_ids, crowded_log};
+ghost use Rattle.host_rounds.specs.WorkedTicks.{marks, ids, visited, visited_marks, visited_log, crowded};
+ghost use Rattle.host_rounds.specs.WorkedTicks.{crowded_marks, crowded_ids, crowded_log};
 
-/// Ticks in serial order that were worked by hand: who enters what and when, what the log says, and which slots are given.
+/// Ticks in serial order that were worked by hand: who enters what and when, what the log says, and which slots are
+/// given.
 pub fn worked_ticks()
     // A listener with a backlog of one, and segments of no flow.
     ensures visited { marks visited ≡ visited_marks }

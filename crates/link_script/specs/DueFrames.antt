@@ -1,5 +1,6 @@
 -- The frames that are due in a tick: which ones, in which order, and what became of them on their way.
-use Rattle.std.specs.Prelude.{ℕ, Bool, true, false, not, ◌&&◌, ◌||◌, ◌==◌, ◌%◌, ◌-◌, ◌+◌, nat_le, List, [], ◌∷◌, Option, Some, None, if◌then◌else◌, length, filter, nat_lt, slice_set, slice_index}
+use Rattle.std.specs.Prelude.{ℕ, Bool, true, false, not, ◌&&◌, ◌||◌, ◌==◌, ◌%◌, ◌-◌, ◌+◌, nat_le, List, [], ◌∷◌, Option}
+use Rattle.std.specs.Prelude.{Some, None, if◌then◌else◌, length, filter, nat_lt, slice_set, slice_index}
 use Rattle.std.specs.List.{flat_map}
 use Rattle.std.specs.declared.cmp.Ordering.{Ordering}
 use Rattle.std.specs.Ordering.{ordering_then, nat_cmp, is_lt}
@@ -12,7 +13,8 @@ use Rattle.link_script.specs.declared.frames.Sent.{Sent}
 -- ----- what the lines do to a frame
 -- the line on a frame, where there is one; a number above 4,294,967,294 meets none
 abbrev pub act_on : LinkLines → FrameId → Option LinkAct
-act_on lines id = if nat_le id.number 4294967294 then line_on lines (record { host = id.host; flow = id.flow; number = id.number }) else None
+act_on lines id = if nat_le id.number 4294967294
+    then line_on lines (record { host = id.host; flow = id.flow; number = id.number }) else None
 
 -- a frame is lost by its host's line where it is of a flow, and its number is k - 1, 2k - 1 and so on; k is at least 1
 abbrev pub is_kth : (k : Option ℕ) → FrameId → Bool
@@ -35,7 +37,8 @@ delay_by _ = 0
 
 -- a packet with all bits of the byte at this place inverted, where it has one
 abbrev pub inverted : (packet : List ℕ) → (place : ℕ) → List ℕ
-inverted packet place = if nat_lt place (length packet) then slice_set packet place (255 - slice_index packet place) else packet
+inverted packet place = if nat_lt place (length packet) then slice_set packet place (255 - slice_index packet place)
+    else packet
 
 -- how a frame comes that is not lost: as it is, twice, or with a byte inverted
 abbrev pub copies_under : Option LinkAct → Sent → List Sent
@@ -55,7 +58,8 @@ coming_of lines tick f = if is_due lines tick f then copies_under (act_on lines 
 -- ----- their order
 -- by tick of emission, then by host, flow, number and copy; frames of no flow have the highest number as their flow
 abbrev pub due_cmp : Sent → Sent → Ordering
-due_cmp a b = ordering_then (nat_cmp a.tick b.tick) (ordering_then (nat_cmp a.id.host b.id.host) (ordering_then (nat_cmp a.id.flow b.id.flow)
+due_cmp a b = ordering_then (nat_cmp a.tick b.tick)
+    (ordering_then (nat_cmp a.id.host b.id.host) (ordering_then (nat_cmp a.id.flow b.id.flow)
     (ordering_then (nat_cmp a.id.number b.id.number) (nat_cmp a.id.copy b.id.copy))))
 
 abbrev pub goes_before : Sent → Sent → Bool
@@ -78,4 +82,5 @@ due lines sent tick = in_due_order (flat_map (coming_of lines tick) sent)
 -- what comes in a tick of the frames that were sent so many ticks earlier, and one
 abbrev pub coming_after : LinkLines → (sent : List Sent) → (tick delay : ℕ) → List Sent
 coming_after lines sent tick delay =
-    if nat_le (delay + 1) tick then flat_map (coming_of lines tick) (filter (λ (f : Sent). f.tick == tick - delay - 1) sent) else []
+    if nat_le (delay + 1) tick then flat_map (coming_of lines tick)
+    (filter (λ (f : Sent). f.tick == tick - delay - 1) sent) else []

@@ -1,5 +1,6 @@
 -- The lines of a link: what they say, and how they are kept.
-use Rattle.std.specs.Prelude.{◌≡◌, ◌<◌, ◌≤◌, ℕ, Bool, true, false, not, ◌&&◌, ◌||◌, ◌==◌, ◌%◌, ◌-◌, ◌+◌, nat_le, List, [], ◌∷◌, ◌++◌, Option, Some, None, if◌then◌else◌, Contains, All}
+use Rattle.std.specs.Prelude.{◌≡◌, ◌<◌, ◌≤◌, ℕ, Bool, true, false, not, ◌&&◌, ◌||◌, ◌==◌, ◌%◌, ◌-◌, ◌+◌, nat_le, List}
+use Rattle.std.specs.Prelude.{[], ◌∷◌, ◌++◌, Option, Some, None, if◌then◌else◌, Contains, All}
 use Rattle.std.specs.declared.cmp.Ordering.{Ordering}
 use Rattle.std.specs.Ordering.{ordering_then, nat_cmp, is_eq}
 use Rattle.std.specs.Map.{lookup}
@@ -23,7 +24,8 @@ no_lines = record { acts = []; drops = [] }
 
 -- the order of the lines on single frames: by host, then by flow, then by number
 abbrev pub target_cmp : Target → Target → Ordering
-target_cmp a b = ordering_then (nat_cmp a.host b.host) (ordering_then (nat_cmp a.flow b.flow) (nat_cmp a.number b.number))
+target_cmp a b = ordering_then (nat_cmp a.host b.host)
+    (ordering_then (nat_cmp a.flow b.flow) (nat_cmp a.number b.number))
 
 -- the line on this frame, where there is one
 abbrev pub line_on : LinkLines → Target → Option LinkAct
@@ -44,7 +46,8 @@ drop_each_of drops host = option_map (λ (d : DropEach). d.k) (find (λ (d : Dro
 -- Every delay of a line is in the set, and so is 0, which is the delay of all other frames.
 pub record HasDelays (lines : BTreeMap Target LinkAct) (delays : BTreeSet ℕ) : Type 0 where
   pub none : contains nat_cmp delays 0 ≡ true
-  pub each : (target : Target) (ticks : ℕ) → get target_cmp lines target ≡ Some (acts.Delay ticks) → contains nat_cmp delays ticks ≡ true
+  pub each : (target : Target) (ticks : ℕ) → get target_cmp lines target ≡ Some (acts.Delay ticks)
+      → contains nat_cmp delays ticks ≡ true
 
 -- The second set has all that the first one has, and the delay of this act.
 pub record TakesDelay (before after : BTreeSet ℕ) (act : LinkAct) : Type 0 where
@@ -54,4 +57,5 @@ pub record TakesDelay (before after : BTreeSet ℕ) (act : LinkAct) : Type 0 whe
 -- the same of the lines as contracts see them
 pub record AreDelays (lines : LinkLines) (delays : BTreeSet ℕ) : Type 0 where
   pub none : contains nat_cmp delays 0 ≡ true
-  pub each : (target : Target) (ticks : ℕ) → line_on lines target ≡ Some (acts.Delay ticks) → contains nat_cmp delays ticks ≡ true
+  pub each : (target : Target) (ticks : ℕ) → line_on lines target ≡ Some (acts.Delay ticks)
+      → contains nat_cmp delays ticks ≡ true

@@ -21,8 +21,10 @@ struct Turn {
     copy: u32,
 }
 
-/// The frames that are due in a tick, of those that were sent: a frame of the tick before, but for what the lines do to it. They stand by tick of emission, then by host, flow, number and copy.
-/// The error is want of memory. It looks at the frames alone that were sent one tick earlier, or earlier by a delay that a line has.
+/// The frames that are due in a tick, of those that were sent: a frame of the tick before, but for what the lines do to
+/// it. They stand by tick of emission, then by host, flow, number and copy.
+/// The error is want of memory. It looks at the frames alone that were sent one tick earlier, or earlier by a delay
+/// that a line has.
 pub fn due(
     alloc: Global,
     script: &LinkScript,
@@ -36,7 +38,8 @@ pub fn due(
     Ok(DueList::of(frames))
 }
 
-/// What comes in a tick of the frames that were sent earlier by one of these delays, and one. The error is want of memory.
+/// What comes in a tick of the frames that were sent earlier by one of these delays, and one. The error is want of
+/// memory.
 fn coming(
     alloc: Global,
     script: &LinkScript,
@@ -44,7 +47,8 @@ fn coming(
     tick: u32,
     delays: &BTreeSet<u32>,
 ) -> Result<Vec<Sent>, AllocError>
-    ensures frames { IfOk result (λ frames. frames.items ≡ flat_map (coming_after script.now emitted.now tick) delays.now.keys) }
+    ensures frames { IfOk result (λ frames. frames.items
+        ≡ flat_map (coming_after script.now emitted.now tick) delays.now.keys) }
     ensures delays { OnOk result (IsStrictlySortedBy nat_cmp delays.now.keys) }
 {
     let mut frames = Vec::new(alloc);
@@ -56,7 +60,13 @@ fn coming(
 
 /// Where a frame stands among those that are due.
 fn turn_of(frame: &Sent) -> Turn
-    ensures { result ≡ record { tick = frame.now.tick; host = frame.now.id.host; flow = frame.now.id.flow; number = frame.now.id.number; copy = frame.now.id.copy } }
+    ensures { result ≡ record {
+      tick = frame.now.tick;
+      host = frame.now.id.host;
+      flow = frame.now.id.flow;
+      number = frame.now.id.number;
+      copy = frame.now.id.copy;
+    } }
 {
     Turn {
         tick: frame.tick,
@@ -145,7 +155,8 @@ fn copy_of(alloc: Global, frame: &Sent, copy: u32) -> Result<Sent, AllocError>
     })
 }
 
-/// A copy of a frame, with all bits of the packet's byte at a place inverted, where it has one. The error is want of memory.
+/// A copy of a frame, with all bits of the packet's byte at a place inverted, where it has one. The error is want of
+/// memory.
 fn corrupted(alloc: Global, frame: &Sent, place: u32) -> Result<Sent, AllocError>
     ensures { IfOk result (λ s. s ≡ record (frame.now) { packet = inverted frame.now.packet place }) }
 {

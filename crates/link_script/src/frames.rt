@@ -1,5 +1,6 @@
 ghost use Rattle.std.specs.List.Sorted.{IsPartitionPoint, IsNonDecreasingBy};
-ghost use Rattle.std.specs.Prelude.{◌≡◌, ◌<◌, ◌≤◌, nat_le, nat_lt, true, false, ◌++◌, ◌∷◌, [], length, slice_get, filter, ◌==◌, Some, OnOk, OnErr};
+ghost use Rattle.std.specs.Prelude.{◌≡◌, ◌<◌, ◌≤◌, nat_le, nat_lt, true, false, ◌++◌, ◌∷◌, [], length, slice_get};
+ghost use Rattle.std.specs.Prelude.{filter, ◌==◌, Some, OnOk, OnErr};
 ghost use Rattle.link_script.specs.Emitted.{behind_earlier};
 ghost use Rattle.link_script.specs.declared.frames.Sent.{Sent};
 
@@ -44,7 +45,8 @@ impl SentList {
         }
     }
 
-    /// Puts a frame behind all that were sent no later, which are all of them where ticks don't fall. The error is want of memory, and leaves the list as it was.
+    /// Puts a frame behind all that were sent no later, which are all of them where ticks don't fall. The error is want
+    /// of memory, and leaves the list as it was.
     pub fn push(&mut self, s: Sent) -> Result<(), AllocError>
         ensures ok { OnOk result (self.new ≡ behind_earlier self.old s) }
         ensures err { OnErr result (self.new ≡ self.old) }
@@ -90,7 +92,8 @@ fn of_tick(frames: &[Sent], tick: u32) -> &[Sent]
 fn count_before(frames: &[Sent], tick: u32) -> usize
     requires { IsNonDecreasingBy (λ (f : Sent). f.tick) frames.now }
     ensures bound { result ≤ length frames.now }
-    ensures parts { IsPartitionPoint (λ (f : Sent). nat_lt f.tick tick ≡ true) (λ (f : Sent). nat_lt f.tick tick ≡ false) frames.now result }
+    ensures parts { IsPartitionPoint (λ (f : Sent). nat_lt f.tick tick ≡ true)
+        (λ (f : Sent). nat_lt f.tick tick ≡ false) frames.now result }
 {
     frames.partition_point(|frame| frame.tick < tick)
 }
@@ -99,7 +102,8 @@ fn count_before(frames: &[Sent], tick: u32) -> usize
 fn count_until(frames: &[Sent], tick: u32) -> usize
     requires { IsNonDecreasingBy (λ (f : Sent). f.tick) frames.now }
     ensures bound { result ≤ length frames.now }
-    ensures parts { IsPartitionPoint (λ (f : Sent). nat_le f.tick tick ≡ true) (λ (f : Sent). nat_le f.tick tick ≡ false) frames.now result }
+    ensures parts { IsPartitionPoint (λ (f : Sent). nat_le f.tick tick ≡ true)
+        (λ (f : Sent). nat_le f.tick tick ≡ false) frames.now result }
 {
     frames.partition_point(|frame| frame.tick <= tick)
 }

@@ -1,6 +1,7 @@
 ghost use Rattle.std.specs.Prelude.{◌≡◌, IsNone, IfOk, OnOk, OnErr};
 ghost use Rattle.link_script.specs.DueFrames.{act_on, is_kth};
-ghost use Rattle.link_script.specs.LinkLines.{no_lines, line_on, drop_each_of, with_act, with_drop_each, TakesDelay, AreDelays};
+ghost use Rattle.link_script.specs.LinkLines.{no_lines, line_on, drop_each_of, with_act, with_drop_each, TakesDelay};
+ghost use Rattle.link_script.specs.LinkLines.{AreDelays};
 
 use std::alloc::{AllocError, Global};
 use std::collections::{BTreeMap, BTreeSet};
@@ -10,7 +11,8 @@ use tas_model::{FrameId, NO_FLOW};
 /// The highest number of a frame that a line can name.
 const MOST_NUMBER: u64 = 4_294_967_294;
 
-/// A frame that a line names: the host that sends it, the opening number of the flow on that host, and the frame's number in the flow, all from 0 on.
+/// A frame that a line names: the host that sends it, the opening number of the flow on that host, and the frame's
+/// number in the flow, all from 0 on.
 #[derive(Clone, Copy, PartialEq, Eq, PartialOrd, Ord, Debug)]
 pub struct Target {
     pub host: u32,
@@ -73,7 +75,8 @@ impl LinkScript {
     /// A line on one frame, which has none yet. The error is want of memory, and leaves the link as it was.
     pub fn add(&mut self, host: u32, flow: u32, number: u32, act: LinkAct) -> Result<(), AllocError>
         requires { IsNone (line_on self.old (record { host = host; flow = flow; number = number })) }
-        ensures ok { OnOk result (self.new ≡ with_act self.old (record { host = host; flow = flow; number = number }) act) }
+        ensures ok { OnOk result (self.new ≡ with_act self.old
+            (record { host = host; flow = flow; number = number }) act) }
         ensures err { OnErr result (self.new ≡ self.old) }
     {
         take_delay(&mut self.delays, act)?;
@@ -81,7 +84,8 @@ impl LinkScript {
         Ok(())
     }
 
-    /// A line by which each `k`-th frame of each flow of the host is lost, and none where `k` is 0; the host has no such line yet. The error is want of memory, and leaves the link as it was.
+    /// A line by which each `k`-th frame of each flow of the host is lost, and none where `k` is 0; the host has no
+    /// such line yet. The error is want of memory, and leaves the link as it was.
     pub fn drop_each(&mut self, host: u32, k: u32) -> Result<(), AllocError>
         requires { IsNone (drop_each_of self.old.drops host) }
         ensures ok { OnOk result (self.new ≡ with_drop_each self.old host k) }

@@ -1,4 +1,5 @@
--- What a ring holds of a stream of bytes: a window of fixed size on it, of whose cells each has one byte at any time. A place is the number of a byte in the stream.
+-- What a ring holds of a stream of bytes: a window of fixed size on it, of whose cells each has one byte at any time. A
+-- place is the number of a byte in the stream.
 use Rattle.std.specs.Prelude.{◌≡◌, ℕ, ◌+◌, ◌-◌, ◌^◌, ◌<◌, ◌≤◌, List, ◌++◌, length, take, drop}
 
 pub record Window : Type 0 where

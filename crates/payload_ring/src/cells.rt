@@ -1,4 +1,5 @@
-ghost use Rattle.std.specs.Prelude.{◌≡◌, ℕ, ◌+◌, ◌-◌, ◌^◌, ◌<◌, ◌≤◌, ◌++◌, length, take, drop, replicate, vec_len, vec_capacity, IfOk};
+ghost use Rattle.std.specs.Prelude.{◌≡◌, ℕ, ◌+◌, ◌-◌, ◌^◌, ◌<◌, ◌≤◌, ◌++◌, length, take, drop, replicate, vec_len};
+ghost use Rattle.std.specs.Prelude.{vec_capacity, IfOk};
 ghost use Rattle.payload_ring.specs.Window.{overlaid};
 ghost use Rattle.payload_ring.specs.Turned.{turned};
 
@@ -8,7 +9,8 @@ use std::marker::Model;
 
 /// Cells of a byte each, seen as their list. They are zero at first.
 ///
-/// Their memory is taken once. A cell is written to only once it is used, or one behind it: memory that is never touched costs a machine nothing.
+/// Their memory is taken once. A cell is written to only once it is used, or one behind it: memory that is never
+/// touched costs a machine nothing.
 #[derive(Drop)]
 pub struct Cells {
     /// The first cells. Those behind them are zero.

@@ -3,7 +3,8 @@ ghost use Rattle.std.specs.Prelude.{◌≡◌, ◌+◌, ◌-◌, ◌≤◌, ◌+
 /// How many zeros are written at a time.
 const PIECE: usize = 4096;
 
-/// Writes zeros behind the bytes until there are `end` bytes, for which there is room. Where there are as many already, nothing changes.
+/// Writes zeros behind the bytes until there are `end` bytes, for which there is room. Where there are as many already,
+/// nothing changes.
 pub fn fill_with_zeros(bytes: &mut Vec<u8>, end: usize)
     requires { end ≤ vec_capacity bytes.old }
     ensures items { bytes.new.items ≡ bytes.old.items ++ replicate (end - vec_len bytes.old) 0 }

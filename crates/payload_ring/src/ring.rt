@@ -7,7 +7,9 @@ use std::marker::Model;
 
 /// A window of fixed size on a stream of bytes, in memory that is taken once.
 ///
-/// A place is the number of a byte in the stream. The bytes from `base` to below `end` stand in order; those ahead of them, up to below `base + size`, can be placed before the ones between have come. So it serves as a flow's send buffer, and as its receive buffer for segments that come out of order (RFC 9293, section 3.10.7.4).
+/// A place is the number of a byte in the stream. The bytes from `base` to below `end` stand in order; those ahead of
+/// them, up to below `base + size`, can be placed before the ones between have come. So it serves as a flow's send
+/// buffer, and as its receive buffer for segments that come out of order (RFC 9293, section 3.10.7.4).
 #[derive(Drop)]
 pub struct Ring {
     cells: Cells,
@@ -33,7 +35,8 @@ impl Model for Ring {
       ahead = drop r.len (turned r.start r.cells);
     } };
 
-    ghost invariant = { λ r. (r.start < length r.cells) × (r.len ≤ length r.cells) × (length r.cells ≤ 1048576) × (r.base + r.len < 2 ^ 127) };
+    ghost invariant = { λ r. (r.start < length r.cells) × (r.len ≤ length r.cells) × (length r.cells ≤ 1048576)
+        × (r.base + r.len < 2 ^ 127) };
 }
 
 impl Ring {
@@ -41,7 +44,12 @@ impl Ring {
     pub fn new(alloc: Global, size: u32) -> Result<Ring, AllocError>
         requires some { 1 ≤ size }
         requires limit { size ≤ 1048576 }
-        ensures empty { IfOk result (λ ring. ring ≡ record { size = size; base = 0; bytes = []; ahead = replicate size 0 }) }
+        ensures empty { IfOk result (λ ring. ring ≡ record {
+          size = size;
+          base = 0;
+          bytes = [];
+          ahead = replicate size 0;
+        }) }
         ensures window { IfOk result (λ ring. IsWindow ring) }
     {
         Ok(Ring {
@@ -97,7 +105,8 @@ impl Ring {
         requires from { self.old.base ≤ pos }
         requires below { pos + length bytes.now ≤ self.old.base + self.old.size }
         ensures cells { self.new ≡ with_cells (overlaid (pos - self.old.base) bytes.now (cells_of self.old)) self.old }
-        ensures ahead { end_of self.old ≤ pos → self.new ≡ record self.old { ahead = overlaid (pos - end_of self.old) bytes.now self.old.ahead } }
+        ensures ahead { end_of self.old ≤ pos
+            → self.new ≡ record self.old { ahead = overlaid (pos - end_of self.old) bytes.now self.old.ahead } }
     {
         let at = (pos - self.base) as usize;
         self.cells.put_round(self.start, at, bytes);
@@ -107,7 +116,10 @@ impl Ring {
     pub fn append(&mut self, bytes: &[u8])
         requires room { length bytes.now ≤ room_of self.old }
         requires far { end_of self.old + length bytes.now < 2 ^ 127 }
-        ensures { self.new ≡ record self.old { bytes = self.old.bytes ++ bytes.now; ahead = drop (length bytes.now) self.old.ahead } }
+        ensures { self.new ≡ record self.old {
+          bytes = self.old.bytes ++ bytes.now;
+          ahead = drop (length bytes.now) self.old.ahead;
+        } }
     {
         self.cells.put_round(self.start, self.len as usize, bytes);
         self.len += bytes.len() as u32;
@@ -117,7 +129,10 @@ impl Ring {
     pub fn advance(&mut self, n: u32)
         requires room { n ≤ room_of self.old }
         requires far { end_of self.old + n < 2 ^ 127 }
-        ensures { self.new ≡ record self.old { bytes = self.old.bytes ++ take n self.old.ahead; ahead = drop n self.old.ahead } }
+        ensures { self.new ≡ record self.old {
+          bytes = self.old.bytes ++ take n self.old.ahead;
+          ahead = drop n self.old.ahead;
+        } }
     {
         self.len += n;
     }
@@ -125,7 +140,11 @@ impl Ring {
     /// Lets the first `n` bytes go. Their cells become the last ones ahead.
     pub fn drop_front(&mut self, n: u32)
         requires { n ≤ length self.old.bytes }
-        ensures { self.new ≡ record self.old { base = self.old.base + n; bytes = drop n self.old.bytes; ahead = self.old.ahead ++ take n self.old.bytes } }
+        ensures { self.new ≡ record self.old {
+          base = self.old.base + n;
+          bytes = drop n self.old.bytes;
+          ahead = self.old.ahead ++ take n self.old.bytes;
+        } }
     {
         self.start = index_of(self.cells.len(), self.start, n as usize);
         self.base += u128::from(n);
@@ -137,8 +156,10 @@ impl Ring {
         requires from { self.now.base ≤ pos }
         requires below { pos + length buf.old ≤ self.now.base + self.now.size }
         ensures cells { buf.new ≡ take (length buf.old) (drop (pos - self.now.base) (cells_of self.now)) }
-        ensures in_order { pos + length buf.old ≤ end_of self.now → buf.new ≡ take (length buf.old) (drop (pos - self.now.base) self.now.bytes) }
-        ensures ahead { end_of self.now ≤ pos → buf.new ≡ take (length buf.old) (drop (pos - end_of self.now) self.now.ahead) }
+        ensures in_order { pos + length buf.old ≤ end_of self.now
+            → buf.new ≡ take (length buf.old) (drop (pos - self.now.base) self.now.bytes) }
+        ensures ahead { end_of self.now ≤ pos
+            → buf.new ≡ take (length buf.old) (drop (pos - end_of self.now) self.now.ahead) }
     {
         let at = (pos - self.base) as usize;
         self.cells.copy_round(self.start, at, buf);

@@ -1,4 +1,5 @@
-ghost use Rattle.std.specs.Prelude.{◌≡◌, ℕ, ◌+◌, ◌<◌, ◌≤◌, ◌↔◌, Some, None, Ok, Err, IsOkAnd, IsNone, IfOk, IfErr, IfSome, IfNone, length, drop, option_copied};
+ghost use Rattle.std.specs.Prelude.{◌≡◌, ℕ, ◌+◌, ◌<◌, ◌≤◌, ◌↔◌, Some, None, Ok, Err, IsOkAnd, IsNone, IfOk, IfErr};
+ghost use Rattle.std.specs.Prelude.{IfSome, IfNone, length, drop, option_copied};
 ghost use Rattle.tas_num.specs.Captures.{form_of, form_by, nanos_by, first_record, packet_of, is_ipv4_frame};
 ghost use Rattle.pcap_frames.specs.Views.{fault_in, form_in, next_in, record_in};
 
@@ -53,7 +54,8 @@ fn header_by(bytes: &[u8], big: bool, nanos: bool) -> Result<CaptureHeader, Pcap
     Ok(CaptureHeader { big, nanos, link })
 }
 
-/// The record that begins at the place `at` of a capture's bytes, named by `number`; none at their end (draft-ietf-opsawg-pcap, section 5).
+/// The record that begins at the place `at` of a capture's bytes, named by `number`; none at their end
+/// (draft-ietf-opsawg-pcap, section 5).
 /// It is refused with `CutShort` or `TooLong`, as the grammar of captures says of the bytes from `at` on.
 #[tactic(auto, unfolding(tas_num::specs::Captures::first_record))]
 pub fn next_record<'a>(
@@ -64,10 +66,15 @@ pub fn next_record<'a>(
 ) -> Result<Option<RecordView<'a>>, PcapRefused>
     requires { at ≤ length bytes.now }
     ensures ended { IsOkAnd result (λ found. IsNone found) ↔ (at ≡ length bytes.now) }
-    ensures none { IfOk result (λ found. IfNone found (first_record (form_in header.now) number (drop at bytes.now) ≡ Ok None)) }
-    ensures found { IfOk result (λ found. IfSome found (λ view. first_record (form_in header.now) number (drop at bytes.now) ≡ Ok (Some (next_in bytes.now view)))) }
-    ensures refused { IfErr result (λ fault. first_record (form_in header.now) number (drop at bytes.now) ≡ Err (fault_in fault)) }
-    ensures next { IfOk result (λ found. IfSome found (λ view. (at + 16 ≤ view.next) × (view.next ≤ length bytes.now))) }
+    ensures none { IfOk result (λ found. IfNone found
+        (first_record (form_in header.now) number (drop at bytes.now) ≡ Ok None)) }
+    ensures found { IfOk result
+        (λ found. IfSome found (λ view. first_record (form_in header.now) number (drop at bytes.now)
+        ≡ Ok (Some (next_in bytes.now view)))) }
+    ensures refused { IfErr result (λ fault. first_record (form_in header.now) number (drop at bytes.now)
+        ≡ Err (fault_in fault)) }
+    ensures next { IfOk result (λ found. IfSome found (λ view. (at + 16 ≤ view.next)
+        × (view.next ≤ length bytes.now))) }
 {
     let rest = &bytes[at..];
     if rest.is_empty() {
@@ -92,7 +99,8 @@ pub fn next_record<'a>(
     }))
 }
 
-/// The packet in a record of a capture with this header. None where the record is passed over: its packet wasn't captured whole, or it is of an Ethernet type
+/// The packet in a record of a capture with this header. None where the record is passed over: its packet wasn't
+/// captured whole, or it is of an Ethernet type
 /// other than IPv4.
 pub fn packet<'a>(header: &CaptureHeader, view: &RecordView<'a>) -> Option<&'a [u8]>
     ensures packet { IfSome result (λ packet. packet_of (form_in header.now) (record_in view.now) ≡ Some packet.now) }

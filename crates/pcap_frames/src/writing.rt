@@ -10,7 +10,8 @@ pub fn write_header(buf: &mut [u8; 24])
     ];
 }
 
-/// Writes what stands before a whole packet of `len` bytes: its time, `tick` in seconds with no fraction, and its length twice.
+/// Writes what stands before a whole packet of `len` bytes: its time, `tick` in seconds with no fraction, and its
+/// length twice.
 pub fn write_record_head(tick: u32, len: u32, buf: &mut [u8; 16])
     ensures { buf.new ≡ record_head tick len }
 {

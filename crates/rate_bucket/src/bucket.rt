@@ -3,7 +3,8 @@ ghost use Rattle.tas_num.specs.Control.{refill};
 
 /// A bucket of tokens, of which each is the leave to send one byte.
 ///
-/// It limits the rate: in any stretch of time a flow sends at most the depth and what the ticks added. All three numbers are bytes.
+/// It limits the rate: in any stretch of time a flow sends at most the depth and what the ticks added. All three
+/// numbers are bytes.
 #[derive(Clone, Copy, PartialEq, Eq, Debug)]
 pub struct Bucket {
     /// How many bytes may be sent now.
@@ -43,7 +44,8 @@ impl Bucket {
         self.tokens -= n;
     }
 
-    /// Fits the bucket to a congestion window of `cwnd` bytes and a send MSS of `smss` bytes. Tokens past the new depth are lost.
+    /// Fits the bucket to a congestion window of `cwnd` bytes and a send MSS of `smss` bytes. Tokens past the new depth
+    /// are lost.
     pub fn resize(&mut self, cwnd: u32, smss: u16)
         ensures sized { self.new ≡ record { tokens = min self.old.tokens cwnd; depth = cwnd; fill = refill smss cwnd } }
         ensures within { self.new.tokens ≤ self.new.depth }

@@ -14,7 +14,8 @@ pub struct Counters {
     pub flight: u32,
 }
 
-/// The congestion window and the slow start threshold after one interval of control, in bytes (RFC 5681, sections 3.1 and 3.2).
+/// The congestion window and the slow start threshold after one interval of control, in bytes (RFC 5681, sections 3.1
+/// and 3.2).
 pub fn interval(c: &Counters, smss: u16, cwnd: u32, ssthresh: u32) -> (u32, u32)
     requires { 0 < cwnd }
     ensures cwnd { result.0 ≡ cwnd_after c.now.acked c.now.fast c.now.timeouts c.now.flight smss cwnd ssthresh }
@@ -38,7 +39,8 @@ fn halved(flight: u32, smss: u16) -> u32
     (flight / 2).max(2 * u32::from(smss)).min(65_535)
 }
 
-/// The congestion window after `acked` bytes were acknowledged and none was lost: slow start below the threshold, and congestion avoidance from it on.
+/// The congestion window after `acked` bytes were acknowledged and none was lost: slow start below the threshold, and
+/// congestion avoidance from it on.
 fn grown(acked: u32, smss: u16, cwnd: u32, ssthresh: u32) -> u32
     requires { 0 < cwnd }
     ensures { result ≡ cwnd_after acked 0 0 0 smss cwnd ssthresh }

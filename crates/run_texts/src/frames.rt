@@ -151,7 +151,8 @@ fn add_stretch<'a>(
     tuple: FourTuple,
     stretch: StretchView<'a>,
 ) -> Result<(), AllocError>
-    ensures { OnOk result (map seen_frame frames.new.items ≡ map seen_frame frames.old.items ++ flat_map (entry_frames tuple) (seen_stretch stretch.entry)) }
+    ensures { OnOk result (map seen_frame frames.new.items ≡ map seen_frame frames.old.items
+        ++ flat_map (entry_frames tuple) (seen_stretch stretch.entry)) }
 {
     match stretch {
         StretchView::One(entry) => add_entry(frames, tuple, entry),

@@ -22,7 +22,8 @@ pub fn write_stretch<K: Sink>(
     stretch: &StretchView<'_>,
 ) -> Result<(), IoFault>
     requires { IsFit stretch.now }
-    ensures { Writes (K.state sink.old) writer.old result (K.state sink.new) writer.new (entries_text (map (λ n. n.now) names.now) (seen_stretch stretch.now)) }
+    ensures { Writes (K.state sink.old) writer.old result (K.state sink.new) writer.new
+        (entries_text (map (λ n. n.now) names.now) (seen_stretch stretch.now)) }
 {
     match stretch {
         StretchView::One(entry) => write_entry(writer, sink, names, entry),
@@ -33,7 +34,9 @@ pub fn write_stretch<K: Sink>(
 /// Writes the lines of a run of quiet ticks.
 fn write_run<K: Sink>(writer: &mut Writer, sink: &mut K, run: &QuietRun) -> Result<(), IoFault>
     requires { IsRun run.now }
-    ensures { (names : List (List ℕ)) → Writes (K.state sink.old) writer.old result (K.state sink.new) writer.new (entries_text names (run_entries run.now)) }
+    ensures { (names : List (List ℕ))
+        → Writes (K.state sink.old) writer.old result (K.state sink.new) writer.new
+        (entries_text names (run_entries run.now)) }
 {
     for j in 0..u64::from(run.more) + 1 {
         writer.put_text(sink, &line_of(run, j as u32))?;

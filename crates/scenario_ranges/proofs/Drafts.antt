@@ -67,7 +67,13 @@ one_app apps app e = grind (arith, nat_tests, e, length-append apps (app ∷ [])
 
 line_added : (d : Draft) (statement : Statement) → IsDraftInRange d → IsSaidInRange statement
     → judged d statement ≡ None → IsDraftInRange (with_line d statement)
-line_added d (says.Limit ticks) h s e = record { limit = s; count = h.count; hosts = h.hosts; apps = h.apps; steps = h.steps }
+line_added d (says.Limit ticks) h s e = record {
+  limit = s;
+  count = h.count;
+  hosts = h.hosts;
+  apps = h.apps;
+  steps = h.steps;
+}
 line_added d (says.Host name addr given) h s e = record {
   limit = h.limit;
   count = one_more d.hosts (host_with name addr given)

@@ -35,7 +35,8 @@ use Rattle.scenario_runs.specs.Worlds.{numbers_of, address_in, with_turn, asked_
 
 -- ----- a call
 -- a call that is always a step, of whatever stands there
-may_there : (host : Host) (n : ℕ) (by : ℕ) (call : Call) (offer : List ℕ) → ((l : Live) → MayCall l (App by) call offer) → MayMove host (Calls n (App by) call offer)
+may_there : (host : Host) (n : ℕ) (by : ℕ) (call : Call) (offer : List ℕ) → ((l : Live) → MayCall l (App by) call offer)
+    → MayMove host (Calls n (App by) call offer)
 may_there host n by call offer each = by_flow (slice_get host.flows n) where
   by_flow : (o : Option Live) → IfSome o (λ l. MayCall l (App by) call offer)
   by_flow None = tt
@@ -66,52 +67,75 @@ slow_abort_may l = record { kind = tt; offers = tt; steps = λ u. abort_steps (e
 abbrev Moves : Numbers → ℕ → Turn → Turn → Type 0
 Moves numbers t x y = Row numbers t x.host y.host
 
-called_row : (numbers : Numbers) (n t : ℕ) (call : Call) (offer : List ℕ) (x : Turn) → ((l : Live) → MayCall l (App x.script.number) call offer) → Moves numbers t x (called n t call offer x)
-called_row numbers n t call offer x each = (Calls n (App x.script.number) call offer ∷ [], (may_there x.host n x.script.number call offer each, refl))
+called_row : (numbers : Numbers) (n t : ℕ) (call : Call) (offer : List ℕ) (x : Turn)
+    → ((l : Live) → MayCall l (App x.script.number) call offer) → Moves numbers t x (called n t call offer x)
+called_row numbers n t call offer x each =
+    (Calls n (App x.script.number) call offer ∷ [], (may_there x.host n x.script.number call offer each, refl))
 
 -- ----- listen, accept
-listens_row : (numbers : Numbers) (taken : Bool) (t : ℕ) (name : List ℕ) (port : ℕ) (x : Turn) → Moves numbers t x (listens_where taken t name port x)
+listens_row : (numbers : Numbers) (taken : Bool) (t : ℕ) (name : List ℕ) (port : ℕ) (x : Turn)
+    → Moves numbers t x (listens_where taken t name port x)
 listens_row numbers true t name port x = (Notes (events.Listen x.script.number port false) ∷ [], (tt, refl))
-listens_row numbers false t name port x =
-    (Notes (events.Listen x.script.number port true) ∷ Listens (x.host.listeners ++ (record { port = port; app = x.script.number }) ∷ []) ∷ [], (tt, (tt, refl)))
+listens_row numbers false t name port x = (
+  Notes (events.Listen x.script.number port true)
+      ∷ Listens (x.host.listeners ++ (record { port = port; app = x.script.number }) ∷ []) ∷ [],
+  (tt, (tt, refl)),
+)
 
-ready_there : (port : ℕ) (ls : List Live) (n : ℕ) (found : Option Live) → position (is_ready port) ls ≡ Some n → slice_get ls n ≡ found → IfSome found (λ l. is_ready port l ≡ true)
+ready_there : (port : ℕ) (ls : List Live) (n : ℕ) (found : Option Live) → position (is_ready port) ls ≡ Some n
+    → slice_get ls n ≡ found → IfSome found (λ l. is_ready port l ≡ true)
 ready_there port ls n None at here = tt
-ready_there port ls n (Some l) at here = subst (λ (m : Live). is_ready port m ≡ true) (get_or_from_slice_get ls n l l here) (position-Some (is_ready port) ls n l at).1
+ready_there port ls n (Some l) at here =
+    subst (λ (m : Live). is_ready port m ≡ true) (get_or_from_slice_get ls n l l here)
+    (position-Some (is_ready port) ls n l at).1
 
 and_right : (a b : Bool) → (a && b) ≡ true → b ≡ true
 and_right true b h = h
 and_right false b h = absurd (true≢false (sym h))
 
 accept_may : (k port : ℕ) (l : Live) → is_ready port l ≡ true → MayCall l (App k) calls.Accept []
-accept_may k port l ready = record { kind = tt; offers = tt; steps = λ u. accept_steps (endpoint l) u (shown (endpoint l) []) (and_right _ (is_running l) ready) }
+accept_may k port l ready = record {
+  kind = tt;
+  offers = tt;
+  steps = λ u. accept_steps (endpoint l) u (shown (endpoint l) []) (and_right _ (is_running l) ready);
+}
 
-accept_there : (k port : ℕ) (found : Option Live) → IfSome found (λ l. is_ready port l ≡ true) → IfSome found (λ l. MayCall l (App k) calls.Accept [])
+accept_there : (k port : ℕ) (found : Option Live) → IfSome found (λ l. is_ready port l ≡ true)
+    → IfSome found (λ l. MayCall l (App k) calls.Accept [])
 accept_there k port None ready = tt
 accept_there k port (Some l) ready = accept_may k port l ready
 
-accepts_one_row : (numbers : Numbers) (ready : Option ℕ) (t : ℕ) (socket : List ℕ) (port : ℕ) (x : Turn) → position (is_ready port) x.host.flows ≡ ready → Moves numbers t x (accepts_one ready t socket port x)
+accepts_one_row : (numbers : Numbers) (ready : Option ℕ) (t : ℕ) (socket : List ℕ) (port : ℕ) (x : Turn)
+    → position (is_ready port) x.host.flows ≡ ready → Moves numbers t x (accepts_one ready t socket port x)
 accepts_one_row numbers None t socket port x at = (Notes (events.AcceptNotYet x.script.number port) ∷ [], (tt, refl))
 accepts_one_row numbers (Some n) t socket port x at =
     let may : MayMove x.host (Calls n (App x.script.number) calls.Accept []) =
-    accept_there x.script.number port (slice_get x.host.flows n) (ready_there port x.host.flows n (slice_get x.host.flows n) at refl) in
+    accept_there x.script.number port (slice_get x.host.flows n)
+    (ready_there port x.host.flows n (slice_get x.host.flows n) at refl) in
     (Calls n (App x.script.number) calls.Accept [] ∷ Holds n (Application x.script.number) ∷ [], (may, (tt, refl)))
 
-accepts_row : (numbers : Numbers) (port : Option ℕ) (t : ℕ) (socket : List ℕ) (x : Turn) → Moves numbers t x (accepts port t socket x)
+accepts_row : (numbers : Numbers) (port : Option ℕ) (t : ℕ) (socket : List ℕ) (x : Turn)
+    → Moves numbers t x (accepts port t socket x)
 accepts_row numbers None t socket x = none numbers t x.host
-accepts_row numbers (Some port) t socket x = accepts_one_row numbers (position (is_ready port) x.host.flows) t socket port x refl
+accepts_row numbers (Some port) t socket x =
+    accepts_one_row numbers (position (is_ready port) x.host.flows) t socket port x refl
 
 -- ----- connect
-where_row : (numbers : Numbers) (left : Bool) (slot port t : ℕ) (socket : List ℕ) (raddr rport : ℕ) (x : Turn) → lowest_free x.host ≡ Some slot
+where_row : (numbers : Numbers) (left : Bool) (slot port t : ℕ) (socket : List ℕ) (raddr rport : ℕ) (x : Turn)
+    → lowest_free x.host ≡ Some slot
     → Moves numbers t x (opens_where left numbers slot port t socket raddr rport x)
 where_row numbers true slot port t socket raddr rport x free = (Opens slot _ x.script.number ∷ [], (free, refl))
-where_row numbers false slot port t socket raddr rport x free = (Notes (events.ConnectRefused x.script.number raddr rport true) ∷ [], (tt, refl))
+where_row numbers false slot port t socket raddr rport x free =
+    (Notes (events.ConnectRefused x.script.number raddr rport true) ∷ [], (tt, refl))
 
-connects_row : (numbers : Numbers) (o : Option ℕ) (t : ℕ) (socket : List ℕ) (raddr rport : ℕ) (x : Turn) → lowest_free x.host ≡ o
+connects_row : (numbers : Numbers) (o : Option ℕ) (t : ℕ) (socket : List ℕ) (raddr rport : ℕ) (x : Turn)
+    → lowest_free x.host ≡ o
     → Moves numbers t x (connects numbers o t socket raddr rport x)
-connects_row numbers None t socket raddr rport x free = (Notes (events.ConnectRefused x.script.number raddr rport false) ∷ [], (tt, refl))
+connects_row numbers None t socket raddr rport x free =
+    (Notes (events.ConnectRefused x.script.number raddr rport false) ∷ [], (tt, refl))
 connects_row numbers (Some slot) t socket raddr rport x free =
-    where_row numbers (nat_lt (first_port + ports_given x.host) (2 ^ 16)) slot (first_port + ports_given x.host) t socket raddr rport x free
+    where_row numbers (nat_lt (first_port + ports_given x.host) (2 ^ 16)) slot
+    (first_port + ports_given x.host) t socket raddr rport x free
 
 -- ----- calls of a socket
 waits_row : (numbers : Numbers) (n t : ℕ) (x : Turn) → Moves numbers t x (waits_for n t calls.Ready x)
@@ -126,33 +150,49 @@ receives_row numbers n t all x = called_row numbers n t (calls.Recv _) [] x (rec
 once_row : (numbers : Numbers) (n t : ℕ) (x : Turn) → Moves numbers t x (once n t calls.Shut x)
 once_row numbers n t x = called_row numbers n t calls.Shut [] x (shut_may x.script.number)
 
-ends_row : (numbers : Numbers) (n t : ℕ) (call : Call) (socket : List ℕ) (x : Turn) → ((l : Live) → MayCall l (App x.script.number) call []) → Moves numbers t x (ends n t call socket x)
-ends_row numbers n t call socket x each =
-    (Calls n (App x.script.number) call [] ∷ Holds n GivenUp ∷ [], (may_there x.host n x.script.number call [] each, (tt, refl)))
+ends_row : (numbers : Numbers) (n t : ℕ) (call : Call) (socket : List ℕ) (x : Turn)
+    → ((l : Live) → MayCall l (App x.script.number) call []) → Moves numbers t x (ends n t call socket x)
+ends_row numbers n t call socket x each = (
+  Calls n (App x.script.number) call [] ∷ Holds n GivenUp ∷ [],
+  (may_there x.host n x.script.number call [] each, (tt, refl)),
+)
 
-flow_row : (numbers : Numbers) (t : ℕ) (o : Option ℕ) (act : ℕ → Turn → Turn) (x : Turn) → ((n : ℕ) → Moves numbers t x (act n x)) → Moves numbers t x (on_flow o act x)
+flow_row : (numbers : Numbers) (t : ℕ) (o : Option ℕ) (act : ℕ → Turn → Turn) (x : Turn)
+    → ((n : ℕ) → Moves numbers t x (act n x)) → Moves numbers t x (on_flow o act x)
 flow_row numbers t None act x each = none numbers t x.host
 flow_row numbers t (Some n) act x each = each n
 
-socket_row : (numbers : Numbers) (t : ℕ) (socket : List ℕ) (act : ℕ → Turn → Turn) (x : Turn) → ((n : ℕ) → Moves numbers t x (act n x)) → Moves numbers t x (on_socket socket act x)
+socket_row : (numbers : Numbers) (t : ℕ) (socket : List ℕ) (act : ℕ → Turn → Turn) (x : Turn)
+    → ((n : ℕ) → Moves numbers t x (act n x)) → Moves numbers t x (on_socket socket act x)
 socket_row numbers t socket act x each = flow_row numbers t (flow_of (bound_in x.script.names socket)) act x each
 
 -- ----- one step
-connects_on_row : (numbers : Numbers) (begun : Bool) (t : ℕ) (socket : List ℕ) (raddr rport : ℕ) (x : Turn) → Moves numbers t x (connects_on numbers begun t socket raddr rport x)
-connects_on_row numbers false t socket raddr rport x = connects_row numbers (lowest_free x.host) t socket raddr rport x refl
-connects_on_row numbers true t socket raddr rport x = socket_row numbers t socket (λ (n : ℕ). waits_for n t calls.Ready) x (λ n. waits_row numbers n t x)
+connects_on_row : (numbers : Numbers) (begun : Bool) (t : ℕ) (socket : List ℕ) (raddr rport : ℕ) (x : Turn)
+    → Moves numbers t x (connects_on numbers begun t socket raddr rport x)
+connects_on_row numbers false t socket raddr rport x =
+    connects_row numbers (lowest_free x.host) t socket raddr rport x refl
+connects_on_row numbers true t socket raddr rport x =
+    socket_row numbers t socket (λ (n : ℕ). waits_for n t calls.Ready) x (λ n. waits_row numbers n t x)
 
-step_row : (numbers : Numbers) (address : List ℕ → ℕ) (t : ℕ) (step : Step) (x : Turn) → Moves numbers t x (step_of numbers address t step x)
+step_row : (numbers : Numbers) (address : List ℕ → ℕ) (t : ℕ) (step : Step) (x : Turn)
+    → Moves numbers t x (step_of numbers address t step x)
 step_row numbers address t (steps.Listen name port) x = listens_row numbers (is_listened port x.host) t name port x
-step_row numbers address t (steps.Accept socket listener) x = accepts_row numbers (port_of (bound_in x.script.names listener)) t socket x
-step_row numbers address t (steps.Connect socket host port) x = connects_on_row numbers x.script.begun t socket (address host) port x
+step_row numbers address t (steps.Accept socket listener) x =
+    accepts_row numbers (port_of (bound_in x.script.names listener)) t socket x
+step_row numbers address t (steps.Connect socket host port) x =
+    connects_on_row numbers x.script.begun t socket (address host) port x
 step_row numbers address t (steps.Send socket text) x = socket_row numbers t socket _ x (λ n. sends_row numbers n t _ x)
-step_row numbers address t (steps.Fill socket count) x = socket_row numbers t socket _ x (λ n. sends_row numbers n t _ x)
-step_row numbers address t (steps.Recv socket count) x = socket_row numbers t socket _ x (λ n. receives_row numbers n t (Some count) x)
-step_row numbers address t (steps.Drain socket) x = socket_row numbers t socket _ x (λ n. receives_row numbers n t None x)
+step_row numbers address t (steps.Fill socket count) x =
+    socket_row numbers t socket _ x (λ n. sends_row numbers n t _ x)
+step_row numbers address t (steps.Recv socket count) x =
+    socket_row numbers t socket _ x (λ n. receives_row numbers n t (Some count) x)
+step_row numbers address t (steps.Drain socket) x =
+    socket_row numbers t socket _ x (λ n. receives_row numbers n t None x)
 step_row numbers address t (steps.Shut socket) x = socket_row numbers t socket _ x (λ n. once_row numbers n t x)
-step_row numbers address t (steps.Close socket) x = socket_row numbers t socket _ x (λ n. ends_row numbers n t calls.Close socket x (close_may x.script.number))
-step_row numbers address t (steps.Abort socket) x = socket_row numbers t socket _ x (λ n. ends_row numbers n t calls.Abort socket x (abort_may x.script.number))
+step_row numbers address t (steps.Close socket) x =
+    socket_row numbers t socket _ x (λ n. ends_row numbers n t calls.Close socket x (close_may x.script.number))
+step_row numbers address t (steps.Abort socket) x =
+    socket_row numbers t socket _ x (λ n. ends_row numbers n t calls.Abort socket x (abort_may x.script.number))
 step_row numbers address t (steps.Wait ticks) x = none numbers t x.host
 
 -- ----- a kill
@@ -160,7 +200,8 @@ get_past : {X : Type 0} (pre : List X) (x : X) (xs : List X) → slice_get (pre 
 get_past [] x xs = refl
 get_past (p ∷ pre) x xs = get_past pre x xs
 
-change_past : {X : Type 0} (f : X → X) (pre : List X) (x : X) (xs : List X) → change_at (length pre) f (pre ++ x ∷ xs) ≡ pre ++ f x ∷ xs
+change_past : {X : Type 0} (f : X → X) (pre : List X) (x : X) (xs : List X)
+    → change_at (length pre) f (pre ++ x ∷ xs) ≡ pre ++ f x ∷ xs
 change_past f [] x xs = refl
 change_past {X} f (p ∷ pre) x xs = ap (λ (zs : List X). p ∷ zs) (change_past f pre x xs)
 
@@ -177,49 +218,62 @@ abort_row numbers t n host pre l ls h =
     let m : Live = with_call l Slow t calls.Abort [] in
     let here : slice_get (pre ++ l ∷ ls) n ≡ Some l = rw h (get_past pre l ls) in
     let may : MayMove (with_flows host (pre ++ l ∷ ls)) (Calls n Slow calls.Abort []) = rw here (slow_abort_may l) in
-    let one : change_at n (λ (k : Live). with_call k Slow t calls.Abort []) (pre ++ l ∷ ls) ≡ pre ++ m ∷ ls = rw h (change_past (λ (k : Live). with_call k Slow t calls.Abort []) pre l ls) in
-    let two : change_at n (λ (k : Live). record k { holder = let_go l.holder }) (pre ++ m ∷ ls) ≡ pre ++ aborted t l ∷ ls =
+    let one : change_at n (λ (k : Live). with_call k Slow t calls.Abort []) (pre ++ l ∷ ls) ≡ pre ++ m ∷ ls =
+    rw h (change_past (λ (k : Live). with_call k Slow t calls.Abort []) pre l ls) in
+    let two : change_at n (λ (k : Live). record k { holder = let_go l.holder }) (pre ++ m ∷ ls) ≡ pre
+    ++ aborted t l ∷ ls =
     rw h (change_past (λ (k : Live). record k { holder = let_go l.holder }) pre m ls) in
-    let both : change_at n (λ (k : Live). record k { holder = let_go l.holder }) (change_at n (λ (k : Live). with_call k Slow t calls.Abort []) (pre ++ l ∷ ls)) ≡ pre ++ aborted t l ∷ ls =
+    let both : change_at n (λ (k : Live). record k { holder = let_go l.holder })
+    (change_at n (λ (k : Live). with_call k Slow t calls.Abort []) (pre ++ l ∷ ls)) ≡ pre ++ aborted t l ∷ ls =
     ap (change_at n (λ (k : Live). record k { holder = let_go l.holder })) one ∙ two in
     (Calls n Slow calls.Abort [] ∷ Holds n (let_go l.holder) ∷ [], (may, (tt, ap (with_flows host) both)))
 
-where_aborted : (numbers : Numbers) (b : Bool) (t n : ℕ) (host : Host) (pre : List Live) (l : Live) (ls : List Live) → n ≡ length pre
+where_aborted : (numbers : Numbers) (b : Bool) (t n : ℕ) (host : Host) (pre : List Live) (l : Live) (ls : List Live)
+    → n ≡ length pre
     → Row numbers t (with_flows host (pre ++ l ∷ ls)) (with_flows host (pre ++ aborted_where b t l ∷ ls))
 where_aborted numbers true t n host pre l ls h = abort_row numbers t n host pre l ls h
 where_aborted numbers false t n host pre l ls h = none numbers t (with_flows host (pre ++ l ∷ ls))
 
 flows_aborted : (numbers : Numbers) (test : Live → Bool) (t n : ℕ) (host : Host) (pre ls : List Live) → n ≡ length pre
-    → Row numbers t (with_flows host (pre ++ ls)) (with_flows host (pre ++ map (λ (l : Live). aborted_where (test l) t l) ls))
+    → Row numbers t (with_flows host (pre ++ ls))
+    (with_flows host (pre ++ map (λ (l : Live). aborted_where (test l) t l) ls))
 flows_aborted numbers test t n host pre [] h = none numbers t (with_flows host (pre ++ []))
 flows_aborted numbers test t n host pre (l ∷ ls) h =
     let m : Live = aborted_where (test l) t l in
     let rest : List Live = map (λ (k : Live). aborted_where (test k) t k) ls in
-    let one : Row numbers t (with_flows host (pre ++ l ∷ ls)) (with_flows host (pre ++ m ∷ ls)) = where_aborted numbers (test l) t n host pre l ls h in
+    let one : Row numbers t (with_flows host (pre ++ l ∷ ls)) (with_flows host (pre ++ m ∷ ls)) =
+    where_aborted numbers (test l) t n host pre l ls h in
     let next : Row numbers t (with_flows host ((pre ++ m ∷ []) ++ ls)) (with_flows host ((pre ++ m ∷ []) ++ rest)) =
     flows_aborted numbers test t (n + 1) host (pre ++ m ∷ []) ls (length_push n pre m h) in
     let moved_on : Row numbers t (with_flows host (pre ++ m ∷ ls)) (with_flows host (pre ++ m ∷ rest)) =
-    subst (λ (zs : List Live). Row numbers t (with_flows host zs) (with_flows host (pre ++ m ∷ rest))) (append_assoc pre (m ∷ []) ls)
-    (subst (λ (zs : List Live). Row numbers t (with_flows host ((pre ++ m ∷ []) ++ ls)) (with_flows host zs)) (append_assoc pre (m ∷ []) rest) next) in
-    joined numbers t (with_flows host (pre ++ l ∷ ls)) (with_flows host (pre ++ m ∷ ls)) (with_flows host (pre ++ m ∷ rest)) one.0 one.1 moved_on
+    subst (λ (zs : List Live). Row numbers t (with_flows host zs) (with_flows host (pre ++ m ∷ rest)))
+    (append_assoc pre (m ∷ []) ls)
+    (subst (λ (zs : List Live). Row numbers t (with_flows host ((pre ++ m ∷ []) ++ ls)) (with_flows host zs))
+    (append_assoc pre (m ∷ []) rest) next) in
+    joined numbers t (with_flows host (pre ++ l ∷ ls)) (with_flows host (pre ++ m ∷ ls))
+    (with_flows host (pre ++ m ∷ rest)) one.0 one.1 moved_on
 
 killed_row : (numbers : Numbers) (t : ℕ) (x : Turn) → Moves numbers t x (killed t x)
 killed_row numbers t x =
     let gone : List Listener = filter (λ (l : Listener). not (l.app == x.script.number)) x.host.listeners in
     let rest : Row numbers t (record x.host { listeners = gone }) (killed t x).host =
-    flows_aborted numbers (is_concerned x.script.number x.host) t 0 (record x.host { listeners = gone }) [] x.host.flows refl in
+    flows_aborted numbers (is_concerned x.script.number x.host) t 0
+    (record x.host { listeners = gone }) [] x.host.flows refl in
     (Listens gone ∷ rest.0, (tt, rest.1))
 
 -- ----- a tick
-goes_on_row : (numbers : Numbers) (address : List ℕ → ℕ) (t : ℕ) (left : List Step) (x : Turn) → Moves numbers t x (goes_on numbers address t left x)
+goes_on_row : (numbers : Numbers) (address : List ℕ → ℕ) (t : ℕ) (left : List Step) (x : Turn)
+    → Moves numbers t x (goes_on numbers address t left x)
 goes_on_row numbers address t [] x = none numbers t x.host
 goes_on_row numbers address t (step ∷ rest) x = step_row numbers address t step x
 
-turn_row : (numbers : Numbers) (b : Bool) (address : List ℕ → ℕ) (t : ℕ) (x : Turn) → Moves numbers t x (turn_where b numbers address t x)
+turn_row : (numbers : Numbers) (b : Bool) (address : List ℕ → ℕ) (t : ℕ) (x : Turn)
+    → Moves numbers t x (turn_where b numbers address t x)
 turn_row numbers true address t x = killed_row numbers t x
 turn_row numbers false address t x = goes_on_row numbers address t x.script.left x
 
-asked_row : (numbers : Numbers) (address : List ℕ → ℕ) (t : ℕ) (found : Option Script) (site : Site (List Script)) → Row numbers t site.host (asked_of numbers address t found site).host
+asked_row : (numbers : Numbers) (address : List ℕ → ℕ) (t : ℕ) (found : Option Script) (site : Site (List Script))
+    → Row numbers t site.host (asked_of numbers address t found site).host
 asked_row numbers address t None site = none numbers t site.host
 asked_row numbers address t (Some s) site =
     turn_row numbers (is_killed_at t s.kill) address t (record { host = site.host; script = s })

@@ -22,45 +22,56 @@ use Rattle.scenario_runs.specs.WorkedEnds.{stalled_report, cut_short, cut_short_
 use Rattle.scenario_runs.specs.WorkedEnds.{no_such_byte, no_such_byte_report, all_steps, all_steps_report}
 
 pub unanswered_is : reported unanswered ≡ unanswered_report
-unfolding reads reading digits nearest ip_header tcp_fixed refusal mss_of rx rx_later rx_syn_sent going ticks control step replay serial_tick report serial_world serial_from
+unfolding reads reading digits nearest ip_header tcp_fixed refusal mss_of rx rx_later rx_syn_sent going ticks control
+    step replay serial_tick report serial_world serial_from
 unanswered_is = refl
 
 pub killed_late_is : reported killed_late ≡ killed_late_report
-unfolding reads reading digits nearest ip_header tcp_fixed refusal mss_of rx rx_later rx_syn_sent going ticks control step replay serial_tick report serial_world serial_from
+unfolding reads reading digits nearest ip_header tcp_fixed refusal mss_of rx rx_later rx_syn_sent going ticks control
+    step replay serial_tick report serial_world serial_from
 killed_late_is = refl
 
 pub killed_after_is : reported killed_after ≡ killed_after_report
-unfolding reads reading digits nearest ip_header tcp_fixed refusal mss_of rx rx_later rx_syn_sent going ticks control step replay serial_tick report serial_world serial_from
+unfolding reads reading digits nearest ip_header tcp_fixed refusal mss_of rx rx_later rx_syn_sent going ticks control
+    step replay serial_tick report serial_world serial_from
 killed_after_is = refl
 
 pub killed_early_is : reported killed_early ≡ killed_early_report
-unfolding reads reading digits nearest ip_header tcp_fixed refusal mss_of rx rx_later rx_syn_sent going ticks control step replay serial_tick report serial_world serial_from
+unfolding reads reading digits nearest ip_header tcp_fixed refusal mss_of rx rx_later rx_syn_sent going ticks control
+    step replay serial_tick report serial_world serial_from
 killed_early_is = refl
 
 pub one_slot_is : reported one_slot ≡ one_slot_report
-unfolding reads reading digits nearest ip_header tcp_fixed refusal mss_of rx rx_later rx_syn_sent going ticks control step replay serial_tick report serial_world serial_from
+unfolding reads reading digits nearest ip_header tcp_fixed refusal mss_of rx rx_later rx_syn_sent going ticks control
+    step replay serial_tick report serial_world serial_from
 one_slot_is = refl
 
 pub slot_kept_is : reported slot_kept ≡ slot_kept_report
-unfolding reads reading digits nearest ip_header tcp_fixed refusal mss_of rx rx_later rx_syn_sent going ticks control step replay serial_tick report serial_world serial_from
+unfolding reads reading digits nearest ip_header tcp_fixed refusal mss_of rx rx_later rx_syn_sent going ticks control
+    step replay serial_tick report serial_world serial_from
 slot_kept_is = refl
 
 pub stalled_is : reported stalled ≡ stalled_report
-unfolding reads reading digits nearest ip_header tcp_fixed refusal mss_of rx rx_later rx_syn_sent going ticks control step replay serial_tick report serial_world serial_from
+unfolding reads reading digits nearest ip_header tcp_fixed refusal mss_of rx rx_later rx_syn_sent going ticks control
+    step replay serial_tick report serial_world serial_from
 stalled_is = refl
 
 pub cut_short_is : reported cut_short ≡ cut_short_report
-unfolding reads reading digits nearest ip_header tcp_fixed refusal mss_of rx rx_later rx_syn_sent going ticks control step replay serial_tick report serial_world serial_from
+unfolding reads reading digits nearest ip_header tcp_fixed refusal mss_of rx rx_later rx_syn_sent going ticks control
+    step replay serial_tick report serial_world serial_from
 cut_short_is = refl
 
 pub open_flows_is : reported open_flows ≡ open_flows_report
-unfolding reads reading digits nearest ip_header tcp_fixed refusal mss_of rx rx_later rx_syn_sent going ticks control step replay serial_tick report serial_world serial_from
+unfolding reads reading digits nearest ip_header tcp_fixed refusal mss_of rx rx_later rx_syn_sent going ticks control
+    step replay serial_tick report serial_world serial_from
 open_flows_is = refl
 
 pub no_such_byte_is : reported no_such_byte ≡ no_such_byte_report
-unfolding reads reading digits nearest ip_header tcp_fixed refusal mss_of rx rx_later rx_syn_sent going ticks control step replay serial_tick report serial_world serial_from
+unfolding reads reading digits nearest ip_header tcp_fixed refusal mss_of rx rx_later rx_syn_sent going ticks control
+    step replay serial_tick report serial_world serial_from
 no_such_byte_is = refl
 
 pub all_steps_is : reported all_steps ≡ all_steps_report
-unfolding reads reading digits nearest ip_header tcp_fixed refusal mss_of rx rx_later rx_syn_sent going ticks control step replay serial_tick report serial_world serial_from
+unfolding reads reading digits nearest ip_header tcp_fixed refusal mss_of rx rx_later rx_syn_sent going ticks control
+    step replay serial_tick report serial_world serial_from
 all_steps_is = refl

@@ -23,23 +23,28 @@ use Rattle.scenario_runs.specs.WorkedForms.{strange_byte, bare_return, wrong_nam
 use Rattle.scenario_runs.specs.WorkedForms.{unknown_option, half_option}
 
 pub spaced_text_is : reported spaced_text ≡ spaced_text_report
-unfolding reads reading digits nearest ip_header tcp_fixed refusal mss_of rx rx_later rx_syn_sent going ticks control step replay serial_tick report serial_world serial_from
+unfolding reads reading digits nearest ip_header tcp_fixed refusal mss_of rx rx_later rx_syn_sent going ticks control
+    step replay serial_tick report serial_world serial_from
 spaced_text_is = refl
 
 pub spaced_lines_is : reported spaced_lines ≡ spaced_lines_report
-unfolding reads reading digits nearest ip_header tcp_fixed refusal mss_of rx rx_later rx_syn_sent going ticks control step replay serial_tick report serial_world serial_from
+unfolding reads reading digits nearest ip_header tcp_fixed refusal mss_of rx rx_later rx_syn_sent going ticks control
+    step replay serial_tick report serial_world serial_from
 spaced_lines_is = refl
 
 pub between_steps_is : reported between_steps ≡ between_steps_report
-unfolding reads reading digits nearest ip_header tcp_fixed refusal mss_of rx rx_later rx_syn_sent going ticks control step replay serial_tick report serial_world serial_from
+unfolding reads reading digits nearest ip_header tcp_fixed refusal mss_of rx rx_later rx_syn_sent going ticks control
+    step replay serial_tick report serial_world serial_from
 between_steps_is = refl
 
 pub blank_text_is : reported blank_text ≡ blank_text_report
-unfolding reads reading digits nearest ip_header tcp_fixed refusal mss_of rx rx_later rx_syn_sent going ticks control step replay serial_tick report serial_world serial_from
+unfolding reads reading digits nearest ip_header tcp_fixed refusal mss_of rx rx_later rx_syn_sent going ticks control
+    step replay serial_tick report serial_world serial_from
 blank_text_is = refl
 
 pub killed_at_once_is : reported killed_at_once ≡ killed_at_once_report
-unfolding reads reading digits nearest ip_header tcp_fixed refusal mss_of rx rx_later rx_syn_sent going ticks control step replay serial_tick report serial_world serial_from
+unfolding reads reading digits nearest ip_header tcp_fixed refusal mss_of rx rx_later rx_syn_sent going ticks control
+    step replay serial_tick report serial_world serial_from
 killed_at_once_is = refl
 
 pub strange_byte_is : reads strange_byte ≡ Err (Refused 2 2)

@@ -19,13 +19,16 @@ use Rattle.scenario_runs.specs.WorkedLinks.{own_host, own_host_report, silent, s
 use Rattle.scenario_runs.specs.WorkedLinks.{one_waits_report}
 
 pub own_host_is : reported own_host ≡ own_host_report
-unfolding reads reading digits nearest ip_header tcp_fixed refusal mss_of rx rx_later rx_syn_sent going ticks control step replay serial_tick report serial_world serial_from
+unfolding reads reading digits nearest ip_header tcp_fixed refusal mss_of rx rx_later rx_syn_sent going ticks control
+    step replay serial_tick report serial_world serial_from
 own_host_is = refl
 
 pub silent_is : reported silent ≡ silent_report
-unfolding reads reading digits nearest ip_header tcp_fixed refusal mss_of rx rx_later rx_syn_sent going ticks control step replay serial_tick report serial_world serial_from
+unfolding reads reading digits nearest ip_header tcp_fixed refusal mss_of rx rx_later rx_syn_sent going ticks control
+    step replay serial_tick report serial_world serial_from
 silent_is = refl
 
 pub one_waits_is : reported one_waits ≡ one_waits_report
-unfolding reads reading digits nearest ip_header tcp_fixed refusal mss_of rx rx_later rx_syn_sent going ticks control step replay serial_tick report serial_world serial_from
+unfolding reads reading digits nearest ip_header tcp_fixed refusal mss_of rx rx_later rx_syn_sent going ticks control
+    step replay serial_tick report serial_world serial_from
 one_waits_is = refl

@@ -20,29 +20,36 @@ use Rattle.scenario_runs.specs.WorkedTalks.{damaged_report, wrapped, wrapped_rep
 use Rattle.scenario_runs.specs.WorkedTalks.{lone_report}
 
 pub hello_is : reported hello ≡ hello_report
-unfolding reads reading digits nearest ip_header tcp_fixed refusal mss_of rx rx_later rx_syn_sent going ticks control step replay serial_tick report serial_world serial_from
+unfolding reads reading digits nearest ip_header tcp_fixed refusal mss_of rx rx_later rx_syn_sent going ticks control
+    step replay serial_tick report serial_world serial_from
 hello_is = refl
 
 pub lost_is : reported lost ≡ lost_report
-unfolding reads reading digits nearest ip_header tcp_fixed refusal mss_of rx rx_later rx_syn_sent going ticks control step replay serial_tick report serial_world serial_from
+unfolding reads reading digits nearest ip_header tcp_fixed refusal mss_of rx rx_later rx_syn_sent going ticks control
+    step replay serial_tick report serial_world serial_from
 lost_is = refl
 
 pub doubled_is : reported doubled ≡ doubled_report
-unfolding reads reading digits nearest ip_header tcp_fixed refusal mss_of rx rx_later rx_syn_sent going ticks control step replay serial_tick report serial_world serial_from
+unfolding reads reading digits nearest ip_header tcp_fixed refusal mss_of rx rx_later rx_syn_sent going ticks control
+    step replay serial_tick report serial_world serial_from
 doubled_is = refl
 
 pub damaged_is : reported damaged ≡ damaged_report
-unfolding reads reading digits nearest ip_header tcp_fixed refusal mss_of rx rx_later rx_syn_sent going ticks control step replay serial_tick report serial_world serial_from
+unfolding reads reading digits nearest ip_header tcp_fixed refusal mss_of rx rx_later rx_syn_sent going ticks control
+    step replay serial_tick report serial_world serial_from
 damaged_is = refl
 
 pub wrapped_is : reported wrapped ≡ wrapped_report
-unfolding reads reading digits nearest ip_header tcp_fixed refusal mss_of rx rx_later rx_syn_sent going ticks control step replay serial_tick report serial_world serial_from
+unfolding reads reading digits nearest ip_header tcp_fixed refusal mss_of rx rx_later rx_syn_sent going ticks control
+    step replay serial_tick report serial_world serial_from
 wrapped_is = refl
 
 pub nobody_is : reported nobody ≡ nobody_report
-unfolding reads reading digits nearest ip_header tcp_fixed refusal mss_of rx rx_later rx_syn_sent going ticks control step replay serial_tick report serial_world serial_from
+unfolding reads reading digits nearest ip_header tcp_fixed refusal mss_of rx rx_later rx_syn_sent going ticks control
+    step replay serial_tick report serial_world serial_from
 nobody_is = refl
 
 pub lone_is : reported lone ≡ lone_report
-unfolding reads reading digits nearest ip_header tcp_fixed refusal mss_of rx rx_later rx_syn_sent going ticks control step replay serial_tick report serial_world serial_from
+unfolding reads reading digits nearest ip_header tcp_fixed refusal mss_of rx rx_later rx_syn_sent going ticks control
+    step replay serial_tick report serial_world serial_from
 lone_is = refl

@@ -1,4 +1,5 @@
--- Worked runs of scenarios: for each its text and the report of its run in serial order. The reports were written by another program.
+-- Worked runs of scenarios: for each its text and the report of its run in serial order. The reports were written by
+-- another program.
 use Rattle.std.specs.Prelude.{ℕ, List, [], ◌∷◌, ◌++◌, codes}
 use Rattle.tas_runs.specs.WorkedTexts.{lines}
 

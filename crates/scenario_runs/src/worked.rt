@@ -56,7 +56,8 @@ pub fn worked_links()
     ensures one_waits { reported one_waits ≡ one_waits_report }
 {}
 
-/// The same of texts that try the forms of lines, and the first refused line of texts that are no scenarios, with its kind.
+/// The same of texts that try the forms of lines, and the first refused line of texts that are no scenarios, with its
+/// kind.
 pub fn worked_forms()
     ensures spaced_text { reported spaced_text ≡ spaced_text_report }
     ensures spaced_lines { reported spaced_lines ≡ spaced_lines_report }

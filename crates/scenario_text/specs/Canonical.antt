@@ -1,5 +1,6 @@
 -- The one text of a scenario.
-use Rattle.std.specs.Prelude.{ℕ, ◌/◌, ◌%◌, Bool, true, false, List, [], ◌∷◌, ◌++◌, codes, decimal, Option, Some, None, slice_get}
+use Rattle.std.specs.Prelude.{ℕ, ◌/◌, ◌%◌, Bool, true, false, List, [], ◌∷◌, ◌++◌, codes, decimal, Option, Some, None}
+use Rattle.std.specs.Prelude.{slice_get}
 use Rattle.std.specs.List.{flat_map}
 use Rattle.tas_model.specs.declared.entry.HostParams.{HostParams}
 use Rattle.link_script.specs.declared.script.Target.{Target}
@@ -19,11 +20,13 @@ abbrev pub line_of : (word : List ℕ) → (words : List (List ℕ)) → List �
 line_of word words = word ++ (flat_map (λ (w : List ℕ). 32 ∷ w) words ++ 10 ∷ [])
 
 abbrev pub address_text : (addr : ℕ) → List ℕ
-address_text addr = decimal (addr / 16777216) ++ (46 ∷ decimal (addr / 65536 % 256) ++ (46 ∷ decimal (addr / 256 % 256) ++ (46 ∷ decimal (addr % 256))))
+address_text addr = decimal (addr / 16777216)
+    ++ (46 ∷ decimal (addr / 65536 % 256) ++ (46 ∷ decimal (addr / 256 % 256) ++ (46 ∷ decimal (addr % 256))))
 
 -- a host with all its options, in this order
 abbrev pub params_words : HostParams → List (List ℕ)
-params_words p = codes "iss" ∷ decimal p.iss ∷ codes "ring" ∷ decimal p.ring ∷ codes "mss" ∷ decimal p.mss ∷ codes "rto" ∷ decimal p.rto ∷ codes "slots" ∷ decimal p.slots ∷ codes "backlog" ∷ decimal p.backlog ∷ []
+params_words p = codes "iss" ∷ decimal p.iss ∷ codes "ring" ∷ decimal p.ring ∷ codes "mss" ∷ decimal p.mss ∷ codes "rto"
+    ∷ decimal p.rto ∷ codes "slots" ∷ decimal p.slots ∷ codes "backlog" ∷ decimal p.backlog ∷ []
 
 abbrev pub host_text : HostLine → List ℕ
 host_text h = line_of (codes "host") (h.name ∷ address_text h.params.addr ∷ params_words h.params)
@@ -74,8 +77,10 @@ holding_words false = []
 abbrev pub kill_text : KillLine → List ℕ
 kill_text k = line_of (codes "kill") (k.host ∷ k.app ∷ codes "at" ∷ decimal k.at ∷ holding_words k.holding)
 
--- `limit`, the hosts, the applications with their steps, lines on frames by host, flow and number, and `dropeach`, `move` and `kill` lines in their order
+-- `limit`, the hosts, the applications with their steps, lines on frames by host, flow and number, and `dropeach`,
+-- `move` and `kill` lines in their order
 abbrev pub canonical : Scenario → List ℕ
 canonical s =
-    line_of (codes "limit") (decimal s.limit ∷ []) ++ flat_map host_text s.hosts ++ flat_map app_text s.apps ++ flat_map (act_text s.hosts) s.link.acts
+    line_of (codes "limit") (decimal s.limit ∷ []) ++ flat_map host_text s.hosts ++ flat_map app_text s.apps
+    ++ flat_map (act_text s.hosts) s.link.acts
     ++ flat_map (each_text s.hosts) s.link.drops ++ flat_map move_text s.moves ++ flat_map kill_text s.kills

@@ -1,5 +1,7 @@
 -- A scenario as far as its lines were read: the kinds of refusal from 6 to 8, and what a line adds.
-use Rattle.std.specs.Prelude.{◌≡◌, ℕ, ◌+◌, Bool, true, false, not, ◌&&◌, ◌||◌, ◌==◌, nat_le, List, [], ◌∷◌, ◌++◌, length, Option, Some, None, is_some, is_none, unwrap_or, bytes_eq, position, if◌then◌else◌}
+use Rattle.std.specs.Prelude.{◌≡◌, ℕ, ◌+◌, Bool, true, false, not, ◌&&◌, ◌||◌, ◌==◌, nat_le, List, [], ◌∷◌, ◌++◌}
+use Rattle.std.specs.Prelude.{length, Option, Some, None, is_some, is_none, unwrap_or, bytes_eq, position}
+use Rattle.std.specs.Prelude.{if◌then◌else◌}
 use Rattle.std.specs.List.{list_any}
 use Rattle.std.specs.declared.cmp.Ordering.{Ordering}
 use Rattle.std.specs.Ordering.{nat_cmp, ordering_then}
@@ -145,7 +147,8 @@ is_full d _ = false
 
 -- the refusal of a line that is of a form, of the lowest kind
 abbrev pub judged : Draft → Statement → Option ℕ
-judged d statement = if is_unknown d statement then Some 6 else if repeats d statement then Some 7 else if is_full d statement then Some 8 else None
+judged d statement = if is_unknown d statement then Some 6 else if repeats d statement then Some 7
+    else if is_full d statement then Some 8 else None
 
 -- ----- what a line adds
 -- a host with the options that its line gives, and with those that stand else
@@ -175,7 +178,14 @@ with_line d (says.Limit ticks) = record d { limit = Some ticks }
 with_line d (says.Host name addr given) = record d { hosts = d.hosts ++ host_with name addr given ∷ [] }
 with_line d (says.App host name) = record d { apps = d.apps ++ (record { host = host; name = name; steps = [] }) ∷ [] }
 with_line d (says.Do step) = record d { apps = with_step d.apps step }
-with_line d (says.OnFrame host flow number act) = record d { link = with_act d.link (record { host = unwrap_or (host_of d.hosts host) 0; flow = flow; number = number }) act }
+with_line d (says.OnFrame host flow number act) =
+    record d {
+      link = with_act d.link (record {
+        host = unwrap_or (host_of d.hosts host) 0;
+        flow = flow;
+        number = number;
+      }) act;
+    }
 with_line d (says.DropEach host k) = record d { link = with_drop_each d.link (unwrap_or (host_of d.hosts host) 0) k }
 with_line d (says.Move line worded) = record d { moves = d.moves ++ line ∷ [] }
 with_line d (says.Kill line worded) = record d { kills = d.kills ++ line ∷ [] }

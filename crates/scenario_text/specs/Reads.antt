@@ -28,7 +28,14 @@ taken d line = taken_by d (reading line)
 
 -- ----- all lines
 abbrev pub scenario_in : Draft → Scenario
-scenario_in d = record { limit = unwrap_or d.limit 1000; hosts = d.hosts; apps = d.apps; link = d.link; moves = d.moves; kills = d.kills }
+scenario_in d = record {
+  limit = unwrap_or d.limit 1000;
+  hosts = d.hosts;
+  apps = d.apps;
+  link = d.link;
+  moves = d.moves;
+  kills = d.kills;
+}
 
 -- a scenario has a host; where there is none, the line after the last is refused, by kind 9
 abbrev pub finished : (line : ℕ) → Draft → List HostLine → Result Scenario ScenarioFault
@@ -38,7 +45,8 @@ finished line d (host ∷ hosts) = Ok (scenario_in d)
 -- the lines from one of this number on
 abbrev pub read_from : (line : ℕ) → Draft → List (List ℕ) → Result Scenario ScenarioFault
 read_from line d [] = finished line d d.hosts
-read_from line d (text ∷ texts) = elim (taken d text) [ Ok next ↦ read_from (line + 1) next texts | Err kind ↦ Err (Refused line kind) ]
+read_from line d (text ∷ texts) =
+    elim (taken d text) [ Ok next ↦ read_from (line + 1) next texts | Err kind ↦ Err (Refused line kind) ]
 
 -- The scenario that a text is, or its first refused line, counted from 1, and the kind of the refusal.
 unfoldable pub reads : (text : List ℕ) → Result Scenario ScenarioFault

@@ -1,5 +1,6 @@
 -- What the lines of a scenario say, each by itself: the kinds of refusal from 1 to 5, and the forms of lines.
-use Rattle.std.specs.Prelude.{ℕ, ◌+◌, ◌%◌, ◌==◌, Bool, true, false, not, ◌&&◌, ◌||◌, nat_le, nat_lt, List, [], ◌∷◌, length, Option, Some, None, is_some, bytes_eq, codes, if◌then◌else◌}
+use Rattle.std.specs.Prelude.{ℕ, ◌+◌, ◌%◌, ◌==◌, Bool, true, false, not, ◌&&◌, ◌||◌, nat_le, nat_lt, List, [], ◌∷◌}
+use Rattle.std.specs.Prelude.{length, Option, Some, None, is_some, bytes_eq, codes, if◌then◌else◌}
 use Rattle.std.specs.List.{list_all}
 use Rattle.link_script.specs.declared.script.LinkAct.{LinkAct}
 use Rattle.link_script.specs.declared.script.LinkAct.TheVariants as acts
@@ -92,7 +93,17 @@ option_of word =
     else None
 
 abbrev pub none_given : Given
-none_given = record { iss = None; ring = None; mss = None; rto = None; slots = None; backlog = None; wrong = false; unknown = false; repeated = false }
+none_given = record {
+  iss = None;
+  ring = None;
+  mss = None;
+  rto = None;
+  slots = None;
+  backlog = None;
+  wrong = false;
+  unknown = false;
+  repeated = false;
+}
 
 -- one option more: out of its range, given before, or taken
 abbrev pub put_option : Given → (before : Bool) → (number : Option ℕ) → (taken : Given) → Given
@@ -110,12 +121,21 @@ taken_option given options.Mss number = given
 
 abbrev pub by_option : Given → Option OptionName → (value : List ℕ) → Given
 by_option given None value = record given { unknown = true }
-by_option given (Some options.Iss) value = put_option given (is_some given.iss) (number_in 0 4294967295 value) (record given { iss = number_in 0 4294967295 value })
-by_option given (Some options.Ring) value = put_option given (is_some given.ring) (number_in 256 65535 value) (record given { ring = number_in 256 65535 value })
-by_option given (Some options.Mss) value = put_option given (is_some given.mss) (number_in 64 8960 value) (record given { mss = number_in 64 8960 value })
-by_option given (Some options.Rto) value = put_option given (is_some given.rto) (number_in 1 1000 value) (record given { rto = number_in 1 1000 value })
-by_option given (Some options.Slots) value = put_option given (is_some given.slots) (number_in 1 1024 value) (record given { slots = number_in 1 1024 value })
-by_option given (Some options.Backlog) value = put_option given (is_some given.backlog) (number_in 1 1024 value) (record given { backlog = number_in 1 1024 value })
+by_option given (Some options.Iss) value =
+    put_option given (is_some given.iss) (number_in 0 4294967295 value)
+    (record given { iss = number_in 0 4294967295 value })
+by_option given (Some options.Ring) value =
+    put_option given (is_some given.ring) (number_in 256 65535 value)
+    (record given { ring = number_in 256 65535 value })
+by_option given (Some options.Mss) value =
+    put_option given (is_some given.mss) (number_in 64 8960 value) (record given { mss = number_in 64 8960 value })
+by_option given (Some options.Rto) value =
+    put_option given (is_some given.rto) (number_in 1 1000 value) (record given { rto = number_in 1 1000 value })
+by_option given (Some options.Slots) value =
+    put_option given (is_some given.slots) (number_in 1 1024 value) (record given { slots = number_in 1 1024 value })
+by_option given (Some options.Backlog) value =
+    put_option given (is_some given.backlog) (number_in 1 1024 value)
+    (record given { backlog = number_in 1 1024 value })
 
 -- all options, two words each
 abbrev pub given_by : Given → (words : List (List ℕ)) → Given
@@ -133,7 +153,8 @@ limit_line (ticks ∷ []) = said says.Limit (number_in 1 10000 ticks)
 limit_line _ = Wrong 4
 
 abbrev pub host_line : List (List ℕ) → Reading
-host_line (name ∷ addr ∷ words) = if length words % 2 == 0 && nat_le (length words) 12 then host_said name (address_of addr) (given_by none_given words) else Wrong 4
+host_line (name ∷ addr ∷ words) = if length words % 2 == 0 && nat_le (length words) 12
+    then host_said name (address_of addr) (given_by none_given words) else Wrong 4
 host_line _ = Wrong 4
 
 abbrev pub app_line : List (List ℕ) → Reading
@@ -141,11 +162,13 @@ app_line (host ∷ name ∷ []) = said (λ (n : List ℕ × List ℕ). says.App 
 app_line _ = Wrong 4
 
 abbrev pub listen_line : List (List ℕ) → Reading
-listen_line (name ∷ port ∷ []) = said (λ (n : List ℕ × ℕ). says.Do (steps.Listen n.0 n.1)) (named_number name (number_in 1 49151 port))
+listen_line (name ∷ port ∷ []) = said (λ (n : List ℕ × ℕ). says.Do (steps.Listen n.0 n.1))
+    (named_number name (number_in 1 49151 port))
 listen_line _ = Wrong 4
 
 abbrev pub accept_line : List (List ℕ) → Reading
-accept_line (socket ∷ listener ∷ []) = said (λ (n : List ℕ × List ℕ). says.Do (steps.Accept n.0 n.1)) (two_names socket listener)
+accept_line (socket ∷ listener ∷ []) =
+    said (λ (n : List ℕ × List ℕ). says.Do (steps.Accept n.0 n.1)) (two_names socket listener)
 accept_line _ = Wrong 4
 
 abbrev pub connecting : Option (List ℕ × List ℕ) → Option ℕ → Reading
@@ -165,11 +188,13 @@ send_line line (socket ∷ words) = if is_empty (text_of line) then Wrong 4 else
 send_line line [] = Wrong 4
 
 abbrev pub fill_line : List (List ℕ) → Reading
-fill_line (name ∷ count ∷ []) = said (λ (n : List ℕ × ℕ). says.Do (steps.Fill n.0 n.1)) (named_number name (number_in 1 1048576 count))
+fill_line (name ∷ count ∷ []) = said (λ (n : List ℕ × ℕ). says.Do (steps.Fill n.0 n.1))
+    (named_number name (number_in 1 1048576 count))
 fill_line _ = Wrong 4
 
 abbrev pub recv_line : List (List ℕ) → Reading
-recv_line (name ∷ count ∷ []) = said (λ (n : List ℕ × ℕ). says.Do (steps.Recv n.0 n.1)) (named_number name (number_in 1 1048576 count))
+recv_line (name ∷ count ∷ []) = said (λ (n : List ℕ × ℕ). says.Do (steps.Recv n.0 n.1))
+    (named_number name (number_in 1 1048576 count))
 recv_line _ = Wrong 4
 
 -- steps with a name alone
@@ -195,33 +220,42 @@ act_by act None = None
 act_by act (Some n) = Some (act n)
 
 abbrev pub delay_line : List (List ℕ) → Reading
-delay_line (host ∷ flow ∷ number ∷ ticks ∷ []) = on_frame (frame_named host flow number) (act_by acts.Delay (number_in 1 1000 ticks))
+delay_line (host ∷ flow ∷ number ∷ ticks ∷ []) =
+    on_frame (frame_named host flow number) (act_by acts.Delay (number_in 1 1000 ticks))
 delay_line _ = Wrong 4
 
 abbrev pub corrupt_line : List (List ℕ) → Reading
-corrupt_line (host ∷ flow ∷ number ∷ place ∷ []) = on_frame (frame_named host flow number) (act_by acts.Corrupt (number_in 0 65534 place))
+corrupt_line (host ∷ flow ∷ number ∷ place ∷ []) =
+    on_frame (frame_named host flow number) (act_by acts.Corrupt (number_in 0 65534 place))
 corrupt_line _ = Wrong 4
 
 abbrev pub drop_each_line : List (List ℕ) → Reading
-drop_each_line (host ∷ k ∷ []) = said (λ (n : List ℕ × ℕ). says.DropEach n.0 n.1) (named_number host (number_in 1 4294967294 k))
+drop_each_line (host ∷ k ∷ []) = said (λ (n : List ℕ × ℕ). says.DropEach n.0 n.1)
+    (named_number host (number_in 1 4294967294 k))
 drop_each_line _ = Wrong 4
 
 -- lines of what happens at a tick
 abbrev pub moving : Option (List ℕ) → (group core at : Option ℕ) → (worded : Bool) → Reading
-moving (Some host) (Some group) (Some core) (Some at) worded = Says (says.Move (record { host = host; group = group; core = core; at = at }) worded)
+moving (Some host) (Some group) (Some core) (Some at) worded =
+    Says (says.Move (record { host = host; group = group; core = core; at = at }) worded)
 moving _ _ _ _ worded = Wrong 5
 
 abbrev pub move_line : List (List ℕ) → Reading
-move_line (host ∷ group ∷ core ∷ word ∷ at ∷ []) = moving (named host) (number_in 0 63 group) (number_in 0 15 core) (number_in 0 10000 at) (bytes_eq word (codes "at"))
+move_line (host ∷ group ∷ core ∷ word ∷ at ∷ []) =
+    moving (named host) (number_in 0 63 group) (number_in 0 15 core) (number_in 0 10000 at) (bytes_eq word (codes "at"))
 move_line _ = Wrong 4
 
 abbrev pub killing : Option (List ℕ × List ℕ) → (at : Option ℕ) → (holding worded : Bool) → Reading
-killing (Some n) (Some at) holding worded = Says (says.Kill (record { host = n.0; app = n.1; at = at; holding = holding }) worded)
+killing (Some n) (Some at) holding worded =
+    Says (says.Kill (record { host = n.0; app = n.1; at = at; holding = holding }) worded)
 killing _ _ holding worded = Wrong 5
 
 abbrev pub kill_line : List (List ℕ) → Reading
-kill_line (host ∷ app ∷ word ∷ at ∷ []) = killing (two_names host app) (number_in 0 10000 at) false (bytes_eq word (codes "at"))
-kill_line (host ∷ app ∷ word ∷ at ∷ last ∷ []) = killing (two_names host app) (number_in 0 10000 at) true (bytes_eq word (codes "at") && bytes_eq last (codes "holding"))
+kill_line (host ∷ app ∷ word ∷ at ∷ []) =
+    killing (two_names host app) (number_in 0 10000 at) false (bytes_eq word (codes "at"))
+kill_line (host ∷ app ∷ word ∷ at ∷ last ∷ []) =
+    killing (two_names host app) (number_in 0 10000 at) true (bytes_eq word (codes "at")
+    && bytes_eq last (codes "holding"))
 kill_line _ = Wrong 4
 
 -- ----- a line
@@ -260,6 +294,8 @@ by_words line (word ∷ words) = if is_comment word then Nothing else by_keyword
 abbrev pub is_printable : ℕ → Bool
 is_printable c = nat_le 32 c && nat_le c 126
 
--- A line by itself: skipped, refused by a kind from 1 to 5, or what it says. The lowest kind comes first, also in a line that would be skipped.
+-- A line by itself: skipped, refused by a kind from 1 to 5, or what it says. The lowest kind comes first, also in a
+-- line that would be skipped.
 unfoldable pub reading : (line : List ℕ) → Reading
-reading line = if nat_lt 4096 (length line) then Wrong 1 else if not (list_all is_printable line) then Wrong 2 else by_words line (words_of line)
+reading line = if nat_lt 4096 (length line) then Wrong 1 else if not (list_all is_printable line) then Wrong 2
+    else by_words line (words_of line)

@@ -1,5 +1,6 @@
 -- The words of a scenario's line, and which of them are numbers, names and addresses.
-use Rattle.std.specs.Prelude.{ℕ, ◌+◌, ◌-◌, ◌*◌, ◌==◌, Bool, true, false, not, ◌&&◌, ◌||◌, nat_le, List, [], ◌∷◌, length, fold, filter, drop, Option, Some, None, if◌then◌else◌}
+use Rattle.std.specs.Prelude.{ℕ, ◌+◌, ◌-◌, ◌*◌, ◌==◌, Bool, true, false, not, ◌&&◌, ◌||◌, nat_le, List, [], ◌∷◌, length}
+use Rattle.std.specs.Prelude.{fold, filter, drop, Option, Some, None, if◌then◌else◌}
 use Rattle.std.specs.List.{slice_split, list_all}
 
 abbrev pub is_empty : List ℕ → Bool
@@ -25,7 +26,8 @@ value_of word = fold (λ (n : ℕ) (c : ℕ). n * 10 + (c - 48)) 0 word
 
 -- the number that a word is, where it is one from `low` to `high`
 abbrev pub number_in : (low high : ℕ) → (word : List ℕ) → Option ℕ
-number_in low high word = if is_numeral word && nat_le low (value_of word) && nat_le (value_of word) high then Some (value_of word) else None
+number_in low high word = if is_numeral word && nat_le low (value_of word) && nat_le (value_of word) high
+    then Some (value_of word) else None
 
 -- ----- names
 abbrev pub is_letter : ℕ → Bool
@@ -37,7 +39,8 @@ begins_with_letter (c ∷ cs) = is_letter c
 
 -- 1 to 16 letters a to z and digits, first a letter
 abbrev pub is_name : List ℕ → Bool
-is_name word = begins_with_letter word && nat_le (length word) 16 && list_all (λ (c : ℕ). is_letter c || is_digit c) word
+is_name word = begins_with_letter word && nat_le (length word) 16
+    && list_all (λ (c : ℕ). is_letter c || is_digit c) word
 
 -- ----- addresses
 abbrev pub joined : Option ℕ → Option ℕ → Option ℕ → Option ℕ → Option ℕ

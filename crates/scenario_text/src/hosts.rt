@@ -5,7 +5,8 @@ use crate::draft::host_of;
 use crate::scenario::Scenario;
 
 impl Scenario {
-    /// The number of the host with this name, counted from 0, in a scenario of at most 8 hosts, as every one is that was read.
+    /// The number of the host with this name, counted from 0, in a scenario of at most 8 hosts, as every one is that
+    /// was read.
     pub fn host(&self, name: &[u8]) -> Option<u32>
         ensures { length self.now.hosts ≤ 8 → result ≡ host_of self.now.hosts name.now }
     {

@@ -15,7 +15,8 @@ use std::alloc::{AllocError, Global};
 #[derive(Clone, Copy, PartialEq, Eq, Debug)]
 pub enum ScenarioFault {
     OutOfMemory,
-    /// The first line that is refused, counted from 1, and the kind of the refusal: 1 a line above 4,096 bytes, 2 a byte
+    /// The first line that is refused, counted from 1, and the kind of the refusal: 1 a line above 4,096 bytes, 2 a
+    /// byte
     /// outside 32 to 126, 3 an unknown first word, 4 another number of words, 5 a number, name or address not of its
     /// form or range, 6 an unknown name, another word in the place of an option's name, `at` or `holding`, or a step
     /// before any `app`, 7 a repetition, 8 above a limit, 9 no host, at the line after the last.

@@ -22,13 +22,15 @@ pub(crate) fn role_of(roles: &Roles, name: &[u8]) -> Option<Role>
 }
 
 pub(crate) fn is_socket(roles: &Roles, name: &[u8]) -> bool
-    ensures { (before : List Step) → drafts.AreRoles roles.now before → result ≡ drafts.is_socket (drafts.role_of before name.now) }
+    ensures { (before : List Step) → drafts.AreRoles roles.now before
+        → result ≡ drafts.is_socket (drafts.role_of before name.now) }
 {
     matches!(role_of(roles, name), Some(Role::Socket))
 }
 
 pub(crate) fn is_listener(roles: &Roles, name: &[u8]) -> bool
-    ensures { (before : List Step) → drafts.AreRoles roles.now before → result ≡ drafts.is_listener (drafts.role_of before name.now) }
+    ensures { (before : List Step) → drafts.AreRoles roles.now before
+        → result ≡ drafts.is_listener (drafts.role_of before name.now) }
 {
     matches!(role_of(roles, name), Some(Role::Listener))
 }
@@ -47,7 +49,8 @@ fn brings(step: &Step) -> Option<(&[u8], Role)>
 
 /// Whether a step brings a name that there is.
 pub(crate) fn brings_again(roles: &Roles, step: &Step) -> bool
-    ensures { (before : List Step) → drafts.AreRoles roles.now before → result ≡ drafts.brings_again before (drafts.brings step.now) }
+    ensures { (before : List Step) → drafts.AreRoles roles.now before
+        → result ≡ drafts.brings_again before (drafts.brings step.now) }
 {
     match brings(step) {
         Some((name, _)) => role_of(roles, name).is_some(),
@@ -57,7 +60,9 @@ pub(crate) fn brings_again(roles: &Roles, step: &Step) -> bool
 
 /// Takes the name of a step up, which there is not yet. The error is want of memory.
 pub(crate) fn take_role(alloc: Global, roles: &mut Roles, step: &Step) -> Result<(), AllocError>
-    ensures { OnOk result ((before : List Step) → drafts.AreRoles roles.old before → drafts.brings_again before (drafts.brings step.now) ≡ false → drafts.AreRoles roles.new (before ++ step.now ∷ [])) }
+    ensures { OnOk result ((before : List Step) → drafts.AreRoles roles.old before
+        → drafts.brings_again before (drafts.brings step.now) ≡ false
+        → drafts.AreRoles roles.new (before ++ step.now ∷ [])) }
 {
     if let Some((name, role)) = brings(step) {
         roles.insert(Vec::from_slice(alloc, name)?, role)?;

@@ -62,7 +62,8 @@ pub struct KillLine {
     pub holding: bool,
 }
 
-/// A scenario: the number of ticks at most, and its hosts, applications, lines of the link, moves and kills in the order of the text.
+/// A scenario: the number of ticks at most, and its hosts, applications, lines of the link, moves and kills in the
+/// order of the text.
 #[derive(Drop)]
 pub struct Scenario {
     pub limit: u32,

@@ -39,7 +39,8 @@ pub enum OptionName {
     Backlog,
 }
 
-/// The options that a host's line gives, as far as it was read: whether a value was out of its range, a word was no option's name, or an option came twice.
+/// The options that a host's line gives, as far as it was read: whether a value was out of its range, a word was no
+/// option's name, or an option came twice.
 #[derive(Clone, Copy)]
 pub struct Given {
     pub iss: Option<u32>,

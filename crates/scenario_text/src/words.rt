@@ -1,4 +1,5 @@
-ghost use Rattle.std.specs.Prelude.{◌≡◌, ◌≤◌, ◌+◌, ◌∷◌, ◌++◌, ◌==◌, ◌||◌, [], if◌then◌else◌, map, length, position, bytes_eq, IfOk, OnOk, IfSome, MatchOption};
+ghost use Rattle.std.specs.Prelude.{◌≡◌, ◌≤◌, ◌+◌, ◌∷◌, ◌++◌, ◌==◌, ◌||◌, [], if◌then◌else◌, map, length, position};
+ghost use Rattle.std.specs.Prelude.{bytes_eq, IfOk, OnOk, IfSome, MatchOption};
 ghost use Rattle.std.specs.Option.{ForSome};
 ghost use Rattle.std.specs.List.{slice_split, list_all};
 ghost use Rattle.scenario_text.specs.Words as forms;
@@ -14,7 +15,8 @@ fn place_of(text: &[u8], byte: u8) -> Option<usize>
 
 /// The parts of a text before and behind the first such byte.
 pub(crate) fn cut(text: &[u8], byte: u8) -> Option<(&[u8], &[u8])>
-    ensures parts { MatchOption result (slice_split (λ c. c == byte) text.now ≡ text.now ∷ []) (λ parts. slice_split (λ c. c == byte) text.now ≡ parts.0.now ∷ slice_split (λ c. c == byte) parts.1.now) }
+    ensures parts { MatchOption result (slice_split (λ c. c == byte) text.now ≡ text.now ∷ [])
+        (λ parts. slice_split (λ c. c == byte) text.now ≡ parts.0.now ∷ slice_split (λ c. c == byte) parts.1.now) }
     ensures shorter { IfSome result (λ parts. length parts.0.now + length parts.1.now + 1 ≡ length text.now) }
 {
     match place_of(text, byte) {
@@ -25,7 +27,8 @@ pub(crate) fn cut(text: &[u8], byte: u8) -> Option<(&[u8], &[u8])>
 
 /// Puts a word behind others, where it is not empty. The error is want of memory.
 fn push_word<'a>(words: &mut Vec<&'a [u8]>, word: &'a [u8]) -> Result<(), AllocError>
-    ensures { OnOk result (map (λ w. w.now) words.new.items ≡ map (λ w. w.now) words.old.items ++ (if forms.is_empty word.now then [] else word.now ∷ [])) }
+    ensures { OnOk result (map (λ w. w.now) words.new.items ≡ map (λ w. w.now) words.old.items
+        ++ (if forms.is_empty word.now then [] else word.now ∷ [])) }
 {
     if !word.is_empty() {
         words.push(word)?;

@@ -1,6 +1,7 @@
 -- The flows and hosts of a world, one more: their frames of a tick, and their counts.
 use Rattle.std.proofs.Common.{◌≡◌, ℕ, suc, ◌+◌, ◌≤◌, eqb, List, [], ◌∷◌, ◌++◌, length, get_or, set}
-use Rattle.std.proofs.Common.{◌-◌, replicate, length-append, take, drop, Some, slice_get, refl, sym, ap, ◌∙◌, subst, arith, append_assoc, append-nil}
+use Rattle.std.proofs.Common.{◌-◌, replicate, length-append, take, drop, Some, slice_get, refl, sym, ap, ◌∙◌, subst}
+use Rattle.std.proofs.Common.{arith, append_assoc, append-nil}
 use Rattle.std.proofs.lemmas.List.{length-map, set_at, map-append, take_at}
 use Rattle.std.proofs.lemmas.List.Elements.{filter-append}
 use Rattle.std.proofs.Math.Seq.{get_or-append_seam}
@@ -62,7 +63,8 @@ frames_of_flows-push w h n (m ∷ ms) l =
     let e : n + 1 + length ms ≡ n + suc (length ms) = omega arith in
     ap (λ fs. live_frames w h n m ++ fs)
     (frames_of_flows-push w h (n + 1) ms l ∙ ap (λ k. frames_of_flows w h (n + 1) ms ++ live_frames w h k l) e)
-    ∙ sym (append_assoc (live_frames w h n m) (frames_of_flows w h (n + 1) ms) (live_frames w h (n + suc (length ms)) l))
+    ∙ sym (append_assoc (live_frames w h n m) (frames_of_flows w h (n + 1) ms)
+    (live_frames w h (n + suc (length ms)) l))
 
 -- of a list of frames those of a tick behind others, one piece more
 pub piece_more : (t : ℕ) (old before after front piece all : List Sent) → before ≡ old ++ of_tick t front
@@ -180,7 +182,8 @@ frames_of_hosts-push w h (s ∷ ss) site =
     let e : h + 1 + length ss ≡ h + suc (length ss) = omega arith in
     ap (λ fs. host_frames w h s.host ++ fs)
     (frames_of_hosts-push w (h + 1) ss site ∙ ap (λ k. frames_of_hosts w (h + 1) ss ++ host_frames w k site.host) e)
-    ∙ sym (append_assoc (host_frames w h s.host) (frames_of_hosts w (h + 1) ss) (host_frames w (h + suc (length ss)) site.host))
+    ∙ sym (append_assoc (host_frames w h s.host) (frames_of_hosts w (h + 1) ss)
+    (host_frames w (h + suc (length ss)) site.host))
 
 pub hosts_more : (w : World) (t : ℕ) (sites : World) (i : ℕ) (site : Site (List Script)) (old before after : List Sent)
     → slice_get sites i ≡ Some site → before ≡ old ++ of_tick t (frames_of_hosts w 0 (take i sites))

@@ -1,6 +1,7 @@
 -- The frames of histories that grew in a tick: those of other ticks are the same.
 use Rattle.std.proofs.Common.{◌≡◌, ℕ, suc, ◌+◌, ◌-◌, ◌<◌, Bool, true, false, eqb, ltb, List, [], ◌∷◌, ◌++◌}
-use Rattle.std.proofs.Common.{length, map, filter, replicate, Option, Some, None, refl, sym, ap, ◌∙◌, subst, arith, append-nil}
+use Rattle.std.proofs.Common.{length, map, filter, replicate, Option, Some, None, refl, sym, ap, ◌∙◌, subst, arith}
+use Rattle.std.proofs.Common.{append-nil}
 use Rattle.std.proofs.lemmas.Bool.Decides.{nat_tests}
 use Rattle.std.proofs.lemmas.List.Elements.{filter-append}
 use Rattle.tas_model.specs.declared.entry.FourTuple.{FourTuple}
@@ -18,15 +19,18 @@ use Rattle.link_script.specs.declared.frames.Sent.{Sent}
 use Rattle.scenario_runs.specs.Worlds.{World, host_at, frames_of_entries, frames_of_flows}
 use Rattle.scenario_runs.specs.Worlds.{answer_on, frames_of_answer, frames_of_log}
 use Rattle.sent_frames.specs.declared.frames.Origin.{Origin}
-use Rattle.sent_frames.specs.Sending.{of_tick, entry_frames, segment_frames, sent_by, sent_before, answers_in, EntriesBefore, LinesBefore}
+use Rattle.sent_frames.specs.Sending.{of_tick, entry_frames, segment_frames, sent_by, sent_before, answers_in}
+use Rattle.sent_frames.specs.Sending.{EntriesBefore, LinesBefore}
 use Rattle.sent_frames.proofs.Numbered.{entry_frames-append, frames_of_log-append}
 
 -- ----- a tick's frames have no other tick
-other_segments : (o : Origin) (n t k : ℕ) (segs : List Seg) → eqb t k ≡ false → of_tick k (segment_frames o n t segs) ≡ []
+other_segments : (o : Origin) (n t k : ℕ) (segs : List Seg) → eqb t k ≡ false
+    → of_tick k (segment_frames o n t segs) ≡ []
 other_segments o n t k [] h = refl
 other_segments o n t k (seg ∷ segs) h = rw h (other_segments o (n + 1) t k segs h)
 
-other_entries : (o : Origin) (n t k : ℕ) (xs : List Entry) → eqb t k ≡ false → AllAt t xs → of_tick k (entry_frames o n xs) ≡ []
+other_entries : (o : Origin) (n t k : ℕ) (xs : List Entry) → eqb t k ≡ false → AllAt t xs
+    → of_tick k (entry_frames o n xs) ≡ []
 other_entries o n t k [] h at = refl
 other_entries o n t k (x ∷ xs) h at =
     let e : eqb x.tick k ≡ false = subst (λ m. eqb m k ≡ false) (sym at.0) h in
@@ -70,7 +74,8 @@ grown_log world host n t k h g e grew =
     ap (λ ys. of_tick k (frames_of_log world host n ys)) grew.1
     ∙ (ap (of_tick k) (frames_of_log-append world host n h more)
     ∙ (filter-append (λ (f : Sent). eqb f.tick k) (frames_of_log world host n h) back
-    ∙ (ap (λ fs. of_tick k (frames_of_log world host n h) ++ fs) (other_lines world host (n + answers_in h) t k more e grew.2)
+    ∙ (ap (λ fs. of_tick k (frames_of_log world host n h) ++ fs)
+    (other_lines world host (n + answers_in h) t k more e grew.2)
     ∙ append-nil (of_tick k (frames_of_log world host n h)))))
 
 -- the frames of one flow
@@ -78,11 +83,17 @@ abbrev pub live_frames : World → (host n : ℕ) → Live → List Sent
 live_frames world host n l = frames_of_entries host n 0 (host_at world l.flow.tuple.raddr) l.flow.tuple l.flow.entries
 
 grown_flow : (world : World) (host n t k : ℕ) (l m : Live) → eqb t k ≡ false → opening_of m.flow ≡ opening_of l.flow
-    → Grew t l.flow.entries m.flow.entries → of_tick k (live_frames world host n m) ≡ of_tick k (live_frames world host n l)
+    → Grew t l.flow.entries m.flow.entries
+    → of_tick k (live_frames world host n m) ≡ of_tick k (live_frames world host n l)
 grown_flow world host n t k l m e same grew =
     let tuple : m.flow.tuple ≡ l.flow.tuple = ap (λ (o : Opening). o.tuple) same in
     ap (λ (tu : FourTuple). of_tick k (frames_of_entries host n 0 (host_at world tu.raddr) tu m.flow.entries)) tuple
-    ∙ grown_entries (record { host = host; flow = n; to = host_at world l.flow.tuple.raddr; tuple = l.flow.tuple }) 0 t k
+    ∙ grown_entries (record {
+      host = host;
+      flow = n;
+      to = host_at world l.flow.tuple.raddr;
+      tuple = l.flow.tuple;
+    }) 0 t k
     l.flow.entries m.flow.entries e grew
 
 pub grown_flows : (world : World) (host n t k : ℕ) (ls ms : List Live) (more : List Opening) → eqb t k ≡ false
@@ -92,16 +103,20 @@ grown_flows world host n t k [] [] more e same grew = refl
 grown_flows world host n t k [] (m ∷ ms) more e same grew =
     let o : Origin = record { host = host; flow = n; to = host_at world m.flow.tuple.raddr; tuple = m.flow.tuple } in
     filter-append (λ (f : Sent). eqb f.tick k) (live_frames world host n m) (frames_of_flows world host (n + 1) ms)
-    ∙ (ap (λ fs. fs ++ of_tick k (frames_of_flows world host (n + 1) ms)) (grown_entries o 0 t k [] m.flow.entries e grew.0)
+    ∙ (ap (λ fs. fs ++ of_tick k (frames_of_flows world host (n + 1) ms))
+    (grown_entries o 0 t k [] m.flow.entries e grew.0)
     ∙ grown_flows world host (n + 1) t k [] ms (openings ms) e refl grew.1)
 grown_flows world host n t k (l ∷ ls) [] more e same grew = absurd grew
 grown_flows world host n t k (l ∷ ls) (m ∷ ms) more e same grew =
     let first : opening_of m.flow ≡ opening_of l.flow = cc (same) in
     let rest : openings ms ≡ openings ls ++ more = cc (same) in
     filter-append (λ (f : Sent). eqb f.tick k) (live_frames world host n m) (frames_of_flows world host (n + 1) ms)
-    ∙ (ap (λ fs. fs ++ of_tick k (frames_of_flows world host (n + 1) ms)) (grown_flow world host n t k l m e first grew.0)
-    ∙ (ap (λ fs. of_tick k (live_frames world host n l) ++ fs) (grown_flows world host (n + 1) t k ls ms more e rest grew.1)
-    ∙ sym (filter-append (λ (f : Sent). eqb f.tick k) (live_frames world host n l) (frames_of_flows world host (n + 1) ls))))
+    ∙ (ap (λ fs. fs ++ of_tick k (frames_of_flows world host (n + 1) ms))
+    (grown_flow world host n t k l m e first grew.0)
+    ∙ (ap (λ fs. of_tick k (live_frames world host n l) ++ fs)
+    (grown_flows world host (n + 1) t k ls ms more e rest grew.1)
+    ∙ sym (filter-append (λ (f : Sent). eqb f.tick k) (live_frames world host n l)
+    (frames_of_flows world host (n + 1) ls))))
 
 -- ----- counts before the tick
 none_early : (t : ℕ) (more : List Entry) → AllAt t more → filter (λ (x : Entry). ltb x.tick t) more ≡ []
@@ -163,7 +178,10 @@ at_before t (x ∷ xs) at = ((let here : x.tick ≡ t = at.0 in omega arith), at
 
 grew_before : (t : ℕ) (h more : List Entry) → EntriesBefore t h → AllAt t more → EntriesBefore (t + 1) (h ++ more)
 grew_before t [] more before at = at_before t more at
-grew_before t (x ∷ xs) more before at = ((let here : x.tick < t = before.0 in omega arith), grew_before t xs more before.1 at)
+grew_before t (x ∷ xs) more before at = (
+  (let here : x.tick < t = before.0 in omega arith),
+  grew_before t xs more before.1 at,
+)
 
 pub flows_before : (t : ℕ) (ls ms : List Live) → AllEntriesBefore t ls → AllGrew t ls ms → AllEntriesBefore (t + 1) ms
 flows_before t [] [] before grew = tt
@@ -181,7 +199,10 @@ flows_before t (l ∷ ls) (m ∷ ms) before grew = (
 lines_next : (t : ℕ) (h more : List LogLine) → LinesBefore t h → LinesAt t more → LinesBefore (t + 1) (h ++ more)
 lines_next t [] [] before at = tt
 lines_next t [] (l ∷ ls) before at = ((let here : l.tick ≡ t = at.0 in omega arith), lines_next t [] ls tt at.1)
-lines_next t (l ∷ ls) more before at = ((let here : l.tick < t = before.0 in omega arith), lines_next t ls more before.1 at)
+lines_next t (l ∷ ls) more before at = (
+  (let here : l.tick < t = before.0 in omega arith),
+  lines_next t ls more before.1 at,
+)
 
 pub log_before : (t : ℕ) (h g : List LogLine) → LinesBefore t h → LogGrew t h g → LinesBefore (t + 1) g
 log_before t h g before grew = subst (λ ys. LinesBefore (t + 1) ys) (sym grew.1) (lines_next t h grew.0 before grew.2)

@@ -7,7 +7,8 @@ use Rattle.tas_model.specs.declared.entry.Seg.{Seg}
 use Rattle.tas_model.specs.declared.entry.Entry.{Entry}
 use Rattle.tas_model.specs.declared.entry.Caller.{Caller}
 use Rattle.tas_model.specs.declared.entry.Call.TheVariants as calls
-use Rattle.host_rounds.specs.Hosts.{Live, Host, Holder, Numbers, next_number, with_call, at_flow, is_known, is_indexed_as}
+use Rattle.host_rounds.specs.Hosts.{Live, Host, Holder, Numbers, next_number, with_call, at_flow, is_known}
+use Rattle.host_rounds.specs.Hosts.{is_indexed_as}
 use Rattle.host_rounds.specs.Hosts.{is_listening, is_full, lowest_free, new_flow, opened_in}
 use Rattle.host_rounds.specs.Upkeep.{swept, all_swept, timed, emits}
 use Rattle.host_rounds.specs.Deliveries.{Packet, Damaged, Segment, received, opens, opened_by_syn, met_no_flow, arrived}
@@ -55,7 +56,8 @@ kept_at : (n : ℕ) (f : Live → Live) (host : Host) → Keeps f → AreLegal h
 kept_at n f host keeps legal = kept_flows host (at_flow n f host) refl (at_keeps n f keeps host.flows legal)
 
 -- ----- frames
-syn_kept : (full : Bool) (free : Option ℕ) (number t : ℕ) (host : Host) (frame : FrameId) (tuple : FourTuple) (seg : Seg)
+syn_kept : (full : Bool) (free : Option ℕ) (number t : ℕ) (host : Host) (frame : FrameId) (tuple : FourTuple)
+    (seg : Seg)
     → Kept host (opened_by_syn full free number t host frame tuple seg)
 syn_kept true free number t host frame tuple seg = kept_flows host _ refl refl
 syn_kept false None number t host frame tuple seg = kept_flows host _ refl refl
@@ -67,13 +69,16 @@ no_flow_kept true listening number t host frame tuple seg =
     syn_kept (is_full host tuple.lport) (lowest_free host) number t host frame tuple seg
 no_flow_kept false listening number t host frame tuple seg = kept_flows host _ refl refl
 
-arrived_kept : (known : Bool) (by : Caller) (number t : ℕ) (host : Host) (frame : FrameId) (tuple : FourTuple) (seg : Seg)
+arrived_kept : (known : Bool) (by : Caller) (number t : ℕ) (host : Host) (frame : FrameId) (tuple : FourTuple)
+    (seg : Seg)
     → AreLegal host → Kept host (arrived known (received by t frame seg) number t host frame tuple seg)
 arrived_kept true by number t host frame tuple seg legal =
     kept_flows host _ refl
-    (first_keeps (is_indexed_as tuple) (received by t frame seg) (call_keeps by t (calls.Rx frame seg) []) host.flows legal)
+    (first_keeps (is_indexed_as tuple) (received by t frame seg)
+    (call_keeps by t (calls.Rx frame seg) []) host.flows legal)
 arrived_kept false by number t host frame tuple seg legal =
-    no_flow_kept (is_listening host tuple.lport && opens seg) (is_listening host tuple.lport) number t host frame tuple seg
+    no_flow_kept (is_listening host tuple.lport && opens seg)
+    (is_listening host tuple.lport) number t host frame tuple seg
 
 packet_kept : (by : Caller) (numbers : Numbers) (t : ℕ) (host : Host) (frame : FrameId) (packet : Packet)
     → AreLegal host → Kept host (delivered_packet (received by) numbers t host frame packet)

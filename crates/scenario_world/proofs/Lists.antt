@@ -1,5 +1,6 @@
 -- Lists and the place that a loop has come to.
-use Rattle.std.proofs.Common.{◌≡◌, ℕ, ◌+◌, ◌<◌, List, [], ◌∷◌, ◌++◌, length, map, get_or, take, drop, Some, slice_get, refl, sym, ap, ◌∙◌, add-one, drop-cons, arith, length-take}
+use Rattle.std.proofs.Common.{◌≡◌, ℕ, ◌+◌, ◌<◌, List, [], ◌∷◌, ◌++◌, length, map, get_or, take, drop, Some, slice_get}
+use Rattle.std.proofs.Common.{refl, sym, ap, ◌∙◌, add-one, drop-cons, arith, length-take}
 use Rattle.std.proofs.lemmas.List.{take_more, map-append}
 use Rattle.std.proofs.lemmas.Option.{slice_get_within, get_or_from_slice_get}
 
@@ -11,7 +12,8 @@ cut_at xs i x e =
     cut ∙ ap (λ y. y ∷ drop (i + 1) xs) (get_or_from_slice_get xs i x x e)
 
 -- and those up to it
-pub taken_more : {X : Type 0} (xs : List X) (i : ℕ) (x : X) → slice_get xs i ≡ Some x → take (i + 1) xs ≡ take i xs ++ x ∷ []
+pub taken_more : {X : Type 0} (xs : List X) (i : ℕ) (x : X) → slice_get xs i ≡ Some x
+    → take (i + 1) xs ≡ take i xs ++ x ∷ []
 taken_more xs i x e =
     take_more xs i x (slice_get_within xs i x e) ∙ ap (λ y. take i xs ++ y ∷ []) (get_or_from_slice_get xs i x x e)
 
@@ -19,7 +21,8 @@ pub taken_len : {X : Type 0} (xs : List X) (i : ℕ) (x : X) → slice_get xs i 
 taken_len xs i x e = let inside : i < length xs = slice_get_within xs i x e in omega (arith, length-take i xs)
 
 -- what was made of those up to it, one more
-pub mapped_more : {X Y : Type 0} (f : X → Y) (xs : List X) (i : ℕ) (x : X) (y : Y) (ys zs : List Y) → slice_get xs i ≡ Some x
+pub mapped_more : {X Y : Type 0} (f : X → Y) (xs : List X) (i : ℕ) (x : X) (y : Y) (ys zs : List Y)
+    → slice_get xs i ≡ Some x
     → ys ≡ map f (take i xs) → y ≡ f x → zs ≡ ys ++ y ∷ [] → zs ≡ map f (take (i + 1) xs)
 mapped_more f xs i x y ys zs e was made more =
     more

@@ -133,7 +133,8 @@ next_kept s t before after kept next last end k none but is up coming =
           any_next t p (sent_in before) (sent_in after) none but
           ∙ (ap (λ b. b || list_any p (of_tick t (sent_in after))) (k.coming n)
           ∙ sym (coming n
-          ∙ ap (λ fs. nat_lt n last || list_any p fs) (ap (of_tick t) is ∙ tick_frames t kept (sent_in after) k.early)));
+          ∙ ap (λ fs. nat_lt n last || list_any p fs) (ap (of_tick t) is
+          ∙ tick_frames t kept (sent_in after) k.early)));
     }
 
 -- The world before the next tick.
@@ -150,7 +151,8 @@ next_world s t p q after counts w was_after is_after is_counts addresses counted
     let early : AreEarly t before = w.world.early in
     let ticked : AreTicked t before after =
     subst (λ az. AreTicked t before az) was_after (world_ticked s t before p.hosts.items early w.tick) in
-    let same : p.addresses.items ≡ addresses_of after = w.world.addresses ∙ sym (same_addresses t before after ticked) in
+    let same : p.addresses.items ≡ addresses_of after = w.world.addresses
+    ∙ sym (same_addresses t before after ticked) in
     record {
       params = ap params_of is_after ∙ (same_params t before after ticked ∙ w.world.params);
       early = subst (λ az. AreEarly (t + 1) az) (sym is_after) (next_are_early t before after early ticked);

@@ -1,5 +1,6 @@
 -- The hosts of a world play a tick one after the other.
-use Rattle.std.proofs.Common.{◌≡◌, ℕ, suc, ◌+◌, ◌<◌, List, [], ◌∷◌, ◌++◌, length, map, get_or, set, take, drop, Some, slice_get, refl}
+use Rattle.std.proofs.Common.{◌≡◌, ℕ, suc, ◌+◌, ◌<◌, List, [], ◌∷◌, ◌++◌, length, map, get_or, set, take, drop, Some}
+use Rattle.std.proofs.Common.{slice_get, refl}
 use Rattle.std.proofs.Common.{sym, ap, ◌∙◌, arith, append_assoc}
 use Rattle.std.proofs.lemmas.List.{set_at}
 use Rattle.std.proofs.lemmas.Option.{slice_get-get_or}
@@ -19,13 +20,15 @@ played_by s t site frames =
     serial_tick (scripts_of s site.host.params) t site
     (record { frames = frames; asks = map (λ (x : Script). x.number) site.scripts })
 
-sites_len : (s : Scenario) (whole : World) (t h : ℕ) (sites : World) → length (serial_sites s whole t h sites) ≡ length sites
+sites_len : (s : Scenario) (whole : World) (t h : ℕ) (sites : World)
+    → length (serial_sites s whole t h sites) ≡ length sites
 sites_len s whole t h [] = refl
 sites_len s whole t h (site ∷ sites) = ap suc (sites_len s whole t (h + 1) sites)
 
 sites_push : (s : Scenario) (whole : World) (t h : ℕ) (sites : World) (site : Site (List Script))
     → serial_sites s whole t h (sites ++ site ∷ [])
-    ≡ serial_sites s whole t h sites ++ played_by s t site (arrivals_at s.link (sent_in whole) t (h + length sites)) ∷ []
+    ≡ serial_sites s whole t h sites ++ played_by s t site (arrivals_at s.link (sent_in whole) t (h + length sites))
+    ∷ []
 sites_push s whole t h [] site =
     let e : h ≡ h + 0 = omega arith in
     ap (λ k. played_by s t site (arrivals_at s.link (sent_in whole) t k) ∷ []) e

@@ -17,7 +17,8 @@ use Rattle.host_rounds.proofs.SerialRounds.{serial_round}
 use Rattle.link_script.specs.declared.frames.Sent.{Sent}
 use Rattle.scenario_text.specs.declared.scenario.Scenario.{Scenario}
 use Rattle.scenario_runs.specs.Applications.{Script}
-use Rattle.scenario_runs.specs.Worlds.{World, scripts_of, due_at, frames_of_flows, frames_of_log, frames_of_hosts, sent_in, host_at}
+use Rattle.scenario_runs.specs.Worlds.{World, scripts_of, due_at, frames_of_flows, frames_of_log, frames_of_hosts}
+use Rattle.scenario_runs.specs.Worlds.{sent_in, host_at}
 use Rattle.scenario_runs.specs.Runs.{AreRounds, IsTick, serial_sites, serial_world}
 use Rattle.scenario_runs.proofs.ByMoves.{scenarios_by_moves}
 use Rattle.sent_frames.specs.declared.frames.Origin.{Origin}
@@ -38,7 +39,8 @@ pub record Ticked (t : ℕ) (before after : Host) : Type 0 where
 
 up_to_before : (t n : ℕ) (h : List Entry) → n ≤ t → EntriesBefore t h → last_tick n h ≤ t
 up_to_before t n [] le before = le
-up_to_before t n (x ∷ xs) le before = up_to_before t x.tick xs (let here : x.tick < t = before.0 in omega arith) before.1
+up_to_before t n (x ∷ xs) le before = up_to_before t x.tick xs (let here : x.tick < t = before.0 in
+    omega arith) before.1
 
 all_up_to : (t : ℕ) (ls : List Live) → AllEntriesBefore t ls → Each (IsUpTo t) ls
 all_up_to t [] before = tt
@@ -95,18 +97,21 @@ serial_rounds s whole t h (site ∷ sites) early = (
   serial_rounds s whole t (h + 1) sites early.1,
 )
 
-pub serial_is_tick : (s : Scenario) (t : ℕ) (world : World) → AreEarly t world → IsTick s t world (serial_world s t world)
+pub serial_is_tick : (s : Scenario) (t : ℕ) (world : World) → AreEarly t world
+    → IsTick s t world (serial_world s t world)
 unfolding serial_world
 serial_is_tick s t world early = serial_rounds s world t 0 world early
 
-pub next_are_early : (t : ℕ) (before after : World) → AreEarly t before → AreTicked t before after → AreEarly (t + 1) after
+pub next_are_early : (t : ℕ) (before after : World) → AreEarly t before → AreTicked t before after
+    → AreEarly (t + 1) after
 next_are_early t [] [] early ticked = tt
 next_are_early t [] (a ∷ az) early ticked = absurd ticked
 next_are_early t (b ∷ bs) [] early ticked = absurd ticked
 next_are_early t (b ∷ bs) (a ∷ az) early ticked =
     (next_early t b.host a.host early.0 ticked.0, next_are_early t bs az early.1 ticked.1)
 
-pub same_addresses : (t : ℕ) (before after : World) → AreTicked t before after → addresses_of after ≡ addresses_of before
+pub same_addresses : (t : ℕ) (before after : World) → AreTicked t before after
+    → addresses_of after ≡ addresses_of before
 same_addresses t [] [] ticked = refl
 same_addresses t [] (a ∷ az) ticked = absurd ticked
 same_addresses t (b ∷ bs) [] ticked = absurd ticked
@@ -148,7 +153,8 @@ sent_but t before after ticked k e =
     ap (of_tick k) (frames_go_by after before 0 after (same_addresses t before after ticked))
     ∙ hosts_but before 0 t k before after e ticked
 
-flows_none : (w : World) (h n t : ℕ) (ls : List Live) → AllEntriesBefore t ls → of_tick t (frames_of_flows w h n ls) ≡ []
+flows_none : (w : World) (h n t : ℕ) (ls : List Live) → AllEntriesBefore t ls
+    → of_tick t (frames_of_flows w h n ls) ≡ []
 flows_none w h n t [] before = refl
 flows_none w h n t (l ∷ ls) before =
     let o : Origin = record { host = h; flow = n; to = host_at w l.flow.tuple.raddr; tuple = l.flow.tuple } in
@@ -163,7 +169,8 @@ hosts_none w h t (site ∷ sites) early =
     filter-append p (host_frames w h site.host) (frames_of_hosts w (h + 1) sites)
     ∙ (ap (λ fs. fs ++ of_tick t (frames_of_hosts w (h + 1) sites))
     (filter-append p (frames_of_flows w h 0 site.host.flows) (frames_of_log w h 0 site.host.log)
-    ∙ (ap (λ fs. fs ++ of_tick t (frames_of_log w h 0 site.host.log)) (flows_none w h 0 t site.host.flows (early.0).entries)
+    ∙ (ap (λ fs. fs ++ of_tick t (frames_of_log w h 0 site.host.log))
+    (flows_none w h 0 t site.host.flows (early.0).entries)
     ∙ no_answers w h 0 t site.host.log (early.0).lines))
     ∙ hosts_none w (h + 1) t sites early.1)
 

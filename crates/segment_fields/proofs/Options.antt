@@ -1,5 +1,6 @@
 -- Reading the options from left to right.
-use Rattle.std.proofs.Common.{◌≡◌, ℕ, ◌<◌, ◌-◌, zero, suc, List, [], ◌∷◌, Option, Some, None, drop, length, refl, sym, ap, arith, ◌∙◌}
+use Rattle.std.proofs.Common.{◌≡◌, ℕ, ◌<◌, ◌-◌, zero, suc, List, [], ◌∷◌, Option, Some, None, drop, length, refl, sym}
+use Rattle.std.proofs.Common.{ap, arith, ◌∙◌}
 use Rattle.segment_fields.specs.Options.{mss_past, option_at}
 use Rattle.segment_fields.specs.declared.segment.FirstOption.{FirstOption}
 use Rattle.segment_fields.specs.declared.segment.FirstOption.TheVariants.{Ends, Mss, Skips}

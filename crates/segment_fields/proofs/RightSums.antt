@@ -15,7 +15,8 @@ even_step n even = omega (arith, even)
 words-append : (xs ys : List ℕ) → length xs % 2 ≡ 0 → words (xs ++ ys) ≡ words xs ++ words ys
 words-append [] ys even = refl
 words-append (a ∷ []) ys even = absurd (omega (arith, even))
-words-append (a ∷ b ∷ xs) ys even = ap (λ (ws : List ℕ). (256 * a + b) ∷ ws) (words-append xs ys (even_step (length xs) even))
+words-append (a ∷ b ∷ xs) ys even =
+    ap (λ (ws : List ℕ). (256 * a + b) ∷ ws) (words-append xs ys (even_step (length xs) even))
 
 -- the words of an even number of bytes, and those of the bytes behind them
 pub sum_words-append : (xs ys : List ℕ) → length xs % 2 ≡ 0 → sum (words (xs ++ ys)) ≡ sum (words xs) + sum (words ys)

@@ -1,5 +1,7 @@
 -- What the one packet of a segment's fields says.
-use Rattle.std.proofs.Common.{◌≡◌, ℕ, ◌+◌, ◌-◌, ◌/◌, ◌%◌, ◌≤◌, ◌==◌, ◌&&◌, ◌||◌, not, Bool, true, false, List, ◌++◌, Option, Some, None, IsSome, IsTrue, length, sum, take, drop, slice_range, nat_lt, refl, sym, ap, ◌∙◌, arith, length-append, if◌then◌else◌}
+use Rattle.std.proofs.Common.{◌≡◌, ℕ, ◌+◌, ◌-◌, ◌/◌, ◌%◌, ◌≤◌, ◌==◌, ◌&&◌, ◌||◌, not, Bool, true, false, List, ◌++◌}
+use Rattle.std.proofs.Common.{Option, Some, None, IsSome, IsTrue, length, sum, take, drop, slice_range, nat_lt, refl}
+use Rattle.std.proofs.Common.{sym, ap, ◌∙◌, arith, length-append, if◌then◌else◌}
 use Rattle.std.proofs.lemmas.Bool.Decides.{nat_tests}
 use Rattle.std.proofs.lemmas.List.{take_at, drop_at, drop-drop, take_all}
 use Rattle.tas_num.specs.Sums.{words, checksum}
@@ -7,11 +9,14 @@ use Rattle.segment_fields.specs.Bytes.{byte, half, word}
 use Rattle.segment_fields.specs.ControlBits.{has, syn}
 use Rattle.segment_fields.specs.Fields.{Fields, fields_of}
 use Rattle.segment_fields.specs.Options.{mss_past}
-use Rattle.segment_fields.specs.Canon.{canon, packet, ip_header, tcp_fixed, tcp_checksum, offset_byte, tcp_len, halves, option_bytes, borne_mss, canon_len, HasMssInSynAlone}
-use Rattle.segment_fields.specs.Text.{IsText, refusal, fields_in, mss_of, tcp, ip_len, total_len, data_offset, ip_sum, tcp_sum, pseudo_sum, is_wrong}
+use Rattle.segment_fields.specs.Canon.{canon, packet, ip_header, tcp_fixed, tcp_checksum, offset_byte, tcp_len, halves}
+use Rattle.segment_fields.specs.Canon.{option_bytes, borne_mss, canon_len, HasMssInSynAlone}
+use Rattle.segment_fields.specs.Text.{IsText, refusal, fields_in, mss_of, tcp, ip_len, total_len, data_offset, ip_sum}
+use Rattle.segment_fields.specs.Text.{tcp_sum, pseudo_sum, is_wrong}
 use Rattle.segment_fields.specs.declared.segment.Segment.{Segment}
 use Rattle.segment_fields.specs.declared.segment.Refused.{Refused}
-use Rattle.segment_fields.specs.declared.segment.Refused.TheVariants.{Short, NotIpv4, HeaderLength, TotalLength, Fragment, NotTcp, IpSum, DataOffset, TcpSum}
+use Rattle.segment_fields.specs.declared.segment.Refused.TheVariants.{Short, NotIpv4, HeaderLength, TotalLength}
+use Rattle.segment_fields.specs.declared.segment.Refused.TheVariants.{Fragment, NotTcp, IpSum, DataOffset, TcpSum}
 use Rattle.segment_fields.proofs.RightSums.{is_wrong_checksum, sum_words-append}
 
 -- TCP's bytes in the packet with these options
@@ -33,7 +38,8 @@ total_len-packet f o = omega arith
 tcp-packet : (f : Fields) (o : List ℕ) → tcp (packet f o) ≡ tcp_bytes f o
 unfolding ip_header
 tcp-packet f o =
-    let rest : total_len (packet f o) - 20 ≡ length (tcp_bytes f o) = omega (arith, total_len-packet f o, length-tcp_bytes f o) in
+    let rest : total_len (packet f o) - 20 ≡ length (tcp_bytes f o) =
+    omega (arith, total_len-packet f o, length-tcp_bytes f o) in
     ap (λ (n : ℕ). take n (tcp_bytes f o)) rest ∙ take_all (length (tcp_bytes f o)) (tcp_bytes f o) (omega arith)
 
 data_offset-tcp_bytes : (f : Fields) (o : List ℕ) → length o % 4 ≡ 0 → data_offset (tcp_bytes f o) ≡ 20 + length o
@@ -53,15 +59,19 @@ mss_of-tcp_bytes : (f : Fields) → mss_of (tcp_bytes f (option_bytes (borne_mss
 unfolding mss_of tcp_fixed
 mss_of-tcp_bytes f =
     let o : List ℕ = option_bytes (borne_mss f) in
-    let len : data_offset (tcp_bytes f o) - 20 ≡ length o = omega (arith, data_offset-tcp_bytes f o (option_aligned (borne_mss f))) in
-    let options : slice_range (tcp_bytes f o) 20 (data_offset (tcp_bytes f o)) ≡ o = ap (λ (n : ℕ). take n (o ++ f.payload)) len ∙ take_at o f.payload (length o) refl in
+    let len : data_offset (tcp_bytes f o) - 20 ≡ length o =
+    omega (arith, data_offset-tcp_bytes f o (option_aligned (borne_mss f))) in
+    let options : slice_range (tcp_bytes f o) 20 (data_offset (tcp_bytes f o)) ≡ o =
+    ap (λ (n : ℕ). take n (o ++ f.payload)) len ∙ take_at o f.payload (length o) refl in
     by_syn (has f.flags syn) f.mss _ options
   where
-    by_syn : (t : Bool) (mss : Option ℕ) (xs : List ℕ) → xs ≡ option_bytes (if t then mss else None) → (if t then mss_past 0 xs else None) ≡ (if t then mss else None)
+    by_syn : (t : Bool) (mss : Option ℕ) (xs : List ℕ) → xs ≡ option_bytes (if t then mss else None)
+        → (if t then mss_past 0 xs else None) ≡ (if t then mss else None)
     by_syn true mss xs e = ap (mss_past 0) e ∙ mss_past-option mss
     by_syn false mss xs e = refl
 
-payload-tcp_bytes : (f : Fields) (o : List ℕ) → length o % 4 ≡ 0 → drop (data_offset (tcp_bytes f o)) (tcp_bytes f o) ≡ f.payload
+payload-tcp_bytes : (f : Fields) (o : List ℕ) → length o % 4 ≡ 0
+    → drop (data_offset (tcp_bytes f o)) (tcp_bytes f o) ≡ f.payload
 unfolding tcp_fixed
 payload-tcp_bytes f o aligned =
     ap (λ (n : ℕ). drop n (tcp_bytes f o)) (data_offset-tcp_bytes f o aligned)
@@ -81,7 +91,8 @@ fields_in-canon f =
     let flags : byte (tcp (canon f)) 13 ≡ f.flags = ap (λ (b : List ℕ). byte b 13) t in
     let window : half (tcp (canon f)) 14 ≡ f.window = ap (λ (b : List ℕ). half b 14) t ∙ omega arith in
     let mss : mss_of (tcp (canon f)) ≡ borne_mss f = ap mss_of t ∙ mss_of-tcp_bytes f in
-    let payload : drop (data_offset (tcp (canon f))) (tcp (canon f)) ≡ f.payload = ap (λ (b : List ℕ). drop (data_offset b) b) t ∙ payload-tcp_bytes f o (option_aligned (borne_mss f)) in
+    let payload : drop (data_offset (tcp (canon f))) (tcp (canon f)) ≡ f.payload =
+    ap (λ (b : List ℕ). drop (data_offset b) b) t ∙ payload-tcp_bytes f o (option_aligned (borne_mss f)) in
     cc (src, dst, sport, dport, seq, ack, flags, window, mss, payload)
 
 -- ----- the sums
@@ -93,17 +104,21 @@ ip_sum-packet f o =
     let whole : ip_sum (packet f o) ≡ plain + checksum plain = omega arith in
     ap is_wrong whole ∙ is_wrong_checksum plain
 
-sum-tcp_fixed : (f : Fields) (offset n : ℕ) → sum (words (tcp_fixed f offset n)) ≡ sum (words (tcp_fixed f offset 0)) + n
+sum-tcp_fixed : (f : Fields) (offset n : ℕ)
+    → sum (words (tcp_fixed f offset n)) ≡ sum (words (tcp_fixed f offset 0)) + n
 unfolding tcp_fixed
 sum-tcp_fixed f offset n = omega arith
 
 sum-tcp_bytes : (f : Fields) (o : List ℕ) → length o % 4 ≡ 0
-    → sum (words (tcp_bytes f o)) ≡ sum (words (tcp_fixed f (offset_byte o) 0)) + tcp_checksum f o + (sum (words o) + sum (words f.payload))
+    → sum (words (tcp_bytes f o)) ≡ sum (words (tcp_fixed f (offset_byte o) 0)) + tcp_checksum f o
+    + (sum (words o) + sum (words f.payload))
 unfolding tcp_fixed
 sum-tcp_bytes f o aligned =
     let fixed : List ℕ = tcp_fixed f (offset_byte o) (tcp_checksum f o) in
-    let split : sum (words (tcp_bytes f o)) ≡ sum (words fixed) + sum (words (o ++ f.payload)) = sum_words-append fixed (o ++ f.payload) refl in
-    let rest : sum (words (o ++ f.payload)) ≡ sum (words o) + sum (words f.payload) = sum_words-append o f.payload (omega (arith, aligned)) in
+    let split : sum (words (tcp_bytes f o)) ≡ sum (words fixed) + sum (words (o ++ f.payload)) =
+    sum_words-append fixed (o ++ f.payload) refl in
+    let rest : sum (words (o ++ f.payload)) ≡ sum (words o) + sum (words f.payload) =
+    sum_words-append o f.payload (omega (arith, aligned)) in
     let head = sum-tcp_fixed f (offset_byte o) (tcp_checksum f o) in
     omega (arith, split, rest, head)
 
@@ -115,9 +130,12 @@ pseudo_sum-packet f o =
 
 tcp_sum-packet : (f : Fields) (o : List ℕ) → length o % 4 ≡ 0 → is_wrong (tcp_sum (packet f o)) ≡ false
 tcp_sum-packet f o aligned =
-    let plain : ℕ = halves f.src + halves f.dst + 6 + tcp_len f o + sum (words (tcp_fixed f (offset_byte o) 0)) + sum (words o) + sum (words f.payload) in
-    let bytes : sum (words (tcp (packet f o))) ≡ sum (words (tcp_bytes f o)) = ap (λ (b : List ℕ). sum (words b)) (tcp-packet f o) in
-    let whole : tcp_sum (packet f o) ≡ plain + checksum plain = omega (arith, bytes, sum-tcp_bytes f o aligned, pseudo_sum-packet f o) in
+    let plain : ℕ = halves f.src + halves f.dst + 6 + tcp_len f o + sum (words (tcp_fixed f (offset_byte o) 0)) + sum
+    (words o) + sum (words f.payload) in
+    let bytes : sum (words (tcp (packet f o))) ≡ sum (words (tcp_bytes f o)) =
+    ap (λ (b : List ℕ). sum (words b)) (tcp-packet f o) in
+    let whole : tcp_sum (packet f o) ≡ plain + checksum plain =
+    omega (arith, bytes, sum-tcp_bytes f o aligned, pseudo_sum-packet f o) in
     ap is_wrong whole ∙ is_wrong_checksum plain
 
 -- ----- the rules
@@ -139,8 +157,11 @@ protocol f o = refl
 
 none_broken : (t1 t2 t3 t4 t5 t6 t7 t8 t9 : Bool) (r1 r2 r3 r4 r5 r6 r7 r8 r9 : Refused)
     → t1 ≡ false → t2 ≡ false → t3 ≡ false → t4 ≡ false → t5 ≡ false → t6 ≡ false → t7 ≡ false → t8 ≡ false → t9 ≡ false
-    → ◌≡◌ {A = Option Refused} (if t1 then Some r1 else if t2 then Some r2 else if t3 then Some r3 else if t4 then Some r4 else if t5 then Some r5 else if t6 then Some r6 else if t7 then Some r7 else if t8 then Some r8 else if t9 then Some r9 else None) None
-none_broken t1 t2 t3 t4 t5 t6 t7 t8 t9 r1 r2 r3 r4 r5 r6 r7 r8 r9 e1 e2 e3 e4 e5 e6 e7 e8 e9 = rw (e1, e2, e3, e4, e5, e6, e7, e8, e9) refl
+    → ◌≡◌ {A = Option Refused} (if t1 then Some r1 else if t2 then Some r2 else if t3 then Some r3 else if t4
+    then Some r4 else if t5 then Some r5 else if t6 then Some r6 else if t7 then Some r7 else if t8 then Some r8
+    else if t9 then Some r9 else None) None
+none_broken t1 t2 t3 t4 t5 t6 t7 t8 t9 r1 r2 r3 r4 r5 r6 r7 r8 r9 e1 e2 e3 e4 e5 e6 e7 e8 e9 =
+    rw (e1, e2, e3, e4, e5, e6, e7, e8, e9) refl
 
 either : (a b : Bool) → a ≡ false → b ≡ false → (a || b) ≡ false
 either a b e1 e2 = rw (e1, e2) refl
@@ -159,21 +180,31 @@ refusal-packet check f o aligned =
     let len : length b ≡ 20 + tcp_len f o = length-packet f o in
     let total : total_len b ≡ 20 + tcp_len f o = total_len-packet f o in
     let tcp_length : length (tcp b) ≡ tcp_len f o = ap length (tcp-packet f o) ∙ length-tcp_bytes f o in
-    let offset : data_offset (tcp b) ≡ 20 + length o = ap data_offset (tcp-packet f o) ∙ data_offset-tcp_bytes f o aligned in
+    let offset : data_offset (tcp b) ≡ 20 + length o = ap data_offset (tcp-packet f o)
+    ∙ data_offset-tcp_bytes f o aligned in
     let low : 20 + length o ≤ tcp_len f o = omega arith in
     none_broken (nat_lt (length b) 20) (not (byte b 0 / 16 == 4)) (nat_lt (ip_len b) 20 || nat_lt (length b) (ip_len b))
-    (nat_lt (total_len b) (ip_len b) || nat_lt (length b) (total_len b)) (not (half b 6 % 16384 == 0)) (not (byte b 9 == 6)) (check && is_wrong (ip_sum b))
-    (nat_lt (length (tcp b)) 20 || nat_lt (data_offset (tcp b)) 20 || nat_lt (length (tcp b)) (data_offset (tcp b))) (check && is_wrong (tcp_sum b))
+    (nat_lt (total_len b) (ip_len b) || nat_lt (length b) (total_len b)) (not (half b 6 % 16384 == 0))
+    (not (byte b 9 == 6)) (check && is_wrong (ip_sum b))
+    (nat_lt (length (tcp b)) 20 || nat_lt (data_offset (tcp b)) 20 || nat_lt (length (tcp b)) (data_offset (tcp b)))
+    (check && is_wrong (tcp_sum b))
     Short NotIpv4 HeaderLength TotalLength Fragment NotTcp IpSum DataOffset TcpSum
     (not_below (length b) 20 (omega (arith, len)))
     (first_byte f o)
-    (either (nat_lt (ip_len b) 20) (nat_lt (length b) (ip_len b)) (not_below (ip_len b) 20 (omega (arith, ip_len-packet f o))) (not_below (length b) (ip_len b) (omega (arith, ip_len-packet f o, len))))
-    (either (nat_lt (total_len b) (ip_len b)) (nat_lt (length b) (total_len b)) (not_below (total_len b) (ip_len b) (omega (arith, ip_len-packet f o, total))) (not_below (length b) (total_len b) (omega (arith, len, total))))
+    (either (nat_lt (ip_len b) 20) (nat_lt (length b) (ip_len b))
+    (not_below (ip_len b) 20 (omega (arith, ip_len-packet f o)))
+    (not_below (length b) (ip_len b) (omega (arith, ip_len-packet f o, len))))
+    (either (nat_lt (total_len b) (ip_len b)) (nat_lt (length b) (total_len b))
+    (not_below (total_len b) (ip_len b) (omega (arith, ip_len-packet f o, total)))
+    (not_below (length b) (total_len b) (omega (arith, len, total))))
     (no_fragment f o)
     (protocol f o)
     (checked check (is_wrong (ip_sum b)) (ip_sum-packet f o))
-    (either (nat_lt (length (tcp b)) 20 || nat_lt (data_offset (tcp b)) 20) (nat_lt (length (tcp b)) (data_offset (tcp b)))
-    (either (nat_lt (length (tcp b)) 20) (nat_lt (data_offset (tcp b)) 20) (not_below (length (tcp b)) 20 (omega (arith, tcp_length))) (not_below (data_offset (tcp b)) 20 (omega (arith, offset))))
+    (either (nat_lt (length (tcp b)) 20 || nat_lt (data_offset (tcp b)) 20)
+    (nat_lt (length (tcp b)) (data_offset (tcp b)))
+    (either (nat_lt (length (tcp b)) 20) (nat_lt (data_offset (tcp b)) 20)
+    (not_below (length (tcp b)) 20 (omega (arith, tcp_length)))
+    (not_below (data_offset (tcp b)) 20 (omega (arith, offset))))
     (not_below (length (tcp b)) (data_offset (tcp b)) (omega (arith, tcp_length, offset, low))))
     (checked check (is_wrong (tcp_sum b)) (tcp_sum-packet f o aligned))
 
@@ -186,7 +217,8 @@ by_mss None false e = refl
 by_mss (Some m) false e = absurd (cc (e refl))
 
 pub fields_in-canon_same : (f : Fields) → HasMssInSynAlone f → fields_in (canon f) ≡ f
-fields_in-canon_same f alone = fields_in-canon f ∙ ap (λ (mss : Option ℕ). record f { mss = mss }) (by_mss f.mss (has f.flags syn) alone)
+fields_in-canon_same f alone = fields_in-canon f
+    ∙ ap (λ (mss : Option ℕ). record f { mss = mss }) (by_mss f.mss (has f.flags syn) alone)
 
 pub fields_of-text : (b : List ℕ) (s : Segment) → IsText b s → fields_of s ≡ fields_in b
 fields_of-text b s t = cc (t.src, t.dst, t.sport, t.dport, t.seq, t.ack, t.flags, t.window, t.mss, t.payload)

@@ -1,5 +1,6 @@
 -- The one packet that a segment is written as (RFC 791, section 3.1; RFC 9293, section 3.1).
-use Rattle.std.specs.Prelude.{ℕ, ◌+◌, ◌*◌, ◌/◌, ◌%◌, List, [], ◌∷◌, ◌++◌, length, sum, Option, Some, None, IsSome, IsTrue, if◌then◌else◌}
+use Rattle.std.specs.Prelude.{ℕ, ◌+◌, ◌*◌, ◌/◌, ◌%◌, List, [], ◌∷◌, ◌++◌, length, sum, Option, Some, None, IsSome}
+use Rattle.std.specs.Prelude.{IsTrue, if◌then◌else◌}
 use Rattle.tas_num.specs.Sums.{words, checksum}
 use Rattle.segment_fields.specs.Bytes.{two, four}
 use Rattle.segment_fields.specs.ControlBits.{has, syn}
@@ -19,15 +20,19 @@ borne_mss f = if has f.flags syn then f.mss else None
 abbrev pub HasMssInSynAlone : Fields → Type 0
 HasMssInSynAlone f = IsSome f.mss → IsTrue (has f.flags syn)
 
--- The IPv4 header without options: version 4 and IHL 5, type of service 0, total length, identification 0, DF and fragment offset 0, TTL 64, protocol 6,
+-- The IPv4 header without options: version 4 and IHL 5, type of service 0, total length, identification 0, DF and
+-- fragment offset 0, TTL 64, protocol 6,
 -- checksum, and the addresses.
 unfoldable pub ip_header : (total checksum src dst : ℕ) → List ℕ
-ip_header total checksum src dst = 69 ∷ 0 ∷ two total ++ (0 ∷ 0 ∷ 64 ∷ 0 ∷ 64 ∷ 6 ∷ two checksum ++ (four src ++ four dst))
+ip_header total checksum src dst = 69 ∷ 0 ∷ two total
+    ++ (0 ∷ 0 ∷ 64 ∷ 0 ∷ 64 ∷ 6 ∷ two checksum ++ (four src ++ four dst))
 
--- The fixed part of the TCP header, with this byte of data offset and reserved bits, and this checksum. The urgent pointer is 0.
+-- The fixed part of the TCP header, with this byte of data offset and reserved bits, and this checksum. The urgent
+-- pointer is 0.
 unfoldable pub tcp_fixed : Fields → (offset checksum : ℕ) → List ℕ
 tcp_fixed f offset checksum =
-    two f.sport ++ (two f.dport ++ (four f.seq ++ (four f.ack ++ (offset ∷ f.flags ∷ two f.window ++ (two checksum ++ (0 ∷ 0 ∷ []))))))
+    two f.sport ++ (two f.dport
+    ++ (four f.seq ++ (four f.ack ++ (offset ∷ f.flags ∷ two f.window ++ (two checksum ++ (0 ∷ 0 ∷ []))))))
 
 -- ----- their lengths and sums
 -- the TCP length, in bytes
@@ -49,14 +54,16 @@ ip_checksum total src dst = checksum (sum (words (ip_header total 0 src dst)))
 -- the number that makes the sum of the pseudo-header, the header and the payload right
 abbrev pub tcp_checksum : Fields → (option : List ℕ) → ℕ
 tcp_checksum f option =
-    checksum (halves f.src + halves f.dst + 6 + tcp_len f option + sum (words (tcp_fixed f (offset_byte option) 0)) + sum (words option) + sum (words f.payload))
+    checksum (halves f.src + halves f.dst + 6 + tcp_len f option + sum (words (tcp_fixed f (offset_byte option) 0))
+    + sum (words option) + sum (words f.payload))
 
 -- ----- the packet
 -- the packet with these options
 abbrev pub packet : Fields → (option : List ℕ) → List ℕ
 packet f option =
     let total : ℕ = 20 + tcp_len f option in
-    ip_header total (ip_checksum total f.src f.dst) f.src f.dst ++ (tcp_fixed f (offset_byte option) (tcp_checksum f option) ++ (option ++ f.payload))
+    ip_header total (ip_checksum total f.src f.dst) f.src f.dst
+    ++ (tcp_fixed f (offset_byte option) (tcp_checksum f option) ++ (option ++ f.payload))
 
 -- the one packet of a segment's fields
 abbrev pub canon : Fields → List ℕ

@@ -1,4 +1,5 @@
--- The control bits of a segment, by their values in the byte of flags (RFC 9293, section 3.1; ECE and CWR of RFC 3168, section 6.1).
+-- The control bits of a segment, by their values in the byte of flags (RFC 9293, section 3.1; ECE and CWR of RFC 3168,
+-- section 6.1).
 use Rattle.std.specs.Prelude.{ℕ, ◌/◌, ◌%◌, ◌==◌, Bool}
 
 abbrev pub fin : ℕ

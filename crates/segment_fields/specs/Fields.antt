@@ -1,8 +1,10 @@
--- A TCP segment in an IPv4 packet, as the numbers that its headers hold and its payload (RFC 791, section 3.1; RFC 9293, section 3.1).
+-- A TCP segment in an IPv4 packet, as the numbers that its headers hold and its payload (RFC 791, section 3.1; RFC
+-- 9293, section 3.1).
 use Rattle.std.specs.Prelude.{ℕ, List, Option}
 use Rattle.segment_fields.specs.declared.segment.Segment.{Segment}
 
--- `flags` is the byte of control bits, `mss` the value of the option Maximum Segment Size, and the payload is a list of bytes.
+-- `flags` is the byte of control bits, `mss` the value of the option Maximum Segment Size, and the payload is a list of
+-- bytes.
 pub record Fields : Type 0 where
   pub src : ℕ
   pub dst : ℕ

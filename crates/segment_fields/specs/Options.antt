@@ -1,10 +1,12 @@
 -- The options of a TCP header, one behind the other (RFC 9293, sections 3.1 and 3.2).
-use Rattle.std.specs.Prelude.{⊤, ℕ, zero, suc, ◌-◌, ◌<◌, ◌≤◌, ◌==◌, ◌&&◌, ◌||◌, List, [], ◌∷◌, length, nat_lt, Option, Some, None, if◌then◌else◌}
+use Rattle.std.specs.Prelude.{⊤, ℕ, zero, suc, ◌-◌, ◌<◌, ◌≤◌, ◌==◌, ◌&&◌, ◌||◌, List, [], ◌∷◌, length, nat_lt, Option}
+use Rattle.std.specs.Prelude.{Some, None, if◌then◌else◌}
 use Rattle.segment_fields.specs.Bytes.{byte, half}
 use Rattle.segment_fields.specs.declared.segment.FirstOption.{FirstOption}
 use Rattle.segment_fields.specs.declared.segment.FirstOption.TheVariants.{Ends, Mss, Skips}
 
--- What the first option says. Kind 0 ends the list, kind 1 is one byte, and every other kind has a length byte, which counts kind and length.
+-- What the first option says. Kind 0 ends the list, kind 1 is one byte, and every other kind has a length byte, which
+-- counts kind and length.
 -- A length below 2, or past the end of the header, ends the list too.
 abbrev pub option_at : List ℕ → FirstOption
 option_at xs =

@@ -1,7 +1,8 @@
 -- The numbers by which reports name the rules of reading.
 use Rattle.std.specs.Prelude.{ℕ}
 use Rattle.segment_fields.specs.declared.segment.Refused.{Refused}
-use Rattle.segment_fields.specs.declared.segment.Refused.TheVariants.{Short, NotIpv4, HeaderLength, TotalLength, Fragment, NotTcp, IpSum, DataOffset, TcpSum}
+use Rattle.segment_fields.specs.declared.segment.Refused.TheVariants.{Short, NotIpv4, HeaderLength, TotalLength}
+use Rattle.segment_fields.specs.declared.segment.Refused.TheVariants.{Fragment, NotTcp, IpSum, DataOffset, TcpSum}
 
 -- the number of a rule, in the order in which they are tried
 abbrev pub number_of : Refused → ℕ

@@ -1,5 +1,7 @@
--- What the bytes of an IPv4 packet with a TCP segment say: an equation for each field, at its place in the bytes (RFC 791, section 3.1; RFC 9293, section 3.1).
-use Rattle.std.specs.Prelude.{◌≡◌, ℕ, ◌+◌, ◌*◌, ◌/◌, ◌%◌, ◌==◌, ◌&&◌, ◌||◌, not, Bool, List, length, slice_range, sum, take, drop, nat_lt, Option, Some, None, if◌then◌else◌}
+-- What the bytes of an IPv4 packet with a TCP segment say: an equation for each field, at its place in the bytes (RFC
+-- 791, section 3.1; RFC 9293, section 3.1).
+use Rattle.std.specs.Prelude.{◌≡◌, ℕ, ◌+◌, ◌*◌, ◌/◌, ◌%◌, ◌==◌, ◌&&◌, ◌||◌, not, Bool, List, length, slice_range, sum}
+use Rattle.std.specs.Prelude.{take, drop, nat_lt, Option, Some, None, if◌then◌else◌}
 use Rattle.tas_num.specs.Sums.{words}
 use Rattle.segment_fields.specs.Bytes.{byte, half, word}
 use Rattle.segment_fields.specs.ControlBits.{has, syn}
@@ -7,7 +9,8 @@ use Rattle.segment_fields.specs.Fields.{Fields}
 use Rattle.segment_fields.specs.Options.{mss_past}
 use Rattle.segment_fields.specs.declared.segment.Segment.{Segment}
 use Rattle.segment_fields.specs.declared.segment.Refused.{Refused}
-use Rattle.segment_fields.specs.declared.segment.Refused.TheVariants.{Short, NotIpv4, HeaderLength, TotalLength, Fragment, NotTcp, IpSum, DataOffset, TcpSum}
+use Rattle.segment_fields.specs.declared.segment.Refused.TheVariants.{Short, NotIpv4, HeaderLength, TotalLength}
+use Rattle.segment_fields.specs.declared.segment.Refused.TheVariants.{Fragment, NotTcp, IpSum, DataOffset, TcpSum}
 
 -- ----- the parts of a packet
 -- the bytes of the IPv4 header, which says its length (IHL) in words of four bytes
@@ -31,7 +34,8 @@ data_offset t = 4 * (byte t 12 / 16)
 abbrev pub pseudo_sum : List ℕ → ℕ
 pseudo_sum b = half b 12 + half b 14 + half b 16 + half b 18 + 6 + length (tcp b)
 
--- the sum of the words that the checksum of the IPv4 header covers, and of those that TCP's covers; each holds its own field
+-- the sum of the words that the checksum of the IPv4 header covers, and of those that TCP's covers; each holds its own
+-- field
 abbrev pub ip_sum : List ℕ → ℕ
 ip_sum b = sum (words (take (ip_len b) b))
 
@@ -54,7 +58,8 @@ refusal check b =
     else if not (half b 6 % 16384 == 0) then Some Fragment
     else if not (byte b 9 == 6) then Some NotTcp
     else if check && is_wrong (ip_sum b) then Some IpSum
-    else if nat_lt (length (tcp b)) 20 || nat_lt (data_offset (tcp b)) 20 || nat_lt (length (tcp b)) (data_offset (tcp b)) then Some DataOffset
+    else if nat_lt (length (tcp b)) 20 || nat_lt (data_offset (tcp b)) 20
+    || nat_lt (length (tcp b)) (data_offset (tcp b)) then Some DataOffset
     else if check && is_wrong (tcp_sum b) then Some TcpSum
     else None
 

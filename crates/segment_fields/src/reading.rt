@@ -1,4 +1,5 @@
-ghost use Rattle.std.specs.Prelude.{◌≡◌, ℕ, ◌+◌, ◌-◌, ◌*◌, ◌<◌, ◌≤◌, ◌^◌, Some, None, MatchResult, IfOk, IfErr, length, slice_range, sum};
+ghost use Rattle.std.specs.Prelude.{◌≡◌, ℕ, ◌+◌, ◌-◌, ◌*◌, ◌<◌, ◌≤◌, ◌^◌, Some, None, MatchResult, IfOk, IfErr, length};
+ghost use Rattle.std.specs.Prelude.{slice_range, sum};
 ghost use Rattle.tas_num.specs.Sums.{words};
 ghost use Rattle.segment_fields.specs.Bytes.{half};
 ghost use Rattle.segment_fields.specs.Text.{IsText, refusal, is_wrong, mss_of, data_offset};
@@ -8,8 +9,10 @@ use crate::bytes::{half_at, word_at};
 use crate::segment::{FirstOption, Flags, Refused, Segment};
 use tas_num::{Seq, Sum16};
 
-/// The segment that the bytes of an IPv4 packet spell, or the first rule that they break. The checksums are looked at where `check_sums` says so.
-/// Reserved bits, the urgent pointer, other options and the fields of IPv4 that a `Segment` doesn't name are dropped, and so are bytes past the total length.
+/// The segment that the bytes of an IPv4 packet spell, or the first rule that they break. The checksums are looked at
+/// where `check_sums` says so.
+/// Reserved bits, the urgent pointer, other options and the fields of IPv4 that a `Segment` doesn't name are dropped,
+/// and so are bytes past the total length.
 #[tactic(auto, unfolding(crate::specs::Text::refusal))]
 pub fn read(bytes: &[u8], check_sums: bool) -> Result<Segment<'_>, Refused>
     ensures text { IfOk result (IsText bytes.now) }

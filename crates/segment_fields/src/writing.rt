@@ -1,8 +1,10 @@
-ghost use Rattle.std.specs.Prelude.{◌≡◌, ℕ, ◌+◌, ◌*◌, ◌%◌, ◌^◌, ◌<◌, ◌≤◌, ◌++◌, ◌↔◌, length, sum, take, drop, IfOk, OnErr, IsErr};
+ghost use Rattle.std.specs.Prelude.{◌≡◌, ℕ, ◌+◌, ◌*◌, ◌%◌, ◌^◌, ◌<◌, ◌≤◌, ◌++◌, ◌↔◌, length, sum, take, drop, IfOk};
+ghost use Rattle.std.specs.Prelude.{OnErr, IsErr};
 ghost use Rattle.tas_num.specs.Sums.{words, checksum};
 ghost use Rattle.segment_fields.specs.Fields.{fields_of};
 ghost use Rattle.segment_fields.specs.Bytes.{two, four};
-ghost use Rattle.segment_fields.specs.Canon.{canon, canon_len, packet, ip_header, ip_checksum, tcp_fixed, tcp_checksum, borne_mss, option_bytes, offset_byte, halves as model_halves};
+ghost use Rattle.segment_fields.specs.Canon.{canon, canon_len, packet, ip_header, ip_checksum, tcp_fixed, tcp_checksum};
+ghost use Rattle.segment_fields.specs.Canon.{borne_mss, option_bytes, offset_byte, halves as model_halves};
 
 use crate::segment::Segment;
 use tas_num::Sum16;
@@ -11,7 +13,8 @@ use tas_num::Sum16;
 #[derive(Clone, Copy, PartialEq, Eq, Debug)]
 pub struct NoRoom;
 
-/// Writes the one packet of a segment at the front of `buf`, and answers its length in bytes: 40, 4 more with an MSS, and the payload (RFC 791, section 3.1;
+/// Writes the one packet of a segment at the front of `buf`, and answers its length in bytes: 40, 4 more with an MSS,
+/// and the payload (RFC 791, section 3.1;
 /// RFC 9293, section 3.1). An MSS is written in a SYN alone.
 ///
 /// `NoRoom` comes where `buf` is shorter than the packet; then it is as before.

@@ -1,5 +1,6 @@
 -- Hosts by their addresses.
-use Rattle.std.proofs.Common.{◌≡◌, ℕ, zero, suc, ◌+◌, not, nat_lt, Bool, true, false, cond, eqb, List, [], ◌∷◌, ◌++◌, length, map, position}
+use Rattle.std.proofs.Common.{◌≡◌, ℕ, zero, suc, ◌+◌, not, nat_lt, Bool, true, false, cond, eqb, List, [], ◌∷◌, ◌++◌}
+use Rattle.std.proofs.Common.{length, map, position}
 use Rattle.std.proofs.Common.{Option, Some, None, unwrap_or, refl, sym, ap, ◌∙◌}
 use Rattle.std.proofs.lemmas.List.{length-map}
 use Rattle.std.specs.List.{prefix_len}
@@ -15,7 +16,8 @@ use Rattle.scenario_runs.specs.Worlds.{World, host_at, no_flow, frames_of_segmen
 use Rattle.scenario_runs.specs.Worlds.{answer_on, frames_of_answer, frames_of_log, frames_of_hosts}
 use Rattle.sent_frames.specs.Sending.{addresses_of}
 
-prefix_len-map : {X Y : Type 0} (p : Y → Bool) (f : X → Y) (xs : List X) → prefix_len p (map f xs) ≡ prefix_len (λ x. p (f x)) xs
+prefix_len-map : {X Y : Type 0} (p : Y → Bool) (f : X → Y) (xs : List X)
+    → prefix_len p (map f xs) ≡ prefix_len (λ x. p (f x)) xs
 prefix_len-map p f [] = refl
 prefix_len-map p f (x ∷ xs) = ap (λ n. cond (p (f x)) (1 + n) 0) (prefix_len-map p f xs)
 
@@ -32,7 +34,8 @@ host_is_placed world addr =
     let address : Site (List Script) → ℕ = λ (site : Site (List Script)). site.host.params.addr in
     let places = prefix_len-map (λ a. not (eqb a addr)) address world in
     sym (ap (λ n. placed n (length (addresses_of world))) places
-    ∙ ap (placed (prefix_len (λ (site : Site (List Script)). not (eqb site.host.params.addr addr)) world)) (length-map world address))
+    ∙ ap (placed (prefix_len (λ (site : Site (List Script)). not (eqb site.host.params.addr addr)) world))
+    (length-map world address))
 
 pub same_place : (v w : World) (addr : ℕ) → addresses_of v ≡ addresses_of w → host_at v addr ≡ host_at w addr
 same_place v w addr same =

@@ -1,5 +1,6 @@
 -- Answers to segments of no flow, a line more.
-use Rattle.std.proofs.Common.{◌≡◌, ℕ, ◌+◌, ◌≤◌, ◌==◌, eqb, List, [], ◌∷◌, ◌++◌, length, filter, take, drop, Some, slice_get}
+use Rattle.std.proofs.Common.{◌≡◌, ℕ, ◌+◌, ◌≤◌, ◌==◌, eqb, List, [], ◌∷◌, ◌++◌, length, filter, take, drop, Some}
+use Rattle.std.proofs.Common.{slice_get}
 use Rattle.std.proofs.Common.{refl, sym, ap, ◌∙◌, arith, append_assoc, take-append-drop}
 use Rattle.std.proofs.lemmas.List.Elements.{filter-append}
 use Rattle.host_rounds.specs.declared.log.LogLine.{LogLine}

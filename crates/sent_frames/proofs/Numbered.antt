@@ -1,6 +1,8 @@
 -- Frames of entries and of lines are numbered on.
-use Rattle.std.proofs.Common.{◌≡◌, ℕ, zero, suc, ◌+◌, ◌≤◌, ◌<◌, Bool, true, false, cond, List, [], ◌∷◌, ◌++◌, length, filter}
-use Rattle.std.proofs.Common.{Option, Some, None, flat_map, refl, sym, ap, ◌∙◌, append_assoc, length-append, arith, is_some}
+use Rattle.std.proofs.Common.{◌≡◌, ℕ, zero, suc, ◌+◌, ◌≤◌, ◌<◌, Bool, true, false, cond, List, [], ◌∷◌, ◌++◌, length}
+use Rattle.std.proofs.Common.{filter}
+use Rattle.std.proofs.Common.{Option, Some, None, flat_map, refl, sym, ap, ◌∙◌, append_assoc, length-append, arith}
+use Rattle.std.proofs.Common.{is_some}
 use Rattle.std.proofs.lemmas.List.Concat.{flat_map-append}
 use Rattle.std.proofs.lemmas.List.Elements.{filter-append}
 use Rattle.tas_model.specs.declared.entry.FourTuple.{FourTuple}
@@ -73,12 +75,14 @@ answers_of world host n t (Some a) = refl
 answers_first : (l : LogLine) (ls : List LogLine) → answers_in (l ∷ ls) ≡ cond (is_answered l) 1 0 + answers_in ls
 answers_first l ls = by_test (is_answered l)
   where
-    by_test : (b : Bool) → length (cond b (l ∷ filter is_answered ls) (filter is_answered ls)) ≡ cond b 1 0 + answers_in ls
+    by_test : (b : Bool) → length (cond b (l ∷ filter is_answered ls) (filter is_answered ls))
+        ≡ cond b 1 0 + answers_in ls
     by_test true = omega arith
     by_test false = omega arith
 
 pub frames_of_log-append : (world : World) (host n : ℕ) (xs ys : List LogLine)
-    → frames_of_log world host n (xs ++ ys) ≡ frames_of_log world host n xs ++ frames_of_log world host (n + answers_in xs) ys
+    → frames_of_log world host n (xs ++ ys) ≡ frames_of_log world host n xs
+    ++ frames_of_log world host (n + answers_in xs) ys
 frames_of_log-append world host n [] ys =
     let e : n ≡ n + 0 = omega arith in ap (λ k. frames_of_log world host k ys) e
 frames_of_log-append world host n (l ∷ ls) ys =
@@ -89,7 +93,8 @@ frames_of_log-append world host n (l ∷ ls) ys =
     ap (λ fs. front ++ fs)
     (frames_of_log-append world host (n + k) ls ys
     ∙ ap (λ m. frames_of_log world host (n + k) ls ++ frames_of_log world host m ys) e)
-    ∙ sym (append_assoc front (frames_of_log world host (n + k) ls) (frames_of_log world host (n + answers_in (l ∷ ls)) ys))
+    ∙ sym (append_assoc front (frames_of_log world host (n + k) ls)
+    (frames_of_log world host (n + answers_in (l ∷ ls)) ys))
 
 pub answers_in-le : (xs : List LogLine) → answers_in xs ≤ length xs
 answers_in-le [] = omega arith

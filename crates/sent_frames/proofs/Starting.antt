@@ -1,6 +1,8 @@
 -- Where the entries of a tick begin in a history.
-use Rattle.std.proofs.Common.{◌≡◌, ℕ, zero, suc, ◌+◌, ◌≤◌, ◌<◌, Bool, true, false, cond, ltb, List, [], ◌∷◌, ◌++◌, length}
-use Rattle.std.proofs.Common.{filter, take, drop, flat_map, Some, slice_get, refl, sym, ap, ◌∙◌, subst, arith, append-nil}
+use Rattle.std.proofs.Common.{◌≡◌, ℕ, zero, suc, ◌+◌, ◌≤◌, ◌<◌, Bool, true, false, cond, ltb, List, [], ◌∷◌, ◌++◌}
+use Rattle.std.proofs.Common.{length}
+use Rattle.std.proofs.Common.{filter, take, drop, flat_map, Some, slice_get, refl, sym, ap, ◌∙◌, subst, arith}
+use Rattle.std.proofs.Common.{append-nil}
 use Rattle.std.proofs.Common.{take-append-drop, append_assoc, length-append, add-one, drop-cons, get_or, eqb}
 use Rattle.std.proofs.lemmas.Bool.Decides.{nat_tests}
 use Rattle.std.proofs.lemmas.List.{take_all}
@@ -141,7 +143,8 @@ front_before params xss zero t legal h = tt
 front_before params xss (suc i) t legal h =
     let all : Rising 0 (joined xss) = rising params (joined xss) legal in
     let parts = subst (λ ys. Rising 0 ys) (joined_parts xss (suc i)) all in
-    all_before 0 t (joined (take (suc i) xss)) (rising_front 0 (joined (take (suc i) xss)) (joined (drop (suc i) xss)) parts)
+    all_before 0 t (joined (take (suc i) xss))
+    (rising_front 0 (joined (take (suc i) xss)) (joined (drop (suc i) xss)) parts)
     (h (omega arith))
 
 all_kept : (t : ℕ) (xs : List Entry) → EntriesBefore t xs → earlier t xs ≡ xs
@@ -159,10 +162,12 @@ pub starts : (params : HostParams) (entries : List Entry) (xss : List (List Entr
 starts params entries xss i t legal whole first rest =
     let front : List Entry = joined (take i xss) in
     let back : List Entry = joined (drop i xss) in
-    let before : EntriesBefore t front = front_before params xss i t (subst (λ ys. Legal params ys) (sym whole) legal) first in
+    let before : EntriesBefore t front =
+    front_before params xss i t (subst (λ ys. Legal params ys) (sym whole) legal) first in
     let parts : earlier t entries ≡ front ++ earlier t back =
     ap (earlier t) (sym whole ∙ joined_parts xss i)
-    ∙ (filter-append (λ (x : Entry). ltb x.tick t) front back ∙ ap (λ ys. ys ++ earlier t back) (all_kept t front before)) in
+    ∙ (filter-append (λ (x : Entry). ltb x.tick t) front back
+    ∙ ap (λ ys. ys ++ earlier t back) (all_kept t front before)) in
     let none : sent_by (earlier t back) ≡ 0 = ap length rest in (
       λ o. none_of_tick o 0 t front before,
       ap sent_by parts ∙ (sent_by-append front (earlier t back) ∙ omega (arith, none)),
@@ -179,12 +184,14 @@ collected_more o t n xss i xs old before after e was number more =
     let all : entry_frames o 0 (joined (take (i + 1) xss)) ≡ entry_frames o 0 front ++ entry_frames o n xs =
     ap (entry_frames o 0) (joined_more xss i xs e)
     ∙ (entry_frames-append o 0 front xs
-    ∙ ap (λ k. entry_frames o 0 front ++ entry_frames o k xs) (let z : 0 + sent_by front ≡ n = omega (arith, number) in z)) in
+    ∙ ap (λ k. entry_frames o 0 front ++ entry_frames o k xs) (let z : 0 + sent_by front ≡ n = omega (arith, number) in
+    z)) in
     more
     ∙ (ap (λ fs. fs ++ of_tick t (entry_frames o n xs)) was
     ∙ (append_assoc old (of_tick t (entry_frames o 0 front)) (of_tick t (entry_frames o n xs))
     ∙ ap (λ fs. old ++ fs)
-    (sym (ap (of_tick t) all ∙ filter-append (λ (f : Sent). eqb f.tick t) (entry_frames o 0 front) (entry_frames o n xs)))))
+    (sym (ap (of_tick t) all ∙ filter-append (λ (f : Sent). eqb f.tick t) (entry_frames o 0 front)
+    (entry_frames o n xs)))))
 
 pub number_more : (n m : ℕ) (xss : List (List Entry)) (i : ℕ) (xs : List Entry) → slice_get xss i ≡ Some xs
     → n ≡ sent_by (joined (take i xss)) → m ≡ n + sent_by xs → m ≡ sent_by (joined (take (i + 1) xss))

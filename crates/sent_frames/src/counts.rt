@@ -1,7 +1,9 @@
-ghost use Rattle.std.specs.Prelude.{◌≡◌, ℕ, ◌≤◌, ◌<◌, ◌^◌, ◌++◌, [], length, take, slice_set, slice_index, OnOk, vec_len};
+ghost use Rattle.std.specs.Prelude.{◌≡◌, ℕ, ◌≤◌, ◌<◌, ◌^◌, ◌++◌, [], length, take, slice_set, slice_index, OnOk};
+ghost use Rattle.std.specs.Prelude.{vec_len};
 ghost use Rattle.std.specs.Prelude.{replicate, ◌-◌};
 ghost use Rattle.scenario_runs.specs.Worlds.{World, host_at, frames_of_entries, frames_of_log};
-ghost use Rattle.sent_frames.specs.Sending.{addresses_of, of_tick, AreUpTo, LinesBefore, sent_by, sent_before, answers_in};
+ghost use Rattle.sent_frames.specs.Sending.{addresses_of, of_tick, AreUpTo, LinesBefore, sent_by, sent_before};
+ghost use Rattle.sent_frames.specs.Sending.{answers_in};
 
 use crate::flows::collect_flow;
 use crate::frames::Sender;
@@ -11,7 +13,8 @@ use link_script::SentList;
 use std::alloc::{AllocError, Global};
 use tas_core::HostLog;
 
-/// How many frames a host sent so far: each flow, by its opening number, and the host itself in answer to segments of no
+/// How many frames a host sent so far: each flow, by its opening number, and the host itself in answer to segments of
+/// no
 /// flow. `lines` are those of its log that show these answers: the ones that were looked at.
 #[derive(Drop)]
 pub struct SentCounts {

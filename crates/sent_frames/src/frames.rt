@@ -42,7 +42,8 @@ fn place_of(addresses: &[u32], addr: u32) -> Option<usize>
     addresses.iter().position(|address| *address == addr)
 }
 
-/// Where frames come from: which host sends them, of which of its flows they are, or of none, to which host they go, and
+/// Where frames come from: which host sends them, of which of its flows they are, or of none, to which host they go,
+/// and
 /// between which ends.
 #[derive(Clone, Copy, Debug)]
 pub struct Origin {
@@ -63,7 +64,8 @@ pub fn push_segment(
 ) -> Result<(), AllocError>
     requires room { length seg.bytes.now ≤ 65491 }
     requires last { AreUpTo tick sent.old }
-    ensures frame { OnOk result (sent.new ≡ sent.old ++ segment_frames origin.now number tick (seen_seg seg.entry ∷ [])) }
+    ensures frame { OnOk result (sent.new ≡ sent.old
+        ++ segment_frames origin.now number tick (seen_seg seg.entry ∷ [])) }
     ensures last { OnOk result (AreUpTo tick sent.new) }
 {
     let packet = packet_of(alloc, origin.tuple, seg)?;

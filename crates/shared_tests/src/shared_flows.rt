@@ -88,7 +88,8 @@ fn leave(table: &FlowTable<Record>, pass: &mut Pass<Record>, pin: Pin)
 }
 
 fn append(record: &mut Record, core: u32) -> bool
-    ensures ends { (record.new.id ≡ record.old.id) × (record.new.tuple ≡ record.old.tuple) × (record.new.params ≡ record.old.params) }
+    ensures ends { (record.new.id ≡ record.old.id) × (record.new.tuple ≡ record.old.tuple)
+        × (record.new.params ≡ record.old.params) }
     ensures entries { (rest : List Entry) × (record.new.entries.items ≡ record.old.entries.items ++ rest) }
 {
     record.entries.push(entry(core)).is_ok()
@@ -211,7 +212,8 @@ fn one_life(
 ) -> Result<Option<u32>, AllocError>
     requires slow { IsKeeper table.now slow.old × (slow.old.view.opened < 1000) }
     requires pass { IsGuest table.now pass.old }
-    ensures slow { IfOk result (λ o. IfSome o (λ _. IsKeeper table.now slow.new × (slow.new.view.opened ≤ slow.old.view.opened + 1))) }
+    ensures slow { IfOk result (λ o. IfSome o (λ _. IsKeeper table.now slow.new
+        × (slow.new.view.opened ≤ slow.old.view.opened + 1))) }
     ensures pass { IfOk result (λ o. IfSome o (λ _. IsGuest table.now pass.new)) }
 {
     let Some(next) = slow.next_flow() else {

@@ -1,5 +1,7 @@
--- What a host keeps of the flows that are being opened: who listens, which flows wait for Accept, and which numbers are given next.
-use Rattle.std.specs.Prelude.{ℕ, ◌+◌, ◌%◌, ◌^◌, ◌==◌, ◌&&◌, not, Bool, true, List, [], length, map, nat_lt, Option, if◌then◌else◌}
+-- What a host keeps of the flows that are being opened: who listens, which flows wait for Accept, and which numbers are
+-- given next.
+use Rattle.std.specs.Prelude.{ℕ, ◌+◌, ◌%◌, ◌^◌, ◌==◌, ◌&&◌, not, Bool, true, List, [], length, map, nat_lt, Option}
+use Rattle.std.specs.Prelude.{if◌then◌else◌}
 use Rattle.std.specs.List.{list_any, filter, find}
 use Rattle.std.specs.Option.{option_map}
 use Rattle.tas_num.specs.declared.seq.Seq.{Seq}
@@ -84,4 +86,10 @@ next_after s = record { 0 = (s.0 + 64000) % 2 ^ 32 }
 
 -- Nothing listens, waits or was given.
 abbrev pub no_openings : HostParams → Openings
-no_openings params = record { params = params; listeners = []; flows = []; ports = 0; next_iss = record { 0 = params.iss } }
+no_openings params = record {
+  params = params;
+  listeners = [];
+  flows = [];
+  ports = 0;
+  next_iss = record { 0 = params.iss };
+}

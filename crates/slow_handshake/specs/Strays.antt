@@ -6,7 +6,8 @@ use Rattle.tas_model.specs.declared.entry.Reply.{Reply}
 use Rattle.tas_model.specs.declared.entry.Reply.TheVariants as replies
 use Rattle.tas_model.specs.Segments.{is_rst, is_ack, resets, stray_reply}
 
--- What a listener answers to a segment that opens nothing: nothing to a reset, a reset to an acknowledgement, and nothing to all else.
+-- What a listener answers to a segment that opens nothing: nothing to a reset, a reset to an acknowledgement, and
+-- nothing to all else.
 abbrev pub listener_reply : Seg → Reply
 listener_reply seg = if is_rst seg then replies.Nothing else if is_ack seg then resets seg.head.ack else replies.Nothing
 

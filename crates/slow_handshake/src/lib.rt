@@ -1,4 +1,5 @@
-//! How flows are set up and torn down: the lists of the slow path, the engine of received segments, and the answers where no flow is.
+//! How flows are set up and torn down: the lists of the slow path, the engine of received segments, and the answers
+//! where no flow is.
 #![tactic(auto)]
 
 mod openings;

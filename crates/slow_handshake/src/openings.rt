@@ -9,7 +9,8 @@ pub struct Listener {
     pub app: u32,
 }
 
-/// A flow that a peer's SYN opened, and that is neither accepted nor closed. `port` is its local one. It is ready once it is past SYN-RECEIVED.
+/// A flow that a peer's SYN opened, and that is neither accepted nor closed. `port` is its local one. It is ready once
+/// it is past SYN-RECEIVED.
 #[derive(Clone, Copy, PartialEq, Eq, Debug)]
 pub struct PassiveFlow {
     pub id: FlowId,

@@ -13,7 +13,8 @@ use flow_state::{Answer, CallIn, Engine, Parts};
 use segment_fields::Segment;
 use tas_model::Phase;
 
-/// The engine of every segment that a flow receives, in every state (RFC 9293, section 3.10.7). It answers `None` exactly on the other calls.
+/// The engine of every segment that a flow receives, in every state (RFC 9293, section 3.10.7). It answers `None`
+/// exactly on the other calls.
 #[derive(Clone, Copy)]
 pub struct SlowRx;
 
@@ -32,7 +33,8 @@ fn receive_in_closed(seg: &Segment<'_>) -> Answer
 #[tactic(auto, unfolding(tas_model::specs::Receive::rx))]
 fn receive(parts: &mut Parts, seg: &Segment<'_>, tick: u32) -> Answer
     requires { IsNear parts.old }
-    ensures made { (out : List ℕ) (e : Endpoint) → Valid e → Stands parts.old e → IsOutcome parts.new result out (rx e tick (seg_of seg.now)) }
+    ensures made { (out : List ℕ) (e : Endpoint) → Valid e → Stands parts.old e
+        → IsOutcome parts.new result out (rx e tick (seg_of seg.now)) }
     ensures len { answer_len result ≡ 0 }
     ensures params { parts.new.params ≡ parts.old.params }
     ensures tuple { parts.new.tuple ≡ parts.old.tuple }

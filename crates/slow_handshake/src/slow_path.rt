@@ -1,6 +1,9 @@
-ghost use Rattle.std.specs.Prelude.{◌≡◌, ◌||◌, true, false, ℕ, ◌+◌, ◌^◌, ◌<◌, ◌≤◌, ◌↔◌, ◌∷◌, ◌++◌, [], not, map, length, Some, IfOk, IsErr, OnErr, OnOk};
+ghost use Rattle.std.specs.Prelude.{◌≡◌, ◌||◌, true, false, ℕ, ◌+◌, ◌^◌, ◌<◌, ◌≤◌, ◌↔◌, ◌∷◌, ◌++◌, [], not, map};
+ghost use Rattle.std.specs.Prelude.{length, Some, IfOk, IsErr, OnErr, OnOk};
 ghost use Rattle.std.specs.List.{filter, slice_get, list_any};
-ghost use Rattle.slow_handshake.specs.Openings.{no_openings, is_taken, is_owned_by, syn_answer, next_after, first_port, all_ports, readied, is_named, first_ready, waiting_for, backlog_of, waits_for};
+ghost use Rattle.slow_handshake.specs.Openings.{no_openings, is_taken, is_owned_by, syn_answer, next_after, first_port};
+ghost use Rattle.slow_handshake.specs.Openings.{all_ports, readied, is_named, first_ready, waiting_for, backlog_of};
+ghost use Rattle.slow_handshake.specs.Openings.{waits_for};
 
 use crate::openings::{ListenRefused, Listener, NoPort, PassiveFlow, SynAnswer};
 use segment_fields::Segment;
@@ -34,7 +37,13 @@ impl Model for SlowPath {
 
     ghost Value = { Openings };
 
-    ghost view = { λ s. record { params = s.params; listeners = s.listeners.items; flows = s.flows.items; ports = s.ports; next_iss = s.next_iss } };
+    ghost view = { λ s. record {
+      params = s.params;
+      listeners = s.listeners.items;
+      flows = s.flows.items;
+      ports = s.ports;
+      next_iss = s.next_iss;
+    } };
 
     ghost invariant = { λ s. (s.ports ≤ 16384) × (length s.flows.items < 2 ^ 32) };
 }
@@ -72,7 +81,10 @@ impl SlowPath {
     /// The application listens on the port (RFC 9293, section 3.10.1, a passive OPEN). `PortInUse`: a listener has it.
     pub fn listen(&mut self, app: u32, port: u16) -> Result<(), ListenRefused>
         ensures used { result ≡ Err ListenRefused.PortInUse ↔ is_taken self.old port ≡ true }
-        ensures ok { OnOk result (self.new ≡ record self.old { listeners = self.old.listeners ++ (record { port = port; app = app }) ∷ [] }) }
+        ensures ok { OnOk result (self.new ≡ record self.old {
+          listeners = self.old.listeners
+              ++ (record { port = port; app = app }) ∷ [];
+        }) }
         ensures err { OnErr result (self.new ≡ self.old) }
     {
         if self.has_listener(port) {
@@ -105,7 +117,8 @@ impl SlowPath {
         Ok(port)
     }
 
-    /// A first sequence number: that of the parameters, and then each 64,000 past the one before, modulo 2^32 (RFC 9293, section 3.4.1).
+    /// A first sequence number: that of the parameters, and then each 64,000 past the one before, modulo 2^32 (RFC
+    /// 9293, section 3.4.1).
     pub fn next_iss(&mut self) -> Seq
         ensures number { result ≡ self.old.next_iss }
         ensures next { self.new ≡ record self.old { next_iss = next_after self.old.next_iss } }
@@ -115,7 +128,8 @@ impl SlowPath {
         iss
     }
 
-    /// What a SYN meets that comes to no flow, by the port that it goes to. In a replay every port listens without a limit.
+    /// What a SYN meets that comes to no flow, by the port that it goes to. In a replay every port listens without a
+    /// limit.
     pub fn syn(&mut self, seg: &Segment<'_>) -> SynAnswer
         ensures answer { result ≡ syn_answer self.old seg.now.dport }
         ensures kept { self.new ≡ self.old }
@@ -143,7 +157,10 @@ impl SlowPath {
 
     /// A peer's SYN opened the flow at this port. The error is want of memory, and leaves all as it was.
     pub fn opened(&mut self, id: FlowId, port: u16) -> Result<(), AllocError>
-        ensures ok { OnOk result (self.new ≡ record self.old { flows = self.old.flows ++ (record { id = id; port = port; ready = false }) ∷ [] }) }
+        ensures ok { OnOk result (self.new ≡ record self.old {
+          flows = self.old.flows
+              ++ (record { id = id; port = port; ready = false }) ∷ [];
+        }) }
         ensures err { OnErr result (self.new ≡ self.old) }
     {
         if self.flows.len() >= u32::MAX as usize {
@@ -171,7 +188,8 @@ impl SlowPath {
         self.flows.retain(|flow| flow.id != id);
     }
 
-    /// The flow of the port that may be accepted next: the one opened first of those past SYN-RECEIVED. `None`: there is none.
+    /// The flow of the port that may be accepted next: the one opened first of those past SYN-RECEIVED. `None`: there
+    /// is none.
     pub fn ready(&self, port: u16) -> Option<FlowId>
         ensures { result ≡ first_ready self.now port }
     {
@@ -189,7 +207,8 @@ impl SlowPath {
         self.params.fixed || self.has_listener(port)
     }
 
-    /// Of the flows that wait at the application's listeners the one at place `i`, from 0 in the order of their opening. `None`: there are no more than `i`.
+    /// Of the flows that wait at the application's listeners the one at place `i`, from 0 in the order of their
+    /// opening. `None`: there are no more than `i`.
     pub fn waiting(&self, app: u32, i: usize) -> Option<FlowId>
         ensures { result ≡ slice_get (waiting_for self.now app) i }
     {
@@ -209,7 +228,10 @@ impl SlowPath {
 
     /// The application's listeners end.
     pub fn forget(&mut self, app: u32)
-        ensures { self.new ≡ record self.old { listeners = filter (λ listener. not (is_owned_by app listener)) self.old.listeners } }
+        ensures { self.new ≡ record self.old {
+          listeners = filter
+              (λ listener. not (is_owned_by app listener)) self.old.listeners;
+        } }
     {
         self.listeners.retain(|listener| listener.app != app);
     }

@@ -18,9 +18,11 @@ fn end_of(seg: &Segment<'_>) -> Seq
         .plus(u32::from(seg.flags.is_fin()))
 }
 
-/// The answer to a segment that no flow is there for, at a port where a listener is or none is (RFC 9293, sections 3.10.7.1 and 3.10.7.2). Its ports are those of the segment, turned round.
+/// The answer to a segment that no flow is there for, at a port where a listener is or none is (RFC 9293, sections
+/// 3.10.7.1 and 3.10.7.2). Its ports are those of the segment, turned round.
 ///
-/// Without a listener: `None` to a reset, and else a reset that the sender takes. With one: a reset to an acknowledgement, and else `None`. What a SYN opens at a listener is no matter of this function.
+/// Without a listener: `None` to a reset, and else a reset that the sender takes. With one: a reset to an
+/// acknowledgement, and else `None`. What a SYN opens at a listener is no matter of this function.
 pub fn stray(seg: &Segment<'_>, listening: bool) -> Option<Head>
     ensures { result ≡ stray_answer (seg_of seg.now) listening }
 {

@@ -19,7 +19,8 @@ use tas_num::{Seq, place};
 /// Whether the segment acknowledges the own SYN, and that was sent.
 fn acknowledges_syn(parts: &Parts, seg: &Segment<'_>) -> bool
     requires { IsNear parts.now }
-    ensures { (e : Endpoint) → Valid e → Stands parts.now e → result ≡ (place_of_ack e (seg_of seg.now) == 1 && nat_le 1 e.tx.max) }
+    ensures { (e : Endpoint) → Valid e → Stands parts.now e
+        → result ≡ (place_of_ack e (seg_of seg.now) == 1 && nat_le 1 e.tx.max) }
 {
     let max = parts.max_place();
     let acknowledged = place(max, Seq(seg.ack.minus(parts.iss))).unwrap_or(0);
@@ -28,7 +29,8 @@ fn acknowledges_syn(parts: &Parts, seg: &Segment<'_>) -> bool
 
 /// The answer to a segment that acknowledges what was not sent: a reset, but none to a reset.
 fn refused(seg: &Segment<'_>) -> Answer
-    ensures reply { (out : List ℕ) → reply_of result out ≡ (if is_rst (seg_of seg.now) then replies.Nothing else resets seg.now.ack) }
+    ensures reply { (out : List ℕ)
+        → reply_of result out ≡ (if is_rst (seg_of seg.now) then replies.Nothing else resets seg.now.ack) }
     ensures len { answer_len result ≡ 0 }
 {
     if seg.flags.is_rst() {
@@ -42,7 +44,8 @@ fn refused(seg: &Segment<'_>) -> Answer
 
 /// The peer refuses the connection.
 fn refuse(parts: &mut Parts)
-    ensures stands { (e : Endpoint) → Stands parts.old e → Stands parts.new (record e { reason = Some reasons.Refused }) }
+    ensures stands { (e : Endpoint) → Stands parts.old e
+        → Stands parts.new (record e { reason = Some reasons.Refused }) }
     ensures params { parts.new.params ≡ parts.old.params }
     ensures tuple { parts.new.tuple ≡ parts.old.tuple }
 {
@@ -63,7 +66,8 @@ fn phase_after_syn(ended: bool) -> Phase
 
 /// The peer's SYN, which acknowledges the own one.
 fn take_syn(parts: &mut Parts, seg: &Segment<'_>)
-    ensures stands { (e : Endpoint) → Valid e → Stands parts.old e → phase e ≡ phases.SynSent → Stands parts.new (connected e (seg_of seg.now)) }
+    ensures stands { (e : Endpoint) → Valid e → Stands parts.old e → phase e ≡ phases.SynSent
+        → Stands parts.new (connected e (seg_of seg.now)) }
     ensures params { parts.new.params ≡ parts.old.params }
     ensures tuple { parts.new.tuple ≡ parts.old.tuple }
 {
@@ -84,7 +88,11 @@ fn take_syn(parts: &mut Parts, seg: &Segment<'_>)
 
 /// The peer's SYN connects, and is acknowledged.
 fn connect(parts: &mut Parts, seg: &Segment<'_>) -> Answer
-    ensures made { (out : List ℕ) (e : Endpoint) → Valid e → Stands parts.old e → phase e ≡ phases.SynSent → IsOutcome parts.new result out (record { state = connected e (seg_of seg.now); reply = acks (connected e (seg_of seg.now)) }) }
+    ensures made { (out : List ℕ) (e : Endpoint) → Valid e → Stands parts.old e → phase e ≡ phases.SynSent
+        → IsOutcome parts.new result out (record {
+          state = connected e (seg_of seg.now);
+          reply = acks (connected e (seg_of seg.now));
+        }) }
     ensures len { answer_len result ≡ 0 }
     ensures params { parts.new.params ≡ parts.old.params }
     ensures tuple { parts.new.tuple ≡ parts.old.tuple }
@@ -96,11 +104,13 @@ fn connect(parts: &mut Parts, seg: &Segment<'_>) -> Answer
     }
 }
 
-/// A segment that arrives in SYN-SENT (RFC 9293, section 3.10.7.3): first the acknowledgement is looked at, then the reset, then the SYN.
+/// A segment that arrives in SYN-SENT (RFC 9293, section 3.10.7.3): first the acknowledgement is looked at, then the
+/// reset, then the SYN.
 #[tactic(auto, unfolding(tas_model::specs::Receive::rx_syn_sent))]
 pub fn receive_in_syn_sent(parts: &mut Parts, seg: &Segment<'_>) -> Answer
     requires { IsNear parts.old }
-    ensures made { (out : List ℕ) (e : Endpoint) → Valid e → Stands parts.old e → phase e ≡ phases.SynSent → IsOutcome parts.new result out (rx_syn_sent e (seg_of seg.now)) }
+    ensures made { (out : List ℕ) (e : Endpoint) → Valid e → Stands parts.old e → phase e ≡ phases.SynSent
+        → IsOutcome parts.new result out (rx_syn_sent e (seg_of seg.now)) }
     ensures len { answer_len result ≡ 0 }
     ensures params { parts.new.params ≡ parts.old.params }
     ensures tuple { parts.new.tuple ≡ parts.old.tuple }

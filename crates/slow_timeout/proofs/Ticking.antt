@@ -1,5 +1,6 @@
 -- Facts of ticks.
-use Rattle.std.proofs.Common.{◌≡◌, ℕ, ◌+◌, ◌-◌, ◌≤◌, Bool, true, false, cond, nat_lt, List, length, Option, Some, None, refl, sym, ◌∙◌, ap, subst, arith}
+use Rattle.std.proofs.Common.{◌≡◌, ℕ, ◌+◌, ◌-◌, ◌≤◌, Bool, true, false, cond, nat_lt, List, length, Option, Some, None}
+use Rattle.std.proofs.Common.{refl, sym, ◌∙◌, ap, subst, arith}
 use Rattle.tas_model.specs.declared.entry.Reason.{Reason}
 use Rattle.tas_model.specs.declared.entry.Phase.{Phase}
 use Rattle.tas_model.specs.declared.entry.Phase.TheVariants as phases
@@ -17,7 +18,8 @@ use Rattle.slow_timeout.specs.Rate.{rate_with}
 use Rattle.flow_state.specs.Calls.{is_closed_phase}
 
 -- a tick out of TIME-WAIT
-pub ticked_in : (ph : Phase) (e : Endpoint) (tick : ℕ) → (ph ≡ phases.TimeWait → ⊥) → is_closed_phase ph ≡ false → tick_in ph e tick ≡ Some (ticked e)
+pub ticked_in : (ph : Phase) (e : Endpoint) (tick : ℕ) → (ph ≡ phases.TimeWait → ⊥) → is_closed_phase ph ≡ false
+    → tick_in ph e tick ≡ Some (ticked e)
 ticked_in phases.SynSent e tick other live = refl
 ticked_in phases.SynReceived e tick other live = refl
 ticked_in phases.Established e tick other live = refl
@@ -29,7 +31,8 @@ ticked_in phases.LastAck e tick other live = refl
 ticked_in phases.TimeWait e tick other live = absurd (other refl)
 ticked_in phases.Closed e tick other live = absurd (cc (live))
 
-no_reason : (r : Option Reason) (peer : Option ℕ) (una : ℕ) (s f d a : Bool) → is_closed_phase (phase_by r peer una s f d a) ≡ false → r ≡ None
+no_reason : (r : Option Reason) (peer : Option ℕ) (una : ℕ) (s f d a : Bool)
+    → is_closed_phase (phase_by r peer una s f d a) ≡ false → r ≡ None
 no_reason None peer una s f d a live = refl
 no_reason (Some why) peer una s f d a live = absurd (cc (live))
 
@@ -54,19 +57,28 @@ filled_valid e v = record {
 }
 
 -- the control, by its two numbers
-pub control_is : (e : Endpoint) (after : Parts) (cwnd ssthresh : ℕ) (out : List ℕ) → cwnd ≡ (controlled e.rate (e.tx.max - e.tx.una)).cwnd → ssthresh ≡ (controlled e.rate (e.tx.max - e.tx.una)).ssthresh
-    → Stands after (record e { rate = rate_with e.rate cwnd ssthresh }) → IsOutcome after (answers.Window cwnd ssthresh) out (control e)
+pub control_is : (e : Endpoint) (after : Parts) (cwnd ssthresh : ℕ) (out : List ℕ)
+    → cwnd ≡ (controlled e.rate (e.tx.max - e.tx.una)).cwnd
+    → ssthresh ≡ (controlled e.rate (e.tx.max - e.tx.una)).ssthresh
+    → Stands after (record e { rate = rate_with e.rate cwnd ssthresh })
+    → IsOutcome after (answers.Window cwnd ssthresh) out (control e)
 unfolding control
 control_is e after cwnd ssthresh out a b s = record {
-  reply = ap (λ (n : ℕ). replies.Window n (controlled e.rate (e.tx.max - e.tx.una)).ssthresh) (sym a) ∙ ap (replies.Window cwnd) (sym b);
-  state = subst (λ (n : ℕ). Stands after (record e { rate = rate_with e.rate n (controlled e.rate (e.tx.max - e.tx.una)).ssthresh })) a (subst (λ (n : ℕ). Stands after (record e { rate = rate_with e.rate cwnd n })) b s);
+  reply = ap (λ (n : ℕ). replies.Window n (controlled e.rate (e.tx.max - e.tx.una)).ssthresh) (sym a)
+      ∙ ap (replies.Window cwnd) (sym b);
+  state = subst (λ (n : ℕ). Stands after
+      (record e { rate = rate_with e.rate n (controlled e.rate (e.tx.max - e.tx.una)).ssthresh })) a
+      (subst (λ (n : ℕ). Stands after (record e { rate = rate_with e.rate cwnd n })) b s);
 }
 
 -- a tick of the timer, by its two tests
-pub still_quiet : (e : Endpoint) (after : Parts) (age : ℕ) (out : List ℕ) → is_armed e.tx ≡ true → nat_lt (e.tx.age + 1) (patience e) ≡ true → age ≡ e.tx.age + 1
+pub still_quiet : (e : Endpoint) (after : Parts) (age : ℕ) (out : List ℕ) → is_armed e.tx ≡ true
+    → nat_lt (e.tx.age + 1) (patience e) ≡ true → age ≡ e.tx.age + 1
     → Stands after (aged e age) → IsOutcome after answers.Quiet out (ticked e)
-still_quiet e after age out armed early is s = rw (armed, early) (record { reply = refl; state = subst (λ (n : ℕ). Stands after (aged e n)) is s })
+still_quiet e after age out armed early is s =
+    rw (armed, early) (record { reply = refl; state = subst (λ (n : ℕ). Stands after (aged e n)) is s })
 
-pub runs_out : (e : Endpoint) (after : Parts) (answer : Answer) (out : List ℕ) → is_armed e.tx ≡ true → nat_lt (e.tx.age + 1) (patience e) ≡ false
+pub runs_out : (e : Endpoint) (after : Parts) (answer : Answer) (out : List ℕ) → is_armed e.tx ≡ true
+    → nat_lt (e.tx.age + 1) (patience e) ≡ false
     → IsOutcome after answer out (expired e) → IsOutcome after answer out (ticked e)
 runs_out e after answer out armed late o = rw (armed, late) o

@@ -13,7 +13,8 @@ use rate_bucket::{Counters, interval};
 
 /// Adjusts the rate by what was counted since the last time, and counts anew (RFC 5681, sections 3.1 and 3.2).
 pub fn control(parts: &mut Parts) -> Answer
-    ensures made { (out : List ℕ) (e : Endpoint) → Valid e → Stands parts.old e → column e ≡ Running → IsOutcome parts.new result out (model_control e) }
+    ensures made { (out : List ℕ) (e : Endpoint) → Valid e → Stands parts.old e → column e ≡ Running
+        → IsOutcome parts.new result out (model_control e) }
     ensures len { answer_len result ≡ 0 }
     ensures tuple { parts.new.tuple ≡ parts.old.tuple }
     ensures params { parts.new.params ≡ parts.old.params }
@@ -25,8 +26,10 @@ pub fn control(parts: &mut Parts) -> Answer
 
 /// The congestion window and the threshold after this interval, with what is in flight now.
 fn next_windows(parts: &Parts) -> (u32, u32)
-    ensures cwnd { (e : Endpoint) → Valid e → Stands parts.now e → column e ≡ Running → result.0 ≡ (controlled e.rate (e.tx.max - e.tx.una)).cwnd }
-    ensures ssthresh { (e : Endpoint) → Valid e → Stands parts.now e → column e ≡ Running → result.1 ≡ (controlled e.rate (e.tx.max - e.tx.una)).ssthresh }
+    ensures cwnd { (e : Endpoint) → Valid e → Stands parts.now e → column e ≡ Running
+        → result.0 ≡ (controlled e.rate (e.tx.max - e.tx.una)).cwnd }
+    ensures ssthresh { (e : Endpoint) → Valid e → Stands parts.now e → column e ≡ Running
+        → result.1 ≡ (controlled e.rate (e.tx.max - e.tx.una)).ssthresh }
 {
     let counters = Counters {
         flight: parts.max.minus(parts.una),
@@ -38,7 +41,8 @@ fn next_windows(parts: &Parts) -> (u32, u32)
 
 /// Sets both windows and sizes the bucket by them, and counts anew.
 fn set_rate(parts: &mut Parts, cwnd: u32, ssthresh: u32)
-    ensures after { (e : Endpoint) → Stands parts.old e → Stands parts.new (record e { rate = rate_with e.rate cwnd ssthresh }) }
+    ensures after { (e : Endpoint) → Stands parts.old e
+        → Stands parts.new (record e { rate = rate_with e.rate cwnd ssthresh }) }
     ensures tuple { parts.new.tuple ≡ parts.old.tuple }
     ensures params { parts.new.params ≡ parts.old.params }
 {

@@ -1,7 +1,8 @@
 ghost use Rattle.std.specs.Prelude.{◌≡◌, ℕ, ◌+◌, ◌*◌, ◌^◌, ◌≤◌, ◌<◌, List, min, false, Some, None};
 ghost use Rattle.tas_model.specs.declared.entry.Reason.TheVariants as reasons;
 ghost use Rattle.tas_model.specs.Endpoint.{Endpoint};
-ghost use Rattle.tas_model.specs.Timers.{ticks, filled, aged, ticked, waited, expired, is_armed as model_is_armed, patience as model_patience, probes as model_probes};
+ghost use Rattle.tas_model.specs.Timers.{ticks, filled, aged, ticked, waited, expired, is_armed as model_is_armed};
+ghost use Rattle.tas_model.specs.Timers.{patience as model_patience, probes as model_probes};
 ghost use Rattle.tas_model.specs.Valid.{Valid};
 ghost use Rattle.flow_state.specs.Stands.{Stands};
 ghost use Rattle.flow_state.specs.Calls.{answer_len, is_closed_phase};
@@ -10,10 +11,12 @@ ghost use Rattle.flow_state.specs.Made.{IsOutcome, IsStep};
 use flow_state::{Answer, Parts};
 use tas_model::{Phase, Reason};
 
-/// One tick of a flow that is not closed: the bucket's fill, then TIME-WAIT or the retransmission timer (RFC 9293, sections 3.8.1 and 3.10.8).
+/// One tick of a flow that is not closed: the bucket's fill, then TIME-WAIT or the retransmission timer (RFC 9293,
+/// sections 3.8.1 and 3.10.8).
 pub fn tick(parts: &mut Parts, now: u32) -> Answer
     requires { is_closed_phase parts.old.phase ≡ false }
-    ensures made { (out : List ℕ) (e : Endpoint) → Valid e → Stands parts.old e → IsStep parts.new result out (ticks e now) }
+    ensures made { (out : List ℕ) (e : Endpoint) → Valid e → Stands parts.old e
+        → IsStep parts.new result out (ticks e now) }
     ensures len { answer_len result ≡ 0 }
     ensures tuple { parts.new.tuple ≡ parts.old.tuple }
     ensures params { parts.new.params ≡ parts.old.params }
@@ -62,7 +65,8 @@ fn end_wait(parts: &mut Parts)
 
 /// A tick of the retransmission timer.
 fn run_timer(parts: &mut Parts) -> Answer
-    ensures made { (out : List ℕ) (e : Endpoint) → Valid e → Stands parts.old e → e.reason ≡ None → IsOutcome parts.new result out (ticked e) }
+    ensures made { (out : List ℕ) (e : Endpoint) → Valid e → Stands parts.old e → e.reason ≡ None
+        → IsOutcome parts.new result out (ticked e) }
     ensures len { answer_len result ≡ 0 }
     ensures tuple { parts.new.tuple ≡ parts.old.tuple }
     ensures params { parts.new.params ≡ parts.old.params }
@@ -98,7 +102,8 @@ fn is_armed(parts: &Parts) -> bool
     parts.tx.end() > parts.nxt_place().saturating_sub(1) && parts.window == 0
 }
 
-/// How many ticks the timer runs: twice as many after each time in a row, up to 16 times the first (RFC 6298, section 5.5).
+/// How many ticks the timer runs: twice as many after each time in a row, up to 16 times the first (RFC 6298, section
+/// 5.5).
 fn patience(parts: &Parts) -> u64
     ensures ticks { (e : Endpoint) → Stands parts.now e → result ≡ model_patience e }
     ensures small { (e : Endpoint) → Valid e → Stands parts.now e → result ≤ 16000 }
@@ -122,7 +127,8 @@ fn doubled(tries: u8) -> u64
 
 /// The timer has run out. The ninth time in a row ends the connection.
 fn expire(parts: &mut Parts) -> Answer
-    ensures made { (out : List ℕ) (e : Endpoint) → Valid e → Stands parts.old e → e.reason ≡ None → IsOutcome parts.new result out (expired e) }
+    ensures made { (out : List ℕ) (e : Endpoint) → Valid e → Stands parts.old e → e.reason ≡ None
+        → IsOutcome parts.new result out (expired e) }
     ensures len { answer_len result ≡ 0 }
     ensures tuple { parts.new.tuple ≡ parts.old.tuple }
     ensures params { parts.new.params ≡ parts.old.params }
@@ -146,7 +152,11 @@ fn expire(parts: &mut Parts) -> Answer
 
 /// The connection is over, after so many timeouts in a row.
 fn give_up(parts: &mut Parts, tries: u8)
-    ensures after { (e : Endpoint) → Stands parts.old e → Stands parts.new (record e { tx = record (e.tx) { tries = tries; age = 0 }; reason = Some reasons.TimedOut }) }
+    ensures after { (e : Endpoint) → Stands parts.old e
+        → Stands parts.new (record e {
+          tx = record (e.tx) { tries = tries; age = 0 };
+          reason = Some reasons.TimedOut;
+        }) }
     ensures tuple { parts.new.tuple ≡ parts.old.tuple }
     ensures params { parts.new.params ≡ parts.old.params }
 {

@@ -60,7 +60,8 @@ module _ (words : List ℕ) (group word new : ℕ) (fits : group / 16 < length w
       ∙ (ap (λ l. slice_index l (other % 16)) is
       ∙ (get_or-set_other (digits 16 (slice_index words (group / 16))) (group % 16) (other % 16) new 0 place
       ∙ ap (λ w. slice_index (digits 16 (slice_index words w)) (other % 16)) (sym same))))
-      (λ ne. ap (λ w. slice_index (digits 16 w) (other % 16)) (get_or-set_other words (group / 16) (other / 16) word 0 ne))
+      (λ ne. ap (λ w. slice_index (digits 16 w) (other % 16))
+      (get_or-set_other words (group / 16) (other / 16) word 0 ne))
 
   pub table_moved : (cores core : ℕ) → group < 64 → (group + new) % cores ≡ core
       → table_of cores changed ≡ moved (table_of cores words) group core

@@ -1,5 +1,6 @@
 -- Each segment that is sent acknowledges the next place, and its bytes are those to be sent.
-use Rattle.std.proofs.Common.{◌≡◌, ℕ, ◌+◌, ◌-◌, Bool, true, false, cond, ◌&&◌, List, [], ◌∷◌, ◌++◌, length, take, drop, Option, Some, None, refl, sym, subst, ap, ◌∙◌, ◌≤◌, arith, length-take, eqb}
+use Rattle.std.proofs.Common.{◌≡◌, ℕ, ◌+◌, ◌-◌, Bool, true, false, cond, ◌&&◌, List, [], ◌∷◌, ◌++◌, length, take, drop}
+use Rattle.std.proofs.Common.{Option, Some, None, refl, sym, subst, ap, ◌∙◌, ◌≤◌, arith, length-take, eqb}
 use Rattle.tas_model.specs.declared.entry.Reason.{Reason}
 use Rattle.tas_model.specs.declared.entry.Seg.{Seg}
 use Rattle.tas_model.specs.Endpoint.{Endpoint}
@@ -26,7 +27,8 @@ pub record FromOut (e : Endpoint) (seg : Seg) : Type 0 where
   pub bytes : StandsIn e.tx.out (place - 1) seg.bytes
   pub fin : is_fin seg ≡ true → (e.tx.shut ≡ true) × (place + length seg.bytes ≡ 1 + length e.tx.out)
 
--- The segment acknowledges the next place, and says what is to be sent, where it says something. `b` is the endpoint before it.
+-- The segment acknowledges the next place, and says what is to be sent, where it says something. `b` is the endpoint
+-- before it.
 abbrev pub IsRight : (b e : Endpoint) → Seg → Type 0
 IsRight b e seg = AcksNext e seg.head × (Valid b → is_heard seg ≡ true → FromOut e seg)
 
@@ -50,19 +52,28 @@ started None (Some first) una is = by_test (eqb una 0) refl is
 slice_stands : (p : List ℕ) (at n : ℕ) → StandsIn p at (take n (drop at p))
 slice_stands p at n = ap (λ (k : ℕ). take k (drop at p)) (length-take n (drop at p)) ∙ take_min n (drop at p)
 
-data_from_out : (e after : Endpoint) (n : ℕ) → column e ≡ Running → after.iss ≡ e.iss → after.tx.out ≡ e.tx.out → Valid e → FromOut after (data_seg e n)
+data_from_out : (e after : Endpoint) (n : ℕ) → column e ≡ Running → after.iss ≡ e.iss → after.tx.out ≡ e.tx.out
+    → Valid e → FromOut after (data_seg e n)
 data_from_out e after n is iss out v = record {
   place = e.tx.nxt;
   seq = ap (λ (k : ℕ). seq_at k e.tx.nxt) (sym iss);
   begins = omega (arith, started e.reason e.peer e.tx.una is, v.tx.una);
-  bytes = subst (λ (p : List ℕ). StandsIn p (e.tx.nxt - 1) (take n (drop (e.tx.nxt - 1) e.tx.out))) (sym out) (slice_stands e.tx.out (e.tx.nxt - 1) n);
+  bytes = subst (λ (p : List ℕ). StandsIn p (e.tx.nxt - 1) (take n (drop (e.tx.nxt - 1) e.tx.out))) (sym out)
+      (slice_stands e.tx.out (e.tx.nxt - 1) n);
   fin = λ f. absurd (no_fin (eqb n (waiting e.tx)) f);
 }
 
-fin_from_out : (e : Endpoint) → (e.tx.shut && eqb e.tx.nxt (1 + length e.tx.out)) ≡ true → FromOut (record e { tx = past e.tx 1 }) (fin_seg e)
+fin_from_out : (e : Endpoint) → (e.tx.shut && eqb e.tx.nxt (1 + length e.tx.out)) ≡ true
+    → FromOut (record e { tx = past e.tx 1 }) (fin_seg e)
 fin_from_out e t =
     let place : e.tx.nxt ≡ 1 + length e.tx.out = grind (arith, nat_tests, t) in
-    record { place = e.tx.nxt; seq = refl; begins = omega (arith, place); bytes = refl; fin = λ f. (both_left e.tx.shut _ t, omega (arith, place)) }
+    record {
+      place = e.tx.nxt;
+      seq = refl;
+      begins = omega (arith, place);
+      bytes = refl;
+      fin = λ f. (both_left e.tx.shut _ t, omega (arith, place));
+    }
   where
     both_left : (a b : Bool) → (a && b) ≡ true → a ≡ true
     both_left true b h = refl
@@ -87,7 +98,10 @@ acks_in_order params h legal =
     (λ es x before so_far may. along_push _ [] es x so_far (last es x before may))
     h legal
   where
-    last : (es : List Entry) (x : Entry) → Legal params es → MayFollow params es x → AllAckNext (replay params (es ++ x ∷ [])) (segments_in x.reply)
+    last : (es : List Entry) (x : Entry) → Legal params es → MayFollow params es x
+        → AllAckNext (replay params (es ++ x ∷ [])) (segments_in x.reply)
     last es x before may =
         subst (λ (e : Endpoint). AllAckNext e (segments_in x.reply)) (sym (replay_push params es x before))
-        (all_as (IsRight (replay params es) (moved (replay params es) x)) (AllAckNext (moved (replay params es) x)) tt (λ seg segs right rest. (right.0, rest)) (segments_in x.reply) (entry_shows IsRight each_right params es x may))
+        (all_as (IsRight (replay params es) (moved (replay params es) x)) (AllAckNext (moved (replay params es) x)) tt
+        (λ seg segs right rest. (right.0, rest)) (segments_in x.reply)
+        (entry_shows IsRight each_right params es x may))

@@ -1,5 +1,6 @@
 -- How far one step moves an endpoint, whatever the call.
-use Rattle.std.proofs.Common.{◌≡◌, ℕ, ◌+◌, ◌≤◌, true, List, [], ◌++◌, length, take, max, Option, Some, None, IsSome, refl, sym, ap, ◌∙◌, arith, append-nil}
+use Rattle.std.proofs.Common.{◌≡◌, ℕ, ◌+◌, ◌≤◌, true, List, [], ◌++◌, length, take, max, Option, Some, None, IsSome}
+use Rattle.std.proofs.Common.{refl, sym, ap, ◌∙◌, arith, append-nil}
 use Rattle.tas_model.specs.declared.entry.Reason.{Reason}
 use Rattle.tas_model.specs.declared.entry.Reply.{Reply}
 use Rattle.tas_model.specs.Endpoint.{Endpoint, Sending, Rate, next_place}
@@ -8,7 +9,8 @@ use Rattle.tas_model.specs.Outputs.{given_bytes}
 use Rattle.tas_model.specs.LegalHistory.{taken_bytes}
 use Rattle.tas_model.specs.Valid.{Valid}
 
--- Of places: nothing passes what was sent or received before by more than a window. Of bytes: what is accepted and what is read grow by what the reply shows. Of the bucket: data is paid for.
+-- Of places: nothing passes what was sent or received before by more than a window. Of bytes: what is accepted and what
+-- is read grow by what the reply shows. Of the bucket: data is paid for.
 pub record Moves (fill paid : ℕ) (e : Endpoint) (o : Outcome) : Type 0 where
   pub una : o.state.tx.una ≤ e.tx.max
   pub read : o.state.rx.read ≤ max e.rx.read (length e.rx.got)
@@ -32,8 +34,10 @@ pub grown_by_none : (xs ys : List ℕ) → ys ≡ [] → xs ≡ xs ++ ys
 grown_by_none xs ys none = sym (append-nil xs) ∙ ap (λ (bs : List ℕ). xs ++ bs) (sym none)
 
 -- nothing is accepted, received or read
-pub moves_sending : (fill paid : ℕ) (e : Endpoint) (tx : Sending) (rate : Rate) (reason : Option Reason) (reply : Reply) → Valid e
-    → tx.out ≡ e.tx.out → (e.tx.shut ≡ true → tx.shut ≡ true) → tx.una ≡ e.tx.una → tx.wl1 ≡ e.tx.wl1 → tx.wl2 ≡ e.tx.wl2 → paid + rate.tokens ≤ e.rate.tokens + fill → IsSilent reply
+pub moves_sending : (fill paid : ℕ) (e : Endpoint) (tx : Sending) (rate : Rate) (reason : Option Reason) (reply : Reply)
+    → Valid e
+    → tx.out ≡ e.tx.out → (e.tx.shut ≡ true → tx.shut ≡ true) → tx.una ≡ e.tx.una → tx.wl1 ≡ e.tx.wl1
+    → tx.wl2 ≡ e.tx.wl2 → paid + rate.tokens ≤ e.rate.tokens + fill → IsSilent reply
     → Moves fill paid e (record { state = record e { tx = tx; rate = rate; reason = reason }; reply = reply })
 moves_sending fill paid e tx rate reason reply v out shut una wl1 wl2 pays silent = record {
   una = omega (arith, una, v.tx.una, v.tx.nxt);
@@ -48,8 +52,10 @@ moves_sending fill paid e tx rate reason reply v out shut una wl1 wl2 pays silen
 }
 
 -- nothing changes but the reason
-pub moves_reason : (e : Endpoint) (reason : Option Reason) (reply : Reply) → Valid e → IsSilent reply → Moves 0 0 e (record { state = record e { reason = reason }; reply = reply })
-moves_reason e reason reply v silent = moves_sending 0 0 e e.tx e.rate reason reply v refl (λ s. s) refl refl refl (omega arith) silent
+pub moves_reason : (e : Endpoint) (reason : Option Reason) (reply : Reply) → Valid e → IsSilent reply
+    → Moves 0 0 e (record { state = record e { reason = reason }; reply = reply })
+moves_reason e reason reply v silent =
+    moves_sending 0 0 e e.tx e.rate reason reply v refl (λ s. s) refl refl refl (omega arith) silent
 
 pub moves_nothing : (e : Endpoint) (reply : Reply) → Valid e → IsSilent reply → Moves 0 0 e (unchanged e reply)
 moves_nothing e reply v silent = moves_reason e e.reason reply v silent

@@ -11,7 +11,8 @@ abbrev pub IsNoSend : Call → Type 0
 IsNoSend (calls.Send offered) = ⊥
 IsNoSend _ = Unit {0}
 
-pub step_any : (e : Endpoint) (tick : ℕ) (call : Call) (r s : Reply) → IsNoSend call → step e tick call r ≡ step e tick call s
+pub step_any : (e : Endpoint) (tick : ℕ) (call : Call) (r s : Reply) → IsNoSend call
+    → step e tick call r ≡ step e tick call s
 unfolding step
 step_any e tick (calls.Send offered) r s plain = absurd plain
 step_any e tick _ r s plain = refl

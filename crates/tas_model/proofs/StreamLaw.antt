@@ -1,5 +1,6 @@
 -- What is received is the beginning of the peer's stream.
-use Rattle.std.proofs.Common.{◌≡◌, ℕ, ◌+◌, ◌-◌, ◌*◌, true, not, ◌&&◌, List, [], ◌∷◌, ◌++◌, length, drop, min, Option, Some, None, refl, sym, subst, ap, ◌∙◌, ltb, leb, eqb, take-append-drop}
+use Rattle.std.proofs.Common.{◌≡◌, ℕ, ◌+◌, ◌-◌, ◌*◌, true, not, ◌&&◌, List, [], ◌∷◌, ◌++◌, length, drop, min, Option}
+use Rattle.std.proofs.Common.{Some, None, refl, sym, subst, ap, ◌∙◌, ltb, leb, eqb, take-append-drop}
 use Rattle.tas_model.proofs.Tests.{on_cond}
 use Rattle.tas_model.proofs.StreamSteps.{rx_in_stream}
 use Rattle.tas_model.proofs.Histories.{along_split, legal_induction, replay_push, replay_first}
@@ -13,7 +14,8 @@ use Rattle.tas_model.specs.declared.entry.Call.TheVariants as calls
 use Rattle.tas_model.specs.declared.entry.Reply.{Reply}
 use Rattle.tas_model.specs.Endpoint.{Endpoint, phase, unread, send_room}
 use Rattle.tas_model.specs.Segments.{Outcome}
-use Rattle.tas_model.specs.ApplicationCalls.{Column, Opening, Over, Running, column, accept_in, ready_in, send_in, recv_in, recv_open, shut_in, close_in, abort_in}
+use Rattle.tas_model.specs.ApplicationCalls.{Column, Opening, Over, Running, column, accept_in, ready_in, send_in}
+use Rattle.tas_model.specs.ApplicationCalls.{recv_in, recv_open, shut_in, close_in, abort_in}
 use Rattle.tas_model.specs.NextSegment.{Going, going, going_in, emitted, waiting, data_len}
 use Rattle.tas_model.specs.Timers.{ticks, tick_in, ticked, is_armed, patience, probes, filled, control}
 use Rattle.tas_model.specs.LegalHistory.{step, control_in, opened, taken_bytes, Legal, Opens, replay, state_or}
@@ -36,15 +38,18 @@ ready_same p e Running s = s
 ready_same p e Opening s = s
 ready_same p e (Over why) s = s
 
-send_same : (p : List ℕ) (e : Endpoint) (c : Column) (offered : ℕ) (bytes : List ℕ) → InStream p e.rx → LeavesIn p (send_in c e offered bytes)
+send_same : (p : List ℕ) (e : Endpoint) (c : Column) (offered : ℕ) (bytes : List ℕ) → InStream p e.rx
+    → LeavesIn p (send_in c e offered bytes)
 send_same p e Opening offered bytes s = s
 send_same p e (Over why) offered bytes s = s
 send_same p e Running offered bytes s =
     on_cond (LeavesIn p) e.tx.shut _ _ (λ t. s)
-    (λ f. on_cond (LeavesIn p) (eqb (min offered (send_room e)) 0 && not (eqb offered 0)) _ _ (λ t. s) (λ g. on_cond (LeavesIn p) (eqb (length bytes) (min offered (send_room e))) _ _ (λ t. s) (λ h. tt)))
+    (λ f. on_cond (LeavesIn p) (eqb (min offered (send_room e)) 0 && not (eqb offered 0)) _ _ (λ t. s)
+    (λ g. on_cond (LeavesIn p) (eqb (length bytes) (min offered (send_room e))) _ _ (λ t. s) (λ h. tt)))
 
 open_same : (p : List ℕ) (e : Endpoint) (most : ℕ) → InStream p e.rx → W p (recv_open e most)
-open_same p e most s = on_cond (W p) (eqb (unread e.rx) 0) _ _ (λ t. s) (λ f. record { got = s.got; island = s.island; ended = s.ended })
+open_same p e most s = on_cond (W p) (eqb (unread e.rx) 0) _ _ (λ t. s)
+    (λ f. record { got = s.got; island = s.island; ended = s.ended })
 
 recv_same : (p : List ℕ) (e : Endpoint) (c : Column) (most : ℕ) → InStream p e.rx → W p (recv_in c e most)
 recv_same p e Opening most s = s
@@ -72,7 +77,8 @@ going_same p e (Over why) s = tt
 going_same p e Opening s = on_cond (G p) (eqb e.tx.nxt 0) _ _ (λ t. s) (λ f. tt)
 going_same p e Running s =
     on_cond (G p) (ltb 0 (data_len e)) _ _ (λ t. s)
-    (λ f. on_cond (G p) (e.tx.probe && eqb e.tx.window 0 && eqb e.tx.nxt e.tx.una && ltb 0 (waiting e.tx)) _ _ (λ t. s) (λ g. on_cond (G p) (e.tx.shut && eqb e.tx.nxt (1 + length e.tx.out)) _ _ (λ t. s) (λ h. tt)))
+    (λ f. on_cond (G p) (e.tx.probe && eqb e.tx.window 0 && eqb e.tx.nxt e.tx.una && ltb 0 (waiting e.tx)) _ _ (λ t. s)
+    (λ g. on_cond (G p) (e.tx.shut && eqb e.tx.nxt (1 + length e.tx.out)) _ _ (λ t. s) (λ h. tt)))
 
 emit_same : (p : List ℕ) (o : Option Going) → G p o → LeavesIn p (emitted o)
 emit_same p None g = tt
@@ -95,7 +101,8 @@ control_same p e Running s = s
 control_same p e Opening s = tt
 control_same p e (Over why) s = tt
 
-pub step_in : (p : List ℕ) (e : Endpoint) (tick : ℕ) (call : Call) (reply : Reply) → IsOfStream p e call → InStream p e.rx → LeavesIn p (step e tick call reply)
+pub step_in : (p : List ℕ) (e : Endpoint) (tick : ℕ) (call : Call) (reply : Reply) → IsOfStream p e call
+    → InStream p e.rx → LeavesIn p (step e tick call reply)
 unfolding step going ticks
 step_in p e tick (calls.Connect iss) reply of s = tt
 step_in p e tick (calls.Passive frame iss seg) reply of s = tt
@@ -112,26 +119,33 @@ step_in p e tick calls.Close reply of s = close_same p e (column e) s
 step_in p e tick calls.Abort reply of s = abort_same p e (column e) s
 
 -- ----- every history
-split : (params : HostParams) (p : List ℕ) (h : List Entry) (x : Entry) → Legal params h → OneStream params p (h ++ x ∷ []) → OneStream params p h × IsOfStream p (replay params h) x.call
+split : (params : HostParams) (p : List ℕ) (h : List Entry) (x : Entry) → Legal params h
+    → OneStream params p (h ++ x ∷ []) → OneStream params p h × IsOfStream p (replay params h) x.call
 split params p [] x legal one = absurd legal
-split params p (y ∷ ys) x legal one = along_split (λ (before : List Entry) (z : Entry). IsOfStream p (replay params before) z.call) (y ∷ []) ys x one
+split params p (y ∷ ys) x legal one =
+    along_split (λ (before : List Entry) (z : Entry). IsOfStream p (replay params before) z.call) (y ∷ []) ys x one
 
-moved_in : (p : List ℕ) (e : Endpoint) (o : Option Outcome) → InStream p e.rx → LeavesIn p o → InStream p (state_or e o).rx
+moved_in : (p : List ℕ) (e : Endpoint) (o : Option Outcome) → InStream p e.rx → LeavesIn p o
+    → InStream p (state_or e o).rx
 moved_in p e None s l = s
 moved_in p e (Some o) s l = l
 
 opened_in : (p : List ℕ) (params : HostParams) (call : Call) → Opens call → InStream p (opened params call).rx
 opened_in p params (calls.Connect iss) opens = record { got = refl; island = tt; ended = λ e. absurd (cc (e)) }
-opened_in p params (calls.Passive frame iss seg) opens = record { got = refl; island = tt; ended = λ e. absurd (cc (e)) }
+opened_in p params (calls.Passive frame iss seg) opens =
+    record { got = refl; island = tt; ended = λ e. absurd (cc (e)) }
 opened_in p params _ opens = absurd opens
 
-in_stream : (params : HostParams) (p : List ℕ) (h : List Entry) → Legal params h → OneStream params p h → InStream p (replay params h).rx
+in_stream : (params : HostParams) (p : List ℕ) (h : List Entry) → Legal params h → OneStream params p h
+    → InStream p (replay params h).rx
 in_stream params p h legal =
     legal_induction params (λ (es : List Entry). OneStream params p es → InStream p (replay params es).rx)
-    (λ x first one. subst (λ (e : Endpoint). InStream p e.rx) (sym (replay_first params x)) (opened_in p params x.call first.opens))
+    (λ x first one. subst (λ (e : Endpoint). InStream p e.rx) (sym (replay_first params x))
+    (opened_in p params x.call first.opens))
     (λ es x before hyp may one. let parts = split params p es x before one in
     subst (λ (e : Endpoint). InStream p e.rx) (sym (replay_push params es x before))
-    (moved_in p (replay params es) (step (replay params es) x.tick x.call x.reply) (hyp parts.0) (step_in p (replay params es) x.tick x.call x.reply parts.1 (hyp parts.0))))
+    (moved_in p (replay params es) (step (replay params es) x.tick x.call x.reply) (hyp parts.0)
+    (step_in p (replay params es) x.tick x.call x.reply parts.1 (hyp parts.0))))
     h legal
 
 -- all that was received in order is the beginning of the peer's stream, and the whole of it where the peer ended

@@ -1,5 +1,6 @@
 -- The worked histories are legal, by computation.
-use Rattle.std.proofs.Common.{◌≡◌, ℕ, Bool, true, false, ◌&&◌, leb, List, [], ◌∷◌, ◌++◌, map, Option, Some, None, option_map, refl, sym, ap, ◌∙◌, arith, true≢false}
+use Rattle.std.proofs.Common.{◌≡◌, ℕ, Bool, true, false, ◌&&◌, leb, List, [], ◌∷◌, ◌++◌, map, Option, Some, None}
+use Rattle.std.proofs.Common.{option_map, refl, sym, ap, ◌∙◌, arith, true≢false}
 use Rattle.std.proofs.lemmas.Bool.Decides.{nat_tests}
 use Rattle.tas_num.specs.Places.{nearest}
 use Rattle.tas_model.specs.declared.entry.HostParams.{HostParams}
@@ -10,15 +11,18 @@ use Rattle.tas_model.specs.Segments.{Outcome}
 use Rattle.tas_model.specs.Receive.{rx, rx_later, rx_syn_sent}
 use Rattle.tas_model.specs.NextSegment.{going}
 use Rattle.tas_model.specs.Timers.{ticks, control}
-use Rattle.tas_model.specs.LegalHistory.{step, moved, replay, opened, next_number, last_tick, Gives, IsFirst, Legal, LegalAfter}
-use Rattle.tas_model.specs.WorkedHistories.{replay_params, host_params, three_packets, data_out_of_order, three_duplicates, client_of_hello, server_of_hello}
+use Rattle.tas_model.specs.LegalHistory.{step, moved, replay, opened, next_number, last_tick, Gives, IsFirst, Legal}
+use Rattle.tas_model.specs.LegalHistory.{LegalAfter}
+use Rattle.tas_model.specs.WorkedHistories.{replay_params, host_params, three_packets, data_out_of_order}
+use Rattle.tas_model.specs.WorkedHistories.{three_duplicates, client_of_hello, server_of_hello}
 use Rattle.tas_model.proofs.Histories.{replay_on_push}
 
 -- ----- what a legal history shows, computed in one pass
 -- the replies that the steps give
 abbrev replies_from : Endpoint → List Entry → List (Option Reply)
 replies_from e [] = []
-replies_from e (x ∷ xs) = option_map (λ (o : Outcome). o.reply) (step e x.tick x.call x.reply) ∷ replies_from (moved e x) xs
+replies_from e (x ∷ xs) = option_map (λ (o : Outcome). o.reply) (step e x.tick x.call x.reply)
+    ∷ replies_from (moved e x) xs
 
 -- the numbers that the callers' entries have next
 abbrev numbers_from : (earlier xs : List Entry) → List ℕ
@@ -85,7 +89,8 @@ legal_after params y ys (x ∷ xs) given numbers rise =
 abbrev Shows : HostParams → List Entry → Type 0
 Shows params [] = ⊥
 Shows params (x ∷ xs) =
-    IsFirst x × (replies_from (opened params x.call) xs ≡ map (λ (z : Entry). Some z.reply) xs) × (numbers_from (x ∷ []) xs ≡ map (λ (z : Entry). z.number) xs) × (ticks_rise x.tick xs ≡ true)
+    IsFirst x × (replies_from (opened params x.call) xs ≡ map (λ (z : Entry). Some z.reply) xs)
+    × (numbers_from (x ∷ []) xs ≡ map (λ (z : Entry). z.number) xs) × (ticks_rise x.tick xs ≡ true)
 
 legal_by : (params : HostParams) (h : List Entry) → Shows params h → Legal params h
 unfolding replay
@@ -95,20 +100,37 @@ legal_by params (x ∷ xs) shows = (shows.0, legal_after params x [] xs shows.1 
 -- ----- the histories
 pub three_packets_legal : Legal replay_params three_packets
 unfolding nearest rx rx_later rx_syn_sent going ticks control step
-three_packets_legal = legal_by replay_params three_packets (record { opens = tt; reply = refl; number = refl }, refl, refl, refl)
+three_packets_legal = legal_by replay_params three_packets (
+  record { opens = tt; reply = refl; number = refl },
+  refl,
+  refl,
+  refl,
+)
 
 pub data_out_of_order_legal : Legal replay_params data_out_of_order
 unfolding nearest rx rx_later rx_syn_sent going ticks control step
-data_out_of_order_legal = legal_by replay_params data_out_of_order (record { opens = tt; reply = refl; number = refl }, refl, refl, refl)
+data_out_of_order_legal = legal_by replay_params data_out_of_order (
+  record { opens = tt; reply = refl; number = refl },
+  refl,
+  refl,
+  refl,
+)
 
 pub three_duplicates_legal : Legal replay_params three_duplicates
 unfolding nearest rx rx_later rx_syn_sent going ticks control step
-three_duplicates_legal = legal_by replay_params three_duplicates (record { opens = tt; reply = refl; number = refl }, refl, refl, refl)
+three_duplicates_legal = legal_by replay_params three_duplicates (
+  record { opens = tt; reply = refl; number = refl },
+  refl,
+  refl,
+  refl,
+)
 
 pub client_of_hello_legal : Legal (host_params 167772161 1000) client_of_hello
 unfolding nearest rx rx_later rx_syn_sent going ticks control step
-client_of_hello_legal = legal_by (host_params 167772161 1000) client_of_hello (record { opens = tt; reply = refl; number = refl }, refl, refl, refl)
+client_of_hello_legal = legal_by (host_params 167772161 1000) client_of_hello
+    (record { opens = tt; reply = refl; number = refl }, refl, refl, refl)
 
 pub server_of_hello_legal : Legal (host_params 167772162 5000) server_of_hello
 unfolding nearest rx rx_later rx_syn_sent going ticks control step
-server_of_hello_legal = legal_by (host_params 167772162 5000) server_of_hello (record { opens = tt; reply = refl; number = refl }, refl, refl, refl)
+server_of_hello_legal = legal_by (host_params 167772162 5000) server_of_hello
+    (record { opens = tt; reply = refl; number = refl }, refl, refl, refl)

@@ -1,5 +1,6 @@
 -- What an application's calls do (RFC 9293, section 3.10).
-use Rattle.std.specs.Prelude.{ℕ, ◌+◌, ◌/◌, ◌==◌, ◌&&◌, not, Bool, true, false, List, ◌++◌, length, take, drop, nat_lt, nat_le, min, Option, Some, None, if◌then◌else◌}
+use Rattle.std.specs.Prelude.{ℕ, ◌+◌, ◌/◌, ◌==◌, ◌&&◌, not, Bool, true, false, List, ◌++◌, length, take, drop, nat_lt}
+use Rattle.std.specs.Prelude.{nat_le, min, Option, Some, None, if◌then◌else◌}
 use Rattle.tas_model.specs.declared.entry.Phase.{Phase}
 use Rattle.tas_model.specs.declared.entry.Phase.TheVariants as phases
 use Rattle.tas_model.specs.declared.entry.Reason.{Reason}
@@ -38,7 +39,8 @@ ready_in (Over why) e = unchanged e (replies.Closed why)
 ready_in Running e = unchanged e replies.Ok
 
 -- ----- Send (section 3.10.2)
--- Of the bytes offered the first that fit are taken: `bytes` are those, as the reply shows them. It is no step where they are not so many.
+-- Of the bytes offered the first that fit are taken: `bytes` are those, as the reply shows them. It is no step where
+-- they are not so many.
 abbrev pub send_in : Column → Endpoint → (offered : ℕ) → (bytes : List ℕ) → Option Outcome
 send_in Opening e offered bytes = Some (unchanged e replies.NotOpen)
 send_in (Over why) e offered bytes = Some (unchanged e (replies.Closed why))
@@ -46,11 +48,16 @@ send_in Running e offered bytes =
     let n : ℕ = min offered (send_room e) in
     if e.tx.shut then Some (unchanged e replies.Shut)
     else if n == 0 && not (offered == 0) then Some (unchanged e replies.NotYet)
-    else if length bytes == n then Some (record { state = record e { tx = record (e.tx) { out = e.tx.out ++ bytes } }; reply = replies.Took bytes })
+    else if length bytes == n
+    then Some (record {
+      state = record e { tx = record (e.tx) { out = e.tx.out ++ bytes } };
+      reply = replies.Took bytes;
+    })
     else None
 
 -- ----- Recv (section 3.10.3)
--- The update that opens the window again (section 3.8.6.2.2): where free room grows past the lesser of a segment and half the ring.
+-- The update that opens the window again (section 3.8.6.2.2): where free room grows past the lesser of a segment and
+-- half the ring.
 abbrev pub update_of : (before after : Endpoint) → Option Head
 update_of before after =
     let m : ℕ = min before.params.mss (before.params.ring / 2) in
@@ -70,7 +77,10 @@ empty_reply None false = replies.NotYet
 abbrev pub recv_given : Endpoint → (most : ℕ) → Outcome
 recv_given e most =
     let n : ℕ = min most (unread e.rx) in
-    record { state = after_recv e n; reply = replies.Got (take n (drop e.rx.read e.rx.got)) (update_of e (after_recv e n)) }
+    record {
+      state = after_recv e n;
+      reply = replies.Got (take n (drop e.rx.read e.rx.got)) (update_of e (after_recv e n));
+    }
 
 abbrev pub recv_open : Endpoint → (most : ℕ) → Outcome
 recv_open e most = if unread e.rx == 0 then unchanged e (empty_reply e.reason e.rx.ended) else recv_given e most
@@ -111,7 +121,9 @@ tells_abort _ = false
 
 abbrev pub abort_reply : Endpoint → Reply
 abort_reply e =
-    if tells_abort (phase e) then replies.Sent (bare (record { flags = 4; seq = seq_of e e.tx.max; ack = record { 0 = 0 }; window = 0; mss = None }))
+    if tells_abort (phase e)
+    then replies.Sent
+    (bare (record { flags = 4; seq = seq_of e e.tx.max; ack = record { 0 = 0 }; window = 0; mss = None }))
     else replies.Nothing
 
 abbrev pub abort_in : Column → Endpoint → Outcome

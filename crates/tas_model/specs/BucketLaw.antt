@@ -1,4 +1,5 @@
--- What the bucket lets through: the bytes that are sent as data in a stretch of a history, and what its ticks filled in.
+-- What the bucket lets through: the bytes that are sent as data in a stretch of a history, and what its ticks filled
+-- in.
 use Rattle.std.specs.Prelude.{ℕ, ◌+◌, List, [], ◌∷◌}
 use Rattle.tas_model.specs.declared.entry.Entry.{Entry}
 use Rattle.tas_model.specs.declared.entry.Call.{Call}

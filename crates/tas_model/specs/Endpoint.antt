@@ -1,13 +1,17 @@
--- What an endpoint is, the phase that it is in, and the endpoint that a connection begins with (RFC 9293, sections 3.3 and 3.4).
-use Rattle.std.specs.Prelude.{ℕ, ◌+◌, ◌-◌, ◌*◌, ◌^◌, ◌==◌, not, ◌&&◌, Bool, false, List, [], length, nat_lt, min, max, Option, Some, None, is_some, unwrap_or, if◌then◌else◌}
+-- What an endpoint is, the phase that it is in, and the endpoint that a connection begins with (RFC 9293, sections 3.3
+-- and 3.4).
+use Rattle.std.specs.Prelude.{ℕ, ◌+◌, ◌-◌, ◌*◌, ◌^◌, ◌==◌, not, ◌&&◌, Bool, false, List, [], length, nat_lt, min, max}
+use Rattle.std.specs.Prelude.{Option, Some, None, is_some, unwrap_or, if◌then◌else◌}
 use Rattle.tas_num.specs.Control.{refill}
 use Rattle.tas_model.specs.declared.entry.HostParams.{HostParams}
 use Rattle.tas_model.specs.declared.entry.Phase.{Phase}
-use Rattle.tas_model.specs.declared.entry.Phase.TheVariants.{SynSent, SynReceived, Established, FinWait1, FinWait2, CloseWait, Closing, LastAck, TimeWait, Closed}
+use Rattle.tas_model.specs.declared.entry.Phase.TheVariants.{SynSent, SynReceived, Established, FinWait1, FinWait2}
+use Rattle.tas_model.specs.declared.entry.Phase.TheVariants.{CloseWait, Closing, LastAck, TimeWait, Closed}
 use Rattle.tas_model.specs.declared.entry.Reason.{Reason}
 
 -- ----- the facts of an endpoint
--- Both directions are whole lists of bytes, and the places in them are unbounded. Each direction counts from its first sequence number: the SYN is place 0, byte i of the stream is place 1 + i, and the FIN follows the last byte.
+-- Both directions are whole lists of bytes, and the places in them are unbounded. Each direction counts from its first
+-- sequence number: the SYN is place 0, byte i of the stream is place 1 + i, and the FIN follows the last byte.
 
 -- What this side sends (the send sequence variables of section 3.3.1), and its timer.
 pub record Sending : Type 0 where
@@ -119,33 +123,78 @@ send_room e = e.params.ring - unacked e.tx
 -- ----- the opened endpoint
 -- Nothing was sent or received.
 abbrev pub fresh_sending : Sending
-fresh_sending = record { out = []; una = 0; nxt = 0; max = 0; shut = false; window = 0; wl1 = 0; wl2 = 0; dup = 0; age = 0; tries = 0; probe = false }
+fresh_sending = record {
+  out = [];
+  una = 0;
+  nxt = 0;
+  max = 0;
+  shut = false;
+  window = 0;
+  wl1 = 0;
+  wl2 = 0;
+  dup = 0;
+  age = 0;
+  tries = 0;
+  probe = false;
+}
 
 abbrev pub fresh_receiving : Receiving
 fresh_receiving = record { got = []; read = 0; island = None; ended = false; ended_first = false }
 
 -- Before the peer's SYN there is no rate yet, but for the threshold.
 abbrev pub fresh_rate : Rate
-fresh_rate = record { mss = 0; cwnd = 0; ssthresh = 65535; tokens = 0; depth = 0; fill = 0; acked = 0; fast = 0; timeouts = 0 }
+fresh_rate = record {
+  mss = 0;
+  cwnd = 0;
+  ssthresh = 65535;
+  tokens = 0;
+  depth = 0;
+  fill = 0;
+  acked = 0;
+  fast = 0;
+  timeouts = 0;
+}
 
 -- The endpoint of a connection that has just begun, with this first sequence number.
 abbrev pub fresh : HostParams → ℕ → Endpoint
-fresh params iss = record { params = params; iss = iss; peer = None; tx = fresh_sending; rx = fresh_receiving; rate = fresh_rate; entered = 0; reason = None }
+fresh params iss = record {
+  params = params;
+  iss = iss;
+  peer = None;
+  tx = fresh_sending;
+  rx = fresh_receiving;
+  rate = fresh_rate;
+  entered = 0;
+  reason = None;
+}
 
--- The largest payload that is sent: the lesser of both sides' MSS, 536 where the peer's SYN has none (section 3.7.1), and 64 at least.
+-- The largest payload that is sent: the lesser of both sides' MSS, 536 where the peer's SYN has none (section 3.7.1),
+-- and 64 at least.
 abbrev pub send_mss : HostParams → Option ℕ → ℕ
 send_mss params theirs = max 64 (min params.mss (unwrap_or theirs 536))
 
--- The initial window (RFC 5681, section 3.1): 2, 3 or 4 segments by their size. Where it is fixed, it is as large as a window may be.
+-- The initial window (RFC 5681, section 3.1): 2, 3 or 4 segments by their size. Where it is fixed, it is as large as a
+-- window may be.
 abbrev pub first_cwnd : (fixed : Bool) (mss : ℕ) → ℕ
-first_cwnd fixed mss = if fixed then 65535 else if nat_lt 2190 mss then 2 * mss else if nat_lt 1095 mss then 3 * mss else 4 * mss
+first_cwnd fixed mss = if fixed then 65535 else if nat_lt 2190 mss then 2 * mss else if nat_lt 1095 mss then 3 * mss
+    else 4 * mss
 
 -- The rate once the peer's SYN is taken: the bucket is full.
 abbrev pub first_rate : HostParams → (theirs : Option ℕ) → Rate
 first_rate params theirs =
     let mss : ℕ = send_mss params theirs in
     let cwnd : ℕ = first_cwnd params.fixed mss in
-    record { mss = mss; cwnd = cwnd; ssthresh = 65535; tokens = cwnd; depth = cwnd; fill = refill mss cwnd; acked = 0; fast = 0; timeouts = 0 }
+    record {
+      mss = mss;
+      cwnd = cwnd;
+      ssthresh = 65535;
+      tokens = cwnd;
+      depth = cwnd;
+      fill = refill mss cwnd;
+      acked = 0;
+      fast = 0;
+      timeouts = 0;
+    }
 
 -- ----- counters
 -- a counter stops at the largest number of 32 bits

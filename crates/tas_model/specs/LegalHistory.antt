@@ -1,5 +1,6 @@
 -- Which lists of entries are histories of an endpoint. A history is read from its oldest entry on.
-use Rattle.std.specs.Prelude.{◌≡◌, ℕ, ◌≤◌, ◌==◌, Bool, true, false, List, [], ◌∷◌, ◌++◌, length, take, max, count_by, Option, Some, None, ⊤}
+use Rattle.std.specs.Prelude.{◌≡◌, ℕ, ◌≤◌, ◌==◌, Bool, true, false, List, [], ◌∷◌, ◌++◌, length, take, max, count_by}
+use Rattle.std.specs.Prelude.{Option, Some, None, ⊤}
 use Rattle.tas_model.specs.declared.entry.HostParams.{HostParams}
 use Rattle.tas_model.specs.declared.entry.Entry.{Entry}
 use Rattle.tas_model.specs.declared.entry.Caller.{Caller}
@@ -11,12 +12,14 @@ use Rattle.tas_model.specs.declared.entry.Reply.TheVariants as replies
 use Rattle.tas_model.specs.Endpoint.{Endpoint, fresh, first_rate, send_room}
 use Rattle.tas_model.specs.Segments.{Outcome}
 use Rattle.tas_model.specs.Receive.{rx}
-use Rattle.tas_model.specs.ApplicationCalls.{Column, Opening, Over, Running, column, accept_in, ready_in, send_in, recv_in, shut_in, close_in, abort_in}
+use Rattle.tas_model.specs.ApplicationCalls.{Column, Opening, Over, Running, column, accept_in, ready_in, send_in}
+use Rattle.tas_model.specs.ApplicationCalls.{recv_in, shut_in, close_in, abort_in}
 use Rattle.tas_model.specs.NextSegment.{going, emitted}
 use Rattle.tas_model.specs.Timers.{ticks, control}
 
 -- ----- the opened endpoint (RFC 9293, sections 3.10.1 and 3.10.7.2)
--- Connect begins one, and Passive one that has taken the peer's SYN: its number, window and MSS, and nothing else of that segment.
+-- Connect begins one, and Passive one that has taken the peer's SYN: its number, window and MSS, and nothing else of
+-- that segment.
 abbrev pub opened : HostParams → Call → Endpoint
 opened params (calls.Connect iss) = fresh params iss.0
 opened params (calls.Passive frame iss seg) =
@@ -110,7 +113,8 @@ pub record IsFirst (x : Entry) : Type 0 where
   pub reply : x.reply ≡ replies.Ok
   pub number : x.number ≡ 0
 
--- The entry may come next: its call is a step that gives its reply, its number is its caller's next one, and ticks do not fall.
+-- The entry may come next: its call is a step that gives its reply, its number is its caller's next one, and ticks do
+-- not fall.
 pub record MayFollow (params : HostParams) (earlier : List Entry) (x : Entry) : Type 0 where
   pub step : Gives (step (replay params earlier) x.tick x.call x.reply) x.reply
   pub number : x.number ≡ next_number x.caller earlier
@@ -139,9 +143,16 @@ Offers _ offer = ⊤
 abbrev pub shown : Endpoint → (offer : List ℕ) → Reply
 shown e offer = replies.Took (take (send_room e) offer)
 
--- The history with the one entry that this call makes, at this tick or the last entry's, whichever is later. A Send offers `offer`.
+-- The history with the one entry that this call makes, at this tick or the last entry's, whichever is later. A Send
+-- offers `offer`.
 abbrev pub extended_by : HostParams → List Entry → Caller → (tick : ℕ) → Call → (offer : List ℕ) → List Entry
 extended_by params h caller tick call offer =
     let t : ℕ = max tick (last_tick 0 h) in
     let e : Endpoint = replay params h in
-    h ++ (record { caller = caller; number = next_number caller h; tick = t; call = call; reply = reply_or (step e t call (shown e offer)) replies.Nothing }) ∷ []
+    h ++ (record {
+      caller = caller;
+      number = next_number caller h;
+      tick = t;
+      call = call;
+      reply = reply_or (step e t call (shown e offer)) replies.Nothing;
+    }) ∷ []

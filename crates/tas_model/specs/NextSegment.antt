@@ -1,5 +1,6 @@
 -- Which segment may go next, and the endpoint once it went (RFC 9293, sections 3.7 and 3.8; RFC 5681, section 3.1).
-use Rattle.std.specs.Prelude.{ℕ, ◌+◌, ◌-◌, ◌==◌, ◌&&◌, false, length, take, drop, nat_lt, min, max, Option, Some, None, if◌then◌else◌}
+use Rattle.std.specs.Prelude.{ℕ, ◌+◌, ◌-◌, ◌==◌, ◌&&◌, false, length, take, drop, nat_lt, min, max, Option, Some, None}
+use Rattle.std.specs.Prelude.{if◌then◌else◌}
 use Rattle.tas_model.specs.declared.entry.Head.{Head}
 use Rattle.tas_model.specs.declared.entry.Seg.{Seg}
 use Rattle.tas_model.specs.declared.entry.Reply.TheVariants as replies
@@ -10,22 +11,42 @@ use Rattle.tas_model.specs.ApplicationCalls.{Column, Opening, Over, Running, col
 -- ----- the segments
 -- The SYN, or SYN and ACK once the peer's was taken: with the own MSS (section 3.7.1).
 abbrev pub syn_head : Endpoint → (peer : Option ℕ) → Head
-syn_head e None = record { flags = 2; seq = seq_of e 0; ack = record { 0 = 0 }; window = wnd e; mss = Some e.params.mss }
-syn_head e (Some first) = record { flags = 18; seq = seq_of e 0; ack = ack_of e; window = wnd e; mss = Some e.params.mss }
+syn_head e None = record {
+  flags = 2;
+  seq = seq_of e 0;
+  ack = record { 0 = 0 };
+  window = wnd e;
+  mss = Some e.params.mss;
+}
+syn_head e (Some first) = record {
+  flags = 18;
+  seq = seq_of e 0;
+  ack = ack_of e;
+  window = wnd e;
+  mss = Some e.params.mss;
+}
 
 -- bytes that wait to be sent, from the next place on
 abbrev pub waiting : Sending → ℕ
 waiting tx = length tx.out - (tx.nxt - 1)
 
--- How many bytes may go: a segment's, those that wait, what the peer's window and the congestion window leave, and what the bucket holds.
+-- How many bytes may go: a segment's, those that wait, what the peer's window and the congestion window leave, and what
+-- the bucket holds.
 abbrev pub data_len : Endpoint → ℕ
-data_len e = min e.rate.mss (min (waiting e.tx) (min (e.tx.una + e.tx.window - e.tx.nxt) (min (e.tx.una + e.rate.cwnd - e.tx.nxt) e.rate.tokens)))
+data_len e = min e.rate.mss (min (waiting e.tx)
+    (min (e.tx.una + e.tx.window - e.tx.nxt) (min (e.tx.una + e.rate.cwnd - e.tx.nxt) e.rate.tokens)))
 
 -- The next n bytes: byte i of the stream has place 1 + i. PSH where they end all that was accepted.
 abbrev pub data_seg : Endpoint → (n : ℕ) → Seg
 data_seg e n =
     record {
-      head = record { flags = if n == waiting e.tx then 24 else 16; seq = seq_of e e.tx.nxt; ack = ack_of e; window = wnd e; mss = None };
+      head = record {
+        flags = if n == waiting e.tx then 24 else 16;
+        seq = seq_of e e.tx.nxt;
+        ack = ack_of e;
+        window = wnd e;
+        mss = None;
+      };
       bytes = take n (drop (e.tx.nxt - 1) e.tx.out);
     }
 
@@ -44,15 +65,22 @@ past tx n = record tx { nxt = tx.nxt + n; max = max tx.max (tx.nxt + n) }
 
 -- Rule 1: in the opening the SYN, and nothing else.
 abbrev pub going_opening : Endpoint → Option Going
-going_opening e = if e.tx.nxt == 0 then Some (record { seg = bare (syn_head e e.peer); after = record e { tx = past e.tx 1 } }) else None
+going_opening e = if e.tx.nxt == 0
+    then Some (record { seg = bare (syn_head e e.peer); after = record e { tx = past e.tx 1 } }) else None
 
 -- Rule 2: data, which the bucket pays for.
 abbrev pub going_data : Endpoint → (n : ℕ) → Going
-going_data e n = record { seg = data_seg e n; after = record e { tx = past e.tx n; rate = record (e.rate) { tokens = e.rate.tokens - n } } }
+going_data e n = record {
+  seg = data_seg e n;
+  after = record e { tx = past e.tx n; rate = record (e.rate) { tokens = e.rate.tokens - n } };
+}
 
 -- Rule 3: a probe of one byte at a window of 0 (section 3.8.6.1). It stays the next place, so that it is sent again.
 abbrev pub going_probe : Endpoint → Going
-going_probe e = record { seg = data_seg e 1; after = record e { tx = record (e.tx) { probe = false; max = max e.tx.max (e.tx.nxt + 1) } } }
+going_probe e = record {
+  seg = data_seg e 1;
+  after = record e { tx = record (e.tx) { probe = false; max = max e.tx.max (e.tx.nxt + 1) } };
+}
 
 -- Rule 4: the FIN, once all bytes were sent.
 abbrev pub going_fin : Endpoint → Going

@@ -1,5 +1,6 @@
 -- What it means that the peer sends one stream: no place of it ever has two different bytes.
-use Rattle.std.specs.Prelude.{◌≡◌, ℕ, ◌+◌, ◌-◌, ◌%◌, ◌^◌, ◌≤◌, true, false, List, [], ◌∷◌, ◌++◌, length, take, drop, max, Option, Some, None, ⊤}
+use Rattle.std.specs.Prelude.{◌≡◌, ℕ, ◌+◌, ◌-◌, ◌%◌, ◌^◌, ◌≤◌, true, false, List, [], ◌∷◌, ◌++◌, length, take, drop}
+use Rattle.std.specs.Prelude.{max, Option, Some, None, ⊤}
 use Rattle.tas_num.specs.Places.{raised}
 use Rattle.tas_model.specs.declared.entry.HostParams.{HostParams}
 use Rattle.tas_model.specs.declared.entry.Phase.{Phase}
@@ -24,10 +25,12 @@ IsPrefixOf xs ys = (rest : List ℕ) × (xs ++ rest ≡ ys)
 abbrev pub raised_place : Endpoint → Seg → ℕ
 raised_place e seg = raised (next_place e.rx) ((seg.head.seq.0 + (2 ^ 32 - peer_first e)) % 2 ^ 32)
 
--- The segment, whose first number has the raised place `from`, says nothing else than the stream: its bytes at places from r on stand there, byte i of the stream at place 1 + i, and a FIN from r on follows the stream's last byte.
+-- The segment, whose first number has the raised place `from`, says nothing else than the stream: its bytes at places
+-- from r on stand there, byte i of the stream at place 1 + i, and a FIN from r on follows the stream's last byte.
 pub record Says (stream : List ℕ) (r from : ℕ) (seg : Seg) : Type 0 where
   pub bytes : StandsIn stream (max from (r + 2 ^ 32) - 2 ^ 32 - 1) (drop (r + 2 ^ 32 - from) seg.bytes)
-  pub fin : is_fin seg ≡ true → r + 2 ^ 32 ≤ from + length seg.bytes → from + length seg.bytes ≡ length stream + 1 + 2 ^ 32
+  pub fin : is_fin seg ≡ true → r + 2 ^ 32 ≤ from + length seg.bytes
+      → from + length seg.bytes ≡ length stream + 1 + 2 ^ 32
 
 -- past SYN-SENT and before CLOSED
 abbrev pub IsSynchronized : Phase → Type 0
@@ -37,7 +40,8 @@ IsSynchronized _ = ⊤
 
 -- A call is of the stream: a segment without SYN says nothing else, where there is a connection.
 abbrev pub IsOfStream : (stream : List ℕ) → Endpoint → Call → Type 0
-IsOfStream stream e (calls.Rx frame seg) = is_syn seg ≡ false → IsSynchronized (phase e) → Says stream (next_place e.rx) (raised_place e seg) seg
+IsOfStream stream e (calls.Rx frame seg) = is_syn seg ≡ false → IsSynchronized (phase e)
+    → Says stream (next_place e.rx) (raised_place e seg) seg
 IsOfStream stream e _ = ⊤
 
 -- ----- a history

@@ -37,7 +37,8 @@ abbrev pub bytes_read : List Entry → List ℕ
 bytes_read h = flat_map (λ x. given_bytes x.reply) h
 
 -- ----- the stream that is sent
--- The segment, of a direction with this first number, says nothing but the stream: its bytes stand there, byte i of the stream at place 1 + i, and its FIN follows the last byte.
+-- The segment, of a direction with this first number, says nothing but the stream: its bytes stand there, byte i of the
+-- stream at place 1 + i, and its FIN follows the last byte.
 pub record SaysPart (first : ℕ) (stream : List ℕ) (seg : Seg) : Type 0 where
   pub place : ℕ
   pub begins : 1 ≤ place

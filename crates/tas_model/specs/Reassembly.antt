@@ -1,5 +1,7 @@
--- What the bytes of a segment do (RFC 9293, section 3.10.7.4, seventh): those in order are received, and one stretch past a gap is kept.
-use Rattle.std.specs.Prelude.{ℕ, ◌+◌, ◌-◌, ◌==◌, ◌&&◌, Bool, List, [], ◌∷◌, ◌++◌, length, take, drop, nat_le, min, max, Option, Some, None, if◌then◌else◌}
+-- What the bytes of a segment do (RFC 9293, section 3.10.7.4, seventh): those in order are received, and one stretch
+-- past a gap is kept.
+use Rattle.std.specs.Prelude.{ℕ, ◌+◌, ◌-◌, ◌==◌, ◌&&◌, Bool, List, [], ◌∷◌, ◌++◌, length, take, drop, nat_le, min, max}
+use Rattle.std.specs.Prelude.{Option, Some, None, if◌then◌else◌}
 use Rattle.tas_model.specs.Endpoint.{Receiving, Island, next_place}
 
 -- The part of a payload, whose first byte has place q, at places from r to below r + window.
@@ -29,7 +31,8 @@ kept_apart (Some i) at part = if meets i at part then Some (joined i at part) el
 abbrev pub bridged : Receiving → Option Island → Receiving
 bridged rx None = rx
 bridged rx (Some i) =
-    if nat_le i.at (length rx.got) then record rx { got = rx.got ++ drop (length rx.got - i.at) i.bytes; island = None } else rx
+    if nat_le i.at (length rx.got) then record rx { got = rx.got ++ drop (length rx.got - i.at) i.bytes; island = None }
+    else rx
 
 -- A part that begins where the bytes in order end is received.
 abbrev pub grown : Receiving → List ℕ → Receiving

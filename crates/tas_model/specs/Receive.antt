@@ -1,13 +1,16 @@
 -- What a received segment does (RFC 9293, section 3.10.7; RFC 5681, section 2).
-use Rattle.std.specs.Prelude.{ℕ, ◌+◌, ◌-◌, ◌%◌, ◌^◌, ◌==◌, ◌&&◌, ◌||◌, not, Bool, true, false, length, nat_lt, nat_le, min, max, Option, Some, None, unwrap_or, if◌then◌else◌}
+use Rattle.std.specs.Prelude.{ℕ, ◌+◌, ◌-◌, ◌%◌, ◌^◌, ◌==◌, ◌&&◌, ◌||◌, not, Bool, true, false, length, nat_lt, nat_le}
+use Rattle.std.specs.Prelude.{min, max, Option, Some, None, unwrap_or, if◌then◌else◌}
 use Rattle.tas_num.specs.Places.{nearest}
 use Rattle.tas_model.specs.declared.entry.Phase.{Phase}
 use Rattle.tas_model.specs.declared.entry.Phase.TheVariants as phases
 use Rattle.tas_model.specs.declared.entry.Reason.TheVariants as reasons
 use Rattle.tas_model.specs.declared.entry.Seg.{Seg}
 use Rattle.tas_model.specs.declared.entry.Reply.TheVariants as replies
-use Rattle.tas_model.specs.Endpoint.{Endpoint, Sending, Receiving, Rate, phase, wnd, next_place, is_fin_acked, counted, uncounted, first_rate}
-use Rattle.tas_model.specs.Segments.{Outcome, unchanged, is_fin, is_syn, is_rst, is_ack, seg_len, peer_first, acks, resets, stray_reply}
+use Rattle.tas_model.specs.Endpoint.{Endpoint, Sending, Receiving, Rate, phase, wnd, next_place, is_fin_acked, counted}
+use Rattle.tas_model.specs.Endpoint.{uncounted, first_rate}
+use Rattle.tas_model.specs.Segments.{Outcome, unchanged, is_fin, is_syn, is_rst, is_ack, seg_len, peer_first, acks}
+use Rattle.tas_model.specs.Segments.{resets, stray_reply}
 use Rattle.tas_model.specs.Reassembly.{with_data}
 
 -- ----- places
@@ -15,7 +18,8 @@ use Rattle.tas_model.specs.Reassembly.{with_data}
 abbrev pub place_of_seq : Endpoint → Seg → Option ℕ
 place_of_seq e seg = nearest (next_place e.rx) ((seg.head.seq.0 + (2 ^ 32 - peer_first e)) % 2 ^ 32)
 
--- The place that it acknowledges: the nearest to the highest that was sent. A negative one counts as 0, below all that was sent.
+-- The place that it acknowledges: the nearest to the highest that was sent. A negative one counts as 0, below all that
+-- was sent.
 abbrev pub place_of_ack : Endpoint → Seg → ℕ
 place_of_ack e seg = unwrap_or (nearest e.tx.max ((seg.head.ack.0 + (2 ^ 32 - e.iss)) % 2 ^ 32)) 0
 
@@ -31,7 +35,8 @@ pub data Verdict : Type 0 where
 abbrev pub is_within : (r window q : ℕ) → Bool
 is_within r window q = nat_le r q && nat_lt q (r + window)
 
--- The segment that takes `len` places from q on is acceptable: one of its ends lies in the window (section 3.10.7.4, the table).
+-- The segment that takes `len` places from q on is acceptable: one of its ends lies in the window (section 3.10.7.4,
+-- the table).
 abbrev pub is_acceptable : (r window q len : ℕ) → Bool
 is_acceptable r window q len =
     if len == 0 then (if window == 0 then q == r else is_within r window q)
@@ -41,7 +46,9 @@ is_acceptable r window q len =
 abbrev pub refused : Seg → Verdict
 refused seg = if is_rst seg then Dropped else Answered
 
--- Rule 1: acceptable, but for one that comes to a window of 0 in order. Rule 2: a reset exactly at r resets, another one in the window is asked for again (RFC 5961). Rule 3: a SYN is answered by an ACK. Rule 4: without ACK it is dropped.
+-- Rule 1: acceptable, but for one that comes to a window of 0 in order. Rule 2: a reset exactly at r resets, another
+-- one in the window is asked for again (RFC 5961). Rule 3: a SYN is answered by an ACK. Rule 4: without ACK it is
+-- dropped.
 abbrev pub verdict_at : (r window q : ℕ) → Seg → Verdict
 verdict_at r window q seg =
     if not (is_acceptable r window q (seg_len seg)) then (
@@ -71,18 +78,25 @@ ack_verdict tx a =
     if tx.una == 0 then (if nat_le 1 a && nat_le a tx.max then Good else Stray)
     else if nat_lt tx.max a then TooFar else Good
 
--- A duplicate acknowledgement (RFC 5681, section 2): with data in flight, it acknowledges and offers the same again and takes no place.
+-- A duplicate acknowledgement (RFC 5681, section 2): with data in flight, it acknowledges and offers the same again and
+-- takes no place.
 abbrev pub is_duplicate : Sending → (a len window : ℕ) → Bool
-is_duplicate tx a len window = nat_lt tx.una tx.max && nat_lt 0 tx.window && len == 0 && a == tx.una && window == tx.window
+is_duplicate tx a len window = nat_lt tx.una tx.max && nat_lt 0 tx.window && len == 0 && a == tx.una
+    && window == tx.window
 
 -- Each one counts, and the third goes back to the first place that is not acknowledged (RFC 5681, section 3.2).
 abbrev pub after_duplicate : Sending → (a len window : ℕ) → Sending
 after_duplicate tx a len window =
-    if is_duplicate tx a len window then record tx { dup = min 3 (tx.dup + 1); nxt = if tx.dup == 2 then tx.una else tx.nxt } else tx
+    if is_duplicate tx a len window then record tx {
+      dup = min 3 (tx.dup + 1);
+      nxt = if tx.dup == 2 then tx.una
+          else tx.nxt;
+    } else tx
 
 -- what is acknowledged for the first time
 abbrev pub after_advance : Sending → (a : ℕ) → Sending
-after_advance tx a = if nat_lt tx.una a then record tx { una = a; nxt = max tx.nxt a; dup = 0; age = 0; tries = 0 } else tx
+after_advance tx a = if nat_lt tx.una a then record tx { una = a; nxt = max tx.nxt a; dup = 0; age = 0; tries = 0 }
+    else tx
 
 -- The segment is at least as new as the one that the window is from; the first one after the SYN always is.
 abbrev pub moves_window : Sending → (a q : ℕ) → Bool
@@ -168,7 +182,8 @@ abbrev pub taken : Endpoint → (tick q : ℕ) → Seg → AckVerdict → Outcom
 taken e tick q seg Stray = unchanged e (resets seg.head.ack)
 taken e tick q seg TooFar = unchanged e (acks e)
 taken e tick q seg Good =
-    let after : Endpoint = after_data (after_ack e tick (place_of_ack e seg) q (seg_len seg) seg.head.window) tick (wnd e) q seg in
+    let after : Endpoint = after_data (after_ack e tick (place_of_ack e seg) q (seg_len seg) seg.head.window) tick
+    (wnd e) q seg in
     record { state = after; reply = if is_heard seg then acks after else replies.Nothing }
 
 -- Rule 5 alone, of a segment that a window of 0 has no room for. Its own length counts, so that it is no duplicate.
@@ -197,15 +212,27 @@ abbrev pub connected : Endpoint → Seg → Endpoint
 connected e seg =
     record e {
       peer = Some seg.head.seq.0;
-      tx = record (e.tx) { una = 1; nxt = max e.tx.nxt 1; window = seg.head.window; wl1 = 0; wl2 = 1; age = 0; tries = 0 };
+      tx = record (e.tx) {
+        una = 1;
+        nxt = max e.tx.nxt 1;
+        window = seg.head.window;
+        wl1 = 0;
+        wl2 = 1;
+        age = 0;
+        tries = 0;
+      };
       rate = first_rate e.params seg.head.mss;
     }
 
 -- First the ACK, then the reset, then the SYN; all else is dropped.
 unfoldable pub rx_syn_sent : Endpoint → Seg → Outcome
 rx_syn_sent e seg =
-    if is_ack seg && not (place_of_ack e seg == 1 && nat_le 1 e.tx.max) then unchanged e (if is_rst seg then replies.Nothing else resets seg.head.ack)
-    else if is_rst seg then record { state = if is_ack seg then record e { reason = Some reasons.Refused } else e; reply = replies.Nothing }
+    if is_ack seg && not (place_of_ack e seg == 1 && nat_le 1 e.tx.max)
+    then unchanged e (if is_rst seg then replies.Nothing else resets seg.head.ack)
+    else if is_rst seg then record {
+      state = if is_ack seg then record e { reason = Some reasons.Refused } else e;
+      reply = replies.Nothing;
+    }
     else if is_syn seg && is_ack seg then record { state = connected e seg; reply = acks (connected e seg) }
     else unchanged e replies.Nothing
 

@@ -52,7 +52,8 @@ ack_of e = seq_at (peer_first e) (next_place e.rx)
 abbrev pub bare : Head → Seg
 bare head = record { head = head; bytes = [] }
 
--- An ACK. Its number is the highest that was sent and not the next one, so that going back to send again does not make it stale.
+-- An ACK. Its number is the highest that was sent and not the next one, so that going back to send again does not make
+-- it stale.
 abbrev pub ack_head : Endpoint → Head
 ack_head e = record { flags = 16; seq = seq_of e e.tx.max; ack = ack_of e; window = wnd e; mss = None }
 
@@ -63,12 +64,19 @@ acks e = replies.Sent (bare (ack_head e))
 abbrev pub resets : Seq → Reply
 resets ack = replies.Sent (bare (record { flags = 4; seq = ack; ack = record { 0 = 0 }; window = 0; mss = None }))
 
--- What a segment gets where there is no connection (section 3.10.7.1): a reset that its sender takes, and nothing to a reset.
+-- What a segment gets where there is no connection (section 3.10.7.1): a reset that its sender takes, and nothing to a
+-- reset.
 abbrev pub stray_reply : Seg → Reply
 stray_reply seg =
     if is_rst seg then replies.Nothing
     else if is_ack seg then resets seg.head.ack
-    else replies.Sent (bare (record { flags = 20; seq = record { 0 = 0 }; ack = record { 0 = (seg.head.seq.0 + seg_len seg) % 2 ^ 32 }; window = 0; mss = None }))
+    else replies.Sent (bare (record {
+      flags = 20;
+      seq = record { 0 = 0 };
+      ack = record { 0 = (seg.head.seq.0 + seg_len seg) % 2 ^ 32 };
+      window = 0;
+      mss = None;
+    }))
 
 -- ----- outcomes
 -- the endpoint that a call leaves, and what it answers

@@ -1,5 +1,6 @@
 -- What the passing of time does (RFC 9293, sections 3.8.1, 3.8.6.1 and 3.10.8; RFC 5681, section 3).
-use Rattle.std.specs.Prelude.{ℕ, ◌+◌, ◌-◌, ◌*◌, ◌^◌, ◌==◌, ◌&&◌, ◌||◌, not, Bool, true, nat_lt, nat_le, min, Option, Some, None, if◌then◌else◌}
+use Rattle.std.specs.Prelude.{ℕ, ◌+◌, ◌-◌, ◌*◌, ◌^◌, ◌==◌, ◌&&◌, ◌||◌, not, Bool, true, nat_lt, nat_le, min, Option}
+use Rattle.std.specs.Prelude.{Some, None, if◌then◌else◌}
 use Rattle.tas_num.specs.Control.{cwnd_after, ssthresh_after, refill}
 use Rattle.tas_model.specs.declared.entry.Phase.{Phase}
 use Rattle.tas_model.specs.declared.entry.Phase.TheVariants as phases
@@ -18,7 +19,8 @@ filled r = record r { tokens = min r.depth (r.tokens + r.fill) }
 abbrev pub is_armed : Sending → Bool
 is_armed tx = nat_lt tx.una tx.max || (nat_lt 0 (waiting tx) && tx.window == 0)
 
--- The ticks until it runs out: twice as many after each time in a row, up to 16 times the first (RFC 6298, section 5.5).
+-- The ticks until it runs out: twice as many after each time in a row, up to 16 times the first (RFC 6298, section
+-- 5.5).
 abbrev pub patience : Endpoint → ℕ
 patience e = e.params.rto * 2 ^ min e.tx.tries 4
 
@@ -26,14 +28,24 @@ patience e = e.params.rto * 2 ^ min e.tx.tries 4
 abbrev pub probes : Endpoint → Bool
 probes e = e.tx.window == 0 && is_past_opening e && nat_lt 0 (unacked e.tx)
 
--- The timer has run out. The ninth time in a row ends the connection; else sending goes back to the first place that is not acknowledged, by a probe or by sending again.
+-- The timer has run out. The ninth time in a row ends the connection; else sending goes back to the first place that is
+-- not acknowledged, by a probe or by sending again.
 abbrev pub expired : Endpoint → Outcome
 expired e =
     let tries : ℕ = e.tx.tries + 1 in
     let back : Sending = record (e.tx) { tries = tries; age = 0; nxt = e.tx.una } in
-    if tries == 9 then record { state = record e { tx = record (e.tx) { tries = tries; age = 0 }; reason = Some reasons.TimedOut }; reply = replies.TimedOut }
+    if tries == 9 then record {
+      state = record e {
+        tx = record (e.tx) { tries = tries; age = 0 };
+        reason = Some reasons.TimedOut;
+      };
+      reply = replies.TimedOut;
+    }
     else if probes e then record { state = record e { tx = record back { probe = true } }; reply = replies.Probe }
-    else record { state = record e { tx = back; rate = record (e.rate) { timeouts = counted (e.rate.timeouts + 1) } }; reply = replies.Resend }
+    else record {
+      state = record e { tx = back; rate = record (e.rate) { timeouts = counted (e.rate.timeouts + 1) } };
+      reply = replies.Resend;
+    }
 
 abbrev pub aged : Endpoint → (age : ℕ) → Endpoint
 aged e age = record e { tx = record (e.tx) { age = age } }
@@ -48,7 +60,8 @@ ticked e =
 -- TIME-WAIT ends four timeouts after it began.
 abbrev pub waited : Endpoint → (tick : ℕ) → Outcome
 waited e tick =
-    if nat_le (4 * e.params.rto) (tick - e.entered) then record { state = record e { reason = Some reasons.Done }; reply = replies.Expired }
+    if nat_le (4 * e.params.rto) (tick - e.entered)
+    then record { state = record e { reason = Some reasons.Done }; reply = replies.Expired }
     else unchanged e replies.Quiet
 
 abbrev pub tick_in : Phase → Endpoint → (tick : ℕ) → Option Outcome
@@ -61,7 +74,8 @@ unfoldable pub ticks : Endpoint → (tick : ℕ) → Option Outcome
 ticks e tick = tick_in (phase e) (record e { rate = filled e.rate }) tick
 
 -- ----- the control of the rate
--- The windows after this interval's counters, with so many places in flight; the bucket is as deep as the congestion window.
+-- The windows after this interval's counters, with so many places in flight; the bucket is as deep as the congestion
+-- window.
 abbrev pub controlled : Rate → (flight : ℕ) → Rate
 controlled r flight =
     let cwnd : ℕ = cwnd_after r.acked r.fast r.timeouts flight r.mss r.cwnd r.ssthresh in

@@ -15,7 +15,8 @@ pub record InRange (p : HostParams) : Type 0 where
   pub backlog : (1 ≤ p.backlog) × (p.backlog ≤ 1024)
 
 -- ----- what is sent
--- SND.UNA =< SND.NXT =< the highest sent, which is at most the FIN's place and no FIN goes before the stream ended. What is not acknowledged fits into the ring. No stream ends before the SYN is acknowledged.
+-- SND.UNA =< SND.NXT =< the highest sent, which is at most the FIN's place and no FIN goes before the stream ended.
+-- What is not acknowledged fits into the ring. No stream ends before the SYN is acknowledged.
 pub record ValidSending (ring : ℕ) (tx : Sending) : Type 0 where
   pub una : tx.una ≤ tx.nxt
   pub nxt : tx.nxt ≤ tx.max

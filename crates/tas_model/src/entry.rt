@@ -1,7 +1,8 @@
 use crate::bytes::Bytes;
 use tas_num::Seq;
 
-/// The two ends of a connection, seen from this one: `l` is local, `r` is remote. Addresses are those of IPv4 (RFC 791, section 3.1) and ports those of TCP (RFC 9293, section 3.1), as numbers.
+/// The two ends of a connection, seen from this one: `l` is local, `r` is remote. Addresses are those of IPv4 (RFC 791,
+/// section 3.1) and ports those of TCP (RFC 9293, section 3.1), as numbers.
 #[derive(Clone, Copy, PartialEq, Eq, Hash, Debug)]
 pub struct FourTuple {
     pub laddr: u32,
@@ -10,7 +11,8 @@ pub struct FourTuple {
     pub rport: u16,
 }
 
-/// A flow by the slot that its record is kept in. A slot is used again after its flow was freed, and then has the next generation.
+/// A flow by the slot that its record is kept in. A slot is used again after its flow was freed, and then has the next
+/// generation.
 #[derive(Clone, Copy, PartialEq, Eq, Debug)]
 pub struct FlowId {
     pub slot: u32,
@@ -23,7 +25,8 @@ pub const NO_FLOW: u32 = u32::MAX;
 /// The host of a frame that is a record of a capture.
 pub const CAPTURE: u32 = u32::MAX;
 
-/// A frame by its origin: the host that sent it, which flow of that host, which of the flow's frames from 0 on, and which copy of it. `NO_FLOW` and `CAPTURE` name what has no flow or no host.
+/// A frame by its origin: the host that sent it, which flow of that host, which of the flow's frames from 0 on, and
+/// which copy of it. `NO_FLOW` and `CAPTURE` name what has no flow or no host.
 #[derive(Clone, Copy, PartialEq, Eq, Debug)]
 pub struct FrameId {
     pub host: u32,
@@ -32,7 +35,8 @@ pub struct FrameId {
     pub copy: u32,
 }
 
-/// The fields of a TCP header that an endpoint makes or reads (RFC 9293, section 3.1), ports apart. `window` is in bytes. `mss` is the option of that name (section 3.7.1), in bytes.
+/// The fields of a TCP header that an endpoint makes or reads (RFC 9293, section 3.1), ports apart. `window` is in
+/// bytes. `mss` is the option of that name (section 3.7.1), in bytes.
 #[derive(Clone, Copy, PartialEq, Eq, Debug)]
 pub struct Head {
     pub flags: u8,
@@ -154,7 +158,8 @@ pub enum Reply {
     Window { cwnd: u32, ssthresh: u32 },
 }
 
-/// One call of an endpoint and what it answered. `number` counts the caller's entries in this flow from 0. `tick` is the time.
+/// One call of an endpoint and what it answered. `number` counts the caller's entries in this flow from 0. `tick` is
+/// the time.
 #[derive(Drop)]
 pub struct Entry {
     pub caller: Caller,
@@ -164,7 +169,11 @@ pub struct Entry {
     pub reply: Reply,
 }
 
-/// What a host gives its endpoints. `addr` is its address, `iss` the first sequence number of its first flow. `ring` is the room for bytes of each direction of a flow, from 256 to 65,535. `mss` is the largest payload that it wants to receive, from 64 to 8,960 bytes. `rto` is the retransmission timeout, from 1 to 1,000 ticks. `slots` and `backlog`, from 1 to 1,024, bound its flows and those that wait for Accept. `fixed` is true in replays alone: the congestion window then begins at its largest value.
+/// What a host gives its endpoints. `addr` is its address, `iss` the first sequence number of its first flow. `ring` is
+/// the room for bytes of each direction of a flow, from 256 to 65,535. `mss` is the largest payload that it wants to
+/// receive, from 64 to 8,960 bytes. `rto` is the retransmission timeout, from 1 to 1,000 ticks. `slots` and `backlog`,
+/// from 1 to 1,024, bound its flows and those that wait for Accept. `fixed` is true in replays alone: the congestion
+/// window then begins at its largest value.
 #[derive(Clone, Copy, PartialEq, Eq, Debug)]
 pub struct HostParams {
     pub addr: u32,

@@ -10,12 +10,15 @@ use Rattle.tas_runs.specs.Batches.{Cut, cut_at}
 use Rattle.tas_runs.specs.FirstNumbers.{with_new, local_syn, local_numbers}
 
 -- the items of one record more
-pub items_push : (form : Form) (local : ℕ) (loose : Bool) (rs : List Record) (r : Record) → items_of form local loose (rs ++ r ∷ []) ≡ items_of form local loose rs ++ cons_option (item_of form local loose r) []
+pub items_push : (form : Form) (local : ℕ) (loose : Bool) (rs : List Record) (r : Record)
+    → items_of form local loose (rs ++ r ∷ []) ≡ items_of form local loose rs
+    ++ cons_option (item_of form local loose r) []
 unfolding items_of
 items_push form local loose rs r = filter_map-append (item_of form local loose) rs (r ∷ [])
 
 -- the batches of one item more
-pub cut_push : (c : Cut) (items : List Item) (x : Item) → fold cut_at c (items ++ x ∷ []) ≡ cut_at (fold cut_at c items) x
+pub cut_push : (c : Cut) (items : List Item) (x : Item)
+    → fold cut_at c (items ++ x ∷ []) ≡ cut_at (fold cut_at c items) x
 cut_push c items x = fold-append cut_at c items (x ∷ [])
 
 -- the first numbers of one item more
@@ -27,7 +30,8 @@ one_more : (known : List ℕ) (o : Option ℕ) → fold with_new known (cons_opt
 one_more known None = refl
 one_more known (Some n) = refl
 
-pub numbers_push : (items : List Item) (x : Item) (tuple : FourTuple) → local_numbers (items ++ x ∷ []) tuple ≡ with_syn (local_numbers items tuple) (local_syn tuple x.content)
+pub numbers_push : (items : List Item) (x : Item) (tuple : FourTuple)
+    → local_numbers (items ++ x ∷ []) tuple ≡ with_syn (local_numbers items tuple) (local_syn tuple x.content)
 numbers_push items x tuple =
     let syn : Item → Option ℕ = λ y. local_syn tuple y.content in
     ap (fold with_new []) (filter_map-append syn items (x ∷ []))

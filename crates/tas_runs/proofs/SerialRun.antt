@@ -10,16 +10,19 @@ use Rattle.tas_runs.specs.Replays.{at_start, IsReplayOf, IsReplayFound, Replay}
 use Rattle.tas_runs.specs.SerialOrder.{serial_log, serial_log_found, serial_replay}
 use Rattle.tas_runs.proofs.ByMoves.{replays_by_moves}
 
-serial_log_is : (local records : ℕ) (items : List Item) → IsReplayOf local records items (serial_log local records items)
+serial_log_is : (local records : ℕ) (items : List Item)
+    → IsReplayOf local records items (serial_log local records items)
 serial_log_is local records items = (
   serial_ticks (capture_scripts items) 0 (at_start local) (map due_in (batches_of items)),
   serial_rounds (capture_scripts items) 0 (at_start local) (map due_in (batches_of items)) (replays_by_moves items) tt,
   refl,
 )
 
-pub serial_is_replay : (local : ℕ) (bytes : List ℕ) (loose : Bool) → IfOk (serial_replay local bytes loose) (λ log. Replay local bytes loose log)
+pub serial_is_replay : (local : ℕ) (bytes : List ℕ) (loose : Bool)
+    → IfOk (serial_replay local bytes loose) (λ log. Replay local bytes loose log)
 unfolding serial_replay
 serial_is_replay local bytes loose = by_capture (capture_of bytes) where
-  by_capture : (r : Result Capture Fault) → IfOk (serial_log_found local loose r) (λ log. IsReplayFound local loose r log)
+  by_capture : (r : Result Capture Fault)
+      → IfOk (serial_log_found local loose r) (λ log. IsReplayFound local loose r log)
   by_capture (Err fault) = tt
   by_capture (Ok c) = serial_log_is local (length c.records) (items_of c.form local loose c.records)

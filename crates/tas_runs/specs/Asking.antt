@@ -39,7 +39,8 @@ RisesWithin low high (n ∷ ns) = (low < n) × RisesWithin n high ns
 
 -- the history grew by entries among which the application's calls stand in the order of the script, each once at most
 abbrev pub AskedWithin : (low high : ℕ) → (before after : List Entry) → Type 0
-AskedWithin low high before after = (more : List Entry) × (after ≡ before ++ more) × RisesWithin low high (app_places more)
+AskedWithin low high before after = (more : List Entry) × (after ≡ before ++ more)
+    × RisesWithin low high (app_places more)
 
 abbrev pub IsAsked : (before after : List Entry) → Type 0
 IsAsked before after = AskedWithin 0 7 before after

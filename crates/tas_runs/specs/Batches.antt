@@ -1,12 +1,14 @@
 -- The batches that a capture's records come in. A tick of a replay is a batch.
-use Rattle.std.specs.Prelude.{◌≡◌, ◌<◌, ◌≤◌, ⊤, ◌&&◌, not, Bool, false, List, [], ◌∷◌, ◌++◌, length, nat_lt, fold, Option, Some, None, if◌then◌else◌}
+use Rattle.std.specs.Prelude.{◌≡◌, ◌<◌, ◌≤◌, ⊤, ◌&&◌, not, Bool, false, List, [], ◌∷◌, ◌++◌, length, nat_lt, fold}
+use Rattle.std.specs.Prelude.{Option, Some, None, if◌then◌else◌}
 use Rattle.std.specs.List.{list_any}
 use Rattle.tas_model.specs.declared.entry.FourTuple.{FourTuple}
 use Rattle.host_rounds.specs.Hosts.{same_tuple}
 use Rattle.tas_runs.specs.Records.{Content, Damaged, Remote, Local, Item}
 
 -- ----- flows of segments
--- Before the run a flow is one four-tuple, whether a connection stands or not. A packet that breaks a rule of reading is of no flow.
+-- Before the run a flow is one four-tuple, whether a connection stands or not. A packet that breaks a rule of reading
+-- is of no flow.
 abbrev pub tuple_of : Content → Option FourTuple
 tuple_of (Damaged rule) = None
 tuple_of (Remote tuple seg) = Some tuple
@@ -31,7 +33,8 @@ pub record Cut : Type 0 where
 
 -- a record joins the batch that still grows, or begins the next one
 abbrev pub cut_at : Cut → Item → Cut
-cut_at c x = if joins c.current x then record c { current = c.current ++ x ∷ [] } else record { done = c.done ++ c.current ∷ []; current = x ∷ [] }
+cut_at c x = if joins c.current x then record c { current = c.current ++ x ∷ [] }
+    else record { done = c.done ++ c.current ∷ []; current = x ∷ [] }
 
 -- all batches, the last one among them where it has a record
 abbrev pub closed_cut : Cut → List (List Item)

@@ -1,5 +1,7 @@
--- The first sequence numbers of the local host's flows: those of its own SYN segments in the capture, where it has them.
-use Rattle.std.specs.Prelude.{ℕ, ◌*◌, ◌%◌, ◌^◌, ◌==◌, ◌&&◌, List, [], ◌∷◌, ◌++◌, slice_get, fold, filter_map, Option, Some, None, if◌then◌else◌}
+-- The first sequence numbers of the local host's flows: those of its own SYN segments in the capture, where it has
+-- them.
+use Rattle.std.specs.Prelude.{ℕ, ◌*◌, ◌%◌, ◌^◌, ◌==◌, ◌&&◌, List, [], ◌∷◌, ◌++◌, slice_get, fold, filter_map, Option}
+use Rattle.std.specs.Prelude.{Some, None, if◌then◌else◌}
 use Rattle.std.specs.List.{list_any}
 use Rattle.tas_model.specs.declared.entry.FourTuple.{FourTuple}
 use Rattle.tas_model.specs.Segments.{is_syn}
@@ -20,6 +22,8 @@ local_syn tuple (Local other seg) = if same_tuple tuple other && is_syn seg then
 abbrev pub local_numbers : List Item → FourTuple → List ℕ
 local_numbers items tuple = fold with_new [] (filter_map (λ (x : Item). local_syn tuple x.content) items)
 
--- The first number of a flow: `k` flows of its four-tuple were opened before it, and `n` flows of the host. It is the number of the capture where there is one for it.
+-- The first number of a flow: `k` flows of its four-tuple were opened before it, and `n` flows of the host. It is the
+-- number of the capture where there is one for it.
 unfoldable pub first_number : List Item → Numbers
-first_number items tuple k n = elim (slice_get (local_numbers items tuple) k) [ Some seq ↦ seq | None ↦ 64000 * n % 2 ^ 32 ]
+first_number items tuple k n =
+    elim (slice_get (local_numbers items tuple) k) [ Some seq ↦ seq | None ↦ 64000 * n % 2 ^ 32 ]

@@ -1,5 +1,8 @@
--- The calls of the local application, which a replay takes from the capture: what the host's own segments show is offered and ended, and all that comes is read.
-use Rattle.std.specs.Prelude.{ℕ, ◌+◌, ◌-◌, ◌%◌, ◌^◌, ◌&&◌, ◌||◌, not, Bool, true, false, List, [], ◌∷◌, ◌++◌, length, drop, map, filter_map, nat_le, position, slice_get, get_or, Option, Some, None, if◌then◌else◌}
+-- The calls of the local application, which a replay takes from the capture: what the host's own segments show is
+-- offered and ended, and all that comes is read.
+use Rattle.std.specs.Prelude.{ℕ, ◌+◌, ◌-◌, ◌%◌, ◌^◌, ◌&&◌, ◌||◌, not, Bool, true, false, List, [], ◌∷◌, ◌++◌, length}
+use Rattle.std.specs.Prelude.{drop, map, filter_map, nat_le, position, slice_get, get_or, Option, Some, None}
+use Rattle.std.specs.Prelude.{if◌then◌else◌}
 use Rattle.tas_num.specs.Places.{raised}
 use Rattle.tas_model.specs.declared.entry.FourTuple.{FourTuple}
 use Rattle.tas_model.specs.declared.entry.FrameId.{FrameId}
@@ -10,7 +13,9 @@ use Rattle.tas_model.specs.declared.entry.Call.TheVariants as calls
 use Rattle.tas_model.specs.Segments.{is_fin, is_syn, is_rst, is_ack, one_if}
 use Rattle.host_rounds.specs.declared.log.LogEvent.TheVariants as events
 use Rattle.host_rounds.specs.Lists.{change_at}
-use Rattle.host_rounds.specs.Hosts.{Live, Host, Application, GivenUp, Numbers, next_number, endpoint, is_over, is_opening, is_running, is_held, with_call, logged, is_known, is_indexed_as, at_flow, lowest_free, first_entry, opened_in}
+use Rattle.host_rounds.specs.Hosts.{Live, Host, Application, GivenUp, Numbers, next_number, endpoint, is_over}
+use Rattle.host_rounds.specs.Hosts.{is_opening, is_running, is_held, with_call, logged, is_known, is_indexed_as}
+use Rattle.host_rounds.specs.Hosts.{at_flow, lowest_free, first_entry, opened_in}
 use Rattle.host_rounds.specs.Deliveries.{Arrival}
 use Rattle.host_rounds.specs.Deliveries.{Damaged as damaged, Segment as segment}
 use Rattle.host_rounds.specs.Scripts.{Scripts, Site}
@@ -57,7 +62,8 @@ abbrev pub the_app : Caller
 the_app = App 0
 
 -- ----- what a local segment shows
--- Its bytes from the first place not yet pending or sent on, where it has one there. `known` bytes were shown before, so that this place is `known` + 1. The segment's own is read as the
+-- Its bytes from the first place not yet pending or sent on, where it has one there. `known` bytes were shown before,
+-- so that this place is `known` + 1. The segment's own is read as the
 -- nearest to it; it may be negative, so that both are counted 2^32 higher. The payload of a SYN follows it.
 abbrev pub fresh_bytes : (iss : ℕ) → Seg → (known : ℕ) → List ℕ
 fresh_bytes iss seg known =
@@ -140,7 +146,8 @@ at_stage stage t content s l = asked_where (is_wanted stage content s l) stage t
 abbrev pub added : (before after : Live) → ℕ
 added before after = length (endpoint after).tx.out - length (endpoint before).tx.out
 
--- What is shown after the stage: a segment's own bytes are, those that a Send took no longer wait, and a stream is ended once.
+-- What is shown after the stage: a segment's own bytes are, those that a Send took no longer wait, and a stream is
+-- ended once.
 abbrev pub shown_after : Stage → (tick : ℕ) → Content → Live → Shown → Shown
 shown_after Beginning t (Local tuple seg) l s = sees seg l s
 shown_after Sending t content l s = record s { pending = drop (added l (at_stage Sending t content s l)) s.pending }
@@ -164,7 +171,8 @@ served_where (Some n) stage t content site = served_at n (slice_get site.host.fl
 
 -- the flow that the index has under this four-tuple, where there is one
 abbrev pub served_flow : Stage → (tick : ℕ) → Content → FourTuple → Site (List Shown) → Site (List Shown)
-served_flow stage t content tuple site = served_where (position (is_indexed_as tuple) site.host.flows) stage t content site
+served_flow stage t content tuple site =
+    served_where (position (is_indexed_as tuple) site.host.flows) stage t content site
 
 -- The stage of a record: Beginning is that of a local segment alone.
 abbrev pub served_content : Numbers → Stage → (tick : ℕ) → Content → Site (List Shown) → Site (List Shown)
@@ -181,7 +189,8 @@ capture_scripts items =
     record {
       numbers = first_number items;
       agent = λ (a : Asking). a.item.number;
-      asked = λ (t : ℕ) (site : Site (List Shown)) (a : Asking). served_content (first_number items) a.stage t a.item.content site;
+      asked = λ (t : ℕ) (site : Site (List Shown)) (a : Asking).
+          served_content (first_number items) a.stage t a.item.content site;
     }
 
 -- the frame that a record of the capture is

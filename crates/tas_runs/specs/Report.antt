@@ -1,5 +1,6 @@
 -- The report of a run: its text, line by line. Numbers are decimal without sign or leading zero.
-use Rattle.std.specs.Prelude.{ℕ, ◌+◌, ◌-◌, ◌/◌, ◌%◌, ◌^◌, ◌==◌, false, List, [], ◌∷◌, ◌++◌, length, slice_get, codes, decimal, Option, Some, None, if◌then◌else◌}
+use Rattle.std.specs.Prelude.{ℕ, ◌+◌, ◌-◌, ◌/◌, ◌%◌, ◌^◌, ◌==◌, false, List, [], ◌∷◌, ◌++◌, length, slice_get, codes}
+use Rattle.std.specs.Prelude.{decimal, Option, Some, None, if◌then◌else◌}
 use Rattle.std.specs.Fmt.{digit_glyph}
 use Rattle.segment_fields.specs.ControlBits.{fin, syn, rst, psh, ack, urg, ece, cwr, has}
 use Rattle.tas_model.specs.declared.entry.FourTuple.{FourTuple}
@@ -51,7 +52,8 @@ letter flags bit text = if has flags bit then text else []
 
 -- CWR, ECE, URG, ACK, PSH, RST, SYN, FIN, in this order
 abbrev pub letters : (flags : ℕ) → List ℕ
-letters f = letter f cwr (codes "C") ++ letter f ece (codes "E") ++ letter f urg (codes "U") ++ letter f ack (codes "A") ++ letter f psh (codes "P") ++ letter f rst (codes "R") ++ letter f syn (codes "S") ++ letter f fin (codes "F")
+letters f = letter f cwr (codes "C") ++ letter f ece (codes "E") ++ letter f urg (codes "U") ++ letter f ack (codes "A")
+    ++ letter f psh (codes "P") ++ letter f rst (codes "R") ++ letter f syn (codes "S") ++ letter f fin (codes "F")
 
 abbrev pub flags_text : (flags : ℕ) → List ℕ
 flags_text f = if f == 0 then codes "-" else letters f
@@ -62,7 +64,8 @@ mss_text (Some mss) = codes " mss " ++ decimal mss
 
 -- a segment without its payload
 abbrev pub head_text : Head → List ℕ
-head_text h = flags_text h.flags ++ codes " seq " ++ decimal h.seq.0 ++ codes " ack " ++ decimal h.ack.0 ++ codes " win " ++ decimal h.window ++ mss_text h.mss
+head_text h = flags_text h.flags ++ codes " seq " ++ decimal h.seq.0 ++ codes " ack " ++ decimal h.ack.0
+    ++ codes " win " ++ decimal h.window ++ mss_text h.mss
 
 -- a segment
 abbrev pub seg_text : Seg → List ℕ
@@ -94,7 +97,8 @@ frame_text names f =
 
 -- an address, and an address with a port
 abbrev pub addr_text : (addr : ℕ) → List ℕ
-addr_text addr = decimal (addr / 16777216) ++ codes "." ++ decimal (addr / 65536 % 256) ++ codes "." ++ decimal (addr / 256 % 256) ++ codes "." ++ decimal (addr % 256)
+addr_text addr = decimal (addr / 16777216) ++ codes "." ++ decimal (addr / 65536 % 256) ++ codes "."
+    ++ decimal (addr / 256 % 256) ++ codes "." ++ decimal (addr % 256)
 
 abbrev pub port_text : (addr port : ℕ) → List ℕ
 port_text addr port = addr_text addr ++ codes ":" ++ decimal port
@@ -115,7 +119,8 @@ reason_text reasons.Aborted = codes "aborted"
 
 abbrev pub call_text : (names : List (List ℕ)) → Call → List ℕ
 call_text names (calls.Connect iss) = codes "connect iss " ++ decimal iss.0
-call_text names (calls.Passive frame iss seg) = codes "passive " ++ frame_text names frame ++ codes " iss " ++ decimal iss.0 ++ codes " " ++ seg_text seg
+call_text names (calls.Passive frame iss seg) = codes "passive " ++ frame_text names frame ++ codes " iss "
+    ++ decimal iss.0 ++ codes " " ++ seg_text seg
 call_text names (calls.Rx frame seg) = codes "rx " ++ frame_text names frame ++ codes " " ++ seg_text seg
 call_text names calls.Emit = codes "emit"
 call_text names calls.Tick = codes "tick"
@@ -153,7 +158,8 @@ reply_text (replies.Window cwnd ssthresh) = codes "cwnd " ++ decimal cwnd ++ cod
 
 -- the line of an entry: its tick, its caller with the number among that caller's entries, the call, and the reply
 abbrev pub entry_text : (names : List (List ℕ)) → Entry → List ℕ
-entry_text names x = line (decimal x.tick ++ codes " " ++ caller_text x.caller ++ codes "." ++ decimal x.number ++ codes " " ++ call_text names x.call ++ codes " = " ++ reply_text x.reply)
+entry_text names x = line (decimal x.tick ++ codes " " ++ caller_text x.caller ++ codes "." ++ decimal x.number
+    ++ codes " " ++ call_text names x.call ++ codes " = " ++ reply_text x.reply)
 
 abbrev pub entries_text : (names : List (List ℕ)) → List Entry → List ℕ
 entries_text names [] = []
@@ -175,7 +181,11 @@ phase_text phases.Closed = codes "CLOSED"
 
 -- the state, and after CLOSED the reason
 abbrev pub state_text : Endpoint → List ℕ
-state_text e = elim e.reason [ None ↦ phase_text (phase e) | Some why ↦ phase_text (phase e) ++ codes " " ++ reason_text why ]
+state_text e = elim e.reason [
+  | None ↦ phase_text (phase e)
+  | Some why ↦ phase_text (phase e) ++ codes " "
+      ++ reason_text why
+]
 
 -- how many bytes were read, and which
 abbrev pub read_text : List ℕ → List ℕ
@@ -185,10 +195,12 @@ read_text bytes = codes "read " ++ decimal (length bytes) ++ codes " " ++ hex by
 abbrev pub tuple_text : FourTuple → List ℕ
 tuple_text t = port_text t.laddr t.lport ++ codes " " ++ port_text t.raddr t.rport
 
--- A flow: its opening number, slot, generation and ends; its entries; and the state that its endpoint has after them, with all bytes read.
+-- A flow: its opening number, slot, generation and ends; its entries; and the state that its endpoint has after them,
+-- with all bytes read.
 abbrev pub flow_lines : (names : List (List ℕ)) → (number : ℕ) → Flow → List ℕ
 flow_lines names n f =
-    line (codes "flow " ++ decimal n ++ codes " slot " ++ decimal f.id.slot ++ codes "." ++ decimal f.id.generation ++ codes " " ++ tuple_text f.tuple)
+    line (codes "flow " ++ decimal n ++ codes " slot " ++ decimal f.id.slot ++ codes "." ++ decimal f.id.generation
+    ++ codes " " ++ tuple_text f.tuple)
     ++ entries_text names f.entries
     ++ line (codes "state " ++ state_text (replay f.params f.entries))
     ++ line (read_text (bytes_read f.entries))
@@ -205,12 +217,18 @@ answer_text None = codes "none"
 answer_text (Some head) = head_text head
 
 abbrev pub event_text : (names : List (List ℕ)) → LogEvent → List ℕ
-event_text names (events.Listen app port ok) = codes "p" ++ decimal app ++ codes " listen " ++ decimal port ++ codes " = " ++ (if ok then codes "ok" else codes "portinuse")
-event_text names (events.AcceptNotYet app port) = codes "p" ++ decimal app ++ codes " accept " ++ decimal port ++ codes " = notyet"
-event_text names (events.ConnectRefused app raddr rport no_port) = codes "p" ++ decimal app ++ codes " connect " ++ port_text raddr rport ++ codes " = " ++ (if no_port then codes "noport" else codes "noflowslot")
-event_text names (events.Stray frame tuple seg answer) = codes "stray " ++ frame_text names frame ++ codes " " ++ seg_text seg ++ codes " = " ++ answer_text answer
-event_text names (events.Dropped frame backlog) = codes "dropped " ++ frame_text names frame ++ codes " = " ++ (if backlog then codes "backlogfull" else codes "noflowslot")
-event_text names (events.Refused frame number) = codes "refused " ++ frame_text names frame ++ codes " = " ++ decimal number
+event_text names (events.Listen app port ok) = codes "p" ++ decimal app ++ codes " listen " ++ decimal port
+    ++ codes " = " ++ (if ok then codes "ok" else codes "portinuse")
+event_text names (events.AcceptNotYet app port) = codes "p" ++ decimal app ++ codes " accept " ++ decimal port
+    ++ codes " = notyet"
+event_text names (events.ConnectRefused app raddr rport no_port) = codes "p" ++ decimal app ++ codes " connect "
+    ++ port_text raddr rport ++ codes " = " ++ (if no_port then codes "noport" else codes "noflowslot")
+event_text names (events.Stray frame tuple seg answer) = codes "stray " ++ frame_text names frame ++ codes " "
+    ++ seg_text seg ++ codes " = " ++ answer_text answer
+event_text names (events.Dropped frame backlog) = codes "dropped " ++ frame_text names frame ++ codes " = "
+    ++ (if backlog then codes "backlogfull" else codes "noflowslot")
+event_text names (events.Refused frame number) = codes "refused " ++ frame_text names frame ++ codes " = "
+    ++ decimal number
 
 abbrev pub log_text : (names : List (List ℕ)) → List LogLine → List ℕ
 log_text names [] = []
@@ -219,7 +237,8 @@ log_text names (l ∷ ls) = line (decimal l.tick ++ codes " " ++ event_text name
 -- ----- the whole
 -- a host: its name and address, its log, its flows
 abbrev pub host_text : (names : List (List ℕ)) → HostRun → List ℕ
-host_text names h = line (codes "host " ++ h.name ++ codes " " ++ addr_text h.addr) ++ log_text names h.log ++ flows_text names 0 h.flows
+host_text names h = line (codes "host " ++ h.name ++ codes " " ++ addr_text h.addr) ++ log_text names h.log
+    ++ flows_text names 0 h.flows
 
 abbrev pub hosts_text : (names : List (List ℕ)) → List HostRun → List ℕ
 hosts_text names [] = []
@@ -227,7 +246,8 @@ hosts_text names (h ∷ hs) = host_text names h ++ hosts_text names hs
 
 -- the counts of a replay
 abbrev pub counts_text : RunLog → List ℕ
-counts_text log = line (codes "records " ++ decimal log.records ++ codes " frames " ++ decimal log.frames ++ codes " passed " ++ decimal log.passed ++ codes " refused " ++ decimal log.refused)
+counts_text log = line (codes "records " ++ decimal log.records ++ codes " frames " ++ decimal log.frames
+    ++ codes " passed " ++ decimal log.passed ++ codes " refused " ++ decimal log.refused)
 
 -- The report.
 unfoldable pub report : RunLog → List ℕ

@@ -1,5 +1,6 @@
 -- The frames that a run sends, written as a capture.
-use Rattle.std.specs.Prelude.{◌≡◌, ℕ, zero, suc, ◌+◌, ◌==◌, List, [], ◌∷◌, ◌++◌, flat_map, Option, Some, None, if◌then◌else◌}
+use Rattle.std.specs.Prelude.{◌≡◌, ℕ, zero, suc, ◌+◌, ◌==◌, List, [], ◌∷◌, ◌++◌, flat_map, Option, Some, None}
+use Rattle.std.specs.Prelude.{if◌then◌else◌}
 use Rattle.tas_num.specs.Captures.{file_header, record_bytes}
 use Rattle.segment_fields.specs.Fields.{Fields}
 use Rattle.segment_fields.specs.Canon.{canon}
@@ -89,7 +90,8 @@ given_within tick_of gives (suc count) t xs = given_at tick_of gives t xs ++ giv
 
 -- In the ticks of the run the flow sends all its segments, in their order.
 abbrev pub IsShown : (ticks : ℕ) → Flow → Type 0
-IsShown ticks f = given_within (λ (x : Entry). x.tick) (λ (x : Entry). segments_in x.reply) ticks 0 f.entries ≡ sent f.entries
+IsShown ticks f = given_within (λ (x : Entry). x.tick) (λ (x : Entry). segments_in x.reply) ticks 0 f.entries
+    ≡ sent f.entries
 
 -- And the host gives all its answers to segments of no flow.
 abbrev pub AreAnswersShown : (ticks : ℕ) → List LogLine → Type 0

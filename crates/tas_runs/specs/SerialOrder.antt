@@ -10,7 +10,8 @@ use Rattle.tas_runs.specs.Replays.{at_start, replay_log}
 
 abbrev pub serial_log : (local records : ℕ) → List Item → RunLog
 serial_log local records items =
-    replay_log local records items (serial_ticks (capture_scripts items) 0 (at_start local) (map due_in (batches_of items))).host
+    replay_log local records items (serial_ticks (capture_scripts items) 0 (at_start local)
+    (map due_in (batches_of items))).host
 
 abbrev pub serial_log_found : (local : ℕ) → (loose : Bool) → Result Capture Fault → Result RunLog Fault
 serial_log_found local loose (Err fault) = Err fault

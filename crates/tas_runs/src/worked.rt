@@ -2,8 +2,19 @@ ghost use Rattle.std.specs.Prelude.{◌≡◌, true, false, Err};
 ghost use Rattle.tas_num.specs.Captures.{CutShort};
 ghost use Rattle.tas_runs.specs.SerialOrder.{serial_replay};
 ghost use Rattle.tas_runs.specs.WorkedTexts.{host_address, replayed, capture_or_none};
-ghost use Rattle.tas_runs.specs.WorkedReplays.{hello_capture, hello_report, late_start_capture, late_start_report, sending_capture, sending_report, both_ends_capture, both_ends_report, resets_capture, resets_report, hello_sent, cut_capture};
-ghost use Rattle.tas_runs.specs.WorkedRecords.{damaged_capture, damaged_report, loose_report, two_strays_capture, two_strays_report, other_traffic_capture, other_traffic_report, two_faults_capture, two_faults_report, later_number_capture, later_number_report, counted_openings_capture, counted_openings_report, data_and_end_capture, data_and_end_report, early_data_capture, early_data_report, refused_connect_capture, refused_connect_report, reset_while_opening_capture, reset_while_opening_report, abort_while_opening_capture, abort_while_opening_report, used_again_capture, used_again_report, late_segment_capture, late_segment_report};
+ghost use Rattle.tas_runs.specs.WorkedReplays.{hello_capture, hello_report, late_start_capture, late_start_report};
+ghost use Rattle.tas_runs.specs.WorkedReplays.{sending_capture, sending_report, both_ends_capture, both_ends_report};
+ghost use Rattle.tas_runs.specs.WorkedReplays.{resets_capture, resets_report, hello_sent, cut_capture};
+ghost use Rattle.tas_runs.specs.WorkedRecords.{damaged_capture, damaged_report, loose_report, two_strays_capture};
+ghost use Rattle.tas_runs.specs.WorkedRecords.{two_strays_report, other_traffic_capture, other_traffic_report};
+ghost use Rattle.tas_runs.specs.WorkedRecords.{two_faults_capture, two_faults_report, later_number_capture};
+ghost use Rattle.tas_runs.specs.WorkedRecords.{later_number_report, counted_openings_capture, counted_openings_report};
+ghost use Rattle.tas_runs.specs.WorkedRecords.{data_and_end_capture, data_and_end_report, early_data_capture};
+ghost use Rattle.tas_runs.specs.WorkedRecords.{early_data_report, refused_connect_capture, refused_connect_report};
+ghost use Rattle.tas_runs.specs.WorkedRecords.{reset_while_opening_capture, reset_while_opening_report};
+ghost use Rattle.tas_runs.specs.WorkedRecords.{abort_while_opening_capture, abort_while_opening_report};
+ghost use Rattle.tas_runs.specs.WorkedRecords.{used_again_capture, used_again_report, late_segment_capture};
+ghost use Rattle.tas_runs.specs.WorkedRecords.{late_segment_report};
 
 /// Reports that another program wrote for captures of single connections are those of the run in serial order.
 pub fn worked_replays()
@@ -17,7 +28,8 @@ pub fn worked_replays()
     ensures cut_short { serial_replay host_address cut_capture false ≡ Err (CutShort 3) }
 {}
 
-/// The same of captures that show how records are chosen, which batches they make, and what the local script does with them.
+/// The same of captures that show how records are chosen, which batches they make, and what the local script does with
+/// them.
 pub fn worked_records()
     ensures damaged { replayed host_address damaged_capture false ≡ damaged_report }
     ensures loose { replayed host_address damaged_capture true ≡ loose_report }

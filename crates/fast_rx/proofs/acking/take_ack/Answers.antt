@@ -17,21 +17,40 @@ returns-clause-stands c e v s ended good =
     let moves : c.moves_window-moves.result ≡ moves_window e.tx a c.args.q =
     c.moves_window-moves.ensures ∙ rw (una, s.wl1, s.wl2) refl in
     let rate : Rate = rate_after e.rate e.tx a c.args.len c.args.window in
-    let one : Stands c.count.new.parts (record e { rate = rate }) = c.count.ensures.stands e c.args.len c.args.window s una duplicate in
+    let one : Stands c.count.new.parts (record e { rate = rate }) =
+    c.count.ensures.stands e c.args.len c.args.window s una duplicate in
     let two : Stands c.advance.new.parts (record e { rate = rate; tx = after_advance e.tx a }) =
-    c.advance.ensures.stands (record e { rate = rate }) v.tx one una (c.nxt_place-nxt.ensures e v s) ended (good_tells e.tx a good) in
-    let three : Stands c.count_duplicate.new.parts (record e { rate = rate; tx = counted_twice c.is_duplicate-duplicate.result (after_advance e.tx a) }) =
+    c.advance.ensures.stands (record e { rate = rate }) v.tx one una (c.nxt_place-nxt.ensures e v s) ended
+    (good_tells e.tx a good) in
+    let three : Stands c.count_duplicate.new.parts
+    (record e { rate = rate; tx = counted_twice c.is_duplicate-duplicate.result (after_advance e.tx a) }) =
     c.count_duplicate.ensures.stands (record e { rate = rate; tx = after_advance e.tx a }) two in
     let T : Bool → Sending → Sending = λ m tx. cond m (with_window tx a c.args.q c.args.window) tx in
-    let four : Stands c.take_window.new.parts (record e { rate = rate; tx = T c.moves_window-moves.result (counted_twice c.is_duplicate-duplicate.result (after_advance e.tx a)) }) =
-    c.take_window.ensures.stands (record e { rate = rate; tx = counted_twice c.is_duplicate-duplicate.result (after_advance e.tx a) }) three in
-    let tx : T c.moves_window-moves.result (counted_twice c.is_duplicate-duplicate.result (after_advance e.tx a)) ≡ sending_after e.tx a c.args.q c.args.len c.args.window =
+    let four : Stands c.take_window.new.parts (record e {
+      rate = rate;
+      tx = T c.moves_window-moves.result (counted_twice c.is_duplicate-duplicate.result (after_advance e.tx a));
+    }) =
+    c.take_window.ensures.stands (record e {
+      rate = rate;
+      tx = counted_twice c.is_duplicate-duplicate.result (after_advance e.tx a);
+    }) three in
+    let tx : T c.moves_window-moves.result (counted_twice c.is_duplicate-duplicate.result (after_advance e.tx a))
+    ≡ sending_after e.tx a c.args.q c.args.len c.args.window =
     ap (λ (m : Bool). T m (counted_twice c.is_duplicate-duplicate.result (after_advance e.tx a))) moves
-    ∙ ap (T (moves_window e.tx a c.args.q)) (in_order e.tx a c.args.len c.args.window c.is_duplicate-duplicate.result duplicate) in
-    let five : Stands c.take_window.new.parts (record e { rate = rate; tx = sending_after e.tx a c.args.q c.args.len c.args.window }) =
+    ∙ ap (T (moves_window e.tx a c.args.q))
+    (in_order e.tx a c.args.len c.args.window c.is_duplicate-duplicate.result duplicate) in
+    let five : Stands c.take_window.new.parts (record e {
+      rate = rate;
+      tx = sending_after e.tx a c.args.q c.args.len c.args.window;
+    }) =
     subst (λ (x : Sending). Stands c.take_window.new.parts (record e { rate = rate; tx = x })) tx four in
-    let fin : eqb c.max.result (c.end.result + 2) ≡ is_fin_acked (sending_after e.tx a c.args.q c.args.len c.args.window) =
-    rw (c.max.ensures, una, c.end.ensures.end, end_is c.args.parts.now e s) (fin_after e.tx a c.args.q c.args.len c.args.window) in
-    let six : Stands c.settle.new.parts (settled e rate c.args.parts.now.phase c.args.tick (sending_after e.tx a c.args.q c.args.len c.args.window)) =
-    c.settle.ensures.stands (record e { rate = rate; tx = sending_after e.tx a c.args.q c.args.len c.args.window }) five fin in
-    subst (λ (p : Phase). Stands c.settle.new.parts (settled e rate p c.args.tick (sending_after e.tx a c.args.q c.args.len c.args.window))) s.phase six
+    let fin : eqb c.max.result (c.end.result + 2) ≡ is_fin_acked
+    (sending_after e.tx a c.args.q c.args.len c.args.window) =
+    rw (c.max.ensures, una, c.end.ensures.end, end_is c.args.parts.now e s)
+    (fin_after e.tx a c.args.q c.args.len c.args.window) in
+    let six : Stands c.settle.new.parts
+    (settled e rate c.args.parts.now.phase c.args.tick (sending_after e.tx a c.args.q c.args.len c.args.window)) =
+    c.settle.ensures.stands (record e { rate = rate; tx = sending_after e.tx a c.args.q c.args.len c.args.window }) five
+    fin in
+    subst (λ (p : Phase). Stands c.settle.new.parts
+    (settled e rate p c.args.tick (sending_after e.tx a c.args.q c.args.len c.args.window))) s.phase six

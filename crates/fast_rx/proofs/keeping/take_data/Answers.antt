@@ -13,7 +13,8 @@ returns-then-is_empty-clause-stands c e v going s =
     c.trimmed-part.ensures.part ∙ ap (λ (n : ℕ). trimmed n c.args.window c.args.q c.args.payload.now) next in
     let none : length c.trimmed-part.result.now ≡ 0 = search rules in
     let same : with_data e.rx c.args.window c.args.q c.args.payload.now ≡ e.rx =
-    part_is e.rx c.args.window c.args.q c.args.payload.now going ∙ none_part e.rx _ _ (ap (length {A = ℕ}) (sym part) ∙ none) in
+    part_is e.rx c.args.window c.args.q c.args.payload.now going
+    ∙ none_part e.rx _ _ (ap (length {A = ℕ}) (sym part) ∙ none) in
     subst (λ (x : Receiving). Stands c.args.parts.now (record e { rx = x })) (sym same) s
 
 pub returns-then-at-end-clause-stands : goal.returns-then-at-end-clause-stands
@@ -25,11 +26,14 @@ returns-then-at-end-clause-stands c e v going s =
     let some : 0 < length c.trimmed-part.result.now = search rules in
     let at : c.max-at.result - 1 ≡ max c.args.q (1 + length e.rx.got) - 1 = omega (arith, c.max-at.ensures, next) in
     let past : length e.rx.got < c.max-at.result - 1 = omega (arith, end, c.if-at-end.true) in
-    let same : with_data e.rx c.args.window c.args.q c.args.payload.now ≡ record (e.rx) { island = kept_apart e.rx.island (c.max-at.result - 1) c.trimmed-part.result.now } =
+    let same : with_data e.rx c.args.window c.args.q c.args.payload.now
+    ≡ record (e.rx) { island = kept_apart e.rx.island (c.max-at.result - 1) c.trimmed-part.result.now } =
     part_is e.rx c.args.window c.args.q c.args.payload.now going
     ∙ (ap (with_part e.rx (max c.args.q (1 + length e.rx.got) - 1)) (sym part)
-    ∙ (ap (λ (n : ℕ). with_part e.rx n c.trimmed-part.result.now) (sym at) ∙ far_part e.rx (c.max-at.result - 1) c.trimmed-part.result.now some past)) in
-    subst (λ (x : Receiving). Stands c.keep_apart.new.parts (record e { rx = x })) (sym same) (c.keep_apart.ensures.stands e v some s)
+    ∙ (ap (λ (n : ℕ). with_part e.rx n c.trimmed-part.result.now) (sym at)
+    ∙ far_part e.rx (c.max-at.result - 1) c.trimmed-part.result.now some past)) in
+    subst (λ (x : Receiving). Stands c.keep_apart.new.parts (record e { rx = x })) (sym same)
+    (c.keep_apart.ensures.stands e v some s)
 
 pub returns-else-at-end-clause-stands : goal.returns-else-at-end-clause-stands
 returns-else-at-end-clause-stands c e v going s =
@@ -38,9 +42,11 @@ returns-else-at-end-clause-stands c e v going s =
     let part : c.trimmed-part.result.now ≡ trimmed (1 + length e.rx.got) c.args.window c.args.q c.args.payload.now =
     c.trimmed-part.ensures.part ∙ ap (λ (n : ℕ). trimmed n c.args.window c.args.q c.args.payload.now) next in
     let some : 0 < length c.trimmed-part.result.now = search rules in
-    let here : max c.args.q (1 + length e.rx.got) - 1 ≡ length e.rx.got = omega (arith, end, next, c.max-at.ensures, c.if-at-end.false) in
+    let here : max c.args.q (1 + length e.rx.got) - 1 ≡ length e.rx.got =
+    omega (arith, end, next, c.max-at.ensures, c.if-at-end.false) in
     let same : with_data e.rx c.args.window c.args.q c.args.payload.now ≡ grown e.rx c.trimmed-part.result.now =
     part_is e.rx c.args.window c.args.q c.args.payload.now going
     ∙ (ap (with_part e.rx (max c.args.q (1 + length e.rx.got) - 1)) (sym part)
     ∙ next_part e.rx (max c.args.q (1 + length e.rx.got) - 1) c.trimmed-part.result.now some here) in
-    subst (λ (x : Receiving). Stands c.grow.new.parts (record e { rx = x })) (sym same) (c.grow.ensures.stands e v going s)
+    subst (λ (x : Receiving). Stands c.grow.new.parts (record e { rx = x })) (sym same)
+    (c.grow.ensures.stands e v going s)

@@ -9,10 +9,19 @@ use Rattle.fast_rx.proofs.receiving.take_bare.Goals as goal
 pub returns-clause-made : goal.returns-clause-made
 returns-clause-made c out e v s a good =
     let after : ℕ → ℕ → ℕ → Endpoint = λ a q len. after_ack e c.args.tick a q len c.args.seg.now.window in
-    let one : Stands c.take_ack.new.parts (after c.args.a c.next_place-next.result c.len_of.result) = c.take_ack.ensures.stands e v s (c.is_ended-ended.ensures e v s) good in
-    let is : after c.args.a c.next_place-next.result c.len_of.result ≡ after (place_of_ack e (seg_of c.args.seg.now)) (next_place e.rx) (seg_len (seg_of c.args.seg.now)) =
+    let one : Stands c.take_ack.new.parts (after c.args.a c.next_place-next.result c.len_of.result) =
+    c.take_ack.ensures.stands e v s (c.is_ended-ended.ensures e v s) good in
+    let is : after c.args.a c.next_place-next.result c.len_of.result
+    ≡ after (place_of_ack e (seg_of c.args.seg.now)) (next_place e.rx) (seg_len (seg_of c.args.seg.now)) =
     ap (λ (n : ℕ). after n c.next_place-next.result c.len_of.result) a
-    ∙ (ap (λ (n : ℕ). after (place_of_ack e (seg_of c.args.seg.now)) n c.len_of.result) (c.next_place-next.ensures.next e v s)
+    ∙ (ap (λ (n : ℕ). after (place_of_ack e (seg_of c.args.seg.now)) n c.len_of.result)
+    (c.next_place-next.ensures.next e v s)
     ∙ ap (after (place_of_ack e (seg_of c.args.seg.now)) (next_place e.rx)) c.len_of.ensures.len) in
-    let two : Stands c.take_ack.new.parts (after (place_of_ack e (seg_of c.args.seg.now)) (next_place e.rx) (seg_len (seg_of c.args.seg.now))) = subst (Stands c.take_ack.new.parts) is one in
-    record { reply = sym (c.ack_answer.ensures.reply out (after (place_of_ack e (seg_of c.args.seg.now)) (next_place e.rx) (seg_len (seg_of c.args.seg.now))) two); state = two }
+    let two : Stands c.take_ack.new.parts
+    (after (place_of_ack e (seg_of c.args.seg.now)) (next_place e.rx) (seg_len (seg_of c.args.seg.now))) =
+    subst (Stands c.take_ack.new.parts) is one in
+    record {
+      reply = sym (c.ack_answer.ensures.reply out
+          (after (place_of_ack e (seg_of c.args.seg.now)) (next_place e.rx) (seg_len (seg_of c.args.seg.now))) two);
+      state = two;
+    }

@@ -12,12 +12,16 @@ pub returns-then-not-is_heard-clause-made : goal.returns-then-not-is_heard-claus
 returns-then-not-is_heard-clause-made c out e v s a good =
     let seg : Seg = seg_of c.args.seg.now in
     let acked : ℕ → ℕ → Endpoint = λ a len. after_ack e c.args.tick a c.args.q len c.args.seg.now.window in
-    let is : acked c.args.a c.len_of.result ≡ acked (place_of_ack e seg) (seg_len seg) = ap (λ (n : ℕ). acked n c.len_of.result) a ∙ ap (acked (place_of_ack e seg)) c.len_of.ensures.len in
+    let is : acked c.args.a c.len_of.result ≡ acked (place_of_ack e seg) (seg_len seg) =
+    ap (λ (n : ℕ). acked n c.len_of.result) a ∙ ap (acked (place_of_ack e seg)) c.len_of.ensures.len in
     let ended : c.is_ended-ended.result ≡ e.rx.ended = c.is_ended-ended.ensures e v s in
-    let one : Stands c.take_ack.new.parts (acked (place_of_ack e seg) (seg_len seg)) = subst (Stands c.take_ack.new.parts) is (c.take_ack.ensures.stands e v s ended good) in
+    let one : Stands c.take_ack.new.parts (acked (place_of_ack e seg) (seg_len seg)) =
+    subst (Stands c.take_ack.new.parts) is (c.take_ack.ensures.stands e v s ended good) in
     let after : Endpoint = after_data (acked (place_of_ack e seg) (seg_len seg)) c.args.tick (wnd e) c.args.q seg in
     let two : Stands c.take_rest.new.parts after =
-    subst (λ (n : ℕ). Stands c.take_rest.new.parts (after_data (acked (place_of_ack e seg) (seg_len seg)) c.args.tick n c.args.q seg)) (c.window-window.ensures.wnd e s)
+    subst (λ (n : ℕ). Stands c.take_rest.new.parts
+    (after_data (acked (place_of_ack e seg) (seg_len seg)) c.args.tick n c.args.q seg))
+    (c.window-window.ensures.wnd e s)
     (c.take_rest.ensures.stands (acked (place_of_ack e seg) (seg_len seg)) v.rx ended one) in
     let heard : is_heard seg ≡ false = search rules in
     record { reply = ap (λ (t : Bool). cond t (acks after) replies.Nothing) heard; state = two }
@@ -26,12 +30,20 @@ pub returns-clause-made : goal.returns-clause-made
 returns-clause-made c out e v s a good =
     let seg : Seg = seg_of c.args.seg.now in
     let acked : ℕ → ℕ → Endpoint = λ a len. after_ack e c.args.tick a c.args.q len c.args.seg.now.window in
-    let is : acked c.args.a c.len_of.result ≡ acked (place_of_ack e seg) (seg_len seg) = ap (λ (n : ℕ). acked n c.len_of.result) a ∙ ap (acked (place_of_ack e seg)) c.len_of.ensures.len in
+    let is : acked c.args.a c.len_of.result ≡ acked (place_of_ack e seg) (seg_len seg) =
+    ap (λ (n : ℕ). acked n c.len_of.result) a ∙ ap (acked (place_of_ack e seg)) c.len_of.ensures.len in
     let ended : c.is_ended-ended.result ≡ e.rx.ended = c.is_ended-ended.ensures e v s in
-    let one : Stands c.take_ack.new.parts (acked (place_of_ack e seg) (seg_len seg)) = subst (Stands c.take_ack.new.parts) is (c.take_ack.ensures.stands e v s ended good) in
+    let one : Stands c.take_ack.new.parts (acked (place_of_ack e seg) (seg_len seg)) =
+    subst (Stands c.take_ack.new.parts) is (c.take_ack.ensures.stands e v s ended good) in
     let after : Endpoint = after_data (acked (place_of_ack e seg) (seg_len seg)) c.args.tick (wnd e) c.args.q seg in
     let two : Stands c.take_rest.new.parts after =
-    subst (λ (n : ℕ). Stands c.take_rest.new.parts (after_data (acked (place_of_ack e seg) (seg_len seg)) c.args.tick n c.args.q seg)) (c.window-window.ensures.wnd e s)
+    subst (λ (n : ℕ). Stands c.take_rest.new.parts
+    (after_data (acked (place_of_ack e seg) (seg_len seg)) c.args.tick n c.args.q seg))
+    (c.window-window.ensures.wnd e s)
     (c.take_rest.ensures.stands (acked (place_of_ack e seg) (seg_len seg)) v.rx ended one) in
     let heard : is_heard seg ≡ true = search rules in
-    record { reply = ap (λ (t : Bool). cond t (acks after) replies.Nothing) heard ∙ sym (c.ack_answer.ensures.reply out after two); state = two }
+    record {
+      reply = ap (λ (t : Bool). cond t (acks after) replies.Nothing) heard
+          ∙ sym (c.ack_answer.ensures.reply out after two);
+      state = two;
+    }

@@ -2,7 +2,10 @@ use Rattle.fast_tx.proofs.Heads.{syn_is, syn_ack_is}
 use Rattle.fast_tx.proofs.emission.syn_header.Goals as goal
 
 pub returns-in-SynSent : goal.returns-in-SynSent
-returns-in-SynSent c e s o first = syn_is c.args.parts.now e c.window.result s o first c.in-SynSent.is (c.window.ensures.wnd e s)
+returns-in-SynSent c e s o first =
+    syn_is c.args.parts.now e c.window.result s o first c.in-SynSent.is (c.window.ensures.wnd e s)
 
 pub returns-in_default : goal.returns-in_default
-returns-in_default c e s o first = syn_ack_is c.args.parts.now e c.window-in_default.result s o first c.in_default.not-SynSent (c.window-in_default.ensures.wnd e s)
+returns-in_default c e s o first =
+    syn_ack_is c.args.parts.now e c.window-in_default.result s o first c.in_default.not-SynSent
+    (c.window-in_default.ensures.wnd e s)

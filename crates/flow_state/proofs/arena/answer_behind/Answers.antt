@@ -1,4 +1,5 @@
-use Rattle.std.proofs.Common.{◌≡◌, ℕ, ◌≤◌, ◌+◌, ◌-◌, length, take, drop, vec_len, ap, sym, subst, List, arith, length-take, length-drop}
+use Rattle.std.proofs.Common.{◌≡◌, ℕ, ◌≤◌, ◌+◌, ◌-◌, length, take, drop, vec_len, ap, sym, subst, List, arith}
+use Rattle.std.proofs.Common.{length-take, length-drop}
 use Rattle.std.proofs.lemmas.Grind.{common_steps}
 use Rattle.flow_state.specs.Calls.{answer_len, cost_of, payload_of}
 use Rattle.flow_state.specs.Slots.{IsWithin}
@@ -7,24 +8,46 @@ use Rattle.flow_state.proofs.arena.answer_behind.Goals as goal
 
 pub returns-clause-few : goal.returns-clause-few
 returns-clause-few g c =
-    let cost : answer_len c.in_ok-answer.answer + length (payload_of c.args.call.now) ≤ cost_of c.args.parts.now.smss c.args.call.now =
-    bytes_within_cost c.args.parts.now.smss c.args.call.now (answer_len c.in_ok-answer.answer) c.in_ok-answer.ensures.bytes in
+    let cost : answer_len c.in_ok-answer.answer + length (payload_of c.args.call.now)
+    ≤ cost_of c.args.parts.now.smss c.args.call.now =
+    bytes_within_cost c.args.parts.now.smss c.args.call.now
+    (answer_len c.in_ok-answer.answer) c.in_ok-answer.ensures.bytes in
     omega (arith, cost, c.cost.ensures, c.fill_with_zeros.ensures.end, c.keep_entry-start.ensures.len)
 
 pub returns-clause-made : goal.returns-clause-made
 returns-clause-made g c =
-    let cost : answer_len c.in_ok-answer.answer + length (payload_of c.args.call.now) ≤ cost_of c.args.parts.now.smss c.args.call.now =
-    bytes_within_cost c.args.parts.now.smss c.args.call.now (answer_len c.in_ok-answer.answer) c.in_ok-answer.ensures.bytes in
+    let cost : answer_len c.in_ok-answer.answer + length (payload_of c.args.call.now)
+    ≤ cost_of c.args.parts.now.smss c.args.call.now =
+    bytes_within_cost c.args.parts.now.smss c.args.call.now
+    (answer_len c.in_ok-answer.answer) c.in_ok-answer.ensures.bytes in
     let all : List ℕ = c.deref_mut.result.now in
-    let end : ℕ = c.keep_entry-start.result.1 + answer_len c.in_ok-answer.answer + length (payload_of c.args.call.now) in
-    let whole : length all ≡ vec_len c.fill_with_zeros.new.bytes = omega (arith, ap length c.deref_mut.ensures.value, c.fill_with_zeros.new.bytes.ok) in
+    let end : ℕ = c.keep_entry-start.result.1 + answer_len c.in_ok-answer.answer + length
+    (payload_of c.args.call.now) in
+    let whole : length all ≡ vec_len c.fill_with_zeros.new.bytes =
+    omega (arith, ap length c.deref_mut.ensures.value, c.fill_with_zeros.new.bytes.ok) in
     let kept : length (take end c.keep_entry-start.new.bytes.items) ≡ end =
-    omega (arith, cost, length-take end c.keep_entry-start.new.bytes.items, c.keep_entry-start.new.bytes.ok, c.cost.ensures, c.fill_with_zeros.ensures.end, c.keep_entry-start.ensures.len) in (
+    omega (
+      arith,
+      cost,
+      length-take end c.keep_entry-start.new.bytes.items,
+      c.keep_entry-start.new.bytes.ok,
+      c.cost.ensures,
+      c.fill_with_zeros.ensures.end,
+      c.keep_entry-start.ensures.len,
+    ) in (
       c.run.new.out,
       record {
         makes = c.in_ok-answer.ensures.made;
         entry = grind (arith, common_steps, c.keep_entry-start.ensures.entry);
         within = subst (λ (n : ℕ). IsWithin n c.keep_entry-start.result.0) (sym kept) c.keep_entry-start.ensures.within;
-        bytes = omega (arith, cost, length-take (length all - c.args.used) (drop c.args.used all), length-drop c.args.used all, whole, c.cost.ensures, c.fill_with_zeros.ensures.end);
+        bytes = omega (
+          arith,
+          cost,
+          length-take (length all - c.args.used) (drop c.args.used all),
+          length-drop c.args.used all,
+          whole,
+          c.cost.ensures,
+          c.fill_with_zeros.ensures.end,
+        );
       },
     )

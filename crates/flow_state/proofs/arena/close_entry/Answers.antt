@@ -12,7 +12,13 @@ returns-clause-entry c =
     let at : ℕ = c.args.start + n in
     let end : ℕ = c.args.start + n + length p in
     let fits : at ≤ length a = omega (arith, c.args.bytes.now.ok, c.requires.room) in
-    let memory : take end c.put.new.bytes.items ≡ take at a ++ p = cc (c.put.ensures.items, c.bytes.ensures, c.payload.ensures, put_front a p (drop (at + length p) a) at end fits refl) in
+    let memory : take end c.put.new.bytes.items ≡ take at a ++ p =
+    cc (
+      c.put.ensures.items,
+      c.bytes.ensures,
+      c.payload.ensures,
+      put_front a p (drop (at + length p) a) at end fits refl,
+    ) in
     let call : call_in (take at a ++ p) c.call_slot.result ≡ call_of c.args.call.now =
     c.call_slot.ensures.means _ (rw c.bytes.ensures (holds_end a p at fits)) in
     let reply : reply_in (take at a ++ p) c.reply_slot.result ≡ reply_of c.args.answer.now (drop c.args.start a) =

@@ -8,7 +8,8 @@ use Rattle.flow_state.proofs.arena.keep_entry.Goals as goal
 
 pub returns-clause-kept : goal.returns-clause-kept
 returns-clause-kept c =
-    let past : c.args.used ≤ c.start_of-start.result + answer_len c.args.answer.now = omega (arith, c.start_of-start.ensures.past, c.bytes.ensures) in
+    let past : c.args.used ≤ c.start_of-start.result + answer_len c.args.answer.now =
+    omega (arith, c.start_of-start.ensures.past, c.bytes.ensures) in
     kept_below _ _ c.args.used _ past c.close_entry-slot.ensures.kept
 
 pub returns-clause-entry : goal.returns-clause-entry
@@ -16,8 +17,17 @@ returns-clause-entry c =
     let start : ℕ = c.start_of-start.result in
     let n : ℕ = answer_len c.args.answer.now in
     let mem : List ℕ = c.args.bytes.now.items in
-    let same : take n (drop start mem) ≡ take n (drop c.args.used mem) = rw (c.bytes.ensures, c.deref.ensures.value) at c.start_of-start.ensures.same in
-    let reply : reply_of c.args.answer.now (drop start mem) ≡ reply_of c.args.answer.now (drop c.args.used mem) = same_reply c.args.answer.now _ _ same in
+    let same : take n (drop start mem) ≡ take n (drop c.args.used mem) =
+    rw (c.bytes.ensures, c.deref.ensures.value) at c.start_of-start.ensures.same in
+    let reply : reply_of c.args.answer.now (drop start mem) ≡ reply_of c.args.answer.now (drop c.args.used mem) =
+    same_reply c.args.answer.now _ _ same in
     subst
-    (λ (r : Reply). entry_of (take (start + n + length (payload_of c.args.call.now)) c.close_entry-slot.new.bytes.items) c.close_entry-slot.result
-    ≡ record { caller = c.args.caller; number = c.args.number; tick = c.args.tick; call = call_of c.args.call.now; reply = r }) reply c.close_entry-slot.ensures.entry
+    (λ (r : Reply). entry_of (take (start + n + length (payload_of c.args.call.now)) c.close_entry-slot.new.bytes.items)
+    c.close_entry-slot.result
+    ≡ record {
+      caller = c.args.caller;
+      number = c.args.number;
+      tick = c.args.tick;
+      call = call_of c.args.call.now;
+      reply = r;
+    }) reply c.close_entry-slot.ensures.entry

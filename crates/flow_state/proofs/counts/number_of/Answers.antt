@@ -9,11 +9,14 @@ use Rattle.flow_state.proofs.counts.number_of.Goals as goal
 pub returns-in-Some : goal.returns-in-Some
 returns-in-Some c =
     let d : CallerCount = record { caller = Slow; made = 0 } in
-    let there : (c.in-Some.i < length c.args.counts.now) × (is_for c.args.caller (get_or c.args.counts.now c.in-Some.i d) ≡ true) × ((k : ℕ) → k < c.in-Some.i → is_for c.args.caller (get_or c.args.counts.now k d) ≡ false) =
+    let there : (c.in-Some.i < length c.args.counts.now)
+    × (is_for c.args.caller (get_or c.args.counts.now c.in-Some.i d) ≡ true)
+    × ((k : ℕ) → k < c.in-Some.i → is_for c.args.caller (get_or c.args.counts.now k d) ≡ false) =
     position-Some (is_for c.args.caller) c.args.counts.now c.in-Some.i d (sym c.place_of.ensures ∙ c.in-Some.is) in
     sym (counted_at c.args.caller c.args.counts.now c.in-Some.i d there.0 there.1 there.2)
 
 pub returns-in-None : goal.returns-in-None
 returns-in-None c =
     let d : CallerCount = record { caller = Slow; made = 0 } in
-    sym (counted_none c.args.caller c.args.counts.now d (none_found (is_for c.args.caller) c.args.counts.now d (sym c.place_of.ensures ∙ c.in-None.is)))
+    sym (counted_none c.args.caller c.args.counts.now d
+    (none_found (is_for c.args.caller) c.args.counts.now d (sym c.place_of.ensures ∙ c.in-None.is)))

@@ -7,4 +7,5 @@ use Rattle.flow_state.proofs.Looking.{last_quiet}
 use Rattle.flow_state.proofs.record.last_bytes_of.Goals as goal
 
 pub returns-in-Quiet : goal.returns-in-Quiet
-returns-in-Quiet c = sym (ap (λ (s : Stretch). reply_bytes (last_reply (entries_in c.args.arena.now s))) c.in-Quiet.is ∙ last_quiet c.in-Quiet.field-0)
+returns-in-Quiet c = sym (ap (λ (s : Stretch). reply_bytes (last_reply (entries_in c.args.arena.now s))) c.in-Quiet.is
+    ∙ last_quiet c.in-Quiet.field-0)

@@ -5,4 +5,5 @@ use Rattle.link_script.proofs.frames.count_before.Goals as goal
 
 pub returns-clause-parts : goal.returns-clause-parts
 returns-clause-parts c =
-    IsPartitionPoint-from_clause (λ (f : Sent). ltb f.tick c.args.tick) _ _ c.partition_point.ensures.partitioned (IsPartitionedBy-ltb (λ (f : Sent). f.tick) _ _ c.requires) (λ a r q k. search rules)
+    IsPartitionPoint-from_clause (λ (f : Sent). ltb f.tick c.args.tick) _ _ c.partition_point.ensures.partitioned
+    (IsPartitionedBy-ltb (λ (f : Sent). f.tick) _ _ c.requires) (λ a r q k. search rules)

@@ -5,4 +5,5 @@ use Rattle.link_script.proofs.frames.count_until.Goals as goal
 
 pub returns-clause-parts : goal.returns-clause-parts
 returns-clause-parts c =
-    IsPartitionPoint-from_clause (λ (f : Sent). leb f.tick c.args.tick) _ _ c.partition_point.ensures.partitioned (IsPartitionedBy-leb (λ (f : Sent). f.tick) _ _ c.requires) (λ a r q k. search rules)
+    IsPartitionPoint-from_clause (λ (f : Sent). leb f.tick c.args.tick) _ _ c.partition_point.ensures.partitioned
+    (IsPartitionedBy-leb (λ (f : Sent). f.tick) _ _ c.requires) (λ a r q k. search rules)

@@ -4,4 +4,5 @@ use Rattle.run_texts.specs.Writes.{Writes}
 use Rattle.run_texts.proofs.flows.write_entries.Given as goal
 
 abbrev pub invariant-loop-i : goal.invariant-loop-i
-invariant-loop-i g l = Writes (g.K.Sink.state l.fn.sink) l.fn.writer (Ok tt) (g.K.Sink.state l.sink) l.writer (flat_map (entries_text (map (λ n. n.now) l.names)) (take l.i l.stretches))
+invariant-loop-i g l = Writes (g.K.Sink.state l.fn.sink) l.fn.writer (Ok tt) (g.K.Sink.state l.sink) l.writer
+    (flat_map (entries_text (map (λ n. n.now) l.names)) (take l.i l.stretches))

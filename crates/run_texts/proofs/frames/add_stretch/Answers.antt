@@ -8,5 +8,6 @@ pub returns-in-Quiet : goal.returns-in-Quiet
 returns-in-Quiet c =
     let run = c.in-Quiet.field-0 in
     let old = map seen_frame c.args.frames.now.items in
-    let none = ap (λ s. flat_map (entry_frames c.args.tuple) (seen_stretch s)) c.in-Quiet.is ∙ quiet_sends_none c.args.tuple run.caller run.number run.tick (suc run.more) in
+    let none = ap (λ s. flat_map (entry_frames c.args.tuple) (seen_stretch s)) c.in-Quiet.is
+    ∙ quiet_sends_none c.args.tuple run.caller run.number run.tick (suc run.more) in
     sym (ap (λ (t : List Sent). old ++ t) none ∙ append-nil old)

@@ -5,4 +5,5 @@ use Rattle.run_texts.specs.Writes.{Writes}
 use Rattle.run_texts.proofs.stretches.write_run.Given as goal
 
 abbrev pub invariant-loop-j : goal.invariant-loop-j
-invariant-loop-j g l = Writes (g.K.Sink.state l.fn.sink) l.fn.writer (Ok tt) (g.K.Sink.state l.sink) l.writer (flat_map (entry_text []) (take l.j (run_entries l.run)))
+invariant-loop-j g l = Writes (g.K.Sink.state l.fn.sink) l.fn.writer (Ok tt) (g.K.Sink.state l.sink) l.writer
+    (flat_map (entry_text []) (take l.j (run_entries l.run)))

@@ -24,7 +24,8 @@ loop-line-preserved c =
     record {
       hosts = mapped_more (site_of s) lines i line site c.loop-line.hosts.items c.push.new.self.items here
           c.loop-line.invariant.hosts c.in_ok-at_start.ensures c.in_ok-push.ensures.items;
-      addresses = mapped_more (λ (h : HostLine). h.params.addr) lines i line line.params.addr c.loop-line.addresses.items
+      addresses = mapped_more (λ (h : HostLine). h.params.addr) lines i line line.params.addr
+          c.loop-line.addresses.items
           c.push-in-loop-line.new.self.items here c.loop-line.invariant.addresses refl c.in_ok-push-2.ensures.items;
       counted = counted_more c.loop-line.hosts.items c.push.new.self.items c.loop-line.counts.items
           c.push-in-loop-line-2.new.self.items site new c.loop-line.invariant.counted
@@ -38,7 +39,8 @@ returns-clause-world c =
     let s = c.args.s.now in
     let lines = c.as_slice-line-items.result.now in
     let past : length lines ≤ c.loop-line.line-index = c.loop-line-test.false in
-    let all : take c.loop-line.line-index lines ≡ s.hosts = take_all c.loop-line.line-index lines past ∙ c.as_slice-line-items.ensures in
+    let all : take c.loop-line.line-index lines ≡ s.hosts = take_all c.loop-line.line-index lines past
+    ∙ c.as_slice-line-items.ensures in
     start_is s _ (c.loop-line.invariant.hosts ∙ ap (map (site_of s)) all)
     (c.loop-line.invariant.addresses ∙ ap (map (λ (h : HostLine). h.params.addr)) all) c.loop-line.invariant.counted
     c.new-2.ensures refl

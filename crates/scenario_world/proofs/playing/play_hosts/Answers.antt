@@ -11,7 +11,8 @@ loop-number-preserved c =
     let i = c.loop-number.number in
     let inside : i < length c.args.hosts.now = omega arith in
     sites_more c.args.s.now whole c.args.tick c.args.hosts.now c.loop-number.hosts i c.index-hosts-number.result
-    (get_or c.loop-number.hosts i c.index-hosts-number.result) c.play.new.self (map arrival_in c.deref.result.now) inside
+    (get_or c.loop-number.hosts i c.index-hosts-number.result) c.play.new.self
+    (map arrival_in c.deref.result.now) inside
     refl (c.loop-number.invariant whole same)
     c.in_ok-play.ensures
     (ap (map arrival_in) c.deref.ensures.value

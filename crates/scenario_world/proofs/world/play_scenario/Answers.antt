@@ -14,7 +14,8 @@ returns-then-is_at_rest-clause-run c =
     let inside : t < s.limit = omega arith in
     let world = c.in_ok-play_tick.ensures.world in
     end_shown s p.hosts.items (t + 1) false c.end_of.result
-    (rests s t c.loop-tick.playing.hosts.items p.hosts.items inside c.loop-tick.invariant.run c.in_ok-play_tick.ensures.hosts
+    (rests s t c.loop-tick.playing.hosts.items p.hosts.items inside c.loop-tick.invariant.run
+    c.in_ok-play_tick.ensures.hosts
     (sym (c.is_at_rest.ensures s world) ∙ c.if-is_at_rest.true))
     world.params c.end_of.ensures.ends c.end_of.ensures.ticks c.end_of.ensures.stalled
 

@@ -1,6 +1,7 @@
 use Rattle.std.proofs.Common.{◌∙◌}
 use Rattle.segment_fields.specs.Canon.{canon}
-use Rattle.segment_fields.proofs.RoundTrip.{fields_in-canon, fields_in-canon_same, fields_of-text, length-canon, refusal-canon}
+use Rattle.segment_fields.proofs.RoundTrip.{fields_in-canon, fields_in-canon_same, fields_of-text, length-canon}
+use Rattle.segment_fields.proofs.RoundTrip.{refusal-canon}
 use Rattle.segment_fields.proofs.laws.what_is_written_is_read.Goals as goal
 
 pub returns-clause-accepted : goal.returns-clause-accepted

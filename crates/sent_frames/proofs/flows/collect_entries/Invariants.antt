@@ -6,6 +6,7 @@ use Rattle.sent_frames.proofs.flows.collect_entries.Given as goal
 abbrev pub invariant-loop-i : goal.invariant-loop-i
 invariant-loop-i l = record {
   number : l.number ≡ sent_by (flat_map (λ (xs : List Entry). xs) (take l.i l.stretches));
-  frames : l.sent ≡ l.fn.sent ++ of_tick l.tick (entry_frames l.origin 0 (flat_map (λ (xs : List Entry). xs) (take l.i l.stretches)));
+  frames : l.sent ≡ l.fn.sent
+      ++ of_tick l.tick (entry_frames l.origin 0 (flat_map (λ (xs : List Entry). xs) (take l.i l.stretches)));
   last : AreUpTo l.tick l.sent;
 }

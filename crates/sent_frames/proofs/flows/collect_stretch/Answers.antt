@@ -9,7 +9,8 @@ pub returns-in-Quiet-clause-frames : goal.returns-in-Quiet-clause-frames
 returns-in-Quiet-clause-frames c =
     let r = c.in-Quiet.field-0 in
     let old = c.args.sent.now in
-    let none = ap (λ s. of_tick c.args.tick (entry_frames c.args.origin.now c.args.number (seen_stretch s))) c.in-Quiet.is
+    let none = ap (λ s. of_tick c.args.tick (entry_frames c.args.origin.now c.args.number (seen_stretch s)))
+    c.in-Quiet.is
     ∙ ap (of_tick c.args.tick) (quiet_frames c.args.origin.now c.args.number r.caller r.number r.tick (suc r.more)) in
     sym (ap (λ t. old ++ t) none ∙ append-nil old)
 
@@ -17,5 +18,6 @@ pub returns-in-Quiet-clause-number : goal.returns-in-Quiet-clause-number
 returns-in-Quiet-clause-number c =
     let r = c.in-Quiet.field-0 in
     let none : sent_by (seen_stretch c.args.stretch) ≡ 0 =
-    ap (λ s. sent_by (seen_stretch s)) c.in-Quiet.is ∙ ap length (quiet_has_none r.caller r.number r.tick (suc r.more)) in
+    ap (λ s. sent_by (seen_stretch s)) c.in-Quiet.is
+    ∙ ap length (quiet_has_none r.caller r.number r.tick (suc r.more)) in
     omega (arith, none)

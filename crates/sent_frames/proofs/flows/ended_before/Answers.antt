@@ -12,7 +12,8 @@ returns-in-Quiet-clause-earlier c =
     λ e n.
     let r = c.in-Quiet.run' in
     let l : r.tick + r.more < c.args.tick = grind (arith, nat_tests, e) in
-    subst (λ m. m < c.args.tick) (sym (ap (λ s. last_tick n (seen_stretch s)) c.in-Quiet.is ∙ quiet_last r.caller n r.number r.tick r.more)) l
+    subst (λ m. m < c.args.tick) (sym (ap (λ s. last_tick n (seen_stretch s)) c.in-Quiet.is
+    ∙ quiet_last r.caller n r.number r.tick r.more)) l
 
 pub returns-in-Quiet-clause-later : goal.returns-in-Quiet-clause-later
 returns-in-Quiet-clause-later c =

@@ -6,7 +6,8 @@ use Rattle.sent_frames.proofs.flows.first_since.Given as goal
 abbrev pub invariant-loop-first : goal.invariant-loop-first
 invariant-loop-first l = record {
   bound : l.first ≤ length l.stretches;
-  later : sent (filter (λ (x : Entry). nat_lt x.tick l.tick) (flat_map (λ (xs : List Entry). xs) (drop l.first l.stretches))) ≡ [];
+  later : sent (filter (λ (x : Entry). nat_lt x.tick l.tick)
+      (flat_map (λ (xs : List Entry). xs) (drop l.first l.stretches))) ≡ [];
 }
 
 abbrev pub decreases-loop-first : goal.decreases-loop-first

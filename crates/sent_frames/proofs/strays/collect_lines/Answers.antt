@@ -8,7 +8,12 @@ use Rattle.sent_frames.proofs.strays.collect_lines.Goals as goal
 pub collect_answer-requires-clause-few : goal.collect_answer-requires-clause-few
 collect_answer-requires-clause-few c =
     let front = take c.loop-line.line-index c.args.lines.now in
-    omega (arith, c.loop-line.invariant.number, answers_in-le front, length-take c.loop-line.line-index c.args.lines.now)
+    omega (
+      arith,
+      c.loop-line.invariant.number,
+      answers_in-le front,
+      length-take c.loop-line.line-index c.args.lines.now,
+    )
 
 pub loop-line-preserved : goal.loop-line-preserved
 loop-line-preserved c =
@@ -21,7 +26,8 @@ loop-line-preserved c =
     record {
       number = number_more c.loop-line.number c.in_ok-number.number c.args.number ls i line here
           c.loop-line.invariant.number c.in_ok-number.ensures.number;
-      frames = λ world same. answers_more world c.args.sender.now.host c.args.tick c.loop-line.number c.args.number ls i line
+      frames = λ world same. answers_more world c.args.sender.now.host c.args.tick c.loop-line.number c.args.number ls i
+          line
           c.args.sent.now c.loop-line.sent c.collect_answer.new.sent here c.loop-line.invariant.number
           (c.loop-line.invariant.frames world same) (c.in_ok-number.ensures.frames world same);
       last = c.in_ok-number.ensures.last;

@@ -7,6 +7,7 @@ abbrev pub invariant-loop-line : goal.invariant-loop-line
 invariant-loop-line l = record {
   number : l.number ≡ l.fn.number + answers_in (take l.line-index l.lines);
   frames : (world : World) → l.sender.addresses.now ≡ addresses_of world
-      → l.sent ≡ l.fn.sent ++ of_tick l.tick (frames_of_log world l.sender.host l.fn.number (take l.line-index l.lines));
+      → l.sent ≡ l.fn.sent
+      ++ of_tick l.tick (frames_of_log world l.sender.host l.fn.number (take l.line-index l.lines));
   last : AreUpTo l.tick l.sent;
 }

@@ -11,6 +11,12 @@ ok_map P Q f (Ok a) p = f a p
 ok_map P Q f (Err e) p = tt
 
 pub returns-clause-slow : goal.returns-clause-slow
-returns-clause-slow c = ok_map (λ (t : TableId × Seen). (t.1.table ≡ t.0) × (t.1.view ≡ first 2)) (λ (t : TableId × Seen). IsKeeper t.0 t.1 × (t.1.view.baton ≡ true) × (t.1.view.parts ≡ 4097))
-    (λ t p. ((p.0, (_, [], ap (λ (x : View). x.turns) p.1), ap (λ (x : View). x.held) p.1), ap (λ (x : View). x.baton) p.1, ap (λ (x : View). x.parts) p.1))
+returns-clause-slow c = ok_map (λ (t : TableId × Seen). (t.1.table ≡ t.0)
+    × (t.1.view ≡ first 2)) (λ (t : TableId × Seen). IsKeeper t.0 t.1 × (t.1.view.baton ≡ true)
+    × (t.1.view.parts ≡ 4097))
+    (λ t p. (
+      (p.0, (_, [], ap (λ (x : View). x.turns) p.1), ap (λ (x : View). x.held) p.1),
+      ap (λ (x : View). x.baton) p.1,
+      ap (λ (x : View). x.parts) p.1,
+    ))
     c.new.result c.new.ensures.slow

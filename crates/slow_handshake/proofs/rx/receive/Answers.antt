@@ -11,4 +11,5 @@ pub returns-in-SynSent-clause-made : goal.returns-in-SynSent-clause-made
 unfolding rx
 returns-in-SynSent-clause-made c out e v s =
     let here : phase e ≡ phases.SynSent = sym s.phase ∙ c.in-SynSent.is in
-    subst (λ (p : Phase). IsOutcome c.receive_in_syn_sent.new.parts c.receive_in_syn_sent.result out (rx_in p e c.args.tick (seg_of c.args.seg.now))) (sym here) (c.receive_in_syn_sent.ensures.made out e v s here)
+    subst (λ (p : Phase). IsOutcome c.receive_in_syn_sent.new.parts c.receive_in_syn_sent.result out
+    (rx_in p e c.args.tick (seg_of c.args.seg.now))) (sym here) (c.receive_in_syn_sent.ensures.made out e v s here)

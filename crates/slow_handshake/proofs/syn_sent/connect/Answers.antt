@@ -9,5 +9,10 @@ use Rattle.slow_handshake.proofs.syn_sent.connect.Goals as goal
 
 pub returns-clause-made : goal.returns-clause-made
 returns-clause-made c out e v s here =
-    let after : Stands c.take_syn.new.parts (connected e (seg_of c.args.seg.now)) = c.take_syn.ensures.stands e v s here in
-    record { reply = ap (λ (h : Head). replies.Sent (bare h)) (sym (c.ack_head.ensures (connected e (seg_of c.args.seg.now)) after)); state = after }
+    let after : Stands c.take_syn.new.parts (connected e (seg_of c.args.seg.now)) =
+    c.take_syn.ensures.stands e v s here in
+    record {
+      reply = ap (λ (h : Head). replies.Sent (bare h))
+          (sym (c.ack_head.ensures (connected e (seg_of c.args.seg.now)) after));
+      state = after;
+    }

@@ -1,4 +1,5 @@
-use Rattle.tas_model.proofs.BadSegments.{dropped_changes_nothing, closed_changes_nothing, negative_dropped, unacceptable_dropped, reset_elsewhere_dropped, syn_dropped, no_ack_dropped}
+use Rattle.tas_model.proofs.BadSegments.{dropped_changes_nothing, closed_changes_nothing, negative_dropped}
+use Rattle.tas_model.proofs.BadSegments.{unacceptable_dropped, reset_elsewhere_dropped, syn_dropped, no_ack_dropped}
 use Rattle.tas_model.proofs.laws.bad_segments_change_nothing.Goals as goal
 
 pub returns-clause-dropped : goal.returns-clause-dropped

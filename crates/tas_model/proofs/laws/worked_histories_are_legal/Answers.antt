@@ -1,4 +1,5 @@
-use Rattle.tas_model.proofs.Worked.{three_packets_legal, data_out_of_order_legal, three_duplicates_legal, client_of_hello_legal, server_of_hello_legal}
+use Rattle.tas_model.proofs.Worked.{three_packets_legal, data_out_of_order_legal, three_duplicates_legal}
+use Rattle.tas_model.proofs.Worked.{client_of_hello_legal, server_of_hello_legal}
 use Rattle.tas_model.proofs.laws.worked_histories_are_legal.Goals as goal
 
 pub returns-clause-three_packets : goal.returns-clause-three_packets

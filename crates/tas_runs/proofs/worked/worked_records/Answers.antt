@@ -1,4 +1,7 @@
-use Rattle.tas_runs.proofs.WorkedRecords.{damaged_is, loose_is, two_strays_is, other_traffic_is, two_faults_is, later_number_is, counted_openings_is, data_and_end_is, early_data_is, refused_connect_is, reset_while_opening_is, abort_while_opening_is, used_again_is, late_segment_is}
+use Rattle.tas_runs.proofs.WorkedRecords.{damaged_is, loose_is, two_strays_is, other_traffic_is, two_faults_is}
+use Rattle.tas_runs.proofs.WorkedRecords.{later_number_is, counted_openings_is, data_and_end_is, early_data_is}
+use Rattle.tas_runs.proofs.WorkedRecords.{refused_connect_is, reset_while_opening_is, abort_while_opening_is}
+use Rattle.tas_runs.proofs.WorkedRecords.{used_again_is, late_segment_is}
 use Rattle.tas_runs.proofs.worked.worked_records.Goals as goal
 
 pub returns-clause-damaged : goal.returns-clause-damaged

@@ -1,4 +1,5 @@
-use Rattle.tas_runs.proofs.WorkedReplays.{hello_is, late_start_is, sending_is, both_ends_is, resets_is, hello_sent_is, cut_is}
+use Rattle.tas_runs.proofs.WorkedReplays.{hello_is, late_start_is, sending_is, both_ends_is, resets_is, hello_sent_is}
+use Rattle.tas_runs.proofs.WorkedReplays.{cut_is}
 use Rattle.tas_runs.proofs.worked.worked_replays.Goals as goal
 
 pub returns-clause-hello : goal.returns-clause-hello

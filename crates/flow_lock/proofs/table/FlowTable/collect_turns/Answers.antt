@@ -12,8 +12,11 @@ split_seat-turns-requires g c =
     let slots = ap (λ (y : TableId). y.slots) c.self.view_is in
     let inv = c.self.invariant in
     let id = sym c.self.view_is in
-    let view = ap (λ (s : Seen). s.view) c.from.view_is in
-    (ap (λ (s : Seen). s.table) c.from.view_is ∙ (c.requires.table.1 ∙ id), omega arith, peels g.R.Recorded.id _ _ _ (ap (λ (v : View). v.held) view ∙ c.requires.idle))
+    let view = ap (λ (s : Seen). s.view) c.from.view_is in (
+      ap (λ (s : Seen). s.table) c.from.view_is ∙ (c.requires.table.1 ∙ id),
+      omega arith,
+      peels g.R.Recorded.id _ _ _ (ap (λ (v : View). v.held) view ∙ c.requires.idle),
+    )
 
 pub join_seat-requires : goal.join_seat-requires
 join_seat-requires g c =

@@ -21,14 +21,18 @@ fetch_or-requires g c =
     let view = ap (λ (s : Seen). s.view) c.pass.view_is in (
       ap (λ (s : Seen). s.table) c.pass.view_is ∙ (c.requires.pass.0 ∙ sym c.self.view_is),
       omega arith,
-      dooms_it g.R.Recorded.id _ _ _ id _ near (subst (λ (v : View). HasPin v id) (sym view) (subst (HasPin c.args.pass.now.view) (sym pin) c.requires.pass.1)) (ap (λ (v : View). v.slow) view ∙ c.requires.pass.3) (subst MayAct (sym view) c.requires.pass.2),
+      dooms_it g.R.Recorded.id _ _ _ id _ near
+          (subst (λ (v : View). HasPin v id) (sym view)
+          (subst (HasPin c.args.pass.now.view) (sym pin) c.requires.pass.1)) (ap (λ (v : View). v.slow) view
+          ∙ c.requires.pass.3) (subst MayAct (sym view) c.requires.pass.2),
     )
 
 pub invariant_of-pass : goal.invariant_of-pass
 invariant_of-pass g c =
     let pin = c.pin.view_is in
     let view = ap (λ (s : Seen). s.view) c.pass.view_is in
-    let has = subst (λ (v : View). HasPin v c.pin.inside.flow) (sym view) (subst (HasPin c.args.pass.now.view) (sym pin) c.requires.pass.1) in
+    let has = subst (λ (v : View). HasPin v c.pin.inside.flow) (sym view)
+    (subst (HasPin c.args.pass.now.view) (sym pin) c.requires.pass.1) in
     let M : Type 0 = Me (Option g.row.R.Denot) View in
     let e = c.fetch_or.ensures.2 c.pin.inside.flow has refl in
     subst (λ (m : M). Carries m × (m.0.out ≡ []) × (0 < m.0.parts) × IsOne m.0) (sym e) c.pass.invariant

@@ -21,12 +21,16 @@ fetch_and-requires g c =
     let h = c.requires.held.0 in
     let x = c.exchange.ensures in
     let carried : c.exchange.new.seat.me.1 ≡ (id.slot, Some c.args.item) ∷ rest c.exchange.new.seat.me.1 =
-    let e = ap (λ (m : Me (Option g.row.R.Denot) View). m.1) x.3 in e ∙ ap (λ l. (id.slot, Some c.args.item) ∷ l) (sym (ap rest e)) in
-    let same : c.exchange.new.seat.me.0 ≡ c.pass.inside.seat.me.0 = ap (λ (m : Me (Option g.row.R.Denot) View). m.0) x.3 in
+    let e = ap (λ (m : Me (Option g.row.R.Denot) View). m.1) x.3 in
+    e ∙ ap (λ l. (id.slot, Some c.args.item) ∷ l) (sym (ap rest e)) in
+    let same : c.exchange.new.seat.me.0 ≡ c.pass.inside.seat.me.0 =
+    ap (λ (m : Me (Option g.row.R.Denot) View). m.0) x.3 in
     let me : c.exchange.new.seat.me.0 ≡ c.args.pass.now.view = same ∙ view in
     let parts = ap (λ (v : View). v.parts) same in (
       x.0 ∙ (ap (λ (s : Seen). s.table) c.pass.view_is ∙ (c.requires.pass.0 ∙ sym c.self.view_is)),
       omega arith,
       gives_it g.R.Recorded.id _ _ _ id h c.args.item c.exchange.new.seat.me near
-          (ap (λ (v : View). v.held) me ∙ c.requires.held.1) (c.requires.held.2 ∙ sym pin) (c.requires.own ∙ sym pin) c.requires.held.3 carried (let p = c.pass.invariant.2 in omega arith) (subst MayAct (sym me) c.requires.pass.1),
+          (ap (λ (v : View). v.held) me ∙ c.requires.held.1) (c.requires.held.2 ∙ sym pin) (c.requires.own
+          ∙ sym pin) c.requires.held.3 carried (let p = c.pass.invariant.2 in
+          omega arith) (subst MayAct (sym me) c.requires.pass.1),
     )

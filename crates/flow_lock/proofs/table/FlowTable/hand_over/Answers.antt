@@ -12,8 +12,12 @@ split_seat-baton-requires g c =
     let slots = ap (λ (y : TableId). y.slots) c.self.view_is in
     let inv = c.self.invariant in
     let id = sym c.self.view_is in
-    let view = ap (λ (s : Seen). s.view) c.from.view_is in
-    (ap (λ (s : Seen). s.table) c.from.view_is ∙ (c.requires.table.0 ∙ id), omega arith, yields g.R.Recorded.id _ _ _ (ap (λ (v : View). v.baton) view ∙ c.requires.baton.0) (ap (λ (v : View). v.held) view ∙ c.requires.idle))
+    let view = ap (λ (s : Seen). s.view) c.from.view_is in (
+      ap (λ (s : Seen). s.table) c.from.view_is ∙ (c.requires.table.0 ∙ id),
+      omega arith,
+      yields g.R.Recorded.id _ _ _ (ap (λ (v : View). v.baton) view
+          ∙ c.requires.baton.0) (ap (λ (v : View). v.held) view ∙ c.requires.idle),
+    )
 
 pub join_seat-requires : goal.join_seat-requires
 join_seat-requires g c =
@@ -28,5 +32,6 @@ join_seat-requires g c =
       e.3 ∙ (ap (λ (s : Seen). s.table) c.from.view_is ∙ (h.0 ∙ id)),
       ap (λ (m : M). m.1) e.4,
       omega arith,
-      accepts g.R.Recorded.id _ _ _ _ _ c.from.inside.seat.me.0 (ap (λ (s : Seen). s.view.baton) c.to.view_is ∙ c.requires.baton.1) (ap (λ (m : M). m.0) e.4) (ap (λ (v : View). v.baton) view ∙ c.requires.baton.0),
+      accepts g.R.Recorded.id _ _ _ _ _ c.from.inside.seat.me.0 (ap (λ (s : Seen). s.view.baton) c.to.view_is
+          ∙ c.requires.baton.1) (ap (λ (m : M). m.0) e.4) (ap (λ (v : View). v.baton) view ∙ c.requires.baton.0),
     )

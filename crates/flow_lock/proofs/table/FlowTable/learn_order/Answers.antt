@@ -11,5 +11,9 @@ load-requires g c =
     let slots = ap (λ (y : TableId). y.slots) c.self.view_is in
     let inv = c.self.invariant in
     let id = sym c.self.view_is in
-    let view = ap (λ (s : Seen). s.view) c.pass.view_is in
-    (ap (λ (s : Seen). s.table) c.pass.view_is ∙ (c.requires.0 ∙ id), omega arith, learns_it g.R.Recorded.id _ _ _ _ (omega arith) (subst HasAll (sym view) c.requires.2) (ap (λ (v : View). v.baton) view ∙ c.requires.1))
+    let view = ap (λ (s : Seen). s.view) c.pass.view_is in (
+      ap (λ (s : Seen). s.table) c.pass.view_is ∙ (c.requires.0 ∙ id),
+      omega arith,
+      learns_it g.R.Recorded.id _ _ _ _ (omega arith) (subst HasAll (sym view) c.requires.2)
+          (ap (λ (v : View). v.baton) view ∙ c.requires.1),
+    )

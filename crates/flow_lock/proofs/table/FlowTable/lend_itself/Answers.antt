@@ -12,8 +12,11 @@ split_seat-turn-requires g c =
     let slots = ap (λ (y : TableId). y.slots) c.self.view_is in
     let inv = c.self.invariant in
     let id = sym c.self.view_is in
-    let view = ap (λ (s : Seen). s.view) c.pass.view_is in
-    (ap (λ (s : Seen). s.table) c.pass.view_is ∙ (c.requires.0 ∙ id), omega arith, lends g.R.Recorded.id _ _ _ (ap (λ (v : View). v.baton) view ∙ c.requires.1))
+    let view = ap (λ (s : Seen). s.view) c.pass.view_is in (
+      ap (λ (s : Seen). s.table) c.pass.view_is ∙ (c.requires.0 ∙ id),
+      omega arith,
+      lends g.R.Recorded.id _ _ _ (ap (λ (v : View). v.baton) view ∙ c.requires.1),
+    )
 
 pub join_seat-requires : goal.join_seat-requires
 join_seat-requires g c =

@@ -12,5 +12,8 @@ split_seat-requires g c =
     let id = sym c.self.view_is in
     let view = ap (λ (s : Seen). s.view) c.from.view_is in
     let parts = ap (λ (v : View). v.parts) view in
-    let few = c.requires.1 in
-    (ap (λ (s : Seen). s.table) c.from.view_is ∙ (c.requires.0 ∙ id), omega arith, splits g.R.Recorded.id _ _ _ (ap (λ (v : View). v.baton) view ∙ c.requires.2) (omega arith))
+    let few = c.requires.1 in (
+      ap (λ (s : Seen). s.table) c.from.view_is ∙ (c.requires.0 ∙ id),
+      omega arith,
+      splits g.R.Recorded.id _ _ _ (ap (λ (v : View). v.baton) view ∙ c.requires.2) (omega arith),
+    )

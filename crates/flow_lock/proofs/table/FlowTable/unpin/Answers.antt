@@ -22,7 +22,8 @@ fetch_sub-requires g c =
     let back : c.args.pass.now.view ≡ c.pass.inside.seat.me.0 = sym view in (
       ap (λ (s : Seen). s.table) c.pass.view_is ∙ (c.requires.pass.0 ∙ sym c.self.view_is),
       omega arith,
-      lets_it_go g.R.Recorded.id _ _ _ id _ near (subst (λ (v : View). HasPin v id) back (subst (HasPin c.args.pass.now.view) (sym pin) c.requires.pass.1))
+      lets_it_go g.R.Recorded.id _ _ _ id _ near
+          (subst (λ (v : View). HasPin v id) back (subst (HasPin c.args.pass.now.view) (sym pin) c.requires.pass.1))
           ((λ q. holds_on (at q) (view q)) ∙ c.requires.idle) (subst MayAct back c.requires.pass.2),
     )
 
@@ -30,7 +31,8 @@ pub invariant_of-pass : goal.invariant_of-pass
 invariant_of-pass g c =
     let pin = c.pin.view_is in
     let view = ap (λ (s : Seen). s.view) c.pass.view_is in
-    let has = subst (λ (v : View). HasPin v c.pin.inside.flow) (sym view) (subst (HasPin c.args.pass.now.view) (sym pin) c.requires.pass.1) in
+    let has = subst (λ (v : View). HasPin v c.pin.inside.flow) (sym view)
+    (subst (HasPin c.args.pass.now.view) (sym pin) c.requires.pass.1) in
     let M : Type 0 = Me (Option g.row.R.Denot) View in
     let e = c.fetch_sub.ensures.2 c.pin.inside.flow has refl in
     subst (λ (m : M). Carries m × (m.0.out ≡ []) × (0 < m.0.parts) × IsOne m.0) (sym e) c.pass.invariant

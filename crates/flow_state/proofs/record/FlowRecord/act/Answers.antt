@@ -18,26 +18,36 @@ use Rattle.flow_state.proofs.record.FlowRecord.act.Goals.{After-add}
 use Rattle.flow_state.proofs.record.FlowRecord.act.Given
 
 grown : (g : Given.Over) (c : After-add g)
-    → Grown c.self.inside.parts c.answer.new.parts c.self.inside.arena.bytes c.answer.new.self.bytes c.self.inside.stretches.items c.add.new.stretches.items c.count_one.new.counts.items (c.self.inside.made + 1) c.max-tick.result c.args.caller c.args.tick c.args.call.now c.in-Some.answer
+    → Grown c.self.inside.parts c.answer.new.parts c.self.inside.arena.bytes c.answer.new.self.bytes
+    c.self.inside.stretches.items c.add.new.stretches.items c.count_one.new.counts.items
+    (c.self.inside.made + 1) c.max-tick.result c.args.caller c.args.tick c.args.call.now c.in-Some.answer
 grown g c =
     let same : c.reserve.new.self.items ≡ c.self.inside.stretches.items = c.in_ok-reserve.ensures.items in
     let sizes : length c.add.new.stretches.items ≡ c.add.new.stretches.len = sym c.add.new.stretches.ok.0 in
-    kept_after c.self.inside.parts c.answer.new.parts c.self.inside.arena.bytes c.answer.new.self.bytes c.self.inside.stretches.items c.add.new.stretches.items c.in-Some.slot c.self.inside.counts.items c.count_one.new.counts.items
-    c.self.inside.made c.self.inside.last c.args.caller c.args.tick c.number_of-number.result c.max-tick.result c.args.call.now c.in-Some.answer
+    kept_after c.self.inside.parts c.answer.new.parts c.self.inside.arena.bytes c.answer.new.self.bytes
+    c.self.inside.stretches.items c.add.new.stretches.items c.in-Some.slot c.self.inside.counts.items
+    c.count_one.new.counts.items
+    c.self.inside.made c.self.inside.last c.args.caller c.args.tick c.number_of-number.result c.max-tick.result
+    c.args.call.now c.in-Some.answer
     c.self.invariant c.answer.ensures.params (cc (c.answer.ensures.kept, c.reserve-3.ensures.bytes))
     (omega (arith, c.answer.ensures.longer, ap length c.reserve-3.ensures.bytes))
     (c.number_of-number.ensures ∙ ap (counted_for c.args.caller) c.deref.ensures.value)
     (grind arith)
     (omega (arith, c.self.invariant.low, c.max-tick.ensures, c.ranges.tick.fits))
     (record {
-      entries = λ arena. c.add.ensures.entries arena ∙ ap (λ (ss : List Stretch). entries_of arena ss ++ entry_of arena c.in-Some.slot ∷ []) same;
+      entries = λ arena. c.add.ensures.entries arena
+          ∙ ap (λ (ss : List Stretch). entries_of arena ss ++ entry_of arena c.in-Some.slot ∷ []) same;
       within = λ n all is. c.add.ensures.within n (subst (AllWithin n) (sym same) all) is;
       few = λ arena low.
-          let end : last_tick 0 (entries_of arena c.reserve.new.self.items) ≡ last_tick 0 (entries_of arena c.self.inside.stretches.items) = ap (λ (ss : List Stretch). last_tick 0 (entries_of arena ss)) same in
+          let end : last_tick 0 (entries_of arena c.reserve.new.self.items)
+          ≡ last_tick 0 (entries_of arena c.self.inside.stretches.items) =
+          ap (λ (ss : List Stretch). last_tick 0 (entries_of arena ss)) same in
           let more = c.add.ensures.few arena (omega (arith, end, low)) in
           omega (arith, end, more, sizes, c.in_ok-reserve.ensures.len, c.self.inside.stretches.ok.0);
     })
-    (λ (other : Caller). c.count_one.ensures.counted other ∙ ap (λ (cs : List CallerCount). counted_for other cs + cond (same_caller c.args.caller other) 1 0) c.reserve-2.ensures.items)
+    (λ (other : Caller). c.count_one.ensures.counted other
+    ∙ ap (λ (cs : List CallerCount). counted_for other cs + cond (same_caller c.args.caller other) 1 0)
+    c.reserve-2.ensures.items)
     c.in-Some.ensures.made
 
 pub invariant_of-self-2 : goal.invariant_of-self-2
@@ -45,11 +55,15 @@ invariant_of-self-2 g c = (grown g c).kept
 
 pub returns-clause-exact : goal.returns-clause-exact
 returns-clause-exact g c =
-    subst (λ (f : Flow). entries_of c.answer.new.self.bytes c.add.new.stretches.items ≡ extended_by f.params f.entries c.args.caller c.args.tick (call_of c.args.call.now) (offer_of c.args.call.now)) c.self.view_is (grown g c).exact
+    subst (λ (f : Flow). entries_of c.answer.new.self.bytes c.add.new.stretches.items
+    ≡ extended_by f.params f.entries c.args.caller c.args.tick (call_of c.args.call.now) (offer_of c.args.call.now))
+    c.self.view_is (grown g c).exact
 
 pub returns-clause-answer : goal.returns-clause-answer
 returns-clause-answer g c =
-    subst (λ (f : Flow). c.in-Some.answer ≡ answer_of (reply_to f.params f.entries c.args.tick (call_of c.args.call.now) (offer_of c.args.call.now))) c.self.view_is (grown g c).answer
+    subst (λ (f : Flow). c.in-Some.answer ≡ answer_of
+    (reply_to f.params f.entries c.args.tick (call_of c.args.call.now) (offer_of c.args.call.now))) c.self.view_is
+    (grown g c).answer
 
 pub returns-clause-legal : goal.returns-clause-legal
 returns-clause-legal g c = (grown g c).kept.legal
@@ -58,14 +72,29 @@ pub returns-clause-stands : goal.returns-clause-stands
 returns-clause-stands g c = (grown g c).kept.stands
 
 pub returns-in_err-reserve-3-clause-stands : goal.returns-in_err-reserve-3-clause-stands
-returns-in_err-reserve-3-clause-stands g c = rw (c.in_err-reserve-3.ensures.bytes, c.in_ok-reserve.ensures.items) c.self.invariant.stands
+returns-in_err-reserve-3-clause-stands g c =
+    rw (c.in_err-reserve-3.ensures.bytes, c.in_ok-reserve.ensures.items) c.self.invariant.stands
 
 pub returns-in_default-clause-stands : goal.returns-in_default-clause-stands
 returns-in_default-clause-stands g c =
-    rw (c.in_default.ensures.unmade, c.in_default.ensures.unmade_bytes, c.reserve-3.ensures.bytes, c.in_ok-reserve.ensures.items) c.self.invariant.stands
+    rw (
+      c.in_default.ensures.unmade,
+      c.in_default.ensures.unmade_bytes,
+      c.reserve-3.ensures.bytes,
+      c.in_ok-reserve.ensures.items,
+    ) c.self.invariant.stands
 
 pub answer-requires-clause-near : goal.answer-requires-clause-near
 answer-requires-clause-near g c =
     let h : List Entry = entries_of c.self.inside.arena.bytes c.self.inside.stretches.items in
     let p : HostParams = c.self.inside.parts.params in
-    near_of c.self.inside.parts (replay p h) (length h) c.self.invariant.stands (places_of p h c.self.invariant.fits c.self.invariant.legal) (omega (arith, c.self.invariant.made, c.self.invariant.few, c.self.invariant.low, c.self.inside.stretches.ok, c.self.inside.stretches.small))
+    near_of c.self.inside.parts (replay p h) (length h) c.self.invariant.stands
+    (places_of p h c.self.invariant.fits c.self.invariant.legal)
+    (omega (
+      arith,
+      c.self.invariant.made,
+      c.self.invariant.few,
+      c.self.invariant.low,
+      c.self.inside.stretches.ok,
+      c.self.inside.stretches.small,
+    ))

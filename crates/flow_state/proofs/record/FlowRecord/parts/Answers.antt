@@ -14,5 +14,14 @@ returns-clause-near c =
     let h : List Entry = entries_of c.self.inside.arena.bytes c.self.inside.stretches.items in
     let p : HostParams = c.self.inside.parts.params in
     let near : IsNear c.self.inside.parts =
-    near_of c.self.inside.parts (replay p h) (length h) c.self.invariant.stands (places_of p h c.self.invariant.fits c.self.invariant.legal) (omega (arith, c.self.invariant.made, c.self.invariant.few, c.self.invariant.low, c.self.inside.stretches.ok, c.self.inside.stretches.small)) in
+    near_of c.self.inside.parts (replay p h) (length h) c.self.invariant.stands
+    (places_of p h c.self.invariant.fits c.self.invariant.legal)
+    (omega (
+      arith,
+      c.self.invariant.made,
+      c.self.invariant.few,
+      c.self.invariant.low,
+      c.self.inside.stretches.ok,
+      c.self.inside.stretches.small,
+    )) in
     subst (λ (f : Flow). IsNear f.parts) c.self.view_is near

@@ -7,11 +7,24 @@ use Rattle.flow_state.proofs.stretches.Stretches.get.Goals as goal
 
 pub stretch_view-requires : goal.stretch_view-requires
 stretch_view-requires c =
-    let below : c.args.i < length c.self.inside.items.now = omega (arith, length-map c.self.inside.items.now (entries_in c.self.inside.arena.now), ap (length {A = List Entry}) c.self.view_is, c.requires) in
+    let below : c.args.i < length c.self.inside.items.now =
+    omega (
+      arith,
+      length-map c.self.inside.items.now (entries_in c.self.inside.arena.now),
+      ap (length {A = List Entry}) c.self.view_is,
+      c.requires,
+    ) in
     within_at (length c.self.inside.arena.now) c.self.inside.items.now c.args.i _ below c.self.invariant
 
 pub returns-clause-entries : goal.returns-clause-entries
 returns-clause-entries c =
-    let below : c.args.i < length c.self.inside.items.now = omega (arith, length-map c.self.inside.items.now (entries_in c.self.inside.arena.now), ap (length {A = List Entry}) c.self.view_is, c.requires) in
+    let below : c.args.i < length c.self.inside.items.now =
+    omega (
+      arith,
+      length-map c.self.inside.items.now (entries_in c.self.inside.arena.now),
+      ap (length {A = List Entry}) c.self.view_is,
+      c.requires,
+    ) in
     ap (λ (xss : List (List Entry)). slice_get xss c.args.i) (sym c.self.view_is)
-    ∙ (stretch_at c.self.inside.arena.now c.self.inside.items.now c.args.i _ below ∙ ap (λ (xs : List Entry). Some xs) (sym c.stretch_view.ensures.entries))
+    ∙ (stretch_at c.self.inside.arena.now c.self.inside.items.now c.args.i _ below
+    ∙ ap (λ (xs : List Entry). Some xs) (sym c.stretch_view.ensures.entries))

@@ -1,4 +1,5 @@
-use Rattle.std.proofs.Common.{◌≡◌, ◌∙◌, ℕ, ◌-◌, ◌++◌, List, length, take, drop, replicate, vec_len, ap, arith, length-append, length-drop}
+use Rattle.std.proofs.Common.{◌≡◌, ◌∙◌, ℕ, ◌-◌, ◌++◌, List, length, take, drop, replicate, vec_len, ap, arith}
+use Rattle.std.proofs.Common.{length-append, length-drop}
 use Rattle.std.proofs.lemmas.List.{length-replicate, take_all}
 use Rattle.payload_ring.proofs.Zeros.{padded, read_padded}
 use Rattle.payload_ring.proofs.cells.Cells.copy.Goals as goal
@@ -11,8 +12,10 @@ returns c =
     let whole : length (b ++ replicate left 0) ≡ length c.args.self.now = ap length c.self.view_is in
     let given : List ℕ = c.deref.result.now in
     let rest : take (length given - c.min.result) (drop c.min.result given) ≡ drop c.min.result b =
-    take_all (length given - c.min.result) (drop c.min.result given) (omega (arith, length-drop c.min.result given)) ∙ ap (drop c.min.result) c.deref.ensures.value in
+    take_all (length given - c.min.result) (drop c.min.result given) (omega (arith, length-drop c.min.result given))
+    ∙ ap (drop c.min.result) c.deref.ensures.value in
     let made : c.copy_front.new.out ≡ padded n (drop c.min.result b) = c.copy_front.ensures ∙ ap (padded n) rest in
     made
-    ∙ (read_padded b c.args.at c.min.result n left (omega (arith, c.min.ensures, c.len.ensures, c.self.inside.bytes.ok)) (omega (arith, whole, c.requires, length-append b (replicate left 0), length-replicate {A = ℕ} left 0))
+    ∙ (read_padded b c.args.at c.min.result n left (omega (arith, c.min.ensures, c.len.ensures, c.self.inside.bytes.ok))
+    (omega (arith, whole, c.requires, length-append b (replicate left 0), length-replicate {A = ℕ} left 0))
     ∙ ap (λ (xs : List ℕ). take n (drop c.args.at xs)) c.self.view_is)

@@ -1,4 +1,5 @@
-use Rattle.std.proofs.Common.{◌≡◌, ◌∙◌, ℕ, ◌+◌, ◌-◌, ◌≤◌, ◌++◌, List, length, replicate, vec_len, ap, arith, length-append}
+use Rattle.std.proofs.Common.{◌≡◌, ◌∙◌, ℕ, ◌+◌, ◌-◌, ◌≤◌, ◌++◌, List, length, replicate, vec_len, ap, arith}
+use Rattle.std.proofs.Common.{length-append}
 use Rattle.std.proofs.lemmas.List.{length-replicate}
 use Rattle.payload_ring.specs.Window.{overlaid}
 use Rattle.payload_ring.proofs.Zeros.{put_over}
@@ -15,7 +16,28 @@ returns-clause-cells c =
     let all : ℕ = c.self.inside.size - n in
     let m : ℕ = c.self.inside.size - vec_len c.write_over.new.bytes in
     let whole : length (b ++ replicate all 0) ≡ length c.args.self.now = ap length c.self.view_is in
-    let room : at + length p ≤ n + all = omega (arith, whole, c.requires.fits, length-append b (replicate all 0), length-replicate {A = ℕ} all 0, c.self.inside.bytes.ok) in
-    let grown : length f ≡ n + k = omega (arith, ap length c.fill_with_zeros.ensures.items, length-append b (replicate k 0), length-replicate {A = ℕ} k 0, c.self.inside.bytes.ok) in
-    let sum : k + m ≡ all = omega (arith, room, grown, c.fill_with_zeros.new.bytes.ok, c.write_over.ensures.len, c.self.invariant) in
-    put_over b f c.write_over.new.bytes.items p at k m all c.fill_with_zeros.ensures.items sum (omega (arith, grown)) c.write_over.ensures.items ∙ ap (overlaid at p) c.self.view_is
+    let room : at + length p ≤ n + all = omega (
+      arith,
+      whole,
+      c.requires.fits,
+      length-append b (replicate all 0),
+      length-replicate {A = ℕ} all 0,
+      c.self.inside.bytes.ok,
+    ) in
+    let grown : length f ≡ n + k = omega (
+      arith,
+      ap length c.fill_with_zeros.ensures.items,
+      length-append b (replicate k 0),
+      length-replicate {A = ℕ} k 0,
+      c.self.inside.bytes.ok,
+    ) in
+    let sum : k + m ≡ all = omega (
+      arith,
+      room,
+      grown,
+      c.fill_with_zeros.new.bytes.ok,
+      c.write_over.ensures.len,
+      c.self.invariant,
+    ) in
+    put_over b f c.write_over.new.bytes.items p at k m all c.fill_with_zeros.ensures.items sum
+    (omega (arith, grown)) c.write_over.ensures.items ∙ ap (overlaid at p) c.self.view_is

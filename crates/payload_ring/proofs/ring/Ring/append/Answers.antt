@@ -12,6 +12,8 @@ returns c =
     let size : length was.cells ≡ c.args.self.now.size = ap (λ (w : Window). w.size) c.self.view_is in
     let within : was.len ≤ length cells = omega (arith, length-turned was.start was.cells, c.self.invariant) in
     let in_order : length c.args.self.now.bytes ≡ was.len = length-in_order _ _ was.len cells _ within c.self.view_is in
-    let fits : was.len + length c.args.bytes.now ≤ length cells = omega (arith, length-turned was.start was.cells, size, in_order, within, c.requires.room) in
-    ap (λ (n : ℕ). on_cells n was.base (was.len + length c.args.bytes.now) (turned was.start c.put_round.new.self)) c.put_round.ensures.len
+    let fits : was.len + length c.args.bytes.now ≤ length cells =
+    omega (arith, length-turned was.start was.cells, size, in_order, within, c.requires.room) in
+    ap (λ (n : ℕ). on_cells n was.base (was.len + length c.args.bytes.now) (turned was.start c.put_round.new.self))
+    c.put_round.ensures.len
     ∙ appended _ _ was.len c.args.bytes.now cells _ _ fits c.put_round.ensures.cells c.self.view_is

@@ -13,8 +13,10 @@ returns c =
     let fits : c.args.n ≤ was.len = omega (arith, in_order, c.requires) in
     let start : was.start < length was.cells = omega (arith, c.self.invariant) in
     let turn : turned c.index_of-self-inside.result was.cells ≡ _ =
-    turned-on was.start c.args.n c.index_of-self-inside.result was.cells start (omega (arith, fits, within, length-turned was.start was.cells))
+    turned-on was.start c.args.n c.index_of-self-inside.result was.cells start
+    (omega (arith, fits, within, length-turned was.start was.cells))
     (λ h. c.index_of-self-inside.ensures.before (omega (arith, h, c.len.ensures)))
     (λ h. c.index_of-self-inside.ensures.past (omega (arith, h, c.len.ensures)) ∙ omega (arith, c.len.ensures)) in
-    ap (λ (k : ℕ). on_cells (length was.cells) (was.base + k) (was.len - c.args.n) (turned c.index_of-self-inside.result was.cells)) c.from.ensures
+    ap (λ (k : ℕ). on_cells (length was.cells) (was.base + k) (was.len - c.args.n)
+    (turned c.index_of-self-inside.result was.cells)) c.from.ensures
     ∙ dropped _ _ was.len c.args.n cells _ _ fits within turn c.self.view_is

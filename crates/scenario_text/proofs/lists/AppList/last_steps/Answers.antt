@@ -5,5 +5,8 @@ use Rattle.scenario_text.proofs.lists.AppList.last_steps.Goals as goal
 
 pub returns-in-Some : goal.returns-in-Some
 returns-in-Some c =
-    let last : c.in-Some.last + 1 ≡ length c.self.inside.items.items = omega (arith, c.in-Some.ensures, c.len.ensures) in
-    c.len-in-Some.ensures ∙ ap length (sym (last_at c.self.inside.items.items c.in-Some.last c.index.result.now last c.index.ensures) ∙ ap last_steps c.self.view_is)
+    let last : c.in-Some.last + 1 ≡ length c.self.inside.items.items =
+    omega (arith, c.in-Some.ensures, c.len.ensures) in
+    c.len-in-Some.ensures
+    ∙ ap length (sym (last_at c.self.inside.items.items c.in-Some.last c.index.result.now last c.index.ensures)
+    ∙ ap last_steps c.self.view_is)

@@ -6,4 +6,8 @@ use Rattle.slow_handshake.proofs.slow_path.SlowPath.forget.Goals as goal
 
 pub returns : goal.returns
 returns c =
-    rw (filter_same _ (λ (l : Listener). not (is_owned_by c.args.app l)) _ (λ x b q k. search (rules, tests)) _ _ c.retain.ensures.filtered, ← c.self.view_is) refl
+    rw (
+      filter_same _ (λ (l : Listener). not (is_owned_by c.args.app l)) _
+          (λ x b q k. search (rules, tests)) _ _ c.retain.ensures.filtered,
+      ← c.self.view_is,
+    ) refl

@@ -6,4 +6,8 @@ use Rattle.slow_handshake.proofs.slow_path.SlowPath.left.Goals as goal
 
 pub returns : goal.returns
 returns c =
-    rw (filter_same _ (λ (f : PassiveFlow). not (is_named c.args.id f)) _ (λ x b q k. search (rules, tests)) _ _ c.retain.ensures.filtered, ← c.self.view_is) refl
+    rw (
+      filter_same _ (λ (f : PassiveFlow). not (is_named c.args.id f)) _
+          (λ x b q k. search (rules, tests)) _ _ c.retain.ensures.filtered,
+      ← c.self.view_is,
+    ) refl

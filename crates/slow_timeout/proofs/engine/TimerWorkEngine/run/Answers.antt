@@ -7,4 +7,5 @@ use Rattle.slow_timeout.proofs.engine.TimerWorkEngine.run.Goals as goal
 pub returns-in-Tick-clause-made : goal.returns-in-Tick-clause-made
 unfolding step
 returns-in-Tick-clause-made c e v s =
-    subst (λ (call : CallIn). Makes e c.args.tick call c.tick.new.parts c.args._out.now c.tick.result) (sym c.in-Tick.is) (record { step = c.tick.ensures.made c.args._out.now e v s })
+    subst (λ (call : CallIn). Makes e c.args.tick call c.tick.new.parts c.args._out.now c.tick.result)
+    (sym c.in-Tick.is) (record { step = c.tick.ensures.made c.args._out.now e v s })
