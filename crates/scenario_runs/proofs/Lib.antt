@@ -1,7 +1,3 @@
 pub mod ByMoves
 pub mod AllRuns
-pub mod WorkedTalks
-pub mod WorkedEnds
-pub mod WorkedLinks
-pub mod WorkedHoles
-pub mod WorkedForms
+pub mod WorkedRuns

@@ -3,8 +3,4 @@ pub mod Worlds
 pub mod Runs
 pub mod Histories
 pub mod WorkedParts
-pub mod WorkedTalks
-pub mod WorkedEnds
-pub mod WorkedLinks
-pub mod WorkedHoles
-pub mod WorkedForms
+pub mod WorkedRuns

@@ -6,4 +6,4 @@ mod laws;
 mod worked;
 
 pub use laws::{flows_are_sound, scenarios_ask_by_moves, serial_order_is_right};
-pub use worked::{worked_ends, worked_forms, worked_links, worked_talks};
+pub use worked::worked_runs;

@@ -1,74 +1,13 @@
-ghost use Rattle.std.specs.Prelude.{◌≡◌, Err};
+ghost use Rattle.std.specs.Prelude.{◌≡◌};
 ghost use Rattle.scenario_runs.specs.WorkedParts.{reported};
-ghost use Rattle.scenario_runs.specs.WorkedTalks.{hello, hello_report, lost, lost_report, doubled, doubled_report};
-ghost use Rattle.scenario_runs.specs.WorkedTalks.{damaged, damaged_report, wrapped, wrapped_report, nobody};
-ghost use Rattle.scenario_runs.specs.WorkedTalks.{nobody_report, lone, lone_report};
-ghost use Rattle.scenario_runs.specs.WorkedEnds.{unanswered, unanswered_report, killed_late, killed_late_report};
-ghost use Rattle.scenario_runs.specs.WorkedEnds.{killed_after, killed_after_report, killed_early};
-ghost use Rattle.scenario_runs.specs.WorkedEnds.{killed_early_report, one_slot, one_slot_report, slot_kept};
-ghost use Rattle.scenario_runs.specs.WorkedEnds.{slot_kept_report, stalled, stalled_report, cut_short};
-ghost use Rattle.scenario_runs.specs.WorkedEnds.{cut_short_report, open_flows, open_flows_report, no_such_byte};
-ghost use Rattle.scenario_runs.specs.WorkedEnds.{no_such_byte_report, all_steps, all_steps_report};
-ghost use Rattle.scenario_runs.specs.WorkedLinks.{own_host, own_host_report, silent, silent_report, one_waits};
-ghost use Rattle.scenario_runs.specs.WorkedLinks.{one_waits_report};
-ghost use Rattle.scenario_runs.specs.WorkedHoles.{late_middle, late_middle_report, two_holes, two_holes_report};
-ghost use Rattle.scenario_text.specs.declared.reading.ScenarioFault.TheVariants.{Refused};
-ghost use Rattle.scenario_text.specs.Reads.{reads};
-ghost use Rattle.scenario_runs.specs.WorkedForms.{spaced_text, spaced_text_report, spaced_lines, spaced_lines_report};
-ghost use Rattle.scenario_runs.specs.WorkedForms.{between_steps, between_steps_report, blank_text, blank_text_report};
-ghost use Rattle.scenario_runs.specs.WorkedForms.{killed_at_once, killed_at_once_report};
-ghost use Rattle.scenario_runs.specs.WorkedForms.{strange_byte, bare_return, wrong_name, unknown_name, many_options};
-ghost use Rattle.scenario_runs.specs.WorkedForms.{unknown_option, half_option};
+ghost use Rattle.scenario_runs.specs.WorkedRuns.{hello, hello_report, damaged, damaged_report, killed_early};
+ghost use Rattle.scenario_runs.specs.WorkedRuns.{killed_early_report, one_slot, one_slot_report};
 
-/// Reports that another program wrote for scenarios whose frames are lost, doubled and damaged are those of the run
-/// in serial order.
-pub fn worked_talks()
+/// Reports that another program wrote for a plain talk, one with a damaged frame, one with a killed client, and one
+/// on a host with one slot are those of the run in serial order.
+pub fn worked_runs()
     ensures hello { reported hello ≡ hello_report }
-    ensures lost { reported lost ≡ lost_report }
-    ensures doubled { reported doubled ≡ doubled_report }
     ensures damaged { reported damaged ≡ damaged_report }
-    ensures wrapped { reported wrapped ≡ wrapped_report }
-    ensures nobody { reported nobody ≡ nobody_report }
-    ensures lone { reported lone ≡ lone_report }
-{}
-
-/// The same of kills, slots, refused connects and limits.
-pub fn worked_ends()
-    ensures unanswered { reported unanswered ≡ unanswered_report }
-    ensures killed_late { reported killed_late ≡ killed_late_report }
-    ensures killed_after { reported killed_after ≡ killed_after_report }
     ensures killed_early { reported killed_early ≡ killed_early_report }
     ensures one_slot { reported one_slot ≡ one_slot_report }
-    ensures slot_kept { reported slot_kept ≡ slot_kept_report }
-    ensures stalled { reported stalled ≡ stalled_report }
-    ensures cut_short { reported cut_short ≡ cut_short_report }
-    ensures open_flows { reported open_flows ≡ open_flows_report }
-    ensures no_such_byte { reported no_such_byte ≡ no_such_byte_report }
-    ensures all_steps { reported all_steps ≡ all_steps_report }
-{}
-
-/// The same of longer runs over links that lose, delay and starve.
-pub fn worked_links()
-    ensures own_host { reported own_host ≡ own_host_report }
-    ensures late_middle { reported late_middle ≡ late_middle_report }
-    ensures two_holes { reported two_holes ≡ two_holes_report }
-    ensures silent { reported silent ≡ silent_report }
-    ensures one_waits { reported one_waits ≡ one_waits_report }
-{}
-
-/// The same of texts that try the forms of lines, and the first refused line of texts that are no scenarios, with its
-/// kind.
-pub fn worked_forms()
-    ensures spaced_text { reported spaced_text ≡ spaced_text_report }
-    ensures spaced_lines { reported spaced_lines ≡ spaced_lines_report }
-    ensures between_steps { reported between_steps ≡ between_steps_report }
-    ensures blank_text { reported blank_text ≡ blank_text_report }
-    ensures killed_at_once { reported killed_at_once ≡ killed_at_once_report }
-    ensures strange_byte { reads strange_byte ≡ Err (Refused 2 2) }
-    ensures bare_return { reads bare_return ≡ Err (Refused 1 2) }
-    ensures wrong_name { reads wrong_name ≡ Err (Refused 4 6) }
-    ensures unknown_name { reads unknown_name ≡ Err (Refused 3 6) }
-    ensures many_options { reads many_options ≡ Err (Refused 1 4) }
-    ensures unknown_option { reads unknown_option ≡ Err (Refused 2 6) }
-    ensures half_option { reads half_option ≡ Err (Refused 2 4) }
 {}

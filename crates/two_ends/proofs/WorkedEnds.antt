@@ -12,8 +12,8 @@ use Rattle.host_rounds.specs.SerialOrder.{serial_tick}
 use Rattle.scenario_text.specs.Statements.{reading}
 use Rattle.scenario_text.specs.Reads.{reads}
 use Rattle.scenario_runs.specs.Runs.{serial_world, serial_from}
-use Rattle.scenario_runs.specs.WorkedTalks.{hello}
-use Rattle.scenario_runs.specs.WorkedLinks.{own_host}
+use Rattle.scenario_runs.specs.WorkedRuns.{hello}
+use Rattle.worked_scenarios.specs.WorkedLinks.{own_host}
 use Rattle.two_ends.specs.WorkedEnds.{other_end_counts}
 
 pub hello_has : other_end_counts hello ≡ 1 ∷ 1 ∷ []

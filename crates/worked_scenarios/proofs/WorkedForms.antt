@@ -16,11 +16,10 @@ use Rattle.scenario_text.specs.declared.reading.ScenarioFault.TheVariants.{Refus
 use Rattle.scenario_text.specs.Reads.{reads}
 use Rattle.scenario_runs.specs.Runs.{serial_world, serial_from}
 use Rattle.scenario_runs.specs.WorkedParts.{reported}
-use Rattle.scenario_runs.specs.WorkedForms.{spaced_text, spaced_text_report, spaced_lines, spaced_lines_report}
-use Rattle.scenario_runs.specs.WorkedForms.{between_steps, between_steps_report, blank_text, blank_text_report}
-use Rattle.scenario_runs.specs.WorkedForms.{killed_at_once, killed_at_once_report}
-use Rattle.scenario_runs.specs.WorkedForms.{strange_byte, bare_return, wrong_name, unknown_name, many_options}
-use Rattle.scenario_runs.specs.WorkedForms.{unknown_option, half_option}
+use Rattle.worked_scenarios.specs.WorkedForms.{spaced_text, spaced_text_report, spaced_lines, spaced_lines_report}
+use Rattle.worked_scenarios.specs.WorkedForms.{between_steps, between_steps_report, blank_text, blank_text_report}
+use Rattle.worked_scenarios.specs.WorkedForms.{killed_at_once, killed_at_once_report, strange_byte, bare_return}
+use Rattle.worked_scenarios.specs.WorkedForms.{wrong_name, unknown_name, many_options, unknown_option, half_option}
 
 pub spaced_text_is : reported spaced_text ≡ spaced_text_report
 unfolding reads reading digits nearest ip_header tcp_fixed refusal mss_of rx rx_later rx_syn_sent going ticks control

@@ -15,41 +15,25 @@ use Rattle.scenario_text.specs.Statements.{reading}
 use Rattle.scenario_text.specs.Reads.{reads}
 use Rattle.scenario_runs.specs.Runs.{serial_world, serial_from}
 use Rattle.scenario_runs.specs.WorkedParts.{reported}
-use Rattle.scenario_runs.specs.WorkedTalks.{hello, hello_report, lost, lost_report, doubled, doubled_report, damaged}
-use Rattle.scenario_runs.specs.WorkedTalks.{damaged_report, wrapped, wrapped_report, nobody, nobody_report, lone}
-use Rattle.scenario_runs.specs.WorkedTalks.{lone_report}
+use Rattle.scenario_runs.specs.WorkedRuns.{hello, hello_report, damaged, damaged_report, killed_early}
+use Rattle.scenario_runs.specs.WorkedRuns.{killed_early_report, one_slot, one_slot_report}
 
 pub hello_is : reported hello ≡ hello_report
 unfolding reads reading digits nearest ip_header tcp_fixed refusal mss_of rx rx_later rx_syn_sent going ticks control
     step replay serial_tick report serial_world serial_from
 hello_is = refl
 
-pub lost_is : reported lost ≡ lost_report
-unfolding reads reading digits nearest ip_header tcp_fixed refusal mss_of rx rx_later rx_syn_sent going ticks control
-    step replay serial_tick report serial_world serial_from
-lost_is = refl
-
-pub doubled_is : reported doubled ≡ doubled_report
-unfolding reads reading digits nearest ip_header tcp_fixed refusal mss_of rx rx_later rx_syn_sent going ticks control
-    step replay serial_tick report serial_world serial_from
-doubled_is = refl
-
 pub damaged_is : reported damaged ≡ damaged_report
 unfolding reads reading digits nearest ip_header tcp_fixed refusal mss_of rx rx_later rx_syn_sent going ticks control
     step replay serial_tick report serial_world serial_from
 damaged_is = refl
 
-pub wrapped_is : reported wrapped ≡ wrapped_report
+pub killed_early_is : reported killed_early ≡ killed_early_report
 unfolding reads reading digits nearest ip_header tcp_fixed refusal mss_of rx rx_later rx_syn_sent going ticks control
     step replay serial_tick report serial_world serial_from
-wrapped_is = refl
+killed_early_is = refl
 
-pub nobody_is : reported nobody ≡ nobody_report
+pub one_slot_is : reported one_slot ≡ one_slot_report
 unfolding reads reading digits nearest ip_header tcp_fixed refusal mss_of rx rx_later rx_syn_sent going ticks control
     step replay serial_tick report serial_world serial_from
-nobody_is = refl
-
-pub lone_is : reported lone ≡ lone_report
-unfolding reads reading digits nearest ip_header tcp_fixed refusal mss_of rx rx_later rx_syn_sent going ticks control
-    step replay serial_tick report serial_world serial_from
-lone_is = refl
+one_slot_is = refl

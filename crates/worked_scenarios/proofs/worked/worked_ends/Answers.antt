@@ -1,7 +1,7 @@
-use Rattle.scenario_runs.proofs.WorkedEnds.{unanswered_is, killed_late_is, killed_after_is, killed_early_is}
-use Rattle.scenario_runs.proofs.WorkedEnds.{one_slot_is, slot_kept_is, stalled_is, cut_short_is, open_flows_is}
-use Rattle.scenario_runs.proofs.WorkedEnds.{no_such_byte_is, all_steps_is}
-use Rattle.scenario_runs.proofs.worked.worked_ends.Goals as goal
+use Rattle.worked_scenarios.proofs.WorkedEnds.{unanswered_is, killed_late_is, killed_after_is}
+use Rattle.worked_scenarios.proofs.WorkedEnds.{slot_kept_is, stalled_is, cut_short_is, open_flows_is}
+use Rattle.worked_scenarios.proofs.WorkedEnds.{no_such_byte_is, all_steps_is}
+use Rattle.worked_scenarios.proofs.worked.worked_ends.Goals as goal
 
 pub returns-clause-unanswered : goal.returns-clause-unanswered
 returns-clause-unanswered c = unanswered_is
@@ -11,12 +11,6 @@ returns-clause-killed_late c = killed_late_is
 
 pub returns-clause-killed_after : goal.returns-clause-killed_after
 returns-clause-killed_after c = killed_after_is
-
-pub returns-clause-killed_early : goal.returns-clause-killed_early
-returns-clause-killed_early c = killed_early_is
-
-pub returns-clause-one_slot : goal.returns-clause-one_slot
-returns-clause-one_slot c = one_slot_is
 
 pub returns-clause-slot_kept : goal.returns-clause-slot_kept
 returns-clause-slot_kept c = slot_kept_is

@@ -1,6 +1,6 @@
-use Rattle.scenario_runs.proofs.WorkedLinks.{own_host_is, silent_is, one_waits_is}
-use Rattle.scenario_runs.proofs.WorkedHoles.{late_middle_is, two_holes_is}
-use Rattle.scenario_runs.proofs.worked.worked_links.Goals as goal
+use Rattle.worked_scenarios.proofs.WorkedLinks.{own_host_is, silent_is, one_waits_is}
+use Rattle.worked_scenarios.proofs.WorkedHoles.{late_middle_is, two_holes_is}
+use Rattle.worked_scenarios.proofs.worked.worked_links.Goals as goal
 
 pub returns-clause-own_host : goal.returns-clause-own_host
 returns-clause-own_host c = own_host_is

@@ -15,7 +15,7 @@ use Rattle.scenario_text.specs.Statements.{reading}
 use Rattle.scenario_text.specs.Reads.{reads}
 use Rattle.scenario_runs.specs.Runs.{serial_world, serial_from}
 use Rattle.scenario_runs.specs.WorkedParts.{reported}
-use Rattle.scenario_runs.specs.WorkedHoles.{late_middle, late_middle_report, two_holes, two_holes_report}
+use Rattle.worked_scenarios.specs.WorkedHoles.{late_middle, late_middle_report, two_holes, two_holes_report}
 
 pub late_middle_is : reported late_middle ≡ late_middle_report
 unfolding reads reading digits nearest ip_header tcp_fixed refusal mss_of rx rx_later rx_syn_sent going ticks control

@@ -15,20 +15,30 @@ use Rattle.scenario_text.specs.Statements.{reading}
 use Rattle.scenario_text.specs.Reads.{reads}
 use Rattle.scenario_runs.specs.Runs.{serial_world, serial_from}
 use Rattle.scenario_runs.specs.WorkedParts.{reported}
-use Rattle.scenario_runs.specs.WorkedLinks.{own_host, own_host_report, silent, silent_report, one_waits}
-use Rattle.scenario_runs.specs.WorkedLinks.{one_waits_report}
+use Rattle.worked_scenarios.specs.WorkedTalks.{lost, lost_report, doubled, doubled_report, wrapped, wrapped_report}
+use Rattle.worked_scenarios.specs.WorkedTalks.{nobody, nobody_report, lone, lone_report}
 
-pub own_host_is : reported own_host ≡ own_host_report
+pub lost_is : reported lost ≡ lost_report
 unfolding reads reading digits nearest ip_header tcp_fixed refusal mss_of rx rx_later rx_syn_sent going ticks control
     step replay serial_tick report serial_world serial_from
-own_host_is = refl
+lost_is = refl
 
-pub silent_is : reported silent ≡ silent_report
+pub doubled_is : reported doubled ≡ doubled_report
 unfolding reads reading digits nearest ip_header tcp_fixed refusal mss_of rx rx_later rx_syn_sent going ticks control
     step replay serial_tick report serial_world serial_from
-silent_is = refl
+doubled_is = refl
 
-pub one_waits_is : reported one_waits ≡ one_waits_report
+pub wrapped_is : reported wrapped ≡ wrapped_report
 unfolding reads reading digits nearest ip_header tcp_fixed refusal mss_of rx rx_later rx_syn_sent going ticks control
     step replay serial_tick report serial_world serial_from
-one_waits_is = refl
+wrapped_is = refl
+
+pub nobody_is : reported nobody ≡ nobody_report
+unfolding reads reading digits nearest ip_header tcp_fixed refusal mss_of rx rx_later rx_syn_sent going ticks control
+    step replay serial_tick report serial_world serial_from
+nobody_is = refl
+
+pub lone_is : reported lone ≡ lone_report
+unfolding reads reading digits nearest ip_header tcp_fixed refusal mss_of rx rx_later rx_syn_sent going ticks control
+    step replay serial_tick report serial_world serial_from
+lone_is = refl

@@ -1,8 +1,8 @@
-use Rattle.scenario_runs.proofs.WorkedForms.{spaced_text_is, spaced_lines_is, between_steps_is, blank_text_is}
-use Rattle.scenario_runs.proofs.WorkedForms.{killed_at_once_is}
-use Rattle.scenario_runs.proofs.WorkedForms.{strange_byte_is, bare_return_is, wrong_name_is, unknown_name_is}
-use Rattle.scenario_runs.proofs.WorkedForms.{many_options_is, unknown_option_is, half_option_is}
-use Rattle.scenario_runs.proofs.worked.worked_forms.Goals as goal
+use Rattle.worked_scenarios.proofs.WorkedForms.{spaced_text_is, spaced_lines_is, between_steps_is, blank_text_is}
+use Rattle.worked_scenarios.proofs.WorkedForms.{killed_at_once_is}
+use Rattle.worked_scenarios.proofs.WorkedForms.{strange_byte_is, bare_return_is, wrong_name_is, unknown_name_is}
+use Rattle.worked_scenarios.proofs.WorkedForms.{many_options_is, unknown_option_is, half_option_is}
+use Rattle.worked_scenarios.proofs.worked.worked_forms.Goals as goal
 
 pub returns-clause-spaced_text : goal.returns-clause-spaced_text
 returns-clause-spaced_text c = spaced_text_is

@@ -1,17 +1,11 @@
-use Rattle.scenario_runs.proofs.WorkedTalks.{hello_is, lost_is, doubled_is, damaged_is, wrapped_is, nobody_is, lone_is}
-use Rattle.scenario_runs.proofs.worked.worked_talks.Goals as goal
-
-pub returns-clause-hello : goal.returns-clause-hello
-returns-clause-hello c = hello_is
+use Rattle.worked_scenarios.proofs.WorkedTalks.{lost_is, doubled_is, wrapped_is, nobody_is, lone_is}
+use Rattle.worked_scenarios.proofs.worked.worked_talks.Goals as goal
 
 pub returns-clause-lost : goal.returns-clause-lost
 returns-clause-lost c = lost_is
 
 pub returns-clause-doubled : goal.returns-clause-doubled
 returns-clause-doubled c = doubled_is
-
-pub returns-clause-damaged : goal.returns-clause-damaged
-returns-clause-damaged c = damaged_is
 
 pub returns-clause-wrapped : goal.returns-clause-wrapped
 returns-clause-wrapped c = wrapped_is

@@ -15,11 +15,11 @@ use Rattle.scenario_text.specs.Statements.{reading}
 use Rattle.scenario_text.specs.Reads.{reads}
 use Rattle.scenario_runs.specs.Runs.{serial_world, serial_from}
 use Rattle.scenario_runs.specs.WorkedParts.{reported}
-use Rattle.scenario_runs.specs.WorkedEnds.{unanswered, unanswered_report, killed_late, killed_late_report}
-use Rattle.scenario_runs.specs.WorkedEnds.{killed_after, killed_after_report, killed_early, killed_early_report}
-use Rattle.scenario_runs.specs.WorkedEnds.{one_slot, one_slot_report, slot_kept, slot_kept_report, stalled}
-use Rattle.scenario_runs.specs.WorkedEnds.{stalled_report, cut_short, cut_short_report, open_flows, open_flows_report}
-use Rattle.scenario_runs.specs.WorkedEnds.{no_such_byte, no_such_byte_report, all_steps, all_steps_report}
+use Rattle.worked_scenarios.specs.WorkedEnds.{unanswered, unanswered_report, killed_late, killed_late_report}
+use Rattle.worked_scenarios.specs.WorkedEnds.{killed_after, killed_after_report, slot_kept, slot_kept_report, stalled}
+use Rattle.worked_scenarios.specs.WorkedEnds.{stalled_report, cut_short, cut_short_report, open_flows}
+use Rattle.worked_scenarios.specs.WorkedEnds.{open_flows_report, no_such_byte, no_such_byte_report, all_steps}
+use Rattle.worked_scenarios.specs.WorkedEnds.{all_steps_report}
 
 pub unanswered_is : reported unanswered ≡ unanswered_report
 unfolding reads reading digits nearest ip_header tcp_fixed refusal mss_of rx rx_later rx_syn_sent going ticks control
@@ -35,16 +35,6 @@ pub killed_after_is : reported killed_after ≡ killed_after_report
 unfolding reads reading digits nearest ip_header tcp_fixed refusal mss_of rx rx_later rx_syn_sent going ticks control
     step replay serial_tick report serial_world serial_from
 killed_after_is = refl
-
-pub killed_early_is : reported killed_early ≡ killed_early_report
-unfolding reads reading digits nearest ip_header tcp_fixed refusal mss_of rx rx_later rx_syn_sent going ticks control
-    step replay serial_tick report serial_world serial_from
-killed_early_is = refl
-
-pub one_slot_is : reported one_slot ≡ one_slot_report
-unfolding reads reading digits nearest ip_header tcp_fixed refusal mss_of rx rx_later rx_syn_sent going ticks control
-    step replay serial_tick report serial_world serial_from
-one_slot_is = refl
 
 pub slot_kept_is : reported slot_kept ≡ slot_kept_report
 unfolding reads reading digits nearest ip_header tcp_fixed refusal mss_of rx rx_later rx_syn_sent going ticks control

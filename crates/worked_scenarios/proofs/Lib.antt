@@ -1,0 +1,5 @@
+pub mod WorkedTalks
+pub mod WorkedEnds
+pub mod WorkedLinks
+pub mod WorkedHoles
+pub mod WorkedForms
