@@ -5,7 +5,6 @@ ghost use Rattle.tas_num.specs.Captures.{form_of, capture_of, capture_with, file
 
 /// How the records of a capture are found one by one: those of the bytes left are the first record, and those of the
 /// bytes after it.
-#[tactic(auto, using(crate::proofs::Following::records_from_ends, crate::proofs::Following::records_from_refused, crate::proofs::Following::records_from_next))]
 pub fn records_are_found_in_order()
     ensures ends { (form : Form) (number : ℕ) (b : List ℕ) → first_record form number b ≡ Ok None
         → records_from form number b ≡ Ok [] }
