@@ -86,13 +86,13 @@ legal_after params y ys (x ∷ xs) given numbers rise =
     )
 
 -- the history opens, and its replies, numbers and ticks are those that its calls give
-abbrev Shows : HostParams → List Entry → Type 0
+abbrev pub Shows : HostParams → List Entry → Type 0
 Shows params [] = ⊥
 Shows params (x ∷ xs) =
     IsFirst x × (replies_from (opened params x.call) xs ≡ map (λ (z : Entry). Some z.reply) xs)
     × (numbers_from (x ∷ []) xs ≡ map (λ (z : Entry). z.number) xs) × (ticks_rise x.tick xs ≡ true)
 
-legal_by : (params : HostParams) (h : List Entry) → Shows params h → Legal params h
+pub legal_by : (params : HostParams) (h : List Entry) → Shows params h → Legal params h
 unfolding replay
 legal_by params [] shows = absurd shows
 legal_by params (x ∷ xs) shows = (shows.0, legal_after params x [] xs shows.1 shows.2 shows.3)

@@ -13,3 +13,5 @@ pub mod BucketLaw
 pub mod BadSegment
 pub mod InOrder
 pub mod WorkedHistories
+pub mod WorkedRules
+pub mod StandardsWords

@@ -2,11 +2,16 @@
 #![tactic(auto)]
 
 mod bytes;
+mod endpoint_laws;
 mod entry;
 mod laws;
 mod recorded;
 
 pub use bytes::Bytes;
+pub use endpoint_laws::{
+    control_follows_losses, initial_window_by_size, no_reset_answers_a_reset,
+    only_the_third_duplicate_goes_back, window_is_the_newest, worked_rules_are_legal,
+};
 pub use entry::{
     CAPTURE, Call, Caller, Entry, FlowId, FourTuple, FrameId, Head, HostParams, NO_FLOW, Phase,
     Reason, Reply, Seg,
