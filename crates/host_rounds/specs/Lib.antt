@@ -14,3 +14,5 @@ pub mod Standing
 pub mod Histories
 pub mod EveryTick
 pub mod WorkedTicks
+pub mod Meetings
+pub mod Frames

@@ -4,6 +4,7 @@
 
 mod laws;
 mod log;
+mod run_laws;
 mod worked;
 
 pub use log::{LogEvent, LogLine};

@@ -21,7 +21,7 @@ joins_small false b h = absurd (true≢false (sym h))
 
 batch_push : (batch : List Item) (x : Item) → IsBatch batch → joins batch x ≡ true → IsBatch (batch ++ x ∷ [])
 batch_push batch x is joined =
-    let parts = joins_small (nat_lt (length batch) 64) (clashes batch x) joined in
+    let parts = joins_small _ (clashes batch x) joined in
     let small : length batch < 64 = grind (arith, tests, parts.0) in
     let longer : length (batch ++ x ∷ []) ≡ length batch + 1 = length-append batch (x ∷ []) in
     record { some = omega arith; most = omega arith; flows = none_push [] batch x is.flows parts.1 }
@@ -75,3 +75,13 @@ batches_are (x ∷ items) =
     (closed_cut (fold cut_at (if true && not b then record { done = []; current = x ∷ [] }
     else record { done = [] ++ [] ∷ []; current = x ∷ [] }) items)))
     (sym (none_clash x)) (growing [] x [] items (one_batch x))
+
+-- ----- a batch that is not full
+both_join : (a b : Bool) → a ≡ true → b ≡ false → (a && not b) ≡ true
+both_join true false h g = refl
+both_join true true h g = absurd (true≢false g)
+both_join false b h g = absurd (true≢false (sym h))
+
+pub takes_up_to : (batch : List Item) (x : Item) → length batch < 64 → clashes batch x ≡ false → joins batch x ≡ true
+takes_up_to batch x small apart =
+    both_join _ (clashes batch x) (grind (arith, tests, small)) apart

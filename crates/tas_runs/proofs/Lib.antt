@@ -12,3 +12,4 @@ pub mod Texts
 pub mod Pushes
 pub mod WorkedReplays
 pub mod WorkedRecords
+pub mod WorkedOrders

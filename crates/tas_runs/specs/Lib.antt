@@ -11,3 +11,4 @@ pub mod SentFrames
 pub mod WorkedTexts
 pub mod WorkedReplays
 pub mod WorkedRecords
+pub mod WorkedOrders

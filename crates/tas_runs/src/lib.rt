@@ -3,6 +3,7 @@
 #![tactic(auto)]
 
 mod laws;
+mod run_laws;
 mod worked;
 
 pub use laws::{
@@ -10,4 +11,5 @@ pub use laws::{
     flows_have_sent_all, frames_have_one_place, only_captures_are_replayed, records_are_counted,
     replays_ask_by_moves, scripts_are_asked_in_order, serial_order_is_right,
 };
-pub use worked::{worked_records, worked_replays};
+pub use run_laws::batches_take_up_to_64;
+pub use worked::{worked_orders, worked_records, worked_replays};

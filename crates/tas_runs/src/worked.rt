@@ -15,6 +15,9 @@ ghost use Rattle.tas_runs.specs.WorkedRecords.{reset_while_opening_capture, rese
 ghost use Rattle.tas_runs.specs.WorkedRecords.{abort_while_opening_capture, abort_while_opening_report};
 ghost use Rattle.tas_runs.specs.WorkedRecords.{used_again_capture, used_again_report, late_segment_capture};
 ghost use Rattle.tas_runs.specs.WorkedRecords.{late_segment_report};
+ghost use Rattle.tas_runs.specs.WorkedOrders.{second_number_capture, second_number_report, syn_with_data_capture};
+ghost use Rattle.tas_runs.specs.WorkedOrders.{syn_with_data_report, local_gap_capture, local_gap_report};
+ghost use Rattle.tas_runs.specs.WorkedOrders.{strays_last_capture, strays_last_sent};
 
 /// Reports that another program wrote for captures of single connections are those of the run in serial order.
 pub fn worked_replays()
@@ -45,4 +48,14 @@ pub fn worked_records()
     ensures abort_while_opening { replayed host_address abort_while_opening_capture false ≡ abort_while_opening_report }
     ensures used_again { replayed host_address used_again_capture false ≡ used_again_report }
     ensures late_segment { replayed host_address late_segment_capture false ≡ late_segment_report }
+{}
+
+/// Replays worked by hand: which first numbers a capture gives, which local bytes are offered, and in which order
+/// frames are written.
+pub fn worked_orders()
+    ensures second_number { replayed host_address second_number_capture false ≡ second_number_report }
+    ensures syn_with_data { replayed host_address syn_with_data_capture false ≡ syn_with_data_report }
+    ensures local_gap { replayed host_address local_gap_capture false ≡ local_gap_report }
+    // The capture of what was sent.
+    ensures strays_last { capture_or_none (serial_replay host_address strays_last_capture false) ≡ strays_last_sent }
 {}
