@@ -308,8 +308,12 @@ module _ {R : Type 0} (flow : R → FlowId) (history : R → History) where
         dead = λ gone. let was : w.live ≡ false = sym same.1 ∙ gone in let d = r.dead i w at was in
             (same.4 was, same.2 ∙ d.1, same.3 ∙ d.2);
         home = λ alive idle. let h = r.home i w at (sym same.1 ∙ alive) (sym same.2 ∙ idle) in
-            record { item = h.item; there = h.there; named = h.named ∙ (λ q. flow_at i (sym same.0 q));
-                listed = h.listed };
+            record {
+              item = h.item;
+              there = h.there;
+              named = h.named ∙ (λ q. flow_at i (sym same.0 q));
+              listed = h.listed;
+            };
         empty = λ gone none_out. r.empty i w at (sym same.1 ∙ gone)
             (let o : outs_on i v' ≡ outs_on i v = ap (total (λ (x : ℕ). cond (eqb x i) 1 0)) kept.4 in
             omega (arith, total-set (outs_on i) s.views id v v' me));

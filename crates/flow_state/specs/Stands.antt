@@ -56,7 +56,8 @@ pub record Stands (p : Parts) (e : Endpoint) : Type 0 where
   pub tries : p.tries ≡ e.tx.tries
   pub probe : p.probe ≡ e.tx.probe
   pub entered : p.entered ≡ e.entered
-  pub order : e.rx.ended ≡ true → e.tx.shut ≡ false → e.rx.ended_first ≡ true  -- not kept, but told: an end that was taken before the own one came first
+  -- not kept, but told: an end that was taken before the own one came first
+  pub order : e.rx.ended ≡ true → e.tx.shut ≡ false → e.rx.ended_first ≡ true
 
 -- every place of the parts is below 2^126, the last ones those of the two FINs
 pub record IsNear (p : Parts) : Type 0 where

@@ -171,7 +171,7 @@ timers_among scripts n i (l ∷ ls) h g =
       by_here true e among =
           let same : n ≡ i = grind (arith, tests, e) in
           let rest : turns_in scripts (timers_from (i + 1) ls) n ≡ 0 =
-              timers_before scripts n (i + 1) ls (omega arith) in
+          timers_before scripts n (i + 1) ls (omega arith) in
           omega arith
       by_here false e among =
           let other : i < n = grind (arith, tests, e, h) in
