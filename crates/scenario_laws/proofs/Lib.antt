@@ -1,0 +1,3 @@
+pub mod OneTick
+pub mod AllTicks
+pub mod LastTick
