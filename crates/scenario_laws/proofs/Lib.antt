@@ -1,3 +1,4 @@
 pub mod OneTick
 pub mod AllTicks
 pub mod LastTick
+pub mod OneName

@@ -8,7 +8,7 @@ ghost use Rattle.host_rounds.specs.Passing.{AreTimed, Went};
 ghost use Rattle.host_rounds.specs.Standing.{AreApart, AreFiled};
 ghost use Rattle.host_rounds.specs.Histories.{HasSentAll};
 ghost use Rattle.scenario_text.specs.declared.scenario.Scenario.{Scenario};
-ghost use Rattle.scenario_runs.specs.Worlds.{all_ended, is_at_rest};
+ghost use Rattle.scenario_runs.specs.Worlds.{no_flow, all_ended, is_at_rest};
 ghost use Rattle.scenario_runs.specs.Runs.{Run};
 ghost use Rattle.scenario_laws.specs.Ticks.{InEachTick};
 ghost use Rattle.scenario_laws.specs.Ends.{OfEachLine, IsNamed, HasOpened, IsBefore, last_world};
@@ -16,8 +16,12 @@ ghost use Rattle.scenario_laws.specs.Ends.{OfEachLine, IsNamed, HasOpened, IsBef
 /// In each tick of a run each frame that comes to a host gets exactly one place in its histories and its log, and no
 /// other frame gets one.
 pub fn frames_have_one_place()
-    ensures { (s : Scenario) (log : RunLog) (run : Run s log) (frame : FrameId) → InEachTick s log run (λ x.
+    // It gets as many places as it comes,
+    ensures place { (s : Scenario) (log : RunLog) (run : Run s log) (frame : FrameId) → InEachTick s log run (λ x.
         uses frame x.after ≡ uses frame x.before + coming frame x.frames) }
+    // and a frame of a flow comes once at most.
+    ensures once { (s : Scenario) (log : RunLog) (run : Run s log) (frame : FrameId) → frame.flow < no_flow
+        → InEachTick s log run (λ x. coming frame x.frames ≤ 1) }
 {}
 
 /// A log has the hosts of the scenario's lines, and their flows were opened rightly.
