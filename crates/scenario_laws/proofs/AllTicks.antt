@@ -28,7 +28,7 @@ use Rattle.scenario_laws.proofs.OneTick.{FlowBefore, Stands, tick_went, tick_sta
 
 -- ----- one tick of all hosts
 -- each host stands before the tick, with the parameters of its line
-abbrev AllStand : (tick : ℕ) → List HostLine → World → Type 0
+abbrev pub AllStand : (tick : ℕ) → List HostLine → World → Type 0
 AllStand t [] [] = Unit {0}
 AllStand t [] (site ∷ sites) = ⊥
 AllStand t (l ∷ ls) [] = ⊥
@@ -41,7 +41,7 @@ OfEachRound s Fact =
     → Stands p t b.host → Fact (record { tick = t; frames = due.frames; before = b.host; after = a.host })
 
 -- a host's scripts are those of its line
-of_line : (s : Scenario) (whole : World) (t h : ℕ) (p : HostParams) (b a : Site (List Script))
+pub of_line : (s : Scenario) (whole : World) (t h : ℕ) (p : HostParams) (b a : Site (List Script))
     → Round (scripts_of s b.host.params) t (due_at s whole t h b.scripts) b a → Stands p t b.host
     → Round (scripts_of s p) t (due_at s whole t h b.scripts) b a
 of_line s whole t h p b a round stands =
@@ -60,7 +60,7 @@ rounds_hold s Fact whole t h (l ∷ ls) (b ∷ bs) (a ∷ az) each rounds stand 
   rounds_hold s Fact whole t (h + 1) ls bs az each rounds.1 stand.1,
 )
 
-rounds_stand : (s : Scenario) (whole : World) (t h : ℕ) (lines : List HostLine) (before after : World)
+pub rounds_stand : (s : Scenario) (whole : World) (t h : ℕ) (lines : List HostLine) (before after : World)
     → AreRounds s whole t h before after → AllStand t lines before → AllStand (t + 1) lines after
 rounds_stand s whole t h [] [] [] rounds stand = tt
 rounds_stand s whole t h [] [] (a ∷ az) rounds stand = absurd rounds
@@ -101,7 +101,7 @@ ticks_stand s (suc most) t world end run stand =
         subst (λ (e : End). AllStand e.ticks s.hosts e.world) (sym (stops h)) after
     by_rest false h stops goes after more = more (goes h)
 
-start_stands : (s : Scenario) (lines : List HostLine) → AllStand 0 lines (map (site_of s) lines)
+pub start_stands : (s : Scenario) (lines : List HostLine) → AllStand 0 lines (map (site_of s) lines)
 start_stands s [] = tt
 start_stands s (l ∷ ls) = (
   record {

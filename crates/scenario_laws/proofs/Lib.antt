@@ -2,3 +2,4 @@ pub mod OneTick
 pub mod AllTicks
 pub mod LastTick
 pub mod OneName
+pub mod WholeRun

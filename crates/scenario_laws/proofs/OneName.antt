@@ -29,15 +29,15 @@ use Rattle.scenario_runs.specs.Runs.{AreRounds, End, RunsFrom, Run}
 use Rattle.scenario_laws.specs.Ticks.{HostTick, OfEachHost, FromTick, InEachTick}
 
 -- ----- how many frames bear a name
-abbrev named : FrameId → List Sent → ℕ
+abbrev pub named : FrameId → List Sent → ℕ
 named f [] = 0
 named f (x ∷ xs) = one_if (same_frame f x.id) + named f xs
 
 -- but for the number of the copy
-abbrev is_of : FrameId → FrameId → Bool
+abbrev pub is_of : FrameId → FrameId → Bool
 is_of f id = f.host == id.host && f.flow == id.flow && f.number == id.number
 
-abbrev sent_as : FrameId → List Sent → ℕ
+abbrev pub sent_as : FrameId → List Sent → ℕ
 sent_as f [] = 0
 sent_as f (x ∷ xs) = one_if (is_of f x.id) + sent_as f xs
 
@@ -46,7 +46,7 @@ sent_append f [] ys = omega arith
 sent_append f (x ∷ xs) ys =
     let rest : sent_as f (xs ++ ys) ≡ sent_as f xs + sent_as f ys = sent_append f xs ys in omega arith
 
-named_append : (f : FrameId) (xs ys : List Sent) → named f (xs ++ ys) ≡ named f xs + named f ys
+pub named_append : (f : FrameId) (xs ys : List Sent) → named f (xs ++ ys) ≡ named f xs + named f ys
 named_append f [] ys = omega arith
 named_append f (x ∷ xs) ys =
     let rest : named f (xs ++ ys) ≡ named f xs + named f ys = named_append f xs ys in omega arith
@@ -56,7 +56,7 @@ one_most true = omega arith
 one_most false = omega arith
 
 -- ----- the link
-arrivals_named : (f : FrameId) (xs : List Sent) → coming f (map arrival xs) ≡ named f xs
+pub arrivals_named : (f : FrameId) (xs : List Sent) → coming f (map arrival xs) ≡ named f xs
 arrivals_named f [] = refl
 arrivals_named f (x ∷ xs) = ap (λ (n : ℕ). one_if (same_frame f x.id) + n) (arrivals_named f xs)
 
@@ -78,7 +78,7 @@ placed_named f x (y ∷ ys) = by_order (goes_before y x) (placed_named f x ys) w
   by_order true rest = omega arith
   by_order false rest = refl
 
-order_named : (f : FrameId) (xs : List Sent) → named f (in_due_order xs) ≡ named f xs
+pub order_named : (f : FrameId) (xs : List Sent) → named f (in_due_order xs) ≡ named f xs
 order_named f [] = refl
 order_named f (x ∷ xs) =
     placed_named f x (in_due_order xs) ∙ ap (λ (n : ℕ). one_if (same_frame f x.id) + n) (order_named f xs)
@@ -103,7 +103,7 @@ copies_most false b c d e other = omega arith
 not_both : (k : ℕ) → (k == 0) ≡ true → (k == 1) ≡ false
 not_both k h = grind (arith, tests, h)
 
-coming_named : (f : FrameId) (lines : LinkLines) (t : ℕ) (x : Sent) → x.id.copy ≡ 0
+pub coming_named : (f : FrameId) (lines : LinkLines) (t : ℕ) (x : Sent) → x.id.copy ≡ 0
     → named f (coming_of lines t x) ≤ one_if (is_of f x.id)
 coming_named f lines t x first = by_due (is_due lines t x) where
   h : Bool
@@ -123,7 +123,8 @@ coming_named f lines t x first = by_due (is_due lines t x) where
   by_act None = alone
   by_act (Some acts.Drop) = alone
   by_act (Some acts.Dup) = subst (λ (c : ℕ). one_if (h && g && n && f.copy == c)
-      + (one_if (h && g && n && f.copy == 1) + 0) ≤ one_if (h && g && n)) (sym first) (copies_most h g n (f.copy == 0) (f.copy == 1) (not_both f.copy))
+      + (one_if (h && g && n && f.copy == 1) + 0) ≤ one_if (h && g && n)) (sym first)
+      (copies_most h g n (f.copy == 0) (f.copy == 1) (not_both f.copy))
   by_act (Some (acts.Delay ticks)) = alone
   by_act (Some (acts.Corrupt place)) = alone
 
@@ -131,7 +132,7 @@ coming_named f lines t x first = by_due (is_due lines t x) where
   by_due true = by_act (act_on lines x.id)
   by_due false = omega arith
 
-abbrev AreFirst : List Sent → Type 0
+abbrev pub AreFirst : List Sent → Type 0
 AreFirst xs = Each (λ (x : Sent). x.id.copy ≡ 0) xs
 
 all_named : (f : FrameId) (lines : LinkLines) (t : ℕ) (xs : List Sent) → AreFirst xs
@@ -179,9 +180,10 @@ answer_first world host n t (Some a) = (refl, tt)
 log_first : (world : World) (host n : ℕ) (ls : List LogLine) → AreFirst (frames_of_log world host n ls)
 log_first world host n [] = tt
 log_first world host n (l ∷ ls) =
-    first_append _ _ (answer_first world host n l.tick (answer_on l.event)) (log_first world host (n + length (frames_of_answer world host n l.tick (answer_on l.event))) ls)
+    first_append _ _ (answer_first world host n l.tick (answer_on l.event)) (log_first world host
+    (n + length (frames_of_answer world host n l.tick (answer_on l.event))) ls)
 
-hosts_first : (world : World) (h : ℕ) (sites : World) → AreFirst (frames_of_hosts world h sites)
+pub hosts_first : (world : World) (h : ℕ) (sites : World) → AreFirst (frames_of_hosts world h sites)
 hosts_first world h [] = tt
 hosts_first world h (site ∷ sites) =
     first_append _ _ (first_append _ _ (flows_first world h 0 site.host.flows) (log_first world h 0 site.host.log))
@@ -192,7 +194,7 @@ other_host : (a b c : Bool) → a ≡ false → (a && b && c) ≡ false
 other_host true b c h = absurd (true≢false h)
 other_host false b c h = refl
 
-other_flow : (a b c : Bool) → b ≡ false → (a && b && c) ≡ false
+pub other_flow : (a b c : Bool) → b ≡ false → (a && b && c) ≡ false
 other_flow a true c h = absurd (true≢false h)
 other_flow true false c h = refl
 other_flow false false c h = refl
@@ -203,7 +205,7 @@ other_number true true false h = refl
 other_number true false false h = refl
 other_number false b false h = refl
 
-below_test : (a b : ℕ) → a < b → (a == b) ≡ false
+pub below_test : (a b : ℕ) → a < b → (a == b) ≡ false
 below_test a b h = grind (arith, tests, h)
 
 above_test : (a b : ℕ) → b < a → (a == b) ≡ false
@@ -249,7 +251,7 @@ answer_none : (f : FrameId) (world : World) (host n t : ℕ) (o : Option (FourTu
 answer_none f world host n t None none = refl
 answer_none f world host n t (Some a) none = none_more (is_of f (name host no_flow n)) 0 (none n) refl
 
-log_none : (f : FrameId) (world : World) (host n : ℕ) (ls : List LogLine)
+pub log_none : (f : FrameId) (world : World) (host n : ℕ) (ls : List LogLine)
     → ((m : ℕ) → is_of f (name host no_flow m) ≡ false) → sent_as f (frames_of_log world host n ls) ≡ 0
 log_none f world host n [] none = refl
 log_none f world host n (l ∷ ls) none =
@@ -398,7 +400,7 @@ flows_most f world host n (l ∷ ls) = by_flow (compared f.flow n) (flows_most f
       other_flow (f.host == host) (f.flow == n) (f.number == m) (above_test f.flow n h)) in
       let sum : sent_as f (here ++ rest) ≡ sent_as f here + sent_as f rest = sent_append f here rest in omega arith
 
-hosts_most : (f : FrameId) (world : World) (h : ℕ) (sites : World) → f.flow < no_flow
+pub hosts_most : (f : FrameId) (world : World) (h : ℕ) (sites : World) → f.flow < no_flow
     → sent_as f (frames_of_hosts world h sites) ≤ 1
 hosts_most f world h [] flow = omega arith
 hosts_most f world h (site ∷ sites) flow =

@@ -3,7 +3,7 @@ ghost use Rattle.tas_model.specs.declared.entry.FrameId.{FrameId};
 ghost use Rattle.host_rounds.specs.Logs.{HostRun, RunLog};
 ghost use Rattle.host_rounds.specs.Lists.{Each};
 ghost use Rattle.host_rounds.specs.Rounds.{IsQuiet};
-ghost use Rattle.host_rounds.specs.Places.{uses, coming};
+ghost use Rattle.host_rounds.specs.Places.{uses, uses_hosts, coming};
 ghost use Rattle.host_rounds.specs.Passing.{AreTimed, Went};
 ghost use Rattle.host_rounds.specs.Standing.{AreApart, AreFiled};
 ghost use Rattle.host_rounds.specs.Histories.{HasSentAll};
@@ -19,9 +19,12 @@ pub fn frames_have_one_place()
     // It gets as many places as it comes,
     ensures place { (s : Scenario) (log : RunLog) (run : Run s log) (frame : FrameId) → InEachTick s log run (λ x.
         uses frame x.after ≡ uses frame x.before + coming frame x.frames) }
-    // and a frame of a flow comes once at most.
+    // a frame of a flow comes once at most in a tick,
     ensures once { (s : Scenario) (log : RunLog) (run : Run s log) (frame : FrameId) → frame.flow < no_flow
         → InEachTick s log run (λ x. coming frame x.frames ≤ 1) }
+    // and it stands in one place at most of all that a run leaves, of whatever host.
+    ensures ended { (s : Scenario) (log : RunLog) (frame : FrameId) → frame.flow < no_flow → Run s log
+        → uses_hosts frame log.hosts ≤ 1 }
 {}
 
 /// A log has the hosts of the scenario's lines, and their flows were opened rightly.
