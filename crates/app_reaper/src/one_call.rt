@@ -1,7 +1,7 @@
 //! One call on a flow: its record is taken, the call is made, and the record is given back.
-ghost use Rattle.std.specs.Prelude.{◌≡◌, ℕ, ◌<◌, [], IfOk, IfErr};
+ghost use Rattle.std.specs.Prelude.{◌≡◌, ℕ, ◌<◌, ◌≤◌, [], IfOk, IsOk, IfErr};
 ghost use Rattle.tas_model.specs.declared.entry.Phase.{Phase};
-ghost use Rattle.flow_state.specs.Calls.{IsSmall, IsTimely};
+ghost use Rattle.flow_state.specs.Calls.{IsSmall, IsTimely, cost_of};
 ghost use Rattle.flow_lock.specs.Claims.{HasPin};
 ghost use Rattle.flow_lock.specs.Steps.{MayAct};
 ghost use Rattle.flow_lock.specs.Histories.{IsLonger};
@@ -76,7 +76,7 @@ pub fn make_slow_call<E: Engine>(
     made
 }
 
-/// Makes a call on a record that was taken. `Busy` never comes.
+/// Makes a call on a record that was taken. `Busy` never comes, and nothing is refused where the record has the room.
 pub fn act_on<E: Engine>(
     flow: &mut FlowRecord,
     caller: Caller,
@@ -90,6 +90,8 @@ pub fn act_on<E: Engine>(
     ensures longer { IsLonger (history flow.old) (history flow.new) }
     ensures made { IfOk result (IsMade caller tick call.now (E.serves engine.now) flow.old (history flow.new)) }
     ensures full { IfErr result (λ e. (e ≡ CallFault.OutOfMemory) × (history flow.new ≡ history flow.old)) }
+    ensures spare { 1 ≤ flow.old.spare_entries
+        → cost_of flow.old.parts.smss call.now ≤ flow.old.spare_bytes → IsOk result }
 {
     match flow.act(caller, tick, call, engine) {
         Ok(answer) => Ok(answer),

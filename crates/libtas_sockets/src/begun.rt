@@ -11,10 +11,13 @@ pub struct Begun {
     pub tuple: FourTuple,
 }
 
-/// Which begun flow is wanted: one to a port of a host, or that with exactly these ends.
-#[derive(Clone, Copy)]
-pub(crate) enum Target {
+/// Which begun flow a connect takes up, where there is one: one to a port of a host, or that with exactly these ends.
+/// The contracts of `connect` and `connect_as` name it; no call takes or gives one.
+#[derive(Clone, Copy, PartialEq, Eq, Debug)]
+pub enum Target {
+    /// A flow to this address and port of a host, from any port of its own: what `connect` looks for.
     To(u32, u16),
+    /// The flow with exactly these ends: what `connect_as` looks for.
     Of(FourTuple),
 }
 

@@ -13,7 +13,7 @@ mod socket;
 mod socket_error;
 
 pub use app::App;
-pub use begun::Begun;
+pub use begun::{Begun, Target};
 pub use received::Received;
 pub use socket::Socket;
 pub use socket_error::SocketError;
