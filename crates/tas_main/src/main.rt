@@ -7,8 +7,6 @@ mod runs;
 mod stop;
 mod streams;
 mod telling;
-#[cfg(test)]
-mod tests;
 mod top;
 
 use std::alloc::{AllocError, Global};
