@@ -24,6 +24,8 @@ use Rattle.scenario_runs.specs.Runs.{AreRounds, End, RunsFrom, hosts_of, Run}
 use Rattle.scenario_runs.proofs.ByMoves.{scenarios_by_moves}
 use Rattle.scenario_laws.specs.Ticks.{HostTick, OfEachHost, FromTick, InEachTick}
 use Rattle.scenario_laws.specs.Ends.{OfEachLine, IsNamed, HasOpened, AllBefore, IsBefore}
+use Rattle.scenario_laws.specs.Controls.{IsControlled}
+use Rattle.scenario_laws.proofs.AllControlled.{flows_controlled}
 use Rattle.scenario_laws.proofs.OneTick.{FlowBefore, Stands, tick_went, tick_stands}
 
 -- ----- one tick of all hosts
@@ -110,6 +112,7 @@ start_stands s (l ∷ ls) = (
     lines = tt;
     apart = tt;
     quiet = tt;
+    controlled = tt;
   },
   start_stands s ls,
 )
@@ -154,6 +157,12 @@ pub ticks_quiet : (s : Scenario) (log : RunLog) (run : Run s log)
     → InEachTick s log run (λ x. Each IsQuiet x.after.flows)
 ticks_quiet s log run =
     run_holds s log run (λ x. Each IsQuiet x.after.flows) (λ p t due b a round stands. round.quiet)
+
+pub ticks_controlled : (s : Scenario) (log : RunLog) (run : Run s log)
+    → InEachTick s log run (λ x. Each (λ (l : Live). IsControlled l.flow) x.after.flows)
+ticks_controlled s log run =
+    run_holds s log run (λ x. Each (λ (l : Live). IsControlled l.flow) x.after.flows)
+    (λ p t due b a round stands. (tick_stands s p t due b a round stands).controlled)
 
 -- ----- the laws of the log
 -- what holds of each host that stands holds of each host of the log
@@ -209,3 +218,10 @@ hosts_quiet s log run =
     each_host (λ (h : HostRun). Each HasSentAll h.flows) s.hosts log.hosts
     (log_holds s log (λ t l h. Each HasSentAll h.flows)
     (λ t l site stands. flows_quiet site.host.flows stands.quiet) run)
+
+pub hosts_controlled : (s : Scenario) (log : RunLog) → Run s log
+    → Each (λ (h : HostRun). Each IsControlled h.flows) log.hosts
+hosts_controlled s log run =
+    each_host (λ (h : HostRun). Each IsControlled h.flows) s.hosts log.hosts
+    (log_holds s log (λ t l h. Each IsControlled h.flows)
+    (λ t l site stands. flows_controlled site.host.flows stands.controlled) run)

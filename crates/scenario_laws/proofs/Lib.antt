@@ -3,3 +3,5 @@ pub mod AllTicks
 pub mod LastTick
 pub mod OneName
 pub mod WholeRun
+pub mod EachFlow
+pub mod AllControlled

@@ -18,6 +18,7 @@ use Rattle.scenario_runs.specs.Applications.{Script}
 use Rattle.scenario_runs.specs.Worlds.{numbers_of, scripts_of}
 use Rattle.scenario_runs.proofs.ByMoves.{scenarios_by_moves}
 use Rattle.scenario_laws.specs.Ends.{AllBefore, LinesBefore}
+use Rattle.scenario_laws.proofs.AllControlled.{AreAllControlled, round_controlled}
 
 -- ----- lists of what bears a tick
 -- what was before the tick, and what the tick adds, is before the next one
@@ -61,6 +62,7 @@ pub record Stands (p : HostParams) (t : ℕ) (host : Host) : Type 0 where
   pub lines : LinesBefore t host.log
   pub apart : AreApart host.flows
   pub quiet : Each IsQuiet host.flows
+  pub controlled : AreAllControlled host.flows
 
 pub tick_went : (s : Scenario) (p : HostParams) (t : ℕ) (due : Due ℕ) (b a : Site (List Script))
     → Round (scripts_of s p) t due b a → Stands p t b.host → Went t b.host a.host
@@ -81,4 +83,7 @@ tick_stands s p t due b a round stands =
       apart =
           round_apart (scripts_of s p) t due b a (scenarios_by_moves s p) stands.right.legal round stands.apart;
       quiet = round.quiet;
+      controlled =
+          round_controlled (scripts_of s p) t due b a (scenarios_by_moves s p) stands.right.legal
+          (flows_up_to t b.host.flows stands.flows) round stands.controlled;
     }

@@ -1,8 +1,10 @@
 //! What holds of every tick of every run of a scenario, and of the log that a run leaves: laws of all orders.
 #![tactic(auto)]
 
+mod call_laws;
 mod laws;
 
+pub use call_laws::rates_are_controlled;
 pub use laws::{
     flows_are_opened_rightly, frames_have_one_place, nothing_may_go, open_flows_have_one_tick,
     runs_end_at_rest, slots_are_kept, ticks_only_add,
