@@ -42,7 +42,8 @@ pair_push p due earlier [] x y right plain last control = (
   (
     ap is_control control
         ∙ sym (subst (λ (h : List Entry). is_due_behind p h x ≡ true) (append-nil earlier) last),
-    ap (λ (c : Call). is_tick c && (is_control_tick p.fixed y.tick && is_open (replay p ((earlier ++ x ∷ []) ++ y ∷ []))))
+    ap (λ (c : Call). is_tick c && (is_control_tick p.fixed y.tick
+        && is_open (replay p ((earlier ++ x ∷ []) ++ y ∷ []))))
         control,
   ),
 )
