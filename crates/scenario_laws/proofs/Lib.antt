@@ -5,3 +5,5 @@ pub mod OneName
 pub mod WholeRun
 pub mod EachFlow
 pub mod AllControlled
+pub mod Goes
+pub mod AllTurned

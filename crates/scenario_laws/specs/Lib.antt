@@ -1,3 +1,4 @@
 pub mod Ticks
 pub mod Ends
 pub mod Controls
+pub mod Turns
