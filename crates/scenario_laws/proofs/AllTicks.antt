@@ -40,7 +40,14 @@ AllStand t (l ∷ ls) (site ∷ sites) = Stands l.params t site.host × AllStand
 abbrev OfEachRound : Scenario → (HostTick → Type 0) → Type 0
 OfEachRound s Fact =
     (p : HostParams) (t : ℕ) (due : Due ℕ) (b a : Site (List Script)) → Round (scripts_of s p) t due b a
-    → Stands p t b.host → Fact (record { tick = t; frames = due.frames; before = b.host; after = a.host })
+    → Stands p t b.host → Fact (record {
+      tick = t;
+      frames = due.frames;
+      before = b.host;
+      after = a.host;
+      scripts_before = b.scripts;
+      scripts_after = a.scripts;
+    })
 
 -- a host's scripts are those of its line
 pub of_line : (s : Scenario) (whole : World) (t h : ℕ) (p : HostParams) (b a : Site (List Script))

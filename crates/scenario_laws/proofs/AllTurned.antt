@@ -1,6 +1,7 @@
 -- Each application has one turn in a tick.
 use Rattle.std.proofs.Common.{◌≡◌, ℕ, zero, suc, ◌+◌, ◌≤◌, ◌<◌, ◌==◌, Bool, true, false, cond, List, [], ◌∷◌, ◌++◌}
-use Rattle.std.proofs.Common.{map, fold, filter, Option, Some, None, refl, sym, subst, ap, ◌∙◌, true≢false, arith, tests}
+use Rattle.std.proofs.Common.{map, fold, filter, Option, Some, None, refl, sym, subst, ap, ◌∙◌, true≢false, arith}
+use Rattle.std.proofs.Common.{tests}
 use Rattle.std.specs.List.{find}
 use Rattle.tas_model.specs.Segments.{one_if}
 use Rattle.tas_model.specs.declared.entry.HostParams.{HostParams}
@@ -14,7 +15,7 @@ use Rattle.host_rounds.specs.Rounds.{Action, Timer, Frame, Ask, Emission, Deed, 
 use Rattle.host_rounds.specs.Rounds.{timers_from, OfScript, is_by, actions_of}
 use Rattle.scenario_text.specs.declared.scenario.Scenario.{Scenario}
 use Rattle.scenario_runs.specs.Applications.{Script, turn}
-use Rattle.scenario_runs.specs.Worlds.{numbers_of, address_in, scripts_of, asked_of, World}
+use Rattle.scenario_runs.specs.Worlds.{numbers_of, address_in, scripts_of, asked_of}
 use Rattle.scenario_laws.specs.Turns.{OfEachScript, HadTurn}
 use Rattle.scenario_laws.proofs.Goes.{turn_goes}
 
@@ -185,7 +186,10 @@ one_asked s p t k low host (b ∷ bs) rise (Some x) h =
         let other : (b.number == (turned s p t host x).number) ≡ false = grind (arith, tests, number, found, e) in
         subst (AllTurned s p t (λ n. one_if (n == k)) (b ∷ bs))
         (sym (changed_later (λ (b : Script). b.number == (turned s p t host x).number)
-        (λ (b : Script). turned s p t host x) b bs other)) (stays s p t (one_if (b.number == k)) b (ap one_if e), rest h)
+        (λ (b : Script). turned s p t host x) b bs other)) (
+          stays s p t (one_if (b.number == k)) b (ap one_if e),
+          rest h,
+        )
 
 -- ----- a tick
 abbrev Act : Type 0
@@ -280,7 +284,8 @@ once_from s p turns low (b ∷ bs) rise are =
     let mine : one_if (b.number == b.number) ≡ 1 = grind (arith, tests) in
     let rest : turns_in s p (asks_of bs) b.number ≡ 0 =
     later_none s p b.number (b.number + 1) bs (omega arith) rise.1 in
-    let all : turns b.number ≡ one_if (b.number == b.number) + turns_in s p (asks_of bs) b.number = are b.number here in (
+    let all : turns b.number ≡ one_if (b.number == b.number) + turns_in s p (asks_of bs) b.number =
+    are b.number here in (
       omega arith,
       once_from s p turns (b.number + 1) bs rise.1 (λ n h. beyond n h (are n (omega arith))),
     )
@@ -299,7 +304,7 @@ had_turns s p t turns (b ∷ bs) [] once all = absurd all
 had_turns s p t turns (b ∷ bs) (a ∷ az) once all = (all.0.one once.0, had_turns s p t turns bs az once.1 all.1)
 
 -- In a tick in which each application of a host is due to be asked, each has one turn.
-round_turned : (s : Scenario) (p : HostParams) (t : ℕ) (frames : List Arrival) (b a : Site (List Script))
+pub round_turned : (s : Scenario) (p : HostParams) (t : ℕ) (frames : List Arrival) (b a : Site (List Script))
     → NumbersRise 0 b.scripts
     → Round (scripts_of s p) t (record { frames = frames; asks = map (λ (x : Script). x.number) b.scripts }) b a
     → OfEachScript (HadTurn s p t) b.scripts a.scripts × NumbersRise 0 a.scripts
@@ -320,8 +325,3 @@ round_turned s p t frames b a rise round =
         ∙ turns_filter s p n _
         ∙ timers_pass s p n 0 b.host.flows (map Frame frames ++ asks_of b.scripts)
         ∙ frames_pass s p n frames (asks_of b.scripts)
-
--- ----- all ticks
-abbrev AllRise : World → Type 0
-AllRise [] = Unit {0}
-AllRise (site ∷ sites) = NumbersRise 0 site.scripts × AllRise sites

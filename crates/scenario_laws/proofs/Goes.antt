@@ -1,6 +1,6 @@
 -- A turn of an application leads its script from a step to the next, or leaves it there.
-use Rattle.std.proofs.Common.{◌≡◌, ℕ, ◌+◌, ◌≤◌, ◌==◌, Bool, true, false, List, [], ◌∷◌, length, drop, position, nat_lt, ◌^◌}
-use Rattle.std.proofs.Common.{Option, Some, None, refl, sym, ◌∙◌, true≢false, arith}
+use Rattle.std.proofs.Common.{◌≡◌, ℕ, ◌+◌, ◌≤◌, ◌==◌, Bool, true, false, List, [], ◌∷◌, length, drop, position, nat_lt}
+use Rattle.std.proofs.Common.{◌^◌, Option, Some, None, refl, sym, ◌∙◌, true≢false, arith}
 use Rattle.tas_model.specs.declared.entry.Call.{Call}
 use Rattle.tas_model.specs.declared.entry.Call.TheVariants as calls
 use Rattle.tas_model.specs.declared.entry.Reply.{Reply}
@@ -9,9 +9,9 @@ use Rattle.tas_model.proofs.Tests.{on_cond}
 use Rattle.host_rounds.specs.Hosts.{Numbers, is_listened, is_ready, lowest_free, first_port, ports_given, answer_of}
 use Rattle.scenario_text.specs.declared.scenario.Step.{Step}
 use Rattle.scenario_text.specs.declared.scenario.Step.TheVariants as steps
-use Rattle.scenario_runs.specs.Applications.{Script, Turn, stepped, done_or, called, listens_where, accepts_one, accepts}
-use Rattle.scenario_runs.specs.Applications.{opens_where, connects, waits_for, is_not_yet, sent_on, received_on}
-use Rattle.scenario_runs.specs.Applications.{on_flow, on_socket, connects_on, step_of, is_killed_at}
+use Rattle.scenario_runs.specs.Applications.{Script, Turn, stepped, done_or, called, listens_where, accepts_one}
+use Rattle.scenario_runs.specs.Applications.{accepts, opens_where, connects, waits_for, is_not_yet, sent_on}
+use Rattle.scenario_runs.specs.Applications.{received_on, on_flow, on_socket, connects_on, step_of, is_killed_at}
 use Rattle.scenario_runs.specs.Applications.{goes_on, turn_where, turn, bound_in, flow_of, port_of}
 use Rattle.scenario_laws.specs.Turns.{GoesOn}
 
@@ -34,7 +34,8 @@ done_goes false n s = record { number = refl; kill = refl; steps = (0, omega ari
 abbrev GoesIn : Turn → Turn → Type 0
 GoesIn x y = Goes x.script y.script
 
-listens_goes : (taken : Bool) (t : ℕ) (name : List ℕ) (port : ℕ) (x : Turn) → GoesIn x (listens_where taken t name port x)
+listens_goes : (taken : Bool) (t : ℕ) (name : List ℕ) (port : ℕ) (x : Turn)
+    → GoesIn x (listens_where taken t name port x)
 listens_goes true t name port x = over x.script
 listens_goes false t name port x = record { number = refl; kill = refl; steps = (1, omega arith, refl) }
 

@@ -7,3 +7,4 @@ pub mod EachFlow
 pub mod AllControlled
 pub mod Goes
 pub mod AllTurned
+pub mod InTurns

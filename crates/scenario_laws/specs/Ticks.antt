@@ -4,22 +4,33 @@ use Rattle.host_rounds.specs.Logs.{RunLog}
 use Rattle.host_rounds.specs.Hosts.{Host}
 use Rattle.host_rounds.specs.Deliveries.{Arrival}
 use Rattle.scenario_text.specs.declared.scenario.Scenario.{Scenario}
+use Rattle.scenario_runs.specs.Applications.{Script}
 use Rattle.scenario_runs.specs.Worlds.{World, at_start, due_at, is_at_rest}
 use Rattle.scenario_runs.specs.Runs.{End, RunsFrom, Run}
 
--- One tick of one host: its number, the frames that come to the host in it, and the host before it and after it.
+-- One tick of one host: its number, the frames that come to the host in it, and the host and the scripts of its
+-- applications before it and after it.
 pub record HostTick : Type 0 where
   pub tick : ℕ
   pub frames : List Arrival
   pub before : Host
   pub after : Host
+  pub scripts_before : List Script
+  pub scripts_after : List Script
 
 -- The fact holds of a tick of each of these hosts, the first of which has this number; and none comes or goes.
 abbrev pub OfEachHost : Scenario → (HostTick → Type 0) → (whole : World) → (tick host : ℕ) → (before after : World)
     → Type 0
 OfEachHost s Fact whole t h [] [] = ⊤
 OfEachHost s Fact whole t h (b ∷ bs) (a ∷ az) =
-    Fact (record { tick = t; frames = (due_at s whole t h b.scripts).frames; before = b.host; after = a.host })
+    Fact (record {
+      tick = t;
+      frames = (due_at s whole t h b.scripts).frames;
+      before = b.host;
+      after = a.host;
+      scripts_before = b.scripts;
+      scripts_after = a.scripts;
+    })
     × OfEachHost s Fact whole t (h + 1) bs az
 OfEachHost s Fact whole t h _ _ = ⊥
 

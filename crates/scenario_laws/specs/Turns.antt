@@ -12,13 +12,14 @@ OfEachScript Fact [] [] = ⊤
 OfEachScript Fact (b ∷ bs) (a ∷ az) = Fact b a × OfEachScript Fact bs az
 OfEachScript Fact _ _ = ⊥
 
--- It is what one turn of the application leaves of its script, on the host as it was when it was asked.
+-- It is what one turn of the application leaves of its script; nothing is said of the host on which it has the turn.
 abbrev pub HadTurn : Scenario → HostParams → (tick : ℕ) → (before after : Script) → Type 0
 HadTurn s params t before after =
     (host : Host)
     × (after ≡ (turn (numbers_of params) (address_in s.hosts) t (record { host = host; script = before })).script)
 
--- Where the application is killed in the tick, no step is left, and else its script goes to the next step or stays.
+-- Where the application is killed in the tick, no step is left; else one step of its script is over at most. It keeps
+-- its number and the tick in which it is killed.
 pub record GoesOn (t : ℕ) (before after : Script) : Type 0 where
   pub number : after.number ≡ before.number
   pub kill : after.kill ≡ before.kill

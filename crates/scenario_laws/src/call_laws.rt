@@ -5,6 +5,7 @@ ghost use Rattle.scenario_text.specs.declared.scenario.Scenario.{Scenario};
 ghost use Rattle.scenario_runs.specs.Runs.{Run};
 ghost use Rattle.scenario_laws.specs.Ticks.{InEachTick};
 ghost use Rattle.scenario_laws.specs.Controls.{IsControlled};
+ghost use Rattle.scenario_laws.specs.Turns.{OfEachScript, HadTurn, GoesOn};
 
 /// The rate of a flow is controlled directly behind each Tick in which that is due and which left the flow past
 /// SYN-RECEIVED and not closed; and nowhere else.
@@ -15,4 +16,15 @@ pub fn rates_are_controlled()
     // and when the run has ended.
     ensures ended { (s : Scenario) (log : RunLog) → Run s log
         → Each (λ (h : HostRun). Each IsControlled h.flows) log.hosts }
+{}
+
+/// In each tick of a run each application of a host has one turn, and so its script goes one step on at most.
+pub fn scripts_go_step_by_step()
+    // After the tick each script is what one turn leaves of the script before it, on some host.
+    ensures asked { (s : Scenario) (log : RunLog) (run : Run s log) → InEachTick s log run (λ x.
+        OfEachScript (HadTurn s x.before.params x.tick) x.scripts_before x.scripts_after) }
+    // It stands at the same step then or at the next one, never further and never back; and where the application is
+    // killed in the tick, no step is left.
+    ensures steps { (s : Scenario) (log : RunLog) (run : Run s log) → InEachTick s log run (λ x.
+        OfEachScript (GoesOn x.tick) x.scripts_before x.scripts_after) }
 {}

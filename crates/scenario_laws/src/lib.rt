@@ -4,7 +4,7 @@
 mod call_laws;
 mod laws;
 
-pub use call_laws::rates_are_controlled;
+pub use call_laws::{rates_are_controlled, scripts_go_step_by_step};
 pub use laws::{
     flows_are_opened_rightly, frames_have_one_place, nothing_may_go, open_flows_have_one_tick,
     runs_end_at_rest, slots_are_kept, ticks_only_add,
