@@ -18,7 +18,7 @@ pub fn rates_are_controlled()
         → Each (λ (h : HostRun). Each IsControlled h.flows) log.hosts }
 {}
 
-/// In each tick of a run each application of a host has one turn, and so its script goes one step on at most.
+/// In each tick of a run each application's script becomes what one turn may leave of it: it goes one step on at most.
 pub fn scripts_go_step_by_step()
     // After the tick each script is what one turn leaves of the script before it, on some host.
     ensures asked { (s : Scenario) (log : RunLog) (run : Run s log) → InEachTick s log run (λ x.
