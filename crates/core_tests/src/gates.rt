@@ -4,6 +4,7 @@ use flow_state::{CallView, EntryView, FlowRecord};
 use scenario_ranges::what_is_read_is_in_range;
 use scenario_text::read_scenario;
 use std::alloc::Global;
+use std::hint::spin_loop;
 use std::process::Abort;
 use std::sync::Wait;
 use std::sync::atomic::{AtomicBool, Ordering};
@@ -100,6 +101,8 @@ impl Hold {
             if self.was_passed.load(Ordering::SeqCst) {
                 return;
             }
+            // A turn takes longer so, and the other worker's thread has more time to start on a busy machine.
+            spin_loop();
         }
         self.ran_out.store(true, Ordering::SeqCst);
     }
