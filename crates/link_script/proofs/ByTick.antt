@@ -107,3 +107,24 @@ of_tick_is fs rest t i n e hi hn p q =
     ap (take n) e ∙ sent_in_cut fs t i n hi (subst (λ r. n ≤ length r) e hn)
     (cut_of (λ (f : Sent). ltb f.tick t) fs i p)
     (subst (λ r. Cut (λ (f : Sent). leb f.tick t) r n) e (cut_of (λ (f : Sent). leb f.tick t) rest n q))
+
+-- the frames from the first one of a tick on
+from_cut : (fs : List Sent) (t i : ℕ) → i ≤ length fs → Cut (λ (f : Sent). ltb f.tick t) fs i
+    → drop i fs ≡ filter (λ (f : Sent). leb t f.tick) fs
+from_cut [] t zero h p = refl
+from_cut [] t (suc i) h p = absurd (omega arith)
+from_cut (f ∷ fs) t zero h p =
+    let early : ltb f.tick t ≡ false = in_rest p in
+    let here : leb t f.tick ≡ true = grind (arith, nat_tests) in
+    rw here (ap (λ r. f ∷ r) (from_cut fs t zero (omega arith) (shifted_none p)))
+from_cut (f ∷ fs) t (suc i) h p =
+    let early : ltb f.tick t ≡ true = in_front p in
+    let other : leb t f.tick ≡ false = grind (arith, nat_tests) in
+    rw other (from_cut fs t i (omega arith) (shifted p))
+
+pub kept_from : (now items part : List Sent) (t i : ℕ) → part ≡ items → items ≡ now → i ≤ length part
+    → IsPartitionPoint (λ (f : Sent). ltb f.tick t ≡ true) (λ (f : Sent). ltb f.tick t ≡ false) part i
+    → drop i items ≡ filter (λ (f : Sent). leb t f.tick) now
+kept_from now items part t i e f h p =
+    ap (drop i) (sym e) ∙ (from_cut part t i h (cut_of (λ (g : Sent). ltb g.tick t) part i p)
+    ∙ ap (filter (λ (g : Sent). leb t g.tick)) (e ∙ f))

@@ -71,6 +71,14 @@ impl SentList {
         &self.frames[i]
     }
 
+    /// Lets the frames go that were sent before a tick.
+    pub fn forget_before(&mut self, tick: u32)
+        ensures { self.new ≡ filter (λ (f : Sent). nat_le tick f.tick) self.old }
+    {
+        let count = count_before(&self.frames, tick);
+        self.frames.drain(..count);
+    }
+
     /// The frames that were sent in a tick.
     pub fn sent_in(&self, tick: u32) -> &[Sent]
         ensures { result.now ≡ filter (λ (f : Sent). f.tick == tick) self.now }

@@ -1,5 +1,6 @@
-ghost use Rattle.std.specs.Prelude.{◌≡◌, IsNone, IfOk, OnOk, OnErr};
-ghost use Rattle.link_script.specs.DueFrames.{act_on, is_kth};
+ghost use Rattle.std.specs.Prelude.{◌≡◌, ◌≤◌, Some, IsNone, IfOk, OnOk, OnErr};
+ghost use Rattle.tas_model.specs.declared.entry.FrameId as model;
+ghost use Rattle.link_script.specs.DueFrames.{act_on, is_kth, delay_by};
 ghost use Rattle.link_script.specs.LinkLines.{no_lines, line_on, drop_each_of, with_act, with_drop_each, TakesDelay};
 ghost use Rattle.link_script.specs.LinkLines.{AreDelays};
 
@@ -46,16 +47,18 @@ pub struct LinkScript {
     acts: BTreeMap<Target, LinkAct>,
     drops: Vec<DropEach>,
     delays: BTreeSet<u32>,
+    /// The longest of them.
+    longest: u32,
 }
 
 impl Model for LinkScript {
-    ghost use Rattle.link_script.specs.LinkLines.{LinkLines, HasDelays};
+    ghost use Rattle.link_script.specs.LinkLines.{LinkLines, HasDelays, AreWithin};
 
     ghost Value = { LinkLines };
 
     ghost view = { λ s. record { acts = s.acts.entries; drops = s.drops.items } };
 
-    ghost invariant = { λ s. HasDelays s.acts s.delays };
+    ghost invariant = { λ s. HasDelays s.acts s.delays × AreWithin s.longest s.acts };
 }
 
 impl LinkScript {
@@ -69,6 +72,7 @@ impl LinkScript {
             acts: BTreeMap::new(alloc),
             drops: Vec::new(alloc),
             delays,
+            longest: 0,
         })
     }
 
@@ -81,6 +85,7 @@ impl LinkScript {
     {
         take_delay(&mut self.delays, act)?;
         self.acts.insert(Target { host, flow, number }, act)?;
+        self.longest = longer(self.longest, act);
         Ok(())
     }
 
@@ -126,6 +131,13 @@ impl LinkScript {
         &self.delays
     }
 
+    /// The longest delay of a line, in ticks; 0 where none delays.
+    pub fn longest_delay(&self) -> u32
+        ensures { (id : model.FrameId) → delay_by (act_on self.now id) ≤ result }
+    {
+        self.longest
+    }
+
     /// The line on this frame, where there is one.
     pub fn line_on(&self, target: &Target) -> Option<LinkAct>
         ensures { result ≡ line_on self.now target.now }
@@ -155,6 +167,17 @@ impl LinkScript {
             Some(k) => k > 0 && id.flow != NO_FLOW && id.number % k as u64 == k as u64 - 1,
             None => false,
         }
+    }
+}
+
+/// The longer of a delay and that of a line.
+fn longer(longest: u32, act: LinkAct) -> u32
+    ensures longer { longest ≤ result }
+    ensures delay { delay_by (Some act) ≤ result }
+{
+    match act {
+        LinkAct::Delay(ticks) => longest.max(ticks),
+        _ => longest,
     }
 }
 

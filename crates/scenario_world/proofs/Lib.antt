@@ -7,6 +7,7 @@ pub mod Counted
 pub mod Ended
 pub mod Starts
 pub mod NextTick
+pub mod Forgotten
 pub mod Played
 pub mod Finishing
 pub mod CoresPlayed

@@ -78,6 +78,18 @@ pub fn end_tick(
     ensures hosts { p.new.hosts.items ≡ p.old.hosts.items }
     ensures world { OnOk result (IsWorld s.now (tick + 1) p.new) }
 {
+    send_on(alloc, s, tick, p)?;
+    forget(s, tick, p);
+    Ok(())
+}
+
+/// What the hosts sent in a tick goes to the link. The error is want of memory.
+fn send_on(alloc: Global, s: &Scenario, tick: u32, p: &mut Playing<'_>) -> Result<(), AllocError>
+    requires ranges { IsInRange s.now }
+    requires played { IsPlayed s.now tick p.old }
+    ensures hosts { p.new.hosts.items ≡ p.old.hosts.items }
+    ensures world { OnOk result (IsWorld s.now (tick + 1) p.new) }
+{
     collect_all(
         alloc,
         tick,
@@ -88,6 +100,16 @@ pub fn end_tick(
     )?;
     p.last = last_coming(&s.link, p.sent.sent_in(tick), p.last);
     Ok(())
+}
+
+/// The frames go of which nothing comes in the next tick or after it, so that a long run keeps only those on the link.
+fn forget(s: &Scenario, tick: u32, p: &mut Playing<'_>)
+    requires { IsWorld s.now (tick + 1) p.old }
+    ensures hosts { p.new.hosts.items ≡ p.old.hosts.items }
+    ensures world { IsWorld s.now (tick + 1) p.new }
+{
+    p.sent
+        .forget_before(tick.saturating_sub(s.link.longest_delay()));
 }
 
 /// Each host plays a tick, in which these frames are due. The error is want of memory.

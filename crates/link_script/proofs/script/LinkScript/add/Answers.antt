@@ -1,6 +1,7 @@
-use Rattle.link_script.proofs.Delays.{has_delays_more}
+use Rattle.link_script.proofs.Delays.{kept_more}
 use Rattle.link_script.proofs.script.LinkScript.add.Goals as goal
 
 pub invariant_of-self-2 : goal.invariant_of-self-2
 invariant_of-self-2 c =
-    has_delays_more _ c.self.invariant c.in_ok-take_delay.ensures.ok c.in_ok-insert.ensures.updates.0
+    kept_more _ c.self.invariant c.in_ok-take_delay.ensures.ok c.longer-self-inside.ensures.longer
+    c.longer-self-inside.ensures.delay c.in_ok-insert.ensures.updates.0

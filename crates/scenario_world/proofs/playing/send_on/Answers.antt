@@ -4,7 +4,7 @@ use Rattle.std.specs.List.{list_any}
 use Rattle.scenario_runs.specs.Worlds.{is_under_way}
 use Rattle.scenario_world.specs.Playing.{AreCountedBefore}
 use Rattle.scenario_world.proofs.NextTick.{few_hosts, to_count, kept_up_to, next_world}
-use Rattle.scenario_world.proofs.playing.end_tick.Goals as goal
+use Rattle.scenario_world.proofs.playing.send_on.Goals as goal
 
 pub collect_all-requires-clause-hosts : goal.collect_all-requires-clause-hosts
 collect_all-requires-clause-hosts c =

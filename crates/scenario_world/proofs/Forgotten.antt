@@ -1,0 +1,88 @@
+-- Frames can go that nothing comes of any more.
+use Rattle.std.proofs.Common.{◌≡◌, ℕ, ◌+◌, ◌-◌, ◌<◌, ◌≤◌, Bool, true, false, cond, eqb, leb, ltb, List, [], ◌∷◌, filter}
+use Rattle.std.proofs.Common.{refl, sym, ap, ◌∙◌, subst, arith}
+use Rattle.std.proofs.lemmas.Bool.Decides.{nat_tests}
+use Rattle.tas_model.specs.declared.entry.FrameId.{FrameId}
+use Rattle.link_script.specs.declared.frames.Sent.{Sent}
+use Rattle.link_script.specs.DueFrames.{act_on, delay_by, is_due}
+use Rattle.link_script.specs.LinkLines.{LinkLines}
+use Rattle.scenario_text.specs.declared.scenario.Scenario.{Scenario}
+use Rattle.scenario_runs.specs.Worlds.{World}
+use Rattle.sent_frames.specs.Sending.{of_tick, addresses_of}
+use Rattle.scenario_world.specs.declared.playing.Playing.{Playing}
+use Rattle.scenario_world.specs.Playing.{FramesBefore, AreCounted, AreEarly, AreKept, IsWorld, params_of}
+
+-- the frames from a tick on
+abbrev from : (low : ℕ) → List Sent → List Sent
+from low fs = filter (λ (f : Sent). leb low f.tick) fs
+
+still_before : (t low : ℕ) (fs : List Sent) → FramesBefore t fs → FramesBefore t (from low fs)
+still_before t low [] before = tt
+still_before t low (f ∷ fs) before = by_low (leb low f.tick) (still_before t low fs before.1)
+  where
+    by_low : (b : Bool) → FramesBefore t (from low fs) → FramesBefore t (cond b (f ∷ from low fs) (from low fs))
+    by_low true rest = (before.0, rest)
+    by_low false rest = rest
+
+-- of each tick from there on they are all
+same_from : (low k : ℕ) (fs : List Sent) → low ≤ k → of_tick k (from low fs) ≡ of_tick k fs
+same_from low k [] le = refl
+same_from low k (f ∷ fs) le = by_low (leb low f.tick) refl (same_from low k fs le)
+  where
+    by_low : (b : Bool) → leb low f.tick ≡ b → of_tick k (from low fs) ≡ of_tick k fs
+        → of_tick k (cond b (f ∷ from low fs) (from low fs)) ≡ of_tick k (f ∷ fs)
+    by_low true e r = ap (λ gs. cond (eqb f.tick k) (f ∷ gs) gs) r
+    by_low false e r = let apart : eqb f.tick k ≡ false = grind (arith, nat_tests, e, le) in rw apart r
+
+-- A frame that was sent longer ago than the longest delay comes no more.
+gone : (lines : LinkLines) (longest t u : ℕ) (f : Sent) → ((id : FrameId) → delay_by (act_on lines id) ≤ longest)
+    → f.tick < t - longest → t + 1 ≤ u → is_due lines u f ≡ false
+gone lines longest t u f all before le =
+    let own : delay_by (act_on lines f.id) ≤ longest = all f.id in
+    let apart : eqb (f.tick + 1 + delay_by (act_on lines f.id)) u ≡ false =
+    grind (arith, nat_tests, own, before, le) in
+    rw apart refl
+
+still_kept : (s : Scenario) (t longest : ℕ) (world : World) (kept : List Sent) (last : ℕ)
+    → AreKept s (t + 1) world kept last → ((id : FrameId) → delay_by (act_on s.link id) ≤ longest)
+    → AreKept s (t + 1) world (from (t - longest) kept) last
+still_kept s t longest world kept last k all = by_low (ltb k.low (t - longest)) refl
+  where
+    by_low : (b : Bool) → ltb k.low (t - longest) ≡ b → AreKept s (t + 1) world (from (t - longest) kept) last
+    by_low true e =
+        let l : k.low < t - longest = grind (arith, nat_tests, e) in
+        record {
+          early = still_before (t + 1) (t - longest) kept k.early;
+          low = t - longest;
+          over = λ f u before le. gone s.link longest t u f all before le;
+          same = λ n le. same_from (t - longest) n kept le ∙ k.same n (omega (arith, l, le));
+          coming = k.coming;
+        }
+    by_low false e =
+        let l : t - longest ≤ k.low = grind (arith, nat_tests, e) in
+        record {
+          early = still_before (t + 1) (t - longest) kept k.early;
+          low = k.low;
+          over = k.over;
+          same = λ n le. same_from (t - longest) n kept (omega (arith, l, le)) ∙ k.same n le;
+          coming = k.coming;
+        }
+
+-- The hosts are a world as before where these frames are gone.
+pub forgotten : (s : Scenario) (t longest low : ℕ) (p q : Playing) → IsWorld s (t + 1) p → low ≡ t - longest
+    → ((id : FrameId) → delay_by (act_on s.link id) ≤ longest)
+    → q.hosts.items ≡ p.hosts.items → q.addresses.items ≡ p.addresses.items → q.counts.items ≡ p.counts.items
+    → q.sent ≡ filter (λ (f : Sent). leb low f.tick) p.sent → q.last ≡ p.last → IsWorld s (t + 1) q
+forgotten s t longest low p q w is all hosts addresses counts sent last =
+    record {
+      params = ap params_of hosts ∙ w.params;
+      early = subst (λ az. AreEarly (t + 1) az) (sym hosts) w.early;
+      addresses = addresses ∙ (w.addresses ∙ ap addresses_of (sym hosts));
+      counted = subst (λ az. AreCounted az q.counts.items) (sym hosts)
+          (subst (λ cs. AreCounted p.hosts.items cs) (sym counts) w.counted);
+      kept = subst (λ az. AreKept s (t + 1) az q.sent q.last) (sym hosts)
+          (subst (λ fs. AreKept s (t + 1) p.hosts.items fs q.last)
+          (ap (λ n. from n p.sent) (sym is) ∙ sym sent)
+          (subst (λ n. AreKept s (t + 1) p.hosts.items (from (t - longest) p.sent) n) (sym last)
+          (still_kept s t longest p.hosts.items p.sent p.last w.kept all)));
+    }
