@@ -140,7 +140,7 @@ pub fn reply_slot(answer: &Answer, from: usize) -> ReplySlot
     ensures means { (arena out : List ℕ)
         → take (answer_len answer.now) (drop from arena) ≡ take (answer_len answer.now) out
         → reply_in arena result ≡ reply_of answer.now out }
-    ensures within { ReplyWithin (from + answer_len answer.now) result }
+    ensures within { (n : ℕ) → from + answer_len answer.now ≤ n → ReplyWithin n result }
 {
     match *answer {
         Answer::Ok => ReplySlot::Ok,

@@ -9,18 +9,14 @@ returns-clause-entry c =
     let a = c.args.bytes.now.items in
     let n = answer_len c.args.answer.now in
     let p = payload_of c.args.call.now in
-    let at : ℕ = c.args.start + n in
-    let end : ℕ = c.args.start + n + length p in
+    let start : ℕ = c.args.kept.start in
+    let at : ℕ = c.args.kept.end in
+    let end : ℕ = at + length p in
     let fits : at ≤ length a = omega (arith, c.args.bytes.now.ok, c.requires.room) in
     let memory : take end c.put.new.bytes.items ≡ take at a ++ p =
-    cc (
-      c.put.ensures.items,
-      c.bytes.ensures,
-      c.payload.ensures,
-      put_front a p (drop (at + length p) a) at end fits refl,
-    ) in
+    cc (c.put.ensures.items, c.payload.ensures, put_front a p (drop (at + length p) a) at end fits refl) in
     let call : call_in (take at a ++ p) c.call_slot.result ≡ call_of c.args.call.now =
-    c.call_slot.ensures.means _ (rw c.bytes.ensures (holds_end a p at fits)) in
-    let reply : reply_in (take at a ++ p) c.reply_slot.result ≡ reply_of c.args.answer.now (drop c.args.start a) =
-    c.reply_slot.ensures.means _ _ (before_cut a p c.args.start n fits) in
+    c.call_slot.ensures.means _ (holds_end a p at fits) in
+    let reply : reply_in (take at a ++ p) c.reply_slot.result ≡ reply_of c.args.answer.now (drop start a) =
+    c.reply_slot.ensures.means _ _ (before_cut a p start n at c.requires.within fits) in
     rw memory (cc (call, reply))
