@@ -20,9 +20,9 @@ use tas_model::Caller;
 /// An engine puts the bytes of its reply there. The room keeps what was written to it, so that it is filled once and
 /// not anew for each call.
 ///
-/// A reply shares its bytes with an earlier entry, where they are those that were kept last, or stand where such bytes
-/// are known to: what is read where it came, and what is sent where a Send took it, however often it is sent again. So
-/// a stream that goes one way is kept once.
+/// A reply shares its bytes with an earlier entry, where they are those that were kept last, or stand where it is
+/// guessed that they do: what is sent where a Send took it, however often it is sent again, and what is read where it
+/// came. They are compared, so nothing hangs on the guess but memory.
 #[derive(Drop)]
 pub struct Arena {
     bytes: Vec<u8>,

@@ -81,16 +81,37 @@ impl Anchor {
     {
         self.at.wrapping_add(seq.minus(self.seq) as usize)
     }
+}
 
-    /// What is known once the byte with this number stands at `at`: the same, where that was the guess, so that bytes
-    /// that stand behind each other have one anchor.
-    fn with(self, seq: Seq, at: usize) -> Anchor
-        ensures { place_from result seq ≡ at }
-    {
-        if self.place(seq) == at {
-            self
-        } else {
-            Anchor { seq, at }
+/// The last runs of a stream's bytes that stand behind each other, by the first byte of each, the newest run first.
+#[derive(Clone, Copy)]
+struct Runs {
+    firsts: [Anchor; 4],
+}
+
+impl Runs {
+    /// No bytes are known.
+    fn new() -> Runs {
+        Runs {
+            firsts: [Anchor { seq: Seq(0), at: 0 }; 4],
+        }
+    }
+
+    /// Where the byte with this number would stand: in the newest run that does not begin behind it.
+    fn place(&self, seq: Seq) -> Option<usize> {
+        for first in &self.firsts {
+            if seq.minus(first.seq) < 0x8000_0000 {
+                return Some(first.place(seq));
+            }
+        }
+        None
+    }
+
+    /// Notes that the byte with this number stands at `at`: it is one of the newest run, or begins a new one.
+    fn note(&mut self, seq: Seq, at: usize) {
+        let [first, second, third, _] = self.firsts;
+        if first.place(seq) != at {
+            self.firsts = [Anchor { seq, at }, first, second, third];
         }
     }
 }
@@ -124,19 +145,18 @@ fn seq_of_byte(first: Seq, i: u128) -> Seq
 /// What is known of where the bytes of both streams are kept.
 #[derive(Clone, Copy)]
 pub struct Known {
-    /// Of the bytes that Sends took.
-    taken: Anchor,
-    /// Of the bytes that came.
-    came: Anchor,
+    /// The bytes that Sends took.
+    taken: Runs,
+    /// The bytes that came.
+    came: Runs,
 }
 
 impl Known {
     /// Nothing.
     pub fn new() -> Known {
-        let nowhere = Anchor { seq: Seq(0), at: 0 };
         Known {
-            taken: nowhere,
-            came: nowhere,
+            taken: Runs::new(),
+            came: Runs::new(),
         }
     }
 
@@ -144,8 +164,8 @@ impl Known {
     /// where they came.
     pub fn guess(&self, answer: &Answer, next: NextBytes) -> Option<usize> {
         match answer {
-            Answer::Sent { head, .. } => Some(self.taken.place(head.seq)),
-            Answer::Got { .. } => Some(self.came.place(next.read)),
+            Answer::Sent { head, .. } => self.taken.place(head.seq),
+            Answer::Got { .. } => self.came.place(next.read),
             _ => None,
         }
     }
@@ -153,11 +173,11 @@ impl Known {
     /// Notes where the bytes of an entry are kept: those that were taken at `start`, those that came at `end`.
     pub fn note(&mut self, call: &CallIn<'_>, answer: &Answer, next: NextBytes, kept: Kept) {
         if let Answer::Took { .. } = answer {
-            self.taken = self.taken.with(next.take, kept.start);
+            self.taken.note(next.take, kept.start);
         }
         if let CallIn::Rx { seg, .. } = call {
             if !seg.payload.is_empty() {
-                self.came = self.came.with(seg.seq, kept.end);
+                self.came.note(seg.seq, kept.end);
             }
         }
     }
