@@ -2,7 +2,7 @@ ghost use Rattle.std.specs.Prelude.{◌≡◌, ◌↔◌, ℕ, List, ◌+◌, �
 ghost use Rattle.std.specs.Prelude.{vec_capacity, IfOk, IfSome, IfNone, IsSome, OnOk, IsOk};
 ghost use Rattle.flow_state.specs.Calls.{call_of, reply_of, payload_of, answer_len, cost_of, IsSmall, IsTimely};
 ghost use Rattle.flow_state.specs.Made.{IsMadeAt};
-ghost use Rattle.flow_state.specs.Slots.{entry_of, IsWithin};
+ghost use Rattle.flow_state.specs.Slots.{entry_of, IsWithin, IsBare};
 ghost use Rattle.flow_state.specs.Stands.{IsNear};
 
 use crate::call::{Answer, CallIn};
@@ -191,6 +191,7 @@ fn keep_entry(
     stamp: Stamp,
 ) -> (Slot, Kept)
     requires small { IsSmall call.now }
+    requires bare { IsBare call.now (answer_len answer.now) }
     requires room { used + answer_len answer.now + length (payload_of call.now) ≤ vec_len bytes.old }
     ensures kept { take used bytes.new.items ≡ take used bytes.old.items }
     ensures entry { entry_of (take (result.1.end + length (payload_of call.now)) bytes.new.items) result.0
@@ -221,6 +222,7 @@ fn close_entry(
     stamp: Stamp,
 ) -> Slot
     requires small { IsSmall call.now }
+    requires bare { IsBare call.now (answer_len answer.now) }
     requires within { kept.start + answer_len answer.now ≤ kept.end }
     requires room { kept.end + length (payload_of call.now) ≤ vec_len bytes.old }
     ensures kept { take kept.end bytes.new.items ≡ take kept.end bytes.old.items }
@@ -237,12 +239,14 @@ fn close_entry(
     ensures within { IsWithin (kept.end + length (payload_of call.now)) result }
 {
     put(bytes, kept.end, call.payload());
+    let (call, span) = call_slot(call, kept.start, answer.bytes(), kept.end);
     Slot {
         caller: stamp.caller,
         number: stamp.number,
         tick: stamp.tick,
-        call: call_slot(call, kept.end),
-        reply: reply_slot(answer, kept.start),
+        bytes: span,
+        reply: reply_slot(answer),
+        call,
     }
 }
 

@@ -4,8 +4,12 @@ use Rattle.std.proofs.lemmas.Grind.{common_steps}
 use Rattle.flow_state.specs.Calls.{answer_len, cost_of, payload_of}
 use Rattle.flow_state.specs.Made.{IsMadeAt}
 use Rattle.flow_state.specs.Slots.{IsWithin}
-use Rattle.flow_state.proofs.Sending.{bytes_within_cost}
+use Rattle.flow_state.proofs.Sending.{bytes_within_cost, bare_reply}
 use Rattle.flow_state.proofs.arena.answer_behind.Goals as goal
+
+pub keep_entry-requires-clause-bare : goal.keep_entry-requires-clause-bare
+keep_entry-requires-clause-bare g c =
+    bare_reply c.args.parts.now.smss c.args.call.now (answer_len c.in_ok-answer.answer) c.in_ok-answer.ensures.bytes
 
 pub returns-clause-cost : goal.returns-clause-cost
 returns-clause-cost g c =
