@@ -1,11 +1,13 @@
 -- Which entry a slot means: its bytes stand in the record's memory.
-use Rattle.std.specs.Prelude.{◌≡◌, ℕ, ◌+◌, ◌≤◌, List, [], length, take, drop, ⊤}
+use Rattle.std.specs.Prelude.{◌≡◌, ℕ, ◌+◌, ◌≤◌, List, [], length, take, drop, Some, None, ⊤}
 use Rattle.tas_model.specs.declared.entry.Call.{Call}
 use Rattle.tas_model.specs.declared.entry.Call.TheVariants as calls
 use Rattle.tas_model.specs.declared.entry.Reply.{Reply}
 use Rattle.tas_model.specs.declared.entry.Reply.TheVariants as replies
 use Rattle.tas_model.specs.declared.entry.Entry.{Entry}
+use Rattle.tas_model.specs.declared.entry.Head.{Head}
 use Rattle.flow_state.specs.declared.slot.Span.{Span}
+use Rattle.flow_state.specs.declared.slot.HeadSlot.{HeadSlot}
 use Rattle.flow_state.specs.declared.slot.CallSlot.{CallSlot}
 use Rattle.flow_state.specs.declared.slot.CallSlot.TheVariants as cs
 use Rattle.flow_state.specs.declared.slot.ReplySlot.{ReplySlot}
@@ -26,11 +28,15 @@ bytes_at arena s = take s.len (drop s.from arena)
 abbrev pub SpanWithin : ℕ → Span → Type 0
 SpanWithin n s = s.from + s.len ≤ n
 
+-- the header of a slot
+abbrev pub head_in : HeadSlot → Head
+head_in h = record { flags = h.flags; seq = h.seq; ack = h.ack; window = h.window; mss = h.mss }
+
 -- the call of a slot with these bytes
 abbrev pub call_in : List ℕ → CallSlot → Call
 call_in bytes (cs.Connect iss) = calls.Connect iss
-call_in bytes (cs.Passive frame iss head) = calls.Passive frame iss (record { head = head; bytes = bytes })
-call_in bytes (cs.Rx frame head) = calls.Rx frame (record { head = head; bytes = bytes })
+call_in bytes (cs.Passive iss frame head) = calls.Passive frame iss (record { head = head_in head; bytes = bytes })
+call_in bytes (cs.Rx frame head) = calls.Rx frame (record { head = head_in head; bytes = bytes })
 call_in bytes cs.Emit = calls.Emit
 call_in bytes cs.Tick = calls.Tick
 call_in bytes cs.Control = calls.Control
@@ -44,7 +50,7 @@ call_in bytes cs.Abort = calls.Abort
 
 -- the bytes of the reply: those of a received segment are its own
 abbrev pub reply_part : CallSlot → List ℕ → List ℕ
-reply_part (cs.Passive frame iss head) bytes = []
+reply_part (cs.Passive iss frame head) bytes = []
 reply_part (cs.Rx frame head) bytes = []
 reply_part _ bytes = bytes
 
@@ -52,9 +58,10 @@ reply_part _ bytes = bytes
 abbrev pub reply_in : List ℕ → ReplySlot → Reply
 reply_in bytes rs.Ok = replies.Ok
 reply_in bytes rs.Nothing = replies.Nothing
-reply_in bytes (rs.Sent head) = replies.Sent (record { head = head; bytes = bytes })
+reply_in bytes (rs.Sent head) = replies.Sent (record { head = head_in head; bytes = bytes })
 reply_in bytes rs.Took = replies.Took bytes
-reply_in bytes (rs.Got update) = replies.Got bytes update
+reply_in bytes rs.Got = replies.Got bytes None
+reply_in bytes (rs.Update head) = replies.Got bytes (Some (head_in head))
 reply_in bytes rs.End = replies.End
 reply_in bytes rs.NotYet = replies.NotYet
 reply_in bytes rs.NotOpen = replies.NotOpen

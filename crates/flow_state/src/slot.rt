@@ -3,7 +3,7 @@ ghost use Rattle.flow_state.specs.Calls.{call_of, seg_of, head_of as model_head,
 ghost use Rattle.flow_state.specs.Calls.{IsSmall};
 ghost use Rattle.flow_state.specs.Flow.{first_passive, first_connect};
 ghost use Rattle.flow_state.specs.Slots.{Holds, call_in, reply_part, reply_in, bytes_at, SpanWithin, IsWithin, IsBare};
-ghost use Rattle.flow_state.specs.Slots.{entry_of};
+ghost use Rattle.flow_state.specs.Slots.{entry_of, head_in};
 
 use crate::call::{Answer, CallIn};
 use segment_fields::Segment;
@@ -17,6 +17,16 @@ pub struct Span {
     pub len: usize,
 }
 
+/// The header of a segment, its fields in the order that leaves little room between them.
+#[derive(Clone, Copy)]
+pub struct HeadSlot {
+    pub seq: Seq,
+    pub ack: Seq,
+    pub window: u16,
+    pub flags: u8,
+    pub mss: Option<u16>,
+}
+
 /// A call of an entry.
 #[derive(Clone, Copy)]
 pub enum CallSlot {
@@ -24,13 +34,13 @@ pub enum CallSlot {
         iss: Seq,
     },
     Passive {
-        frame: FrameId,
         iss: Seq,
-        head: Head,
+        frame: FrameId,
+        head: HeadSlot,
     },
     Rx {
         frame: FrameId,
-        head: Head,
+        head: HeadSlot,
     },
     Emit,
     Tick,
@@ -53,9 +63,11 @@ pub enum CallSlot {
 pub enum ReplySlot {
     Ok,
     Nothing,
-    Sent { head: Head },
+    Sent { head: HeadSlot },
     Took,
-    Got { update: Option<Head> },
+    Got,
+    /// Bytes are got, and the window is told anew.
+    Update { head: HeadSlot },
     End,
     NotYet,
     NotOpen,
@@ -82,15 +94,43 @@ pub struct Slot {
     pub call: CallSlot,
 }
 
-/// The header of a segment.
-fn head_of(seg: &Segment<'_>) -> Head
-    ensures { result ≡ model_head seg.now }
+impl HeadSlot {
+    /// The header as it is seen.
+    pub fn head(&self) -> Head
+        ensures { result ≡ head_in self.now }
+    {
+        Head {
+            flags: self.flags,
+            seq: self.seq,
+            ack: self.ack,
+            window: self.window,
+            mss: self.mss,
+        }
+    }
+}
+
+/// The slot of a header.
+fn head_slot(head: Head) -> HeadSlot
+    ensures { head_in result ≡ head }
 {
-    Head {
-        flags: seg.flags.0,
+    HeadSlot {
+        seq: head.seq,
+        ack: head.ack,
+        window: head.window,
+        flags: head.flags,
+        mss: head.mss,
+    }
+}
+
+/// The header of a segment.
+fn head_of(seg: &Segment<'_>) -> HeadSlot
+    ensures { head_in result ≡ model_head seg.now }
+{
+    HeadSlot {
         seq: seg.seq,
         ack: seg.ack,
         window: seg.window,
+        flags: seg.flags.0,
         mss: seg.mss,
     }
 }
@@ -162,9 +202,17 @@ pub fn reply_slot(answer: &Answer) -> ReplySlot
     match *answer {
         Answer::Ok => ReplySlot::Ok,
         Answer::Nothing => ReplySlot::Nothing,
-        Answer::Sent { head, .. } => ReplySlot::Sent { head },
+        Answer::Sent { head, .. } => ReplySlot::Sent {
+            head: head_slot(head),
+        },
         Answer::Took { .. } => ReplySlot::Took,
-        Answer::Got { update, .. } => ReplySlot::Got { update },
+        Answer::Got { update: None, .. } => ReplySlot::Got,
+        Answer::Got {
+            update: Some(head),
+            ..
+        } => ReplySlot::Update {
+            head: head_slot(head),
+        },
         Answer::End => ReplySlot::End,
         Answer::NotYet => ReplySlot::NotYet,
         Answer::NotOpen => ReplySlot::NotOpen,

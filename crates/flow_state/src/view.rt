@@ -1,10 +1,10 @@
 ghost use Rattle.std.specs.Prelude.{◌≡◌, ℕ, ◌+◌, ◌≤◌, List, length, take, drop};
 ghost use Rattle.flow_state.specs.Calls.{reply_bytes};
 ghost use Rattle.flow_state.specs.Slots.{bytes_at, SpanWithin, IsWithin, call_in, reply_in, entry_of};
-ghost use Rattle.flow_state.specs.Slots.{reply_part as model_part};
-ghost use Rattle.flow_state.specs.Views.{seen_call, seen_reply, seen_entry};
+ghost use Rattle.flow_state.specs.Slots.{reply_part as model_part, head_in};
+ghost use Rattle.flow_state.specs.Views.{seen_seg, seen_call, seen_reply, seen_entry};
 
-use crate::slot::{CallSlot, ReplySlot, Slot, Span};
+use crate::slot::{CallSlot, HeadSlot, ReplySlot, Slot, Span};
 use tas_model::{Caller, FrameId, Head, Reason};
 use tas_num::Seq;
 
@@ -112,6 +112,16 @@ fn bytes_of<'a>(arena: &'a [u8], span: Span) -> &'a [u8]
 }
 
 #[inline(always)]
+fn seg_view<'a>(head: &HeadSlot, bytes: &'a [u8]) -> SegView<'a>
+    ensures { seen_seg result ≡ record { head = head_in head.now; bytes = bytes.now } }
+{
+    SegView {
+        head: head.head(),
+        bytes,
+    }
+}
+
+#[inline(always)]
 fn call_view<'a>(bytes: &'a [u8], call: CallSlot) -> CallView<'a>
     ensures { seen_call result ≡ call_in bytes.now call }
 {
@@ -120,11 +130,11 @@ fn call_view<'a>(bytes: &'a [u8], call: CallSlot) -> CallView<'a>
         CallSlot::Passive { frame, iss, head } => CallView::Passive {
             frame,
             iss,
-            seg: SegView { head, bytes },
+            seg: seg_view(&head, bytes),
         },
         CallSlot::Rx { frame, head } => CallView::Rx {
             frame,
-            seg: SegView { head, bytes },
+            seg: seg_view(&head, bytes),
         },
         CallSlot::Emit => CallView::Emit,
         CallSlot::Tick => CallView::Tick,
@@ -158,10 +168,17 @@ fn reply_view<'a>(bytes: &'a [u8], reply: ReplySlot) -> ReplyView<'a>
         ReplySlot::Ok => ReplyView::Ok,
         ReplySlot::Nothing => ReplyView::Nothing,
         ReplySlot::Sent { head } => ReplyView::Sent {
-            seg: SegView { head, bytes },
+            seg: seg_view(&head, bytes),
         },
         ReplySlot::Took => ReplyView::Took { bytes },
-        ReplySlot::Got { update } => ReplyView::Got { bytes, update },
+        ReplySlot::Got => ReplyView::Got {
+            bytes,
+            update: None,
+        },
+        ReplySlot::Update { head } => ReplyView::Got {
+            bytes,
+            update: Some(head.head()),
+        },
         ReplySlot::End => ReplyView::End,
         ReplySlot::NotYet => ReplyView::NotYet,
         ReplySlot::NotOpen => ReplyView::NotOpen,
