@@ -17,10 +17,6 @@ use Rattle.flow_state.specs.declared.parts.Parts.{Parts}
 use Rattle.flow_state.specs.declared.call.CallIn.{CallIn}
 use Rattle.flow_state.specs.declared.call.Answer.{Answer}
 use Rattle.flow_state.specs.declared.slot.Slot.{Slot}
-use Rattle.flow_state.specs.declared.slot.CallSlot.{CallSlot}
-use Rattle.flow_state.specs.declared.slot.CallSlot.TheVariants as cs
-use Rattle.flow_state.specs.declared.slot.ReplySlot.{ReplySlot}
-use Rattle.flow_state.specs.declared.slot.ReplySlot.TheVariants as rs
 use Rattle.flow_state.specs.declared.counts.CallerCount.{CallerCount}
 use Rattle.flow_state.specs.Calls.{call_of, offer_of, reply_of, answer_of}
 use Rattle.flow_state.specs.Counts.{counted_for, AreCounts}
@@ -29,7 +25,7 @@ use Rattle.flow_state.specs.Made.{IsStep, IsMadeWith, IsMadeAt}
 use Rattle.flow_state.specs.Record.{IsRecord}
 use Rattle.flow_state.specs.declared.stretch.Stretch.{Stretch}
 use Rattle.flow_state.specs.declared.stretch.Stretch.TheVariants.{One, Quiet}
-use Rattle.flow_state.specs.Slots.{entry_of, CallWithin, ReplyWithin, IsWithin}
+use Rattle.flow_state.specs.Slots.{entry_of, IsWithin}
 use Rattle.flow_state.specs.Stretches.{entries_of, StretchWithin, AllWithin}
 use Rattle.flow_state.specs.Stands.{Stands}
 use Rattle.flow_state.proofs.Counting.{counts_push, counts_first}
@@ -81,22 +77,8 @@ follows params h caller tick call before after arena answer slot out fits legal 
       answer = sym (answer_is answer out made.bytes) ∙ ap answer_of same;
     }
 
-call_longer : (n m : ℕ) (c : CallSlot) → n ≤ m → CallWithin n c → CallWithin m c
-call_longer n m (cs.Passive frame iss head bytes) le is = omega arith
-call_longer n m (cs.Rx frame head bytes) le is = omega arith
-call_longer n m _ le is = tt
-
-reply_longer : (n m : ℕ) (r : ReplySlot) → n ≤ m → ReplyWithin n r → ReplyWithin m r
-reply_longer n m (rs.Sent head bytes) le is = omega arith
-reply_longer n m (rs.Took bytes) le is = omega arith
-reply_longer n m (rs.Got bytes update) le is = omega arith
-reply_longer n m _ le is = tt
-
 stretch_longer : (n m : ℕ) (s : Stretch) → n ≤ m → StretchWithin n s → StretchWithin m s
-stretch_longer n m (One s) le is = record {
-  call = call_longer n m s.call le is.call;
-  reply = reply_longer n m s.reply le is.reply;
-}
+stretch_longer n m (One s) le is = omega arith
 stretch_longer n m (Quiet r) le is = is
 
 within_longer : (n m : ℕ) (stretches : List Stretch) → n ≤ m → AllWithin n stretches → AllWithin m stretches

@@ -13,7 +13,7 @@ use Rattle.flow_state.specs.declared.slot.Slot.{Slot}
 use Rattle.flow_state.specs.declared.stretch.QuietRun.{QuietRun}
 use Rattle.flow_state.specs.declared.stretch.Stretch.{Stretch}
 use Rattle.flow_state.specs.declared.stretch.Stretch.TheVariants.{Quiet}
-use Rattle.flow_state.specs.Slots.{entry_of, call_in, reply_in}
+use Rattle.flow_state.specs.Slots.{entry_of, bytes_at, call_in, reply_part, reply_in}
 use Rattle.flow_state.specs.Stretches.{quiet_tick, quiet_ticks, run_entries, entries_in, entries_of, StretchWithin}
 use Rattle.flow_state.specs.Stretches.{AllWithin, is_quiet_pair, is_quiet_tick, comes_next}
 use Rattle.flow_state.proofs.Counting.{caller_is}
@@ -75,7 +75,8 @@ next_is r s h =
 pub quiet_entry : (arena : List ℕ) (s : Slot) → is_quiet_tick s ≡ true
     → entry_of arena s ≡ quiet_tick s.caller s.number s.tick
 quiet_entry arena s h = let is : (s.call ≡ cs.Tick) × (s.reply ≡ rs.Quiet) = pair_is s.call s.reply h in
-    cc (ap (call_in arena) is.0, ap (reply_in arena) is.1)
+    let bytes : List ℕ = bytes_at arena s.bytes in
+    cc (ap (call_in bytes) is.0, ap (reply_in (reply_part s.call bytes)) is.1)
 
 run_longer : (arena : List ℕ) (r : QuietRun) (s : Slot) → is_quiet_tick s ≡ true → comes_next r s ≡ true
     → run_entries (record r { more = r.more + 1 }) ≡ run_entries r ++ entry_of arena s ∷ []

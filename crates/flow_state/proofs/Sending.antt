@@ -11,6 +11,7 @@ use Rattle.flow_state.specs.declared.call.CallIn.TheVariants as ins
 use Rattle.flow_state.specs.declared.call.Answer.{Answer}
 use Rattle.flow_state.specs.declared.call.Answer.TheVariants as answers
 use Rattle.flow_state.specs.Calls.{call_of, offer_of, reply_of, answer_of, answer_len, reply_room, cost_of, payload_of}
+use Rattle.flow_state.specs.Slots.{IsBare}
 
 some_is : {A : Type 0} (x y : A) → ◌≡◌ {A = Option A} (Some x) (Some y) → x ≡ y
 some_is x y h = cc (h)
@@ -93,3 +94,9 @@ bytes_within_cost mss ins.Emit n h = omega arith
 bytes_within_cost mss (ins.Passive frame iss seg) n h = omega arith
 bytes_within_cost mss (ins.Rx frame seg) n h = omega arith
 bytes_within_cost mss _ n h = omega arith
+
+-- a reply to a received segment has no bytes, as there is no room for any
+pub bare_reply : (mss : ℕ) (call : CallIn) (n : ℕ) → n ≤ reply_room mss call → IsBare call n
+bare_reply mss (ins.Passive frame iss seg) n h = omega arith
+bare_reply mss (ins.Rx frame seg) n h = omega arith
+bare_reply mss _ n h = tt

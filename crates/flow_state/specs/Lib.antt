@@ -4,6 +4,7 @@ pub mod Slots
 pub mod Stretches
 pub mod Made
 pub mod Arena
+pub mod Sharing
 pub mod Flow
 pub mod Counts
 pub mod Record

@@ -1,16 +1,20 @@
 -- Which entry a slot means: its bytes stand in the record's memory.
-use Rattle.std.specs.Prelude.{◌≡◌, ℕ, ◌+◌, ◌≤◌, List, length, take, drop, ⊤}
+use Rattle.std.specs.Prelude.{◌≡◌, ℕ, ◌+◌, ◌≤◌, List, [], length, take, drop, Some, None, ⊤}
 use Rattle.tas_model.specs.declared.entry.Call.{Call}
 use Rattle.tas_model.specs.declared.entry.Call.TheVariants as calls
 use Rattle.tas_model.specs.declared.entry.Reply.{Reply}
 use Rattle.tas_model.specs.declared.entry.Reply.TheVariants as replies
 use Rattle.tas_model.specs.declared.entry.Entry.{Entry}
+use Rattle.tas_model.specs.declared.entry.Head.{Head}
 use Rattle.flow_state.specs.declared.slot.Span.{Span}
+use Rattle.flow_state.specs.declared.slot.HeadSlot.{HeadSlot}
 use Rattle.flow_state.specs.declared.slot.CallSlot.{CallSlot}
 use Rattle.flow_state.specs.declared.slot.CallSlot.TheVariants as cs
 use Rattle.flow_state.specs.declared.slot.ReplySlot.{ReplySlot}
 use Rattle.flow_state.specs.declared.slot.ReplySlot.TheVariants as rs
 use Rattle.flow_state.specs.declared.slot.Slot.{Slot}
+use Rattle.flow_state.specs.declared.call.CallIn.{CallIn}
+use Rattle.flow_state.specs.declared.call.CallIn.TheVariants as ins
 
 -- these bytes stand in the memory from a place on
 abbrev pub Holds : List ℕ → ℕ → List ℕ → Type 0
@@ -24,41 +28,51 @@ bytes_at arena s = take s.len (drop s.from arena)
 abbrev pub SpanWithin : ℕ → Span → Type 0
 SpanWithin n s = s.from + s.len ≤ n
 
--- the call of a slot
-abbrev pub call_in : List ℕ → CallSlot → Call
-call_in arena (cs.Connect iss) = calls.Connect iss
-call_in arena (cs.Passive frame iss head bytes) =
-    calls.Passive frame iss (record { head = head; bytes = bytes_at arena bytes })
-call_in arena (cs.Rx frame head bytes) = calls.Rx frame (record { head = head; bytes = bytes_at arena bytes })
-call_in arena cs.Emit = calls.Emit
-call_in arena cs.Tick = calls.Tick
-call_in arena cs.Control = calls.Control
-call_in arena cs.Accept = calls.Accept
-call_in arena cs.Ready = calls.Ready
-call_in arena (cs.Send offered) = calls.Send offered
-call_in arena (cs.Recv most) = calls.Recv most
-call_in arena cs.Shut = calls.Shut
-call_in arena cs.Close = calls.Close
-call_in arena cs.Abort = calls.Abort
+-- the header of a slot
+abbrev pub head_in : HeadSlot → Head
+head_in h = record { flags = h.flags; seq = h.seq; ack = h.ack; window = h.window; mss = h.mss }
 
--- the reply of a slot
+-- the call of a slot with these bytes
+abbrev pub call_in : List ℕ → CallSlot → Call
+call_in bytes (cs.Connect iss) = calls.Connect iss
+call_in bytes (cs.Passive iss frame head) = calls.Passive frame iss (record { head = head_in head; bytes = bytes })
+call_in bytes (cs.Rx frame head) = calls.Rx frame (record { head = head_in head; bytes = bytes })
+call_in bytes cs.Emit = calls.Emit
+call_in bytes cs.Tick = calls.Tick
+call_in bytes cs.Control = calls.Control
+call_in bytes cs.Accept = calls.Accept
+call_in bytes cs.Ready = calls.Ready
+call_in bytes (cs.Send offered) = calls.Send offered
+call_in bytes (cs.Recv most) = calls.Recv most
+call_in bytes cs.Shut = calls.Shut
+call_in bytes cs.Close = calls.Close
+call_in bytes cs.Abort = calls.Abort
+
+-- the bytes of the reply: those of a received segment are its own
+abbrev pub reply_part : CallSlot → List ℕ → List ℕ
+reply_part (cs.Passive iss frame head) bytes = []
+reply_part (cs.Rx frame head) bytes = []
+reply_part _ bytes = bytes
+
+-- the reply of a slot with these bytes
 abbrev pub reply_in : List ℕ → ReplySlot → Reply
-reply_in arena rs.Ok = replies.Ok
-reply_in arena rs.Nothing = replies.Nothing
-reply_in arena (rs.Sent head bytes) = replies.Sent (record { head = head; bytes = bytes_at arena bytes })
-reply_in arena (rs.Took bytes) = replies.Took (bytes_at arena bytes)
-reply_in arena (rs.Got bytes update) = replies.Got (bytes_at arena bytes) update
-reply_in arena rs.End = replies.End
-reply_in arena rs.NotYet = replies.NotYet
-reply_in arena rs.NotOpen = replies.NotOpen
-reply_in arena rs.Shut = replies.Shut
-reply_in arena (rs.Closed reason) = replies.Closed reason
-reply_in arena rs.Quiet = replies.Quiet
-reply_in arena rs.Resend = replies.Resend
-reply_in arena rs.Probe = replies.Probe
-reply_in arena rs.Expired = replies.Expired
-reply_in arena rs.TimedOut = replies.TimedOut
-reply_in arena (rs.Window cwnd ssthresh) = replies.Window cwnd ssthresh
+reply_in bytes rs.Ok = replies.Ok
+reply_in bytes rs.Nothing = replies.Nothing
+reply_in bytes (rs.Sent head) = replies.Sent (record { head = head_in head; bytes = bytes })
+reply_in bytes rs.Took = replies.Took bytes
+reply_in bytes rs.Got = replies.Got bytes None
+reply_in bytes (rs.Update head) = replies.Got bytes (Some (head_in head))
+reply_in bytes rs.End = replies.End
+reply_in bytes rs.NotYet = replies.NotYet
+reply_in bytes rs.NotOpen = replies.NotOpen
+reply_in bytes rs.Shut = replies.Shut
+reply_in bytes (rs.Closed reason) = replies.Closed reason
+reply_in bytes rs.Quiet = replies.Quiet
+reply_in bytes rs.Resend = replies.Resend
+reply_in bytes rs.Probe = replies.Probe
+reply_in bytes rs.Expired = replies.Expired
+reply_in bytes rs.TimedOut = replies.TimedOut
+reply_in bytes (rs.Window cwnd ssthresh) = replies.Window cwnd ssthresh
 
 -- the entry of a slot
 abbrev pub entry_of : List ℕ → Slot → Entry
@@ -66,25 +80,16 @@ entry_of arena s = record {
   caller = s.caller;
   number = s.number;
   tick = s.tick;
-  call = call_in arena s.call;
-  reply = reply_in arena s.reply;
+  call = call_in (bytes_at arena s.bytes) s.call;
+  reply = reply_in (reply_part s.call (bytes_at arena s.bytes)) s.reply;
 }
 
--- ----- spans that lie in memory
--- of a call
-abbrev pub CallWithin : ℕ → CallSlot → Type 0
-CallWithin n (cs.Passive frame iss head bytes) = SpanWithin n bytes
-CallWithin n (cs.Rx frame head bytes) = SpanWithin n bytes
-CallWithin n _ = ⊤
+-- its bytes stand in the first n of the memory
+abbrev pub IsWithin : ℕ → Slot → Type 0
+IsWithin n s = SpanWithin n s.bytes
 
--- of a reply
-abbrev pub ReplyWithin : ℕ → ReplySlot → Type 0
-ReplyWithin n (rs.Sent head bytes) = SpanWithin n bytes
-ReplyWithin n (rs.Took bytes) = SpanWithin n bytes
-ReplyWithin n (rs.Got bytes update) = SpanWithin n bytes
-ReplyWithin n _ = ⊤
-
--- of a slot
-pub record IsWithin (n : ℕ) (s : Slot) : Type 0 where
-  pub call : CallWithin n s.call
-  pub reply : ReplyWithin n s.reply
+-- a reply to a received segment has no bytes
+abbrev pub IsBare : CallIn → ℕ → Type 0
+IsBare (ins.Passive frame iss seg) n = n ≡ 0
+IsBare (ins.Rx frame seg) n = n ≡ 0
+IsBare _ n = ⊤

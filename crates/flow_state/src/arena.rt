@@ -2,12 +2,13 @@ ghost use Rattle.std.specs.Prelude.{◌≡◌, ◌↔◌, ℕ, List, ◌+◌, �
 ghost use Rattle.std.specs.Prelude.{vec_capacity, IfOk, IfSome, IfNone, IsSome, OnOk, IsOk};
 ghost use Rattle.flow_state.specs.Calls.{call_of, reply_of, payload_of, answer_len, cost_of, IsSmall, IsTimely};
 ghost use Rattle.flow_state.specs.Made.{IsMadeAt};
-ghost use Rattle.flow_state.specs.Slots.{entry_of, IsWithin};
+ghost use Rattle.flow_state.specs.Slots.{entry_of, IsWithin, IsBare};
 ghost use Rattle.flow_state.specs.Stands.{IsNear};
 
 use crate::call::{Answer, CallIn};
 use crate::engine::{Engine, cost};
 use crate::parts::Parts;
+use crate::sharing::{Kept, Known, keep, next_bytes};
 use crate::slot::{Slot, call_slot, reply_slot};
 use payload_ring::fill_with_zeros;
 use std::alloc::{AllocError, Global};
@@ -18,13 +19,17 @@ use tas_model::Caller;
 ///
 /// An engine puts the bytes of its reply there. The room keeps what was written to it, so that it is filled once and
 /// not anew for each call.
-/// A reply whose bytes are those that were kept last, as when a payload is read as soon as it came, shares these with
-/// the earlier entry.
+///
+/// A reply shares its bytes with an earlier entry, where they are those that were kept last, or stand where it is
+/// guessed that they do: what is sent where a Send took it, however often it is sent again, and what is read where it
+/// came. They are compared, so nothing hangs on the guess but memory.
 #[derive(Drop)]
 pub struct Arena {
     bytes: Vec<u8>,
     /// How many bytes are kept. The others are room.
     used: usize,
+    /// Where to look for bytes that an entry shares.
+    known: Known,
 }
 
 impl Model for Arena {
@@ -46,6 +51,7 @@ impl Arena {
         Arena {
             bytes: Vec::new(alloc),
             used: 0,
+            known: Known::new(),
         }
     }
 
@@ -56,6 +62,7 @@ impl Arena {
         Ok(Arena {
             bytes: Vec::from_slice(alloc, bytes)?,
             used: bytes.len(),
+            known: Known::new(),
         })
     }
 
@@ -103,31 +110,41 @@ impl Arena {
         ensures params { parts.new.params ≡ parts.old.params }
         ensures tuple { parts.new.tuple ≡ parts.old.tuple }
     {
-        let (answer, slot, start) = answer_behind(
+        let (answer, slot, end) = answer_behind(
             engine,
             parts,
             &mut self.bytes,
             self.used,
-            caller,
-            number,
-            tick,
+            &mut self.known,
+            Stamp {
+                caller,
+                number,
+                tick,
+            },
             call,
         )?;
-        self.used = start + answer.bytes() + call.payload().len();
+        self.used = end;
         Some((answer, slot))
     }
 }
 
-/// Makes the call, and puts the bytes of its entry behind the first `used`; those of its reply may be the last of
-/// these. Also gives where they start.
+/// Who makes an entry, and when.
+#[derive(Clone, Copy)]
+struct Stamp {
+    caller: Caller,
+    number: u64,
+    tick: u32,
+}
+
+/// Makes the call, and keeps the bytes of its entry behind the first `used`, or its reply's among these. Also gives how
+/// many are kept then.
 fn answer_behind<E: Engine>(
     engine: &E,
     parts: &mut Parts,
     bytes: &mut Vec<u8>,
     used: usize,
-    caller: Caller,
-    number: u64,
-    tick: u32,
+    known: &mut Known,
+    stamp: Stamp,
     call: &CallIn<'_>,
 ) -> Option<(Answer, Slot, usize)>
     requires small { IsSmall call.now }
@@ -135,14 +152,11 @@ fn answer_behind<E: Engine>(
     requires near { IsNear parts.old }
     requires within { used ≤ vec_len bytes.old }
     requires room { used + cost_of parts.old.smss call.now ≤ vec_capacity bytes.old }
-    ensures made { IfSome result (λ r. IsMadeAt parts.old parts.new
-        (take (r.2 + answer_len r.0 + length (payload_of call.now)) bytes.new.items) caller number tick call.now r.0
-        r.1) }
-    ensures few { IfSome result (λ r. r.2 + answer_len r.0 + length (payload_of call.now) ≤ vec_len bytes.new) }
-    ensures before { IfSome result (λ r. r.2 ≤ used) }
-    ensures past { IfSome result (λ r. used ≤ r.2 + answer_len r.0) }
-    ensures cost { IfSome result (λ r. answer_len r.0 + length (payload_of call.now)
-        ≤ cost_of parts.old.smss call.now) }
+    ensures made { IfSome result (λ r. IsMadeAt parts.old parts.new (take r.2 bytes.new.items) stamp.caller stamp.number
+        stamp.tick call.now r.0 r.1) }
+    ensures few { IfSome result (λ r. r.2 ≤ vec_len bytes.new) }
+    ensures past { IfSome result (λ r. used ≤ r.2) }
+    ensures cost { IfSome result (λ r. r.2 ≤ used + cost_of parts.old.smss call.now) }
     ensures unmade { IfNone result (parts.new ≡ parts.old) }
     ensures serves { IsSome result ↔ E.serves engine.now parts.old call.now }
     ensures kept { take used bytes.new.items ≡ take used bytes.old.items }
@@ -152,98 +166,87 @@ fn answer_behind<E: Engine>(
     ensures tuple { parts.new.tuple ≡ parts.old.tuple }
 {
     fill_with_zeros(bytes, used + cost(parts, call));
-    let answer = engine.run(parts, tick, call, &mut bytes[used..])?;
-    let (slot, start) = keep_entry(bytes, used, call, &answer, caller, number, tick);
-    Some((answer, slot, start))
+    let next = next_bytes(parts);
+    let answer = engine.run(parts, stamp.tick, call, &mut bytes[used..])?;
+    let (slot, kept) = keep_entry(
+        bytes,
+        used,
+        known.guess(&answer, next),
+        call,
+        &answer,
+        stamp,
+    );
+    known.note(call, &answer, next, kept);
+    Some((answer, slot, kept.end + call.payload().len()))
 }
 
-/// The slot of an entry whose reply's bytes stand in memory from `used` on, the call's bytes put behind them. Also
-/// gives where they are kept.
+/// The slot of an entry whose reply's bytes stand in memory from `used` on, and perhaps also from `guess` on; the
+/// call's bytes are put behind what is kept. Also gives where the reply's are kept.
 fn keep_entry(
     bytes: &mut Vec<u8>,
     used: usize,
+    guess: Option<usize>,
     call: &CallIn<'_>,
     answer: &Answer,
-    caller: Caller,
-    number: u64,
-    tick: u32,
-) -> (Slot, usize)
+    stamp: Stamp,
+) -> (Slot, Kept)
     requires small { IsSmall call.now }
+    requires bare { IsBare call.now (answer_len answer.now) }
     requires room { used + answer_len answer.now + length (payload_of call.now) ≤ vec_len bytes.old }
     ensures kept { take used bytes.new.items ≡ take used bytes.old.items }
-    ensures entry { entry_of (take (result.1 + answer_len answer.now + length (payload_of call.now)) bytes.new.items)
-        result.0 ≡ record {
-          caller = caller;
-          number = number;
-          tick = tick;
+    ensures entry { entry_of (take (result.1.end + length (payload_of call.now)) bytes.new.items) result.0
+        ≡ record {
+          caller = stamp.caller;
+          number = stamp.number;
+          tick = stamp.tick;
           call = call_of call.now;
           reply = reply_of answer.now (drop used bytes.old.items);
         } }
-    ensures before { result.1 ≤ used }
-    ensures past { used ≤ result.1 + answer_len answer.now }
+    ensures before { used ≤ result.1.end }
+    ensures past { result.1.end ≤ used + answer_len answer.now }
     ensures len { vec_len bytes.new ≡ vec_len bytes.old }
     ensures capacity { vec_capacity bytes.new ≡ vec_capacity bytes.old }
-    ensures within { IsWithin (result.1 + answer_len answer.now + length (payload_of call.now)) result.0 }
+    ensures within { IsWithin (result.1.end + length (payload_of call.now)) result.0 }
 {
-    let start = start_of(bytes, used, answer.bytes());
-    let slot = close_entry(bytes, start, call, answer, caller, number, tick);
-    (slot, start)
+    let kept = keep(bytes, used, answer.bytes(), guess);
+    let slot = close_entry(bytes, kept, call, answer, stamp);
+    (slot, kept)
 }
 
-/// Where to keep the `n` bytes that stand from `used` on: at the `n` before them where these are the same, else where
-/// they stand.
-fn start_of(bytes: &[u8], used: usize, n: usize) -> usize
-    requires { used + n ≤ length bytes.now }
-    ensures before { result ≤ used }
-    ensures past { used ≤ result + n }
-    ensures same { take n (drop result bytes.now) ≡ take n (drop used bytes.now) }
-    ensures found { n ≤ used → take n (drop (used - n) bytes.now) ≡ take n (drop used bytes.now) → result ≡ used - n }
-{
-    if n == 0 || used < n {
-        return used;
-    }
-    // `==` compares many bytes at a time.
-    if &bytes[used - n..used] == &bytes[used..used + n] {
-        used - n
-    } else {
-        used
-    }
-}
-
-/// The slot of an entry whose reply's bytes stand in memory from `start` on, the call's bytes put behind them.
+/// The slot of an entry whose reply's bytes are kept there, the call's bytes put behind all that are.
 fn close_entry(
     bytes: &mut Vec<u8>,
-    start: usize,
+    kept: Kept,
     call: &CallIn<'_>,
     answer: &Answer,
-    caller: Caller,
-    number: u64,
-    tick: u32,
+    stamp: Stamp,
 ) -> Slot
     requires small { IsSmall call.now }
-    requires room { start + answer_len answer.now + length (payload_of call.now) ≤ vec_len bytes.old }
-    ensures kept { take (start + answer_len answer.now) bytes.new.items
-        ≡ take (start + answer_len answer.now) bytes.old.items }
-    ensures entry { entry_of (take (start + answer_len answer.now + length (payload_of call.now)) bytes.new.items)
-        result ≡ record {
-          caller = caller;
-          number = number;
-          tick = tick;
+    requires bare { IsBare call.now (answer_len answer.now) }
+    requires within { kept.start + answer_len answer.now ≤ kept.end }
+    requires room { kept.end + length (payload_of call.now) ≤ vec_len bytes.old }
+    ensures kept { take kept.end bytes.new.items ≡ take kept.end bytes.old.items }
+    ensures entry { entry_of (take (kept.end + length (payload_of call.now)) bytes.new.items) result
+        ≡ record {
+          caller = stamp.caller;
+          number = stamp.number;
+          tick = stamp.tick;
           call = call_of call.now;
-          reply = reply_of answer.now (drop start bytes.old.items);
+          reply = reply_of answer.now (drop kept.start bytes.old.items);
         } }
     ensures len { vec_len bytes.new ≡ vec_len bytes.old }
     ensures capacity { vec_capacity bytes.new ≡ vec_capacity bytes.old }
-    ensures within { IsWithin (start + answer_len answer.now + length (payload_of call.now)) result }
+    ensures within { IsWithin (kept.end + length (payload_of call.now)) result }
 {
-    let at = start + answer.bytes();
-    put(bytes, at, call.payload());
+    put(bytes, kept.end, call.payload());
+    let (call, span) = call_slot(call, kept.start, answer.bytes(), kept.end);
     Slot {
-        caller,
-        number,
-        tick,
-        call: call_slot(call, at),
-        reply: reply_slot(answer, start),
+        caller: stamp.caller,
+        number: stamp.number,
+        tick: stamp.tick,
+        bytes: span,
+        reply: reply_slot(answer),
+        call,
     }
 }
 

@@ -13,6 +13,7 @@ mod open;
 mod parts;
 mod reading;
 mod record;
+mod sharing;
 mod slot;
 mod stage;
 mod stretch;

@@ -21,7 +21,7 @@ use crate::parts::Parts;
 use crate::slot::{connect_slot, passive_slot};
 use crate::stretch::{Stretch, add};
 use crate::stretches::Stretches;
-use crate::view::{EntryView, reply_view};
+use crate::view::{EntryView, entry_view};
 use segment_fields::Segment;
 use std::alloc::{AllocError, Global};
 use std::marker::Model;
@@ -279,7 +279,7 @@ fn last_bytes_of<'a>(arena: &'a [u8], stretch: &Stretch) -> &'a [u8]
     ensures { result.now ≡ reply_bytes (last_reply (entries_in arena.now stretch.now)) }
 {
     match stretch {
-        Stretch::One(slot) => reply_view(arena, slot.reply).bytes(),
+        Stretch::One(slot) => entry_view(arena, slot).reply.bytes(),
         Stretch::Quiet(_) => &[],
     }
 }

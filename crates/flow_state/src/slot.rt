@@ -2,7 +2,8 @@ ghost use Rattle.std.specs.Prelude.{◌≡◌, ℕ, ◌+◌, ◌≤◌, List, ta
 ghost use Rattle.flow_state.specs.Calls.{call_of, seg_of, head_of as model_head, reply_of, payload_of, answer_len};
 ghost use Rattle.flow_state.specs.Calls.{IsSmall};
 ghost use Rattle.flow_state.specs.Flow.{first_passive, first_connect};
-ghost use Rattle.flow_state.specs.Slots.{Holds, call_in, reply_in, CallWithin, ReplyWithin, IsWithin, entry_of};
+ghost use Rattle.flow_state.specs.Slots.{Holds, call_in, reply_part, reply_in, bytes_at, SpanWithin, IsWithin, IsBare};
+ghost use Rattle.flow_state.specs.Slots.{entry_of, head_in};
 
 use crate::call::{Answer, CallIn};
 use segment_fields::Segment;
@@ -16,6 +17,16 @@ pub struct Span {
     pub len: usize,
 }
 
+/// The header of a segment, its fields in the order that leaves little room between them.
+#[derive(Clone, Copy)]
+pub struct HeadSlot {
+    pub seq: Seq,
+    pub ack: Seq,
+    pub window: u16,
+    pub flags: u8,
+    pub mss: Option<u16>,
+}
+
 /// A call of an entry.
 #[derive(Clone, Copy)]
 pub enum CallSlot {
@@ -23,15 +34,13 @@ pub enum CallSlot {
         iss: Seq,
     },
     Passive {
-        frame: FrameId,
         iss: Seq,
-        head: Head,
-        bytes: Span,
+        frame: FrameId,
+        head: HeadSlot,
     },
     Rx {
         frame: FrameId,
-        head: Head,
-        bytes: Span,
+        head: HeadSlot,
     },
     Emit,
     Tick,
@@ -54,9 +63,11 @@ pub enum CallSlot {
 pub enum ReplySlot {
     Ok,
     Nothing,
-    Sent { head: Head, bytes: Span },
-    Took { bytes: Span },
-    Got { bytes: Span, update: Option<Head> },
+    Sent { head: HeadSlot },
+    Took,
+    Got,
+    /// Bytes are got, and the window is told anew.
+    Update { head: HeadSlot },
     End,
     NotYet,
     NotOpen,
@@ -70,100 +81,137 @@ pub enum ReplySlot {
     Window { cwnd: u32, ssthresh: u32 },
 }
 
-/// An entry whose bytes stand in the record's memory.
+/// An entry whose bytes stand in the record's memory: those of a segment that its call brings, else of its reply.
+///
+/// The fields stand in this order so that there is little room between them.
 #[derive(Clone, Copy)]
 pub struct Slot {
     pub caller: Caller,
     pub number: u64,
+    pub bytes: Span,
     pub tick: u32,
-    pub call: CallSlot,
     pub reply: ReplySlot,
+    pub call: CallSlot,
+}
+
+impl HeadSlot {
+    /// The header as it is seen.
+    pub fn head(&self) -> Head
+        ensures { result ≡ head_in self.now }
+    {
+        Head {
+            flags: self.flags,
+            seq: self.seq,
+            ack: self.ack,
+            window: self.window,
+            mss: self.mss,
+        }
+    }
+}
+
+/// The slot of a header.
+fn head_slot(head: Head) -> HeadSlot
+    ensures { head_in result ≡ head }
+{
+    HeadSlot {
+        seq: head.seq,
+        ack: head.ack,
+        window: head.window,
+        flags: head.flags,
+        mss: head.mss,
+    }
 }
 
 /// The header of a segment.
-fn head_of(seg: &Segment<'_>) -> Head
-    ensures { result ≡ model_head seg.now }
+fn head_of(seg: &Segment<'_>) -> HeadSlot
+    ensures { head_in result ≡ model_head seg.now }
 {
-    Head {
-        flags: seg.flags.0,
+    HeadSlot {
         seq: seg.seq,
         ack: seg.ack,
         window: seg.window,
+        flags: seg.flags.0,
         mss: seg.mss,
     }
 }
 
-/// The call, with its bytes at `from`.
-pub fn call_slot(call: &CallIn<'_>, from: usize) -> CallSlot
-    requires room { length (payload_of call.now) + from < 2 ^ 64 }
+/// The call, and where the bytes of its entry stand: the payload that it brings at `end`, or the `n` bytes of its reply
+/// at `start`.
+pub fn call_slot(call: &CallIn<'_>, start: usize, n: usize, end: usize) -> (CallSlot, Span)
     requires small { IsSmall call.now }
-    ensures means { (arena : List ℕ) → Holds arena from (payload_of call.now)
-        → call_in arena result ≡ call_of call.now }
-    ensures within { CallWithin (from + length (payload_of call.now)) result }
+    requires bare { IsBare call.now n }
+    ensures means { (arena : List ℕ) → Holds arena end (payload_of call.now)
+        → call_in (bytes_at arena result.1) result.0 ≡ call_of call.now }
+    ensures reply { (arena : List ℕ) → reply_part result.0 (bytes_at arena result.1) ≡ take n (drop start arena) }
+    ensures within { (m : ℕ) → start + n ≤ m → end + length (payload_of call.now) ≤ m → SpanWithin m result.1 }
 {
+    let reply = Span {
+        from: start,
+        len: n,
+    };
     match call {
-        CallIn::Connect { iss } => CallSlot::Connect { iss: *iss },
-        CallIn::Passive { frame, iss, seg } => CallSlot::Passive {
-            frame: *frame,
-            iss: *iss,
-            head: head_of(seg),
-            bytes: Span {
-                from,
-                len: seg.payload.len(),
+        CallIn::Connect { iss } => (CallSlot::Connect { iss: *iss }, reply),
+        CallIn::Passive { frame, iss, seg } => (
+            CallSlot::Passive {
+                frame: *frame,
+                iss: *iss,
+                head: head_of(seg),
             },
-        },
-        CallIn::Rx { frame, seg } => CallSlot::Rx {
-            frame: *frame,
-            head: head_of(seg),
-            bytes: Span {
-                from,
-                len: seg.payload.len(),
+            payload_at(seg, end),
+        ),
+        CallIn::Rx { frame, seg } => (
+            CallSlot::Rx {
+                frame: *frame,
+                head: head_of(seg),
             },
-        },
-        CallIn::Emit => CallSlot::Emit,
-        CallIn::Tick => CallSlot::Tick,
-        CallIn::Control => CallSlot::Control,
-        CallIn::Accept => CallSlot::Accept,
-        CallIn::Ready => CallSlot::Ready,
-        CallIn::Send { bytes } => CallSlot::Send {
-            offered: bytes.len() as u32,
-        },
-        CallIn::Recv { most } => CallSlot::Recv { most: *most },
-        CallIn::Shut => CallSlot::Shut,
-        CallIn::Close => CallSlot::Close,
-        CallIn::Abort => CallSlot::Abort,
+            payload_at(seg, end),
+        ),
+        CallIn::Emit => (CallSlot::Emit, reply),
+        CallIn::Tick => (CallSlot::Tick, reply),
+        CallIn::Control => (CallSlot::Control, reply),
+        CallIn::Accept => (CallSlot::Accept, reply),
+        CallIn::Ready => (CallSlot::Ready, reply),
+        CallIn::Send { bytes } => (
+            CallSlot::Send {
+                offered: bytes.len() as u32,
+            },
+            reply,
+        ),
+        CallIn::Recv { most } => (CallSlot::Recv { most: *most }, reply),
+        CallIn::Shut => (CallSlot::Shut, reply),
+        CallIn::Close => (CallSlot::Close, reply),
+        CallIn::Abort => (CallSlot::Abort, reply),
     }
 }
 
-/// The reply, with its bytes at `from`.
-pub fn reply_slot(answer: &Answer, from: usize) -> ReplySlot
-    ensures means { (arena out : List ℕ)
-        → take (answer_len answer.now) (drop from arena) ≡ take (answer_len answer.now) out
-        → reply_in arena result ≡ reply_of answer.now out }
-    ensures within { ReplyWithin (from + answer_len answer.now) result }
+/// Where a segment's payload stands.
+fn payload_at(seg: &Segment<'_>, from: usize) -> Span
+    ensures { result ≡ record { from = from; len = length seg.now.payload.now } }
+{
+    Span {
+        from,
+        len: seg.payload.len(),
+    }
+}
+
+/// The reply.
+pub fn reply_slot(answer: &Answer) -> ReplySlot
+    ensures { (bytes out : List ℕ) → bytes ≡ take (answer_len answer.now) out
+        → reply_in bytes result ≡ reply_of answer.now out }
 {
     match *answer {
         Answer::Ok => ReplySlot::Ok,
         Answer::Nothing => ReplySlot::Nothing,
-        Answer::Sent { head, len } => ReplySlot::Sent {
-            head,
-            bytes: Span {
-                from,
-                len: len as usize,
-            },
+        Answer::Sent { head, .. } => ReplySlot::Sent {
+            head: head_slot(head),
         },
-        Answer::Took { len } => ReplySlot::Took {
-            bytes: Span {
-                from,
-                len: len as usize,
-            },
-        },
-        Answer::Got { len, update } => ReplySlot::Got {
-            bytes: Span {
-                from,
-                len: len as usize,
-            },
-            update,
+        Answer::Took { .. } => ReplySlot::Took,
+        Answer::Got { update: None, .. } => ReplySlot::Got,
+        Answer::Got {
+            update: Some(head),
+            ..
+        } => ReplySlot::Update {
+            head: head_slot(head),
         },
         Answer::End => ReplySlot::End,
         Answer::NotYet => ReplySlot::NotYet,
@@ -192,11 +240,8 @@ pub fn passive_slot(iss: Seq, frame: FrameId, seg: &Segment<'_>, tick: u32) -> S
             frame,
             iss,
             head: head_of(seg),
-            bytes: Span {
-                from: 0,
-                len: seg.payload.len(),
-            },
         },
+        bytes: payload_at(seg, 0),
         reply: ReplySlot::Ok,
     }
 }
@@ -211,6 +256,7 @@ pub fn connect_slot(caller: Caller, iss: Seq, tick: u32) -> Slot
         number: 0,
         tick,
         call: CallSlot::Connect { iss },
+        bytes: Span { from: 0, len: 0 },
         reply: ReplySlot::Ok,
     }
 }

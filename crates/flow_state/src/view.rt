@@ -1,10 +1,10 @@
 ghost use Rattle.std.specs.Prelude.{◌≡◌, ℕ, ◌+◌, ◌≤◌, List, length, take, drop};
 ghost use Rattle.flow_state.specs.Calls.{reply_bytes};
-ghost use Rattle.flow_state.specs.Slots.{bytes_at, SpanWithin, CallWithin, ReplyWithin, IsWithin, call_in, reply_in};
-ghost use Rattle.flow_state.specs.Slots.{entry_of};
-ghost use Rattle.flow_state.specs.Views.{seen_call, seen_reply, seen_entry};
+ghost use Rattle.flow_state.specs.Slots.{bytes_at, SpanWithin, IsWithin, call_in, reply_in, entry_of};
+ghost use Rattle.flow_state.specs.Slots.{reply_part as model_part, head_in};
+ghost use Rattle.flow_state.specs.Views.{seen_seg, seen_call, seen_reply, seen_entry};
 
-use crate::slot::{CallSlot, ReplySlot, Slot, Span};
+use crate::slot::{CallSlot, HeadSlot, ReplySlot, Slot, Span};
 use tas_model::{Caller, FrameId, Head, Reason};
 use tas_num::Seq;
 
@@ -112,31 +112,29 @@ fn bytes_of<'a>(arena: &'a [u8], span: Span) -> &'a [u8]
 }
 
 #[inline(always)]
-fn call_view<'a>(arena: &'a [u8], call: CallSlot) -> CallView<'a>
-    requires { CallWithin (length arena.now) call }
-    ensures { seen_call result ≡ call_in arena.now call }
+fn seg_view<'a>(head: &HeadSlot, bytes: &'a [u8]) -> SegView<'a>
+    ensures { seen_seg result ≡ record { head = head_in head.now; bytes = bytes.now } }
+{
+    SegView {
+        head: head.head(),
+        bytes,
+    }
+}
+
+#[inline(always)]
+fn call_view<'a>(bytes: &'a [u8], call: CallSlot) -> CallView<'a>
+    ensures { seen_call result ≡ call_in bytes.now call }
 {
     match call {
         CallSlot::Connect { iss } => CallView::Connect { iss },
-        CallSlot::Passive {
+        CallSlot::Passive { frame, iss, head } => CallView::Passive {
             frame,
             iss,
-            head,
-            bytes,
-        } => CallView::Passive {
-            frame,
-            iss,
-            seg: SegView {
-                head,
-                bytes: bytes_of(arena, bytes),
-            },
+            seg: seg_view(&head, bytes),
         },
-        CallSlot::Rx { frame, head, bytes } => CallView::Rx {
+        CallSlot::Rx { frame, head } => CallView::Rx {
             frame,
-            seg: SegView {
-                head,
-                bytes: bytes_of(arena, bytes),
-            },
+            seg: seg_view(&head, bytes),
         },
         CallSlot::Emit => CallView::Emit,
         CallSlot::Tick => CallView::Tick,
@@ -151,27 +149,35 @@ fn call_view<'a>(arena: &'a [u8], call: CallSlot) -> CallView<'a>
     }
 }
 
-/// The reply of a slot.
+/// Of the bytes of an entry those of its reply.
 #[inline(always)]
-pub fn reply_view<'a>(arena: &'a [u8], reply: ReplySlot) -> ReplyView<'a>
-    requires { ReplyWithin (length arena.now) reply }
-    ensures { seen_reply result ≡ reply_in arena.now reply }
+fn reply_part<'a>(bytes: &'a [u8], call: CallSlot) -> &'a [u8]
+    ensures { result.now ≡ model_part call bytes.now }
+{
+    match call {
+        CallSlot::Passive { .. } | CallSlot::Rx { .. } => &[],
+        _ => bytes,
+    }
+}
+
+#[inline(always)]
+fn reply_view<'a>(bytes: &'a [u8], reply: ReplySlot) -> ReplyView<'a>
+    ensures { seen_reply result ≡ reply_in bytes.now reply }
 {
     match reply {
         ReplySlot::Ok => ReplyView::Ok,
         ReplySlot::Nothing => ReplyView::Nothing,
-        ReplySlot::Sent { head, bytes } => ReplyView::Sent {
-            seg: SegView {
-                head,
-                bytes: bytes_of(arena, bytes),
-            },
+        ReplySlot::Sent { head } => ReplyView::Sent {
+            seg: seg_view(&head, bytes),
         },
-        ReplySlot::Took { bytes } => ReplyView::Took {
-            bytes: bytes_of(arena, bytes),
+        ReplySlot::Took => ReplyView::Took { bytes },
+        ReplySlot::Got => ReplyView::Got {
+            bytes,
+            update: None,
         },
-        ReplySlot::Got { bytes, update } => ReplyView::Got {
-            bytes: bytes_of(arena, bytes),
-            update,
+        ReplySlot::Update { head } => ReplyView::Got {
+            bytes,
+            update: Some(head.head()),
         },
         ReplySlot::End => ReplyView::End,
         ReplySlot::NotYet => ReplyView::NotYet,
@@ -193,11 +199,12 @@ pub fn entry_view<'a>(arena: &'a [u8], slot: &Slot) -> EntryView<'a>
     requires { IsWithin (length arena.now) slot.now }
     ensures { seen_entry result ≡ entry_of arena.now slot.now }
 {
+    let bytes = bytes_of(arena, slot.bytes);
     EntryView {
         caller: slot.caller,
         number: slot.number,
         tick: slot.tick,
-        call: call_view(arena, slot.call),
-        reply: reply_view(arena, slot.reply),
+        call: call_view(bytes, slot.call),
+        reply: reply_view(reply_part(bytes, slot.call), slot.reply),
     }
 }

@@ -2,9 +2,22 @@ use Rattle.std.proofs.Common.{◌≡◌, ℕ, ◌≤◌, ◌+◌, ◌-◌, lengt
 use Rattle.std.proofs.Common.{length-take, length-drop}
 use Rattle.std.proofs.lemmas.Grind.{common_steps}
 use Rattle.flow_state.specs.Calls.{answer_len, cost_of, payload_of}
+use Rattle.flow_state.specs.Made.{IsMadeAt}
 use Rattle.flow_state.specs.Slots.{IsWithin}
-use Rattle.flow_state.proofs.Sending.{bytes_within_cost}
+use Rattle.flow_state.proofs.Sending.{bytes_within_cost, bare_reply}
 use Rattle.flow_state.proofs.arena.answer_behind.Goals as goal
+
+pub keep_entry-requires-clause-bare : goal.keep_entry-requires-clause-bare
+keep_entry-requires-clause-bare g c =
+    bare_reply c.args.parts.now.smss c.args.call.now (answer_len c.in_ok-answer.answer) c.in_ok-answer.ensures.bytes
+
+pub returns-clause-cost : goal.returns-clause-cost
+returns-clause-cost g c =
+    let cost : answer_len c.in_ok-answer.answer + length (payload_of c.args.call.now)
+    ≤ cost_of c.args.parts.now.smss c.args.call.now =
+    bytes_within_cost c.args.parts.now.smss c.args.call.now
+    (answer_len c.in_ok-answer.answer) c.in_ok-answer.ensures.bytes in
+    omega (arith, cost, ap length c.payload.ensures, c.keep_entry.ensures.past)
 
 pub returns-clause-few : goal.returns-clause-few
 returns-clause-few g c =
@@ -12,7 +25,15 @@ returns-clause-few g c =
     ≤ cost_of c.args.parts.now.smss c.args.call.now =
     bytes_within_cost c.args.parts.now.smss c.args.call.now
     (answer_len c.in_ok-answer.answer) c.in_ok-answer.ensures.bytes in
-    omega (arith, cost, c.cost.ensures, c.fill_with_zeros.ensures.end, c.keep_entry-start.ensures.len)
+    omega (
+      arith,
+      cost,
+      ap length c.payload.ensures,
+      c.cost.ensures,
+      c.fill_with_zeros.ensures.end,
+      c.keep_entry.ensures.len,
+      c.keep_entry.ensures.past,
+    )
 
 pub returns-clause-made : goal.returns-clause-made
 returns-clause-made g c =
@@ -21,25 +42,30 @@ returns-clause-made g c =
     bytes_within_cost c.args.parts.now.smss c.args.call.now
     (answer_len c.in_ok-answer.answer) c.in_ok-answer.ensures.bytes in
     let all : List ℕ = c.deref_mut.result.now in
-    let end : ℕ = c.keep_entry-start.result.1 + answer_len c.in_ok-answer.answer + length
-    (payload_of c.args.call.now) in
+    let end : ℕ = c.keep_entry.result.1.end + length (payload_of c.args.call.now) in
     let whole : length all ≡ vec_len c.fill_with_zeros.new.bytes =
     omega (arith, ap length c.deref_mut.ensures.value, c.fill_with_zeros.new.bytes.ok) in
-    let kept : length (take end c.keep_entry-start.new.bytes.items) ≡ end =
+    let kept : length (take end c.keep_entry.new.bytes.items) ≡ end =
     omega (
       arith,
       cost,
-      length-take end c.keep_entry-start.new.bytes.items,
-      c.keep_entry-start.new.bytes.ok,
+      length-take end c.keep_entry.new.bytes.items,
+      c.keep_entry.new.bytes.ok,
       c.cost.ensures,
       c.fill_with_zeros.ensures.end,
-      c.keep_entry-start.ensures.len,
-    ) in (
+      c.keep_entry.ensures.len,
+      c.keep_entry.ensures.past,
+    ) in
+    let same : end ≡ c.keep_entry.result.1.end + length c.payload.result.now =
+    omega (arith, ap length c.payload.ensures) in
+    subst (λ (n : ℕ). IsMadeAt c.args.parts.now c.run.new.parts (take n c.keep_entry.new.bytes.items)
+    c.args.stamp.caller c.args.stamp.number c.args.stamp.tick c.args.call.now c.in_ok-answer.answer
+    c.keep_entry.result.0) same (
       c.run.new.out,
       record {
         makes = c.in_ok-answer.ensures.made;
-        entry = grind (arith, common_steps, c.keep_entry-start.ensures.entry);
-        within = subst (λ (n : ℕ). IsWithin n c.keep_entry-start.result.0) (sym kept) c.keep_entry-start.ensures.within;
+        entry = grind (arith, common_steps, c.keep_entry.ensures.entry);
+        within = subst (λ (n : ℕ). IsWithin n c.keep_entry.result.0) (sym kept) c.keep_entry.ensures.within;
         bytes = omega (
           arith,
           cost,
