@@ -38,11 +38,18 @@ fn bulk_command<'a>(alloc: Global) -> Result<Command<'a>, AllocError>
 fn replay_command<'a>(alloc: Global) -> Result<Command<'a>, AllocError>
     ensures { IfOk result (Stands commands.replay) }
 {
-    Command::new(alloc, "replay")
-        .arg(valued(alloc, "local"))?
-        .arg(valued(alloc, "cores"))?
+    valued_replay_command(alloc)?
         .arg(switch(alloc, "pcap"))?
         .arg(switch(alloc, "loose-sums"))
+}
+
+/// `replay`, with `--local` and `--cores` alone.
+fn valued_replay_command<'a>(alloc: Global) -> Result<Command<'a>, AllocError>
+    ensures { IfOk result (Stands commands.replay_valued) }
+{
+    Command::new(alloc, "replay")
+        .arg(valued(alloc, "local"))?
+        .arg(valued(alloc, "cores"))
 }
 
 /// The option `--NAME`, which has no value.
