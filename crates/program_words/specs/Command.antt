@@ -20,6 +20,11 @@ run = (with_rule (with_rule (new_app (codes "run")) (valued (codes "cores"))) (s
 abbrev pub bulk : Shape
 bulk = (with_rule (with_rule (new_app (codes "bulk")) (valued (codes "cores"))) (new_rule (codes "clients"))).top
 
+-- `replay` with the options that have values, and with all
+abbrev pub replay_valued : Shape
+replay_valued =
+    (with_rule (with_rule (new_app (codes "replay")) (valued (codes "local"))) (valued (codes "cores"))).top
+
 abbrev pub replay : Shape
 replay =
     (with_rule (with_rule (with_rule (with_rule (new_app (codes "replay")) (valued (codes "local")))

@@ -1,5 +1,5 @@
 ghost use Rattle.std.specs.Prelude.{◌≡◌, IfOk, false};
-ghost use Rattle.clap.specs.Words.{app_of, rule_of};
+ghost use Rattle.clap.specs.Words.{Shape, app_of, rule_of, with_subcommand};
 ghost use Rattle.program_words.specs.Command as commands;
 ghost use Rattle.program_words.specs.Command.{Stands};
 
@@ -10,10 +10,20 @@ use std::alloc::{AllocError, Global};
 pub fn program<'a>(alloc: Global) -> Result<Command<'a>, AllocError>
     ensures { IfOk result (λ command. app_of command ≡ commands.program) }
 {
-    Command::new(alloc, "tas")
-        .subcommand(run_command(alloc)?)?
-        .subcommand(bulk_command(alloc)?)?
-        .subcommand(replay_command(alloc)?)
+    let command = adding(Command::new(alloc, "tas"), run_command(alloc))?;
+    let command = adding(command, bulk_command(alloc))?;
+    adding(command, replay_command(alloc))
+}
+
+/// The command with a subcommand more, where there was memory for it.
+fn adding<'a>(
+    command: Command<'a>,
+    subcommand: Result<Command<'a>, AllocError>,
+) -> Result<Command<'a>, AllocError>
+    ensures { (shape : Shape) → IfOk subcommand.entry (Stands shape)
+        → IfOk result (λ more. app_of more ≡ with_subcommand (app_of command.entry) shape) }
+{
+    command.subcommand(subcommand?)
 }
 
 /// `run`, with `--cores` and `--pcap`.
@@ -38,11 +48,18 @@ fn bulk_command<'a>(alloc: Global) -> Result<Command<'a>, AllocError>
 fn replay_command<'a>(alloc: Global) -> Result<Command<'a>, AllocError>
     ensures { IfOk result (Stands commands.replay) }
 {
-    Command::new(alloc, "replay")
-        .arg(valued(alloc, "local"))?
-        .arg(valued(alloc, "cores"))?
+    valued_replay_command(alloc)?
         .arg(switch(alloc, "pcap"))?
         .arg(switch(alloc, "loose-sums"))
+}
+
+/// `replay`, with `--local` and `--cores` alone.
+fn valued_replay_command<'a>(alloc: Global) -> Result<Command<'a>, AllocError>
+    ensures { IfOk result (Stands commands.replay_valued) }
+{
+    Command::new(alloc, "replay")
+        .arg(valued(alloc, "local"))?
+        .arg(valued(alloc, "cores"))
 }
 
 /// The option `--NAME`, which has no value.

@@ -1,4 +1,4 @@
-ghost use Rattle.std.specs.Prelude.{◌≡◌, List, map, decimal, string_bytes, fold, option_map};
+ghost use Rattle.std.specs.Prelude.{◌≡◌, ◌∷◌, List, map, decimal, string_bytes, fold, option_map};
 ghost use Rattle.std.specs.Prelude.{bytes_eq, nat_le, ◌&&◌};
 ghost use Rattle.program_words.specs.Words as forms;
 ghost use Rattle.program_words.specs.Requests.{progress_in, options_in, form_in};
@@ -63,11 +63,25 @@ pub fn form_of(words: &[String]) -> Form<'_>
     ensures { form_in result ≡ forms.form_of (map string_bytes words.now) }
 {
     match words {
-        [command, options @ ..] if command.as_str() == "run" => options_of(options).run(),
-        [command, options @ ..] if command.as_str() == "replay" => options_of(options).replay(),
-        [command, rest @ ..] if command.as_str() == "bulk" => numbered(rest),
-        _ => Form::Unknown,
+        [command, rest @ ..] => commanded(command.as_str(), rest),
+        [] => Form::Unknown,
     }
+}
+
+/// The form of a command and the words behind it.
+fn commanded<'a>(command: &str, words: &'a [String]) -> Form<'a>
+    ensures { form_in result ≡ forms.form_of (command.now ∷ map string_bytes words.now) }
+{
+    if command == "run" {
+        return options_of(words).run();
+    }
+    if command == "replay" {
+        return options_of(words).replay();
+    }
+    if command == "bulk" {
+        return numbered(words);
+    }
+    Form::Unknown
 }
 
 /// The form of a number and options behind it.

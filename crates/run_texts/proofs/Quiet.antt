@@ -7,7 +7,7 @@ use Rattle.tas_model.specs.declared.entry.FourTuple.{FourTuple}
 use Rattle.tas_model.specs.Outputs.{bytes_read, given_bytes}
 use Rattle.tas_runs.specs.Report.{entry_text, entries_text}
 use Rattle.flow_state.specs.Stretches.{quiet_tick, quiet_ticks}
-use Rattle.run_texts.specs.Frames.{Sent, entry_frames}
+use Rattle.run_texts.specs.Frames.{entry_frames}
 use Rattle.run_texts.proofs.Lists.{entries_are}
 
 -- what is made of all stretches is made of all entries

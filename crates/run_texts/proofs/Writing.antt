@@ -1,10 +1,9 @@
 -- What several writes do, one after the other.
 use Rattle.std.proofs.Common.{IsTrue, ◌≡◌, ◌==◌, codes, ℕ, ◌+◌, ◌-◌, ◌≤◌, ◌/◌, ◌%◌, false, [], ◌∷◌, ◌++◌, List, take}
-use Rattle.std.proofs.Common.{drop, length, Result, Ok, Err, IsOk, IsErr, take-append-drop, refl, ap, subst, sym, ◌∙◌}
+use Rattle.std.proofs.Common.{drop, length, Result, Ok, Err, IsErr, take-append-drop, refl, ap, subst, sym, ◌∙◌}
 use Rattle.std.proofs.Common.{append_assoc, append-nil, arith}
 use Rattle.std.proofs.Math.Seq.{take-add}
 use Rattle.std.proofs.lemmas.Bool.{false≢true}
-use Rattle.std.specs.Io.KnownBytes.{Appends}
 use Rattle.std.proofs.KnownBytes.{Appends-nil, Appends-trans}
 use Rattle.tas_num.specs.declared.outside.IoFault.{IoFault}
 use Rattle.std.specs.Fmt.{digit_glyph}
@@ -169,6 +168,21 @@ wrote_both a b c r x y z e first second = wrote_as a c r (x ++ y) z e (wrote_the
 pub stopped_in : {v w : List ℕ} (a b : SinkState) (r : Result (Unit {0}) IoFault) (x y z : List ℕ)
     → x ++ y ≡ z → IsErr r → Writes a v r b w x → Writes a v r b w z
 stopped_in a b r x y z e h first = wrote_as a b r (x ++ y) z e (stopped a b r x y h first)
+
+-- ----- a text that is written piece by piece
+-- Room was made for a piece, which was then put behind what waits.
+pub piece_more : {v w u : List ℕ} (a b c : SinkState) (front piece all left : List ℕ) → front ++ piece ≡ all
+    → left ≡ u ++ piece → Writes a v (Ok tt) b w front → Writes b w (Ok tt) c u [] → Writes a v (Ok tt) c left all
+piece_more a b c front piece all left whole more first second =
+    wrote_as a c (Ok tt) (front ++ piece) all whole
+    (put_behind a c front piece left more (wrote_both a b c (Ok tt) front [] front (append-nil front) first second))
+
+-- No room was made for the rest.
+pub stopped_between : {v w u : List ℕ} (a b c : SinkState) (r q : Result (Unit {0}) IoFault) (front rest all : List ℕ)
+    → front ++ rest ≡ all → IsErr r → r ≡ q → Writes a v (Ok tt) b w front → Writes b w q c u [] → Writes a v r c u all
+stopped_between {v} {w} {u} a b c r q front rest all whole h e first second =
+    let last : Writes b w r c u [] = subst (λ (s : Result (Unit {0}) IoFault). Writes b w s c u []) (sym e) second in
+    stopped_in a c r front rest all whole h (wrote_both a b c r front [] front (append-nil front) first last)
 
 -- ----- bytes that are there
 pub some_data : (bytes : List ℕ) → (length bytes == 0) ≡ false → codes " data " ++ hex_bytes bytes ≡ data_text bytes

@@ -1,4 +1,4 @@
-ghost use Rattle.std.specs.Prelude.{◌≡◌, ◌<◌, All, fold, map, filter, IfOk, OnOk};
+ghost use Rattle.std.specs.Prelude.{◌≡◌, ◌<◌, ◌++◌, ◌∷◌, [], All, fold, map, filter, IfOk, OnOk};
 ghost use Rattle.tas_model.specs.declared.entry.Caller.TheVariants.{Slow};
 ghost use Rattle.host_rounds.specs.Deliveries.{received, delivered};
 ghost use Rattle.core_rounds.specs.CoreTicks.{IsCoresPhase, IsCoresTick};
@@ -121,12 +121,33 @@ fn moves_at(
 {
     let mut moves = Vec::new(alloc);
     for line in lines {
-        if line.at == tick && line.group < GROUPS && line.host.as_slice() == name {
-            moves.push(GroupMove {
-                group: line.group,
-                core: line.core,
-            })?;
-        }
+        take_move(&mut moves, line, name, tick)?;
     }
     Ok(moves)
+}
+
+/// Takes the move of a line, where it is of a group of the host with this name in the tick. The error is want of
+/// memory.
+fn take_move(
+    moves: &mut Vec<GroupMove>,
+    line: &MoveLine,
+    name: &[u8],
+    tick: u32,
+) -> Result<(), AllocError>
+    ensures moves { OnOk result (moves.new.items
+        ≡ moves.old.items ++ map group_move (filter (is_move_of name.now tick) (line.now ∷ []))) }
+    ensures below { OnOk result (All (λ (m : GroupMove). m.group < 64) moves.old.items
+        → All (λ (m : GroupMove). m.group < 64) moves.new.items) }
+{
+    if line.at != tick || line.group >= GROUPS {
+        return Ok(());
+    }
+    if line.host.as_slice() != name {
+        return Ok(());
+    }
+    moves.push(GroupMove {
+        group: line.group,
+        core: line.core,
+    })?;
+    Ok(())
 }

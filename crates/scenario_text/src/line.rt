@@ -1,6 +1,7 @@
 ghost use Rattle.std.specs.Prelude.{◌≡◌, ◌&&◌, map, bytes_eq, codes, IfOk};
 ghost use Rattle.std.specs.List.{list_all};
 ghost use Rattle.scenario_text.specs.Statements as forms;
+ghost use Rattle.scenario_text.specs.Words as words;
 
 use crate::fields::{
     connecting, frame_named, killing, moving, named, named_number, on_frame, two_names,
@@ -392,14 +393,21 @@ fn delay_line(alloc: Global, words: &[&[u8]]) -> Result<Reading, AllocError>
     ensures { IfOk result (λ r. r ≡ forms.delay_line (map (λ w. w.now) words.now)) }
 {
     match words {
-        [host, flow, number, ticks] => {
-            let frame = frame_named(alloc, host, flow, number)?;
-            match number_in(1, 1_000, ticks) {
-                Some(ticks) => Ok(on_frame(frame, Some(LinkAct::Delay(ticks)))),
-                None => Ok(on_frame(frame, None)),
-            }
-        }
+        [host, flow, number, ticks] => Ok(on_frame(
+            frame_named(alloc, host, flow, number)?,
+            delay_of(number_in(1, 1_000, ticks)),
+        )),
         _ => Ok(Reading::Wrong(4)),
+    }
+}
+
+/// The delay by so many ticks, where there is a number of them.
+fn delay_of(ticks: Option<u32>) -> Option<LinkAct>
+    ensures { result ≡ forms.act_by LinkAct.Delay ticks }
+{
+    match ticks {
+        Some(ticks) => Some(LinkAct::Delay(ticks)),
+        None => None,
     }
 }
 
@@ -407,14 +415,21 @@ fn corrupt_line(alloc: Global, words: &[&[u8]]) -> Result<Reading, AllocError>
     ensures { IfOk result (λ r. r ≡ forms.corrupt_line (map (λ w. w.now) words.now)) }
 {
     match words {
-        [host, flow, number, place] => {
-            let frame = frame_named(alloc, host, flow, number)?;
-            match number_in(0, 65_534, place) {
-                Some(place) => Ok(on_frame(frame, Some(LinkAct::Corrupt(place)))),
-                None => Ok(on_frame(frame, None)),
-            }
-        }
+        [host, flow, number, place] => Ok(on_frame(
+            frame_named(alloc, host, flow, number)?,
+            corruption_of(number_in(0, 65_534, place)),
+        )),
         _ => Ok(Reading::Wrong(4)),
+    }
+}
+
+/// The damage at this place, where there is a number of one.
+fn corruption_of(place: Option<u32>) -> Option<LinkAct>
+    ensures { result ≡ forms.act_by LinkAct.Corrupt place }
+{
+    match place {
+        Some(place) => Some(LinkAct::Corrupt(place)),
+        None => None,
     }
 }
 
@@ -456,18 +471,35 @@ fn kill_line(alloc: Global, words: &[&[u8]]) -> Result<Reading, AllocError>
     ensures { IfOk result (λ r. r ≡ forms.kill_line (map (λ w. w.now) words.now)) }
 {
     match words {
-        [host, app, word, at] => Ok(killing(
-            two_names(alloc, host, app)?,
-            number_in(0, 10_000, at),
-            false,
-            is(word, b"at"),
-        )),
-        [host, app, word, at, last] => Ok(killing(
-            two_names(alloc, host, app)?,
-            number_in(0, 10_000, at),
+        [host, app, word, at] => kill_said(alloc, host, app, at, false, is(word, b"at")),
+        [host, app, word, at, last] => kill_said(
+            alloc,
+            host,
+            app,
+            at,
             true,
             are_at_and_holding(word, last),
-        )),
+        ),
         _ => Ok(Reading::Wrong(4)),
     }
+}
+
+/// What a kill's line says, by the words of its host, application and tick, and by whether its other words are there.
+fn kill_said(
+    alloc: Global,
+    host: &[u8],
+    app: &[u8],
+    at: &[u8],
+    holding: bool,
+    worded: bool,
+) -> Result<Reading, AllocError>
+    ensures { IfOk result (λ r. r ≡ forms.killing (forms.two_names host.now app.now) (words.number_in 0 10000 at.now)
+        holding worded) }
+{
+    Ok(killing(
+        two_names(alloc, host, app)?,
+        number_in(0, 10_000, at),
+        holding,
+        worded,
+    ))
 }

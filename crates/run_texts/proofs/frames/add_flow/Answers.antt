@@ -1,4 +1,4 @@
-use Rattle.std.proofs.Common.{◌≡◌, ◌++◌, rules, map, flat_map, ap, ◌∙◌}
+use Rattle.std.proofs.Common.{◌++◌, rules, map, flat_map, ap, ◌∙◌}
 use Rattle.std.proofs.lemmas.List.{take_all}
 use Rattle.flow_state.specs.Views.{seen_stretch}
 use Rattle.run_texts.specs.Frames.{seen_frame, entry_frames}

@@ -1,4 +1,4 @@
-use Rattle.std.proofs.Common.{◌≡◌, ◌++◌, List, [], suc, map, flat_map, sym, ap, ◌∙◌, append-nil}
+use Rattle.std.proofs.Common.{◌++◌, List, suc, map, flat_map, sym, ap, ◌∙◌, append-nil}
 use Rattle.flow_state.specs.Views.{seen_stretch}
 use Rattle.run_texts.specs.Frames.{seen_frame, entry_frames, Sent}
 use Rattle.run_texts.proofs.Quiet.{quiet_sends_none}

@@ -1,4 +1,4 @@
-use Rattle.std.proofs.Common.{◌≡◌, ◌⊎◌, ◌≤◌, ◌<◌, length, rules, drop}
+use Rattle.std.proofs.Common.{◌⊎◌, ◌≤◌, ◌<◌, length, rules, drop}
 use Rattle.run_texts.proofs.Writing.{wrote_as, wrote_nothing}
 use Rattle.run_texts.proofs.Packets.{frame_packet, no_record}
 use Rattle.run_texts.proofs.frames.write_record.Goals as goal

@@ -1,4 +1,4 @@
-use Rattle.std.proofs.Common.{◌≡◌, ℕ, ◌+◌, ◌≤◌, [], suc, ap, length, rules, arith}
+use Rattle.std.proofs.Common.{ℕ, ◌+◌, ◌≤◌, [], suc, ap, length, rules, arith}
 use Rattle.tas_runs.specs.Report.{entry_text}
 use Rattle.flow_state.specs.Stretches.{quiet_tick, run_entries}
 use Rattle.flow_state.proofs.Runs.{tick_at, length_ticks}

@@ -1,4 +1,4 @@
-use Rattle.std.proofs.Common.{take, flat_map, map, Ok, []}
+use Rattle.std.proofs.Common.{take, flat_map, Ok, []}
 use Rattle.tas_runs.specs.Report.{entry_text}
 use Rattle.flow_state.specs.Stretches.{run_entries}
 use Rattle.run_texts.specs.Writes.{Writes}

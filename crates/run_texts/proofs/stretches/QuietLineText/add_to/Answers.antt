@@ -1,4 +1,4 @@
-use Rattle.std.proofs.Common.{◌≡◌, ◌++◌, List, ℕ, codes, decimal, [], ◌∷◌, ap, ◌∙◌}
+use Rattle.std.proofs.Common.{◌++◌, List, ℕ, codes, decimal, [], ◌∷◌, ap, ◌∙◌}
 use Rattle.tas_runs.specs.Report.{caller_text}
 use Rattle.run_texts.proofs.Quiet.{line_behind}
 use Rattle.run_texts.proofs.stretches.QuietLineText.add_to.Goals as goal

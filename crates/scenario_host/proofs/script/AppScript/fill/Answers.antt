@@ -1,10 +1,11 @@
 use Rattle.std.proofs.Common.{◌≡◌, ◌+◌, ◌≤◌, ℕ, length, take, drop, sym, ap, ◌∙◌, arith, length-take}
 use Rattle.std.proofs.Common.{length-drop}
-use Rattle.scenario_runs.specs.Applications.{sends, filling, most}
+use Rattle.scenario_runs.specs.Applications.{filling, most}
 use Rattle.scenario_host.specs.Turns.{turn_of}
 use Rattle.local_host.proofs.Places.{ok_by}
 use Rattle.scenario_host.proofs.Offers.{length-filling}
-use Rattle.scenario_host.proofs.Sockets.{socket_below, on_found}
+use Rattle.scenario_host.proofs.Sockets.{socket_below}
+use Rattle.scenario_host.proofs.Stepping.{sent_found}
 use Rattle.scenario_host.proofs.script.AppScript.fill.Goals.{After-rest}
 use Rattle.scenario_host.proofs.script.AppScript.fill.Goals as goal
 
@@ -43,9 +44,7 @@ offer-requires-clause-part c = (count c).1
 pub returns : goal.returns
 returns c =
     ok_by c.offer.result
-    (λ made.
-    made
-    ∙ on_found c.args.socket.now (λ (n : ℕ). sends n c.args.tick (filling c.args.count))
-    (turn_of c.args.host.now c.args.self.now) c.in-Some.place (sym c.flow_of.ensures ∙ c.in-Some.is))
+    (sent_found c.args.tick c.args.socket.now (filling c.args.count) (turn_of c.args.host.now c.args.self.now)
+    (turn_of c.offer.new.host c.offer.new.self) c.in-Some.place (sym c.flow_of.ensures ∙ c.in-Some.is))
     (c.offer.ensures (filling c.args.count) (length-filling c.args.count)
     (c.rest.ensures ∙ ap (λ (n : ℕ). take most (drop n (filling c.args.count))) c.done.ensures))

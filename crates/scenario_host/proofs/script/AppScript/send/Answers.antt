@@ -1,9 +1,10 @@
 use Rattle.std.proofs.Common.{◌≡◌, ◌-◌, ◌≤◌, ℕ, List, length, take, drop, refl, sym, ap, ◌∙◌, arith, length-drop}
 use Rattle.std.proofs.lemmas.List.{take_all}
-use Rattle.scenario_runs.specs.Applications.{sends, most}
+use Rattle.scenario_runs.specs.Applications.{most}
 use Rattle.scenario_host.specs.Turns.{turn_of}
 use Rattle.local_host.proofs.Places.{ok_by}
-use Rattle.scenario_host.proofs.Sockets.{socket_below, on_found}
+use Rattle.scenario_host.proofs.Sockets.{socket_below}
+use Rattle.scenario_host.proofs.Stepping.{sent_found}
 use Rattle.scenario_host.proofs.script.AppScript.send.Goals as goal
 
 -- the rest of a text is offered whole
@@ -23,10 +24,8 @@ offer-requires-clause-place c =
 pub returns : goal.returns
 returns c =
     ok_by c.offer.result
-    (λ made.
-    made
-    ∙ on_found c.args.socket.now (λ (n : ℕ). sends n c.args.tick c.args.text.now)
-    (turn_of c.args.host.now c.args.self.now) c.in-Some.place (sym c.flow_of.ensures ∙ c.in-Some.is))
+    (sent_found c.args.tick c.args.socket.now c.args.text.now (turn_of c.args.host.now c.args.self.now)
+    (turn_of c.offer.new.host c.offer.new.self) c.in-Some.place (sym c.flow_of.ensures ∙ c.in-Some.is))
     (c.offer.ensures c.args.text.now refl
     (rest_offered c.args.text.now c.done.result c.requires.few
     ∙ ap (λ (n : ℕ). take most (drop n c.args.text.now)) c.done.ensures))
