@@ -26,17 +26,22 @@ pub used : (id : FlowId) (r : Flow) (after : History) (v u w : View) → IsTaken
     → IsUse id r after v w
 used id r after v u w t e = (t.0, t.1, t.2, e ∙ ap (gave id after) t.3)
 
+-- What one call leaves where the flow's own record was taken, and then given back with the history that it has after
+-- the call: the call was made, or memory was wanting.
 pub call_made : (id : FlowId) (caller : Caller) (tick : ℕ) (call : CallIn) (serves : Parts → CallIn → Type 0)
-    (r : Flow) (after : History) (v w : View) (x : Result (Option Answer) CallFault)
-    → IsOwn id v r → IsUse id r after v w → IfOk x (IsMade caller tick call serves r after)
+    (r : Flow) (after : History) (v u w : View) (x : Result (Option Answer) CallFault)
+    → IsOwn id v r → IsTaken id (history r) v u → w ≡ gave id after u
+    → IfOk x (IsMade caller tick call serves r after)
     → IfOk x (IsCall id caller tick call serves v w)
-call_made id caller tick call serves r after v w (Ok a) own given m =
-    record { flow = r; own = own; after = after; made = m; given = given }
-call_made id caller tick call serves r after v w (Err e) own given m = tt
+call_made id caller tick call serves r after v u w (Ok a) own taken given m =
+    record { flow = r; own = own; after = after; made = m; given = used id r after v u w taken given }
+call_made id caller tick call serves r after v u w (Err e) own taken given m = tt
 
-pub call_refused : (id : FlowId) (r : Flow) (after : History) (v w : View) (x : Result (Option Answer) CallFault)
-    → IsOwn id v r → IsUse id r after v w → IfErr x (λ e. (e ≡ OutOfMemory) × (after ≡ history r))
+pub call_refused : (id : FlowId) (r : Flow) (after : History) (v u w : View) (x : Result (Option Answer) CallFault)
+    → IsOwn id v r → IsTaken id (history r) v u → w ≡ gave id after u
+    → IfErr x (λ e. (e ≡ OutOfMemory) × (after ≡ history r))
     → IfErr x (IsCallRefused id v w)
-call_refused id r after v w (Ok a) own given m = tt
-call_refused id r after v w (Err e) own given m =
-    subst (IsCallRefused id v w) (sym m.0) (r, own, subst (λ h. IsUse id r h v w) m.1 given)
+call_refused id r after v u w (Ok a) own taken given m = tt
+call_refused id r after v u w (Err e) own taken given m =
+    subst (IsCallRefused id v w) (sym m.0)
+    (r, own, subst (λ h. IsUse id r h v w) m.1 (used id r after v u w taken given))

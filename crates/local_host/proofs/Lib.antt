@@ -21,3 +21,5 @@ pub mod Ports
 pub mod Holding
 pub mod Given
 pub mod Searching
+pub mod FastSegments
+pub mod Acting

@@ -1,15 +1,15 @@
 ghost use Rattle.std.specs.Prelude.{◌≡◌, ℕ, ◌∷◌, [], ◌==◌, ◌||◌, ◌&&◌, ◌<◌, ◌≤◌, ◌^◌, ◌++◌, not, true, false, length};
-ghost use Rattle.std.specs.Prelude.{take, is_some, OnOk, IfOk};
+ghost use Rattle.std.specs.Prelude.{take, if◌then◌else◌, OnOk, IfOk};
 ghost use Rattle.tas_model.specs.declared.entry.Call.TheVariants as calls;
 ghost use Rattle.tas_model.specs.declared.entry.Caller.TheVariants.{Slow, Core, App};
 ghost use Rattle.tas_model.specs.Valid.{InRange};
-ghost use Rattle.tas_model.specs.NextSegment.{going};
 ghost use Rattle.flow_state.specs.Calls.{seg_of, answer_of, call_of, offer_of, IsSmall};
 ghost use Rattle.flow_state.specs.App.{column_of, IsAppCall};
 ghost use Rattle.flow_state.specs.Flow.{reply_to};
 ghost use Rattle.tas_model.specs.ApplicationCalls.{column};
 ghost use Rattle.host_rounds.specs.Hosts.{same_tuple, is_indexed_as, is_in_slot, endpoint, with_call, is_over};
 ghost use Rattle.host_rounds.specs.Hosts.{is_running, is_held, first_entry, is_ready, waits_at, is_waiting_by};
+ghost use Rattle.host_rounds.specs.Deliveries.{received, is_fast};
 ghost use Rattle.host_rounds.specs.Upkeep.{swept, timed, controlled, quieted};
 ghost use Rattle.local_host.specs.Arriving.{arrival_in, taking_in};
 ghost use Rattle.local_host.specs.Lanes.{is_taken, worked_frame};
@@ -20,9 +20,7 @@ ghost use Rattle.local_host.specs.Ports.{MayAsk};
 
 use crate::arrival::{Arrival, Packet, Taking};
 use crate::calls::{make, taken};
-use crate::reading::{
-    first_number, is_closed, is_control_tick, is_fast, may_send, sent_count, stage_of,
-};
+use crate::reading::{first_number, is_closed, is_control_tick, sent_count, stage_of};
 use capture_items::is_same_tuple;
 use fast_rx::FastRx;
 use fast_tx::FastTx;
@@ -273,8 +271,8 @@ impl LiveFlow {
         Ok(())
     }
 
-    /// A segment comes to it: by the fast path of core 0 where it is one for that and it goes in serial order, and else
-    /// by the slow path. The error is want of memory.
+    /// A segment comes to it: in serial order by the fast path of core 0 where it is one for that, and else by the slow
+    /// path. The error is want of memory.
     pub(crate) fn receive(
         &mut self,
         taking: Taking,
@@ -284,16 +282,34 @@ impl LiveFlow {
     ) -> Result<(), AllocError>
         ensures { OnOk result (self.new ≡ taking_in taking tick frame (seg_of seg.now) self.old) }
     {
-        let call = CallIn::Rx { frame, seg: *seg };
-        match taking {
-            Taking::Serially if is_fast(&self.history, seg) => {
-                make(&mut self.history, Caller::Core(0), tick, &call, &FastRx)?;
-            }
-            _ => {
-                make(&mut self.history, Caller::Slow, tick, &call, &SlowRx)?;
+        if let Taking::Serially = taking {
+            if self.take_segment(0, tick, frame, seg)? {
+                return Ok(());
             }
         }
+        let call = CallIn::Rx { frame, seg: *seg };
+        make(&mut self.history, Caller::Slow, tick, &call, &SlowRx)?;
         Ok(())
+    }
+
+    /// A segment comes to it on a core, which takes it where it is one for the fast path, and says whether. The error
+    /// is want of memory.
+    fn take_segment(
+        &mut self,
+        core: u32,
+        tick: u32,
+        frame: FrameId,
+        seg: &Segment<'_>,
+    ) -> Result<bool, AllocError>
+        ensures made { IfOk result (λ taken. self.new
+            ≡ (if taken then received (Core core) tick frame (seg_of seg.now) self.old else self.old)) }
+        ensures taken { IfOk result (λ taken. taken ≡ is_fast (endpoint self.old) (seg_of seg.now)) }
+    {
+        // Its phase is that of its history.
+        let _parts = self.history.parts();
+        let call = CallIn::Rx { frame, seg: *seg };
+        let answer = self.history.act(Caller::Core(core), tick, &call, &FastRx)?;
+        Ok(answer.is_some())
     }
 
     /// A flow that stands in the place of one that a core has. The index has it under no four-tuple. The error is want
@@ -335,15 +351,8 @@ impl LiveFlow {
         ensures taken { IfOk result (λ taken. taken ≡ is_taken (arrival_in arrival.now).packet self.old) }
     {
         match arrival.packet {
-            Packet::Segment(_, seg) if is_fast(&self.history, &seg) => {
-                let call = CallIn::Rx {
-                    frame: arrival.frame,
-                    seg,
-                };
-                make(&mut self.history, Caller::Core(core), tick, &call, &FastRx)?;
-                Ok(true)
-            }
-            _ => Ok(false),
+            Packet::Damaged(_) => Ok(false),
+            Packet::Segment(_, seg) => self.take_segment(core, tick, arrival.frame, &seg),
         }
     }
 
@@ -403,38 +412,21 @@ impl LiveFlow {
     pub fn send_all(&mut self, tick: u32) -> Result<(), AllocError>
         ensures { OnOk result (self.new ≡ quieted tick self.old) }
     {
-        while self.may_send() {
-            self.emit(tick)?;
-        }
+        while self.emit(tick)? {}
         Ok(())
     }
 
-    fn may_send(&self) -> bool
-        ensures going { result ≡ is_some (going (endpoint self.now)) }
-        ensures done { (tick : ℕ) → result ≡ false → quieted tick self.now ≡ self.now }
-        ensures next { (tick : ℕ) → result ≡ true
-            → IsNext tick self.now (with_call self.now (Core 0) tick calls.Emit []) }
+    /// Sends the next segment by core 0, where one may go, and says whether. The error is want of memory.
+    fn emit(&mut self, tick: u32) -> Result<bool, AllocError>
+        ensures next { IfOk result (λ sent. sent ≡ true → IsNext tick self.old self.new) }
+        ensures done { IfOk result (λ sent. sent ≡ false → self.new ≡ quieted tick self.old) }
     {
-        may_send(&self.history)
-    }
-
-    /// Sends the next segment.
-    fn emit(&mut self, tick: u32) -> Result<(), AllocError>
-        requires goes { is_some (going (endpoint self.old)) ≡ true }
-        ensures { OnOk result (self.new ≡ with_call self.old (Core 0) tick calls.Emit []) }
-    {
-        if may_send(&self.history) {
-            make(
-                &mut self.history,
-                Caller::Core(0),
-                tick,
-                &CallIn::Emit,
-                &FastTx,
-            )?;
-            Ok(())
-        } else {
-            unreachable!()
-        }
+        // Its parts stand for the endpoint of its history.
+        let _parts = self.history.parts();
+        let answer = self
+            .history
+            .act(Caller::Core(0), tick, &CallIn::Emit, &FastTx)?;
+        Ok(answer.is_some())
     }
 
     /// Its record.

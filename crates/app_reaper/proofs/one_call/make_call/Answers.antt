@@ -1,7 +1,7 @@
 use Rattle.std.proofs.Common.{ap}
 use Rattle.flow_lock.specs.Passes.{Seen}
-use Rattle.app_reaper.specs.OneCall.{history, IsOwn, IsUse}
-use Rattle.app_reaper.proofs.Calls.{taken_holds, used, call_made, call_refused}
+use Rattle.app_reaper.specs.OneCall.{history}
+use Rattle.app_reaper.proofs.Calls.{taken_holds, call_made, call_refused}
 use Rattle.app_reaper.proofs.one_call.make_call.Goals as goal
 
 pub act_on-made-requires-clause-timely : goal.act_on-made-requires-clause-timely
@@ -17,25 +17,13 @@ give-requires-clause-held g c =
 pub returns-clause-made : goal.returns-clause-made
 returns-clause-made g c =
     let t = c.in-Ok.ensures in
-    let id = c.args.pin.now in
-    let flow = c.in-Ok.flow in
-    let after = history c.act_on-made.new.flow in
-    let v = c.args.pass.now.view in
-    let w = c.give.new.pass.view in
-    let own : IsOwn id v flow = record { own = t.own; seen = t.seen; known = t.known } in
-    let gave : IsUse id flow after v w =
-    used id flow after v c.take.new.pass.view w t.taken (ap (λ (s : Seen). s.view) c.give.ensures) in
-    call_made id _ _ _ _ flow after v w _ own gave c.act_on-made.ensures.made
+    call_made c.args.pin.now _ _ _ _ c.in-Ok.flow (history c.act_on-made.new.flow) c.args.pass.now.view
+    c.take.new.pass.view c.give.new.pass.view _ (record { own = t.own; seen = t.seen; known = t.known })
+    t.taken (ap (λ (s : Seen). s.view) c.give.ensures) c.act_on-made.ensures.made
 
 pub returns-clause-refused : goal.returns-clause-refused
 returns-clause-refused g c =
     let t = c.in-Ok.ensures in
-    let id = c.args.pin.now in
-    let flow = c.in-Ok.flow in
-    let after = history c.act_on-made.new.flow in
-    let v = c.args.pass.now.view in
-    let w = c.give.new.pass.view in
-    let own : IsOwn id v flow = record { own = t.own; seen = t.seen; known = t.known } in
-    let gave : IsUse id flow after v w =
-    used id flow after v c.take.new.pass.view w t.taken (ap (λ (s : Seen). s.view) c.give.ensures) in
-    call_refused id flow after v w _ own gave c.act_on-made.ensures.full
+    call_refused c.args.pin.now c.in-Ok.flow (history c.act_on-made.new.flow) c.args.pass.now.view
+    c.take.new.pass.view c.give.new.pass.view _ (record { own = t.own; seen = t.seen; known = t.known })
+    t.taken (ap (λ (s : Seen). s.view) c.give.ensures) c.act_on-made.ensures.full

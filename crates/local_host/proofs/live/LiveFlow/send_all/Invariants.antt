@@ -5,8 +5,8 @@ use Rattle.fast_tx.specs.Going.{left_in}
 use Rattle.local_host.proofs.live.LiveFlow.send_all.Given as goal
 
 -- what is left to send leads to the same end
-abbrev pub invariant-loop-self : goal.invariant-loop-self
-invariant-loop-self l = quieted l.tick l.self ≡ quieted l.tick l.fn.self
+abbrev pub invariant-loop : goal.invariant-loop
+invariant-loop l = quieted l.tick l.self ≡ quieted l.tick l.fn.self
 
-abbrev pub decreases-loop-self : goal.decreases-loop-self
-decreases-loop-self l = left_in (endpoint l.self)
+abbrev pub decreases-loop : goal.decreases-loop
+decreases-loop l = left_in (endpoint l.self)
