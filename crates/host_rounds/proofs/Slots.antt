@@ -31,8 +31,8 @@ lowest_from (suc most) slot found ls low high free used =
       by_same false g = absurd (same_slot h g)
 
 -- where more flows may be opened, a free slot is looked for
-more_free : (ls : List Live) (slots : ℕ) → length ls < most_flows → free_slot slots ls ≡ free_from slots 0 ls
-more_free ls slots few = by_more (nat_lt (length ls) most_flows) refl where
+pub more_free : (slots : ℕ) (ls : List Live) → length ls < most_flows → free_slot slots ls ≡ free_from slots 0 ls
+more_free slots ls few = by_more (nat_lt (length ls) most_flows) refl where
   by_more : (more : Bool) → nat_lt (length ls) most_flows ≡ more → free_where more slots ls ≡ free_from slots 0 ls
   by_more true h = refl
   by_more false h = absurd (grind (arith, tests, h, few))
@@ -41,7 +41,7 @@ more_free ls slots few = by_more (nat_lt (length ls) most_flows) refl where
 pub lowest_is : (host : Host) (slot : ℕ) → length host.flows < most_flows
     → slot < host.params.slots → list_any (is_in_slot slot) host.flows ≡ false
     → ((r : ℕ) → r < slot → list_any (is_in_slot r) host.flows ≡ true) → lowest_free host ≡ Some slot
-lowest_is host slot few below free used = more_free host.flows host.params.slots few
+lowest_is host slot few below free used = more_free host.params.slots host.flows few
     ∙ lowest_from host.params.slots 0 slot host.flows (omega arith) (omega arith) free (λ r a b. used r b)
 
 none_from : (most slot : ℕ) (ls : List Live) → ((r : ℕ) → slot ≤ r → r < slot + most → is_used ls r ≡ true)
@@ -64,10 +64,9 @@ none_is host used = by_more (nat_lt (length host.flows) most_flows) where
   by_more false = refl
 
 -- where as many flows were opened as may be, none is free
-pub none_more : (host : Host) → most_flows ≤ length host.flows → lowest_free host ≡ None
-none_more host all = by_more (nat_lt (length host.flows) most_flows) refl where
-  by_more : (more : Bool) → nat_lt (length host.flows) most_flows ≡ more
-      → free_where more host.params.slots host.flows ≡ None
+pub none_more : (slots : ℕ) (ls : List Live) → most_flows ≤ length ls → free_slot slots ls ≡ None
+none_more slots ls all = by_more (nat_lt (length ls) most_flows) refl where
+  by_more : (more : Bool) → nat_lt (length ls) most_flows ≡ more → free_where more slots ls ≡ None
   by_more true h = absurd (grind (arith, tests, h, all))
   by_more false h = refl
 

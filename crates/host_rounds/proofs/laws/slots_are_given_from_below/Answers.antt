@@ -8,4 +8,4 @@ pub returns-clause-none : goal.returns-clause-none
 returns-clause-none c = none_is
 
 pub returns-clause-last : goal.returns-clause-last
-returns-clause-last c = none_more
+returns-clause-last c = λ host all. none_more host.params.slots host.flows all
