@@ -1,6 +1,6 @@
 -- Every flow is opened rightly.
 use Rattle.std.proofs.Common.{◌≡◌, ℕ, zero, suc, ◌+◌, ◌<◌, ◌==◌, ◌&&◌, Bool, true, false, List, [], ◌∷◌, ◌++◌, fold}
-use Rattle.std.proofs.Common.{Option, Some, None, refl, sym, subst, ap, ◌∙◌, arith, append_assoc, append-nil}
+use Rattle.std.proofs.Common.{length, Option, Some, None, refl, sym, subst, ap, ◌∙◌, arith, append_assoc, append-nil}
 use Rattle.std.specs.List.{list_any}
 use Rattle.tas_model.specs.declared.entry.HostParams.{HostParams}
 use Rattle.tas_model.specs.declared.entry.FourTuple.{FourTuple}
@@ -11,7 +11,7 @@ use Rattle.tas_model.specs.declared.entry.Caller.{Caller}
 use Rattle.tas_model.specs.declared.entry.Call.TheVariants as calls
 use Rattle.host_rounds.specs.Hosts.{Live, Host, Holder, Numbers, next_number, with_call, at_flow, changed, is_known}
 use Rattle.host_rounds.specs.Hosts.{is_indexed_as, same_tuple, is_listening, is_full, is_in_slot, free_from}
-use Rattle.host_rounds.specs.Hosts.{lowest_free, new_flow, opened_in}
+use Rattle.host_rounds.specs.Hosts.{most_flows, lowest_free, new_flow, opened_in}
 use Rattle.host_rounds.specs.Upkeep.{swept, all_swept, timed, emits}
 use Rattle.host_rounds.specs.Deliveries.{Packet, Damaged, Segment, received, opens, opened_by_syn, met_no_flow, arrived}
 use Rattle.host_rounds.specs.Deliveries.{delivered_packet}
@@ -21,6 +21,7 @@ use Rattle.host_rounds.specs.Rounds.{Action, Timer, Frame, Ask, Emission, Deed, 
 use Rattle.host_rounds.specs.Rounds.{Rounds}
 use Rattle.host_rounds.specs.Openings.{Opening, number_in, opening_of, IsOpened, AreOpened}
 use Rattle.host_rounds.proofs.AllLegal.{AreLegal, asked_keeps, move_kept, done_kept, all_swept_kept}
+use Rattle.host_rounds.proofs.Slots.{given_slot}
 use Rattle.host_rounds.proofs.Keeps.{openings, openings_push, count_is, length_is, Keeps, map_keeps, first_keeps}
 use Rattle.host_rounds.proofs.Keeps.{at_keeps, call_keeps, swept_keeps, timed_keeps, emits_keeps}
 
@@ -70,7 +71,9 @@ opens_rightly : (numbers : Numbers) (p : HostParams) (host : Host) (slot : ℕ) 
     → number_in x.call ≡ Some (next_number numbers host tuple)
     → IsRight numbers p (opened_in host slot tuple holder x)
 opens_rightly numbers p host slot tuple holder x right legal free number =
-    let below : slot < 0 + host.params.slots = found_slot host.params.slots 0 slot host.flows free in
+    let given : (length host.flows < most_flows) × (free_from host.params.slots 0 host.flows ≡ Some slot) =
+    given_slot host.params.slots slot host.flows free in
+    let below : slot < 0 + host.params.slots = found_slot host.params.slots 0 slot host.flows given.1 in
     let inside : slot < host.params.slots = omega arith in
     record {
       params = right.params;
@@ -80,6 +83,7 @@ opens_rightly numbers p host slot tuple holder x right legal free number =
           (sym (openings_push host.flows (new_flow host slot tuple holder x)))
           (opened_push numbers p [] (openings host.flows)
           (opening_of (new_flow host slot tuple holder x).flow) right.opened (record {
+            few = subst (λ (n : ℕ). n < most_flows) (sym (length_is host.flows)) given.0;
             params = right.params;
             slot = subst (λ (q : HostParams). slot < q.slots) right.params inside;
             generation = ap (λ (n : ℕ). 1 + n) (sym (count_is (λ (o : Opening). o.id.slot == slot) host.flows));

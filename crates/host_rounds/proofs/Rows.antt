@@ -1,9 +1,9 @@
 -- Rows of moves.
-use Rattle.std.proofs.Common.{◌≡◌, ℕ, zero, suc, List, [], ◌∷◌, ◌++◌, length, slice_get, Some, refl, sym, subst, ap}
+use Rattle.std.proofs.Common.{◌≡◌, ℕ, zero, suc, List, [], ◌∷◌, slice_get, Some, refl, sym, subst, ap}
 use Rattle.std.proofs.Common.{◌∙◌}
 use Rattle.host_rounds.specs.Lists.{change_at}
 use Rattle.host_rounds.specs.Hosts.{Live, Host, Numbers}
-use Rattle.host_rounds.specs.Moves.{Move, MayMove, moved, AreMoves}
+use Rattle.host_rounds.specs.Moves.{Move, moved, AreMoves}
 
 -- ----- lists
 -- the change of an item that is known

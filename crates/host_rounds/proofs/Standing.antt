@@ -8,7 +8,8 @@ use Rattle.tas_model.specs.declared.entry.Call.TheVariants as calls
 use Rattle.tas_model.specs.NextSegment.{Going, going}
 use Rattle.tas_model.proofs.Tests.{on_cond}
 use Rattle.host_rounds.specs.Lists.{Each, change_first, change_at}
-use Rattle.host_rounds.specs.Hosts.{Live, endpoint, is_over, is_held, with_call, is_in_slot, free_from}
+use Rattle.host_rounds.specs.Hosts.{Live, endpoint, is_over, is_held, with_call, is_in_slot, free_from, free_slot}
+use Rattle.host_rounds.proofs.Slots.{given_slot}
 use Rattle.host_rounds.specs.Upkeep.{swept, controlled, timed, timed_unless, emits, emits_where}
 use Rattle.host_rounds.specs.Standing.{AreApart, AreFiled}
 use Rattle.host_rounds.proofs.Flows.{on_control}
@@ -188,10 +189,11 @@ first_stands test f keeps ls = record { stay = first_stay test f keeps ls; apart
 pub at_stands : (n : ℕ) (f : Live → Live) → KeepsPlace f → (ls : List Live) → Stands ls (change_at n f ls)
 at_stands n f keeps ls = record { stay = at_stay n f keeps ls; apart = at_apart n f keeps ls }
 
-pub push_stands : (most : ℕ) (ls : List Live) (m : Live) → free_from most 0 ls ≡ Some m.flow.id.slot → m.filed ≡ false
+pub push_stands : (slots : ℕ) (ls : List Live) (m : Live) → free_slot slots ls ≡ Some m.flow.id.slot → m.filed ≡ false
     → Stands ls (ls ++ m ∷ [])
-push_stands most ls m free h =
-    record { stay = push_stay ls m h; apart = push_apart ls m (found_free most 0 m.flow.id.slot ls free) }
+push_stands slots ls m free h =
+    let found : free_from slots 0 ls ≡ Some m.flow.id.slot = (given_slot slots m.flow.id.slot ls free).1 in
+    record { stay = push_stay ls m h; apart = push_apart ls m (found_free slots 0 m.flow.id.slot ls found) }
 
 -- ----- closed flows that are given up
 with_false : (b : Bool) → b ≡ (b || false)

@@ -1,6 +1,6 @@
 -- A host in the middle of a run, and how one call, one line of the log or one opening changes it.
-use Rattle.std.specs.Prelude.{ℕ, zero, suc, ◌+◌, ◌==◌, ◌&&◌, ◌||◌, not, Bool, true, false, List, [], ◌∷◌, ◌++◌, length}
-use Rattle.std.specs.Prelude.{count_by, nat_lt, nat_le, slice_get, Option, Some, None}
+use Rattle.std.specs.Prelude.{ℕ, zero, suc, ◌+◌, ◌-◌, ◌^◌, ◌==◌, ◌&&◌, ◌||◌, not, Bool, true, false, List, [], ◌∷◌}
+use Rattle.std.specs.Prelude.{◌++◌, length, count_by, nat_lt, nat_le, slice_get, Option, Some, None}
 use Rattle.std.specs.List.{list_any}
 use Rattle.tas_model.specs.declared.entry.HostParams.{HostParams}
 use Rattle.tas_model.specs.declared.entry.FourTuple.{FourTuple}
@@ -140,9 +140,22 @@ free_from zero slot flows = None
 free_from (suc most) slot flows =
     elim (list_any (is_in_slot slot) flows) [ true ↦ free_from most (slot + 1) flows | false ↦ Some slot ]
 
+-- How many flows a host opens at most. Generations have 32 bits, and so have the numbers of flows in the names of
+-- frames, where 2^32 - 1 means no flow.
+abbrev pub most_flows : ℕ
+most_flows = 2 ^ 32 - 1
+
+abbrev pub free_where : (more : Bool) → (slots : ℕ) → List Live → Option ℕ
+free_where true slots flows = free_from slots 0 flows
+free_where false slots flows = None
+
+-- The lowest free one of so many slots. Where as many flows were opened as may be, no slot is free any more.
+abbrev pub free_slot : (slots : ℕ) → List Live → Option ℕ
+free_slot slots flows = free_where (nat_lt (length flows) most_flows) slots flows
+
 -- the lowest free slot of the host
 abbrev pub lowest_free : Host → Option ℕ
-lowest_free host = free_from host.params.slots 0 host.flows
+lowest_free host = free_slot host.params.slots host.flows
 
 -- The next generation of a slot: one more than there were flows in it.
 abbrev pub next_generation : (slot : ℕ) → List Live → ℕ

@@ -1,5 +1,5 @@
 -- What an application may do to its host, step by step.
-use Rattle.std.specs.Prelude.{◌≡◌, ℕ, false, List, [], ◌∷◌, slice_get, Some, IsSome, IfSome, ⊤}
+use Rattle.std.specs.Prelude.{◌≡◌, ℕ, List, [], ◌∷◌, slice_get, Some, IsSome, IfSome, ⊤}
 use Rattle.tas_model.specs.declared.entry.FourTuple.{FourTuple}
 use Rattle.tas_model.specs.declared.entry.Caller.{Caller}
 use Rattle.tas_model.specs.declared.entry.Caller.TheVariants.{Slow, App}
@@ -9,7 +9,7 @@ use Rattle.tas_model.specs.LegalHistory.{Offers, shown, step}
 use Rattle.host_rounds.specs.declared.log.LogEvent.{LogEvent}
 use Rattle.host_rounds.specs.declared.log.LogEvent.TheVariants as events
 use Rattle.host_rounds.specs.Hosts.{Live, Host, Holder, Application, Listener, Numbers, next_number, endpoint}
-use Rattle.host_rounds.specs.Hosts.{with_call, logged, at_flow, is_known, lowest_free, first_entry, opened_in}
+use Rattle.host_rounds.specs.Hosts.{with_call, logged, at_flow, lowest_free, first_entry, opened_in}
 use Rattle.host_rounds.specs.Lists.{Each}
 use Rattle.host_rounds.specs.Histories.{HasHistory}
 use Rattle.host_rounds.specs.Scripts.{Scripts, Site}

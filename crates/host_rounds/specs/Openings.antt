@@ -1,5 +1,6 @@
 -- How the flows of a host are opened.
-use Rattle.std.specs.Prelude.{◌≡◌, ℕ, ◌+◌, ◌<◌, ◌==◌, List, [], ◌∷◌, ◌++◌, length, count_by, Option, Some, None, ⊤}
+use Rattle.std.specs.Prelude.{◌≡◌, ℕ, ◌+◌, ◌-◌, ◌^◌, ◌<◌, ◌==◌, List, [], ◌∷◌, ◌++◌, length, count_by, Option}
+use Rattle.std.specs.Prelude.{Some, None, ⊤}
 use Rattle.tas_model.specs.declared.entry.HostParams.{HostParams}
 use Rattle.tas_model.specs.declared.entry.FourTuple.{FourTuple}
 use Rattle.tas_model.specs.declared.entry.FlowId.{FlowId}
@@ -37,9 +38,10 @@ openings_of (f ∷ fs) = opening_of f ∷ openings_of fs
 abbrev pub openings_as : FourTuple → List Opening → ℕ
 openings_as tuple os = count_by (λ (o : Opening). same_tuple tuple o.tuple) os
 
--- The opening is right after those before it: with the host's parameters, in one of its slots, as that slot's next
--- generation, and with the first number that these numbers give.
+-- The opening is right after those before it: these are fewer than a host opens at most, and it is with the host's
+-- parameters, in one of its slots, as that slot's next generation, and with the first number that these numbers give.
 pub record IsOpened (numbers : Numbers) (host : HostParams) (before : List Opening) (o : Opening) : Type 0 where
+  pub few : length before < 2 ^ 32 - 1
   pub params : o.params ≡ host
   pub slot : o.id.slot < host.slots
   pub generation : o.id.generation ≡ 1 + count_by (λ (earlier : Opening). earlier.id.slot == o.id.slot) before

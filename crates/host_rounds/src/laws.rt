@@ -1,4 +1,4 @@
-ghost use Rattle.std.specs.Prelude.{◌≡◌, ℕ, ◌+◌, ◌≤◌, ◌<◌, List, [], Bool, true, false, Some, None};
+ghost use Rattle.std.specs.Prelude.{◌≡◌, ℕ, ◌+◌, ◌-◌, ◌^◌, ◌≤◌, ◌<◌, List, [], length, Bool, true, false, Some, None};
 ghost use Rattle.std.specs.List.{list_any};
 ghost use Rattle.tas_model.specs.LegalHistory.{Legal};
 ghost use Rattle.tas_model.specs.Valid.{InRange};
@@ -41,7 +41,7 @@ pub fn frames_have_one_place<S, A>()
 {}
 
 /// Every flow was opened with the host's parameters, in one of its slots, as that slot's next generation, and with its
-/// own first number.
+/// own first number; and fewer were opened before it than a host opens at most.
 pub fn flows_are_opened_rightly<S, A>()
     ensures { InEveryTick S A (λ scripts t due before after.
         AreOpened scripts.numbers before.host.params [] (openings_of (flows_of before.host.flows))
@@ -64,13 +64,16 @@ pub fn ticks_only_add<S, A>()
         Each (IsUpTo t) before.host.flows → Each (IsUpTo (t + 1)) after.host.flows) }
 {}
 
-/// The slot that a host gives to a new flow is free, and all below it are used; it gives none where all are used.
+/// The slot that a host gives to a new flow is free, and all below it are used; it gives none where all are used, nor
+/// where it opened as many flows as it may.
 pub fn slots_are_given_from_below()
-    ensures lowest { (host : Host) (slot : ℕ) → slot < host.params.slots → list_any (is_in_slot slot) host.flows ≡ false
+    ensures lowest { (host : Host) (slot : ℕ) → length host.flows < 2 ^ 32 - 1
+        → slot < host.params.slots → list_any (is_in_slot slot) host.flows ≡ false
         → ((lower : ℕ) → lower < slot → list_any (is_in_slot lower) host.flows ≡ true) → lowest_free host ≡ Some slot }
     ensures none { (host : Host)
         → ((slot : ℕ) → slot < host.params.slots → list_any (is_in_slot slot) host.flows ≡ true)
         → lowest_free host ≡ None }
+    ensures last { (host : Host) → 2 ^ 32 - 1 ≤ length host.flows → lowest_free host ≡ None }
 {}
 
 /// A flow keeps its slot until it is closed and no application holds it, and none other gets it meanwhile.

@@ -2,6 +2,7 @@ pub mod Taken
 pub mod Growth
 pub mod Asking
 pub mod Emitting
+pub mod Fitting
 pub mod Places
 pub mod Hosting
 pub mod Indexing

@@ -2,6 +2,8 @@
 use Rattle.std.proofs.Common.{◌≡◌, ℕ, zero, suc, ◌+◌, ◌<◌, ◌≤◌, ◌++◌, Bool, true, false, cond, List, [], ◌∷◌, map}
 use Rattle.std.proofs.Common.{◌==◌, ◌&&◌, ◌||◌, position, None, Result, Ok, Err, OnOk, OnErr, refl, sym}
 use Rattle.std.proofs.Common.{ap, subst, ◌∙◌, true≢false, arith, tests, nat_le}
+use Rattle.std.proofs.Common.{◌-◌, ◌^◌, length, length-append}
+use Rattle.std.proofs.lemmas.List.{length-map}
 use Rattle.std.specs.List.{filter, list_any}
 use Rattle.tas_model.specs.declared.entry.FourTuple.{FourTuple}
 use Rattle.tas_model.specs.declared.entry.HostParams.{HostParams}
@@ -10,7 +12,7 @@ use Rattle.host_rounds.specs.Hosts.{Live, Listener, is_indexed_as, first_port}
 use Rattle.local_host.specs.declared.host.Listener as code
 use Rattle.local_host.specs.Index.{given_in}
 use Rattle.local_host.specs.Ports.{listener_in, IsHost}
-use Rattle.local_host.proofs.Indexing.{Keeps}
+use Rattle.local_host.proofs.Indexing.{Keeps, length_change}
 use Rattle.local_host.proofs.Given.{one_given, given_push, given_map, given_change}
 use Rattle.local_host.proofs.Records.{each_push}
 use Rattle.local_host.proofs.Searching.{position_none}
@@ -41,6 +43,7 @@ pub host_map : {params : HostParams} {listeners : List code.Listener} {ls : List
     → IsHost params listeners ls → IsHost params listeners (map f ls)
 host_map {params} {listeners} {ls} f keeps is = record {
   ranges = is.ranges;
+  few = subst (λ (n : ℕ). n < 2 ^ 32) (sym (length-map ls f)) is.few;
   ports =
       λ loose. record {
         listened = (is.ports loose).listened;
@@ -53,6 +56,7 @@ pub host_change : {params : HostParams} {listeners : List code.Listener} {ls : L
     → Keeps f → IsHost params listeners ls → IsHost params listeners (change_at i f ls)
 host_change {params} {listeners} {ls} f i keeps is = record {
   ranges = is.ranges;
+  few = subst (λ (n : ℕ). n < 2 ^ 32) (sym (length_change f ls i)) is.few;
   ports =
       λ loose. record {
         listened = (is.ports loose).listened;
@@ -65,15 +69,21 @@ pub host_none : {params : HostParams} {listeners : List code.Listener} {ls : Lis
     → IsHost params listeners []
 host_none is = record {
   ranges = is.ranges;
+  few = omega arith;
   ports = λ loose. record { listened = (is.ports loose).listened; flows = tt };
 }
 
+few_more : (ls : List Live) (l : Live) → length ls < 2 ^ 32 - 1 → length (ls ++ l ∷ []) < 2 ^ 32
+few_more ls l less = let one : length (ls ++ l ∷ []) ≡ length ls + 1 = length-append ls (l ∷ []) in
+    omega (arith, one, less)
+
 -- one flow more: at the port of a listener,
 pub host_low : {params : HostParams} {listeners : List code.Listener} {ls : List Live} (l : Live)
-    → (params.fixed ≡ false → l.flow.tuple.lport < first_port)
+    → length ls < 2 ^ 32 - 1 → (params.fixed ≡ false → l.flow.tuple.lport < first_port)
     → IsHost params listeners ls → IsHost params listeners (ls ++ l ∷ [])
-host_low {params} {listeners} {ls} l low is = record {
+host_low {params} {listeners} {ls} l less low is = record {
   ranges = is.ranges;
+  few = few_more ls l less;
   ports =
       λ loose.
       let here : l.flow.tuple.lport < first_port = low loose in
@@ -96,10 +106,11 @@ next_given n = grind (arith, tests)
 
 -- and at the next port that is given
 pub host_next : {params : HostParams} {listeners : List code.Listener} {ls : List Live} (l : Live)
-    → (params.fixed ≡ false → l.flow.tuple.lport ≡ first_port + given_in ls)
+    → length ls < 2 ^ 32 - 1 → (params.fixed ≡ false → l.flow.tuple.lport ≡ first_port + given_in ls)
     → IsHost params listeners ls → IsHost params listeners (ls ++ l ∷ [])
-host_next {params} {listeners} {ls} l is_next is = record {
+host_next {params} {listeners} {ls} l less is_next is = record {
   ranges = is.ranges;
+  few = few_more ls l less;
   ports =
       λ loose.
       let next : l.flow.tuple.lport ≡ first_port + given_in ls = is_next loose in
@@ -132,6 +143,7 @@ pub host_listened : {params : HostParams} {listeners : List code.Listener} {ls :
     → l.port < first_port → IsHost params listeners ls → IsHost params (listeners ++ l ∷ []) ls
 host_listened {params} {listeners} {ls} l low is = record {
   ranges = is.ranges;
+  few = is.few;
   ports =
       λ loose. record {
         listened = each_push IsLow listeners l (is.ports loose).listened low;
@@ -150,6 +162,7 @@ pub host_forgot : {params : HostParams} {listeners : List code.Listener} {ls : L
     (keep : code.Listener → Bool) → IsHost params listeners ls → IsHost params (filter keep listeners) ls
 host_forgot {params} {listeners} {ls} keep is = record {
   ranges = is.ranges;
+  few = is.few;
   ports =
       λ loose. record {
         listened = each_left keep listeners (is.ports loose).listened;

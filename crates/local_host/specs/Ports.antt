@@ -29,9 +29,11 @@ pub record AreApart (listeners : List code.Listener) (host : Host) : Type 0 wher
   pub listened : Each (λ (l : code.Listener). l.port < first_port) listeners
   pub flows : Each (λ (l : Live). l.flow.tuple.lport < first_port + ports_given host) host.flows
 
--- What holds of each host: its parameters are in their ranges, and where not every port listens, its ports are apart.
+-- What holds of each host: its parameters are in their ranges, its flows can be counted with 32 bits, and where not
+-- every port listens, its ports are apart.
 pub record IsHost (params : HostParams) (listeners : List code.Listener) (flows : List Live) : Type 0 where
   pub ranges : InRange params
+  pub few : length flows < 2 ^ 32
   pub ports : params.fixed ≡ false → AreApart listeners (host_of params listeners [] flows)
 
 -- ----- connects

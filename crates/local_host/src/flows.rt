@@ -1,6 +1,6 @@
-ghost use Rattle.std.specs.Prelude.{true, false, ◌≡◌, ℕ, ◌<◌, ◌+◌, ◌^◌, ◌==◌, ◌++◌, ◌∷◌, [], length, map, position};
-ghost use Rattle.std.specs.Prelude.{get_or, nat_eq, ◌||◌, List, slice_get, Some, None, cond, IfOk, IfSome, OnErr, OnOk};
-ghost use Rattle.std.specs.Prelude.{is_some, nat_le, count_by, All};
+ghost use Rattle.std.specs.Prelude.{true, false, ◌≡◌, ℕ, ◌<◌, ◌+◌, ◌-◌, ◌^◌, ◌==◌, ◌++◌, ◌∷◌, [], length, map};
+ghost use Rattle.std.specs.Prelude.{position, get_or, nat_eq, ◌||◌, List, slice_get, Some, None, cond, IfOk, IfSome};
+ghost use Rattle.std.specs.Prelude.{OnErr, OnOk, is_some, nat_le, count_by, All};
 ghost use Rattle.std.specs.List.{list_any, list_all, filter};
 ghost use Rattle.std.specs.HashMap.{get};
 ghost use Rattle.capture_items.specs.Numbers.{equal_tuple};
@@ -9,7 +9,8 @@ ghost use Rattle.flow_state.specs.Calls.{seg_of, call_of, offer_of, answer_of, I
 ghost use Rattle.flow_state.specs.App.{IsAppCall};
 ghost use Rattle.flow_state.specs.Flow.{reply_to};
 ghost use Rattle.host_rounds.specs.Lists.{Each, change_at};
-ghost use Rattle.host_rounds.specs.Hosts.{Live, is_indexed_as, is_in_slot, free_from, next_generation, opened_as};
+ghost use Rattle.host_rounds.specs.Hosts.{Live, is_indexed_as, is_in_slot, free_from, free_slot, next_generation};
+ghost use Rattle.host_rounds.specs.Hosts.{opened_as};
 ghost use Rattle.host_rounds.specs.Hosts.{flows_of, is_ready, is_over, waits_at, with_call, first_port};
 ghost use Rattle.host_rounds.specs.Upkeep.{swept, timed, quieted};
 ghost use Rattle.local_host.specs.Arriving.{arrival_in, taking_in};
@@ -37,6 +38,10 @@ use tas_num::Gate;
 
 /// Ports from this one on are given to connects, each once.
 pub const FIRST_PORT: u16 = 49152;
+
+/// How many flows a host opens at most: generations and the numbers of flows in the names of frames have 32 bits, and
+/// the highest number means no flow.
+const MOST_FLOWS: usize = 0xffff_ffff;
 
 /// What is known of the flows of a four-tuple.
 #[derive(Clone, Copy)]
@@ -183,10 +188,15 @@ impl Flows {
         }
     }
 
-    /// The lowest free slot of so many. The error is want of memory.
+    /// The lowest free slot of so many, and none where as many flows were opened as a host may open. The error is want
+    /// of memory.
     pub fn lowest_free(&self, alloc: Global, slots: u32) -> Result<Option<u32>, AllocError>
-        ensures { IfOk result (λ free. free ≡ free_from slots 0 self.now) }
+        ensures free { IfOk result (λ free. free ≡ free_slot slots self.now) }
+        ensures few { IfOk result (λ free. IfSome free (λ slot. length self.now < 2 ^ 32 - 1)) }
     {
+        if self.len() >= MOST_FLOWS {
+            return Ok(None);
+        }
         let taken = taken_slots(alloc, &self.table.flows, &self.table.standing, slots)?;
         Ok(first_free(&taken, slots))
     }

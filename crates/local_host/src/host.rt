@@ -1,5 +1,5 @@
-ghost use Rattle.std.specs.Prelude.{true, false, ◌≡◌, None, position, slice_get, ◌++◌, ◌∷◌, [], ◌<◌, ◌^◌, length, ◌&&◌};
-ghost use Rattle.std.specs.Prelude.{not, map, nat_lt, ◌==◌, ◌+◌, ◌≤◌, All, OnOk, IfOk, IfSome, Some};
+ghost use Rattle.std.specs.Prelude.{true, false, ◌≡◌, None, position, slice_get, ◌++◌, ◌∷◌, [], ◌<◌, ◌-◌, ◌^◌, length};
+ghost use Rattle.std.specs.Prelude.{◌&&◌, not, map, nat_lt, ◌==◌, ◌+◌, ◌≤◌, All, OnOk, IfOk, IfSome, Some};
 ghost use Rattle.std.specs.List.{list_any, list_all, filter};
 ghost use Rattle.tas_model.specs.Valid.{InRange};
 ghost use Rattle.tas_model.specs.declared.entry.Caller.TheVariants.{App, Slow};
@@ -117,6 +117,16 @@ impl LocalHost {
         ensures { result ≡ length self.now.flows }
     {
         self.flows.len()
+    }
+
+    /// The number of the flow at place `i`, which has 32 bits, as a host opens at most 2^32 - 1 flows.
+    pub fn flow_number(&self, i: usize) -> u32
+        requires { i < length self.now.flows }
+        ensures { result ≡ i }
+    {
+        // That there are fewer than 2^32 is known of flows that are looked at.
+        let _count = self.flows.len();
+        i as u32
     }
 
     /// The place of the flow that the index has under this four-tuple.
@@ -361,23 +371,19 @@ impl LocalHost {
         )
     }
 
-    /// The id of the next flow in this slot. The error is want of memory, also where 2^32 flows were opened.
-    fn next_id(&self, slot: u32) -> Result<FlowId, AllocError>
-        ensures id { IfOk result (λ id. id ≡ record { slot = slot; generation = next_generation slot self.now.flows }) }
-        ensures few { OnOk result (length self.now.flows < 2 ^ 32) }
+    /// The id of the next flow in this slot.
+    fn next_id(&self, slot: u32) -> FlowId
+        requires few { length self.now.flows < 2 ^ 32 - 1 }
+        ensures { result ≡ record { slot = slot; generation = next_generation slot self.now.flows } }
     {
-        if self.flows.len() >= u32::MAX as usize {
-            return Err(AllocError);
-        }
-        Ok(FlowId {
+        FlowId {
             slot,
             generation: self.flows.next_generation(slot) as u32,
-        })
+        }
     }
 
     /// The first number of the next flow of this four-tuple.
     fn next_number<N: NumberSource>(&self, tuple: FourTuple, numbers: &N) -> Seq
-        requires few { length self.now.flows < 2 ^ 32 }
         ensures { result.0 ≡ next_number (N.numbers numbers.now) self.now tuple }
     {
         numbers.first_number(tuple, self.flows.opened_as(&tuple), self.flows.len() as u32)
@@ -417,7 +423,7 @@ impl LocalHost {
                 },
             ),
             Some(slot) => {
-                let id = self.next_id(slot)?;
+                let id = self.next_id(slot);
                 let iss = self.next_number(tuple, numbers);
                 let flow = LiveFlow::opened_by_syn(
                     self.alloc,
@@ -463,7 +469,7 @@ impl LocalHost {
         }
     }
 
-    /// A connect opens a flow in this slot. The error is want of memory.
+    /// A connect opens a flow in this slot, where the host may open one more. The error is want of memory.
     fn open_connected<N: NumberSource>(
         &mut self,
         tick: u32,
@@ -474,11 +480,12 @@ impl LocalHost {
     ) -> Result<(), AllocError>
         requires port { self.old.params.fixed ≡ false → tuple.lport ≡ first_port + ports_given self.old }
         requires fresh { position (is_indexed_as tuple) self.old.flows ≡ None }
+        requires few { length self.old.flows < 2 ^ 32 - 1 }
         ensures made { OnOk result (self.new ≡ connected_by app (Some slot)
             (next_number (N.numbers numbers.now) self.old tuple) tick self.old tuple) }
         ensures params { self.new.params ≡ self.old.params }
     {
-        let id = self.next_id(slot)?;
+        let id = self.next_id(slot);
         let iss = self.next_number(tuple, numbers);
         let flow = LiveFlow::connected(self.alloc, id, tuple, &self.params, iss, app, tick)?;
         self.flows.push(tuple, flow)

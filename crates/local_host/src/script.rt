@@ -22,6 +22,9 @@ use tas_num::Seq;
 /// The one application of a replay's host.
 pub const THE_APP: u32 = 0;
 
+/// How many bytes wait at most: as many as a Send may offer.
+const MOST_PENDING: usize = 0xffff_ffff;
+
 /// What a capture showed of a flow's local stream so far.
 #[derive(Drop)]
 pub struct Shown {
@@ -56,16 +59,14 @@ impl Shown {
         }
     }
 
-    /// A local segment of the flow shows bytes of its stream, or its end. The error is want of memory, also where 2^32
-    /// bytes would wait.
+    /// A local segment of the flow shows bytes of its stream, or its end. Bytes past those that may wait are not seen
+    /// yet. The error is want of memory.
     pub fn see(&mut self, flow: &LiveFlow, seg: &Segment<'_>) -> Result<(), AllocError>
         ensures { OnOk result (self.new ≡ sees (seg_of seg.now) flow.now self.old) }
     {
         let fresh = fresh_bytes(flow.iss(), seg, flow.sent_count(), self.pending.len());
-        if self.pending.len() + fresh.len() > 0xffff_ffff {
-            return Err(AllocError);
-        }
-        self.pending.append(fresh)?;
+        let fits = fresh.len().min(MOST_PENDING - self.pending.len());
+        self.pending.append(&fresh[..fits])?;
         self.ends = self.ends || seg.flags.is_fin();
         Ok(())
     }

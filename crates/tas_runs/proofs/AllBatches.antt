@@ -1,5 +1,5 @@
 -- The batches are batches, and none could have been longer.
-use Rattle.std.proofs.Common.{◌≡◌, ◌+◌, ◌<◌, ◌&&◌, not, Bool, true, false, List, [], ◌∷◌, ◌++◌, length, nat_lt, fold}
+use Rattle.std.proofs.Common.{◌≡◌, ◌+◌, ◌<◌, ◌&&◌, not, Bool, true, false, List, [], ◌∷◌, ◌++◌, length, fold}
 use Rattle.std.proofs.Common.{refl, sym, subst, true≢false, arith, tests, append-nil, append_assoc, length-append}
 use Rattle.std.proofs.Common.{if◌then◌else◌}
 use Rattle.tas_runs.specs.Records.{Content, Damaged, Remote, Local, Item}

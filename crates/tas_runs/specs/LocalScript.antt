@@ -1,7 +1,7 @@
 -- The calls of the local application, which a replay takes from the capture: what the host's own segments show is
 -- offered and ended, and all that comes is read.
 use Rattle.std.specs.Prelude.{ℕ, ◌+◌, ◌-◌, ◌%◌, ◌^◌, ◌&&◌, ◌||◌, not, Bool, true, false, List, [], ◌∷◌, ◌++◌, length}
-use Rattle.std.specs.Prelude.{drop, map, filter_map, nat_le, position, slice_get, get_or, Option, Some, None}
+use Rattle.std.specs.Prelude.{take, drop, map, filter_map, nat_le, position, slice_get, get_or, Option, Some, None}
 use Rattle.std.specs.Prelude.{if◌then◌else◌}
 use Rattle.tas_num.specs.Places.{raised}
 use Rattle.tas_model.specs.declared.entry.FourTuple.{FourTuple}
@@ -71,10 +71,16 @@ fresh_bytes iss seg known =
     let first : ℕ = raised (known + 1) ((seg.head.seq.0 + (2 ^ 32 - iss)) % 2 ^ 32) + one_if (is_syn seg) in
     if nat_le first wanted then drop (wanted - first) seg.bytes else []
 
+-- How many bytes wait at most: as many as a Send may offer. Those past them are not seen yet, and are fresh where the
+-- capture shows them again.
+abbrev pub most_pending : ℕ
+most_pending = 2 ^ 32 - 1
+
 abbrev pub sees : Seg → Live → Shown → Shown
 sees seg l s =
+    let known : ℕ = length (endpoint l).tx.out + length s.pending in
     record s {
-      pending = s.pending ++ fresh_bytes (endpoint l).iss seg (length (endpoint l).tx.out + length s.pending);
+      pending = take most_pending (s.pending ++ fresh_bytes (endpoint l).iss seg known);
       ends = s.ends || is_fin seg;
     }
 

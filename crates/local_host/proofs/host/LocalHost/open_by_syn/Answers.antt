@@ -1,4 +1,5 @@
-use Rattle.std.proofs.Common.{◌≡◌, Bool, ℕ, ◌++◌, [], ◌∷◌, ◌<◌, Some, false, sym, ap, subst, ◌∙◌}
+use Rattle.std.proofs.Common.{◌≡◌, Bool, ℕ, ◌++◌, [], ◌∷◌, ◌<◌, ◌-◌, ◌^◌, length, Option, Some, IfSome, false}
+use Rattle.std.proofs.Common.{sym, ap, subst, ◌∙◌}
 use Rattle.tas_model.specs.declared.entry.FourTuple.{FourTuple}
 use Rattle.tas_model.specs.declared.entry.Seg.{Seg}
 use Rattle.flow_state.specs.Calls.{seg_of}
@@ -17,6 +18,8 @@ pub invariant_of-self : goal.invariant_of-self
 invariant_of-self g c =
     host_done c.push.result (c.self.inside.flows ++ c.in_ok-flow-in-Some.flow ∷ []) c.push.new.self c.self.invariant
     (host_low c.in_ok-flow-in-Some.flow
+    (subst (λ (o : Option ℕ). IfSome o (λ (slot : ℕ). length c.self.inside.flows < 2 ^ 32 - 1)) c.in-Some.is
+    c.in_ok-lowest_free.ensures.few)
     (λ loose.
     subst (λ (t : FourTuple). t.lport < first_port)
     (sym (ap (λ (l : Live). l.flow.tuple) c.in_ok-flow-in-Some.ensures))
@@ -32,7 +35,7 @@ returns-in_ok-flow-in-Some-clause-made g c =
     let x : Entry = first_entry Slow c.args.tick (calls.Passive c.args.frame c.next_number-iss.result seg) in
     let free : lowest_free host ≡ Some c.in-Some.slot =
     subst (λ (h : Host). lowest_free h ≡ Some c.in-Some.slot) c.self.view_is
-    (sym c.in_ok-lowest_free.ensures ∙ c.in-Some.is) in
+    (sym c.in_ok-lowest_free.ensures.free ∙ c.in-Some.is) in
     let full : is_full host c.args.tuple.lport ≡ false = sym c.is_full.ensures ∙ c.if-is_full.false in
     ok_by c.push.result
     (λ made.
@@ -42,10 +45,10 @@ returns-in_ok-flow-in-Some-clause-made g c =
     c.args.tuple seg)
     (sym c.self.view_is)
     (syn_opened host c.in-Some.slot number c.args.tick c.args.frame c.args.tuple seg c.next_number-iss.result
-    c.in_ok-id-in-Some.id c.push.new.self free c.in_ok-id-in-Some.ensures.id c.next_number-iss.ensures
+    c.next_id-id.result c.push.new.self free c.next_id-id.ensures c.next_number-iss.ensures
     (made
     ∙ (ap (λ (l : Live). c.self.inside.flows ++ l ∷ []) c.in_ok-flow-in-Some.ensures
-    ∙ ap (λ (h : Host). h.flows ++ opened_live c.in_ok-id-in-Some.id c.args.tuple h.params Waiting x ∷ [])
+    ∙ ap (λ (h : Host). h.flows ++ opened_live c.next_id-id.result c.args.tuple h.params Waiting x ∷ [])
     c.self.view_is))
     ∙ ap (λ (b : Bool). opened_by_syn b (lowest_free host) number c.args.tick host c.args.frame c.args.tuple seg)
     (sym full)))

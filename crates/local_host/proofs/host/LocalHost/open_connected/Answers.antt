@@ -1,4 +1,4 @@
-use Rattle.std.proofs.Common.{◌≡◌, ◌+◌, ◌++◌, [], ◌∷◌, sym, ap, subst, ◌∙◌}
+use Rattle.std.proofs.Common.{◌≡◌, ◌<◌, ◌+◌, ◌-◌, ◌^◌, ◌++◌, [], ◌∷◌, length, sym, ap, subst, ◌∙◌}
 use Rattle.tas_model.specs.declared.entry.FourTuple.{FourTuple}
 use Rattle.host_rounds.specs.Hosts.{Live, Host, first_port, ports_given}
 use Rattle.local_host.specs.Index.{given_in}
@@ -9,6 +9,7 @@ pub invariant_of-self : goal.invariant_of-self
 invariant_of-self g c =
     host_done c.push.result (c.self.inside.flows ++ c.in_ok-flow.flow ∷ []) c.push.new.self c.self.invariant
     (host_next c.in_ok-flow.flow
+    (subst (λ (h : Host). length h.flows < 2 ^ 32 - 1) (sym c.self.view_is) c.requires.few)
     (λ loose.
     subst (λ (t : FourTuple). t.lport ≡ first_port + given_in c.self.inside.flows)
     (sym (ap (λ (l : Live). l.flow.tuple) c.in_ok-flow.ensures))
