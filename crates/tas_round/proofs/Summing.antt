@@ -74,6 +74,30 @@ all_read_more fs i before after f here so_far more =
     ap length grown ∙ length-append (all_read old) (bytes_read f.entries) in
     omega (arith, so_far, more, len)
 
+-- those of a flow and of all in front of it are as many as all at most
+pub all_read_within : (fs : List records.Flow) (i : ℕ) (f : records.Flow) → slice_get fs i ≡ Some f
+    → length (all_read (map history_of (take i fs))) + length (bytes_read f.entries)
+    ≤ length (all_read (map history_of fs))
+all_read_within [] i f here = absurd (cc (here))
+all_read_within (x ∷ xs) zero f here =
+    let same : x ≡ f = cc (here) in
+    let own : length (bytes_read x.entries) ≡ length (bytes_read f.entries) =
+    ap (λ (g : records.Flow). length (bytes_read g.entries)) same in
+    let all : length (all_read (map history_of (x ∷ xs)))
+    ≡ length (bytes_read x.entries) + length (all_read (map history_of xs)) =
+    length-append (bytes_read x.entries) (all_read (map history_of xs)) in
+    omega (arith, own, all)
+all_read_within (x ∷ xs) (suc i) f here =
+    let rest : length (all_read (map history_of (take i xs))) + length (bytes_read f.entries)
+    ≤ length (all_read (map history_of xs)) = all_read_within xs i f here in
+    let front : length (all_read (map history_of (x ∷ take i xs)))
+    ≡ length (bytes_read x.entries) + length (all_read (map history_of (take i xs))) =
+    length-append (bytes_read x.entries) (all_read (map history_of (take i xs))) in
+    let all : length (all_read (map history_of (x ∷ xs)))
+    ≡ length (bytes_read x.entries) + length (all_read (map history_of xs)) =
+    length-append (bytes_read x.entries) (all_read (map history_of xs)) in
+    omega (arith, rest, front, all)
+
 pub all_read_whole : (fs : List records.Flow) (n count : ℕ) → length fs ≤ n
     → count ≡ length (all_read (map history_of (take n fs))) → count ≡ length (all_read (map history_of fs))
 all_read_whole fs n count e so_far =

@@ -1,4 +1,4 @@
-ghost use Rattle.std.specs.Prelude.{◌≡◌, ◌+◌, [], map, length, count_by, bytes_eq, IfOk, OnOk};
+ghost use Rattle.std.specs.Prelude.{◌≡◌, ◌+◌, ◌≤◌, ◌^◌, [], map, length, count_by, bytes_eq, codes, None, IfSome, OnOk};
 ghost use Rattle.tas_model.specs.Outputs.{bytes_read};
 ghost use Rattle.tas_runs.specs.Summary as texts;
 ghost use Rattle.run_texts.specs.Frames.{history_of};
@@ -9,11 +9,12 @@ ghost use Rattle.tas_round.specs.Written.{WroteText};
 use crate::logs::{HostRun, HostRuns, RunLog};
 use flow_state::FlowRecord;
 use run_texts::{Summary, Writer, count_read, write_summary_lines};
-use std::alloc::{AllocError, Global};
+use std::alloc::Global;
 use tas_model::Reason;
 use tas_num::{IoFault, Sink};
 
-/// Writes the summary of a run with so many clients. All memory is taken before the first write.
+/// Writes the summary of a run with so many clients. All memory is taken before the first write; want of memory is also
+/// answered where 2^128 bytes or more were read, all of which the log holds.
 pub fn write_summary<K: Sink>(
     alloc: Global,
     clients: u32,
@@ -22,7 +23,7 @@ pub fn write_summary<K: Sink>(
 ) -> Result<(), IoFault>
     ensures { WroteText (K.state sink.old) result (K.state sink.new) (texts.summary clients (log_in log.now)) }
 {
-    let Ok(summary) = summary_of(clients, log) else {
+    let Some(summary) = summary_of(clients, log) else {
         return Err(IoFault::OutOfMemory);
     };
     let Ok(mut writer) = Writer::new(alloc) else {
@@ -41,14 +42,16 @@ fn put_summary<K: Sink>(writer: &mut Writer, sink: &mut K, summary: Summary) -> 
     writer.finish(sink)
 }
 
-/// What the summary of a run counts. The error is want of memory, as of `add_read`.
-fn summary_of(clients: u32, log: &RunLog) -> Result<Summary, AllocError>
-    ensures { IfOk result
+/// What the summary of a run counts, where the bytes that were read are fewer than 2^128.
+fn summary_of(clients: u32, log: &RunLog) -> Option<Summary>
+    ensures some { IfSome result
         (λ s. texts.summary_lines s.clients s.read s.closed ≡ texts.summary clients (log_in log.now)) }
+    ensures none { result ≡ None
+        → 2 ^ 128 ≤ length (texts.all_read (texts.flows_on (codes "b") (log_in log.now).hosts)) }
 {
     let read = count_all(flows_on(b"b", &log.hosts))?;
     let closed = count_done(flows_on(b"a", &log.hosts));
-    Ok(Summary {
+    Some(Summary {
         clients,
         read,
         closed: closed as u64,
@@ -75,27 +78,25 @@ fn is_named(host: &HostRun, name: &[u8]) -> bool
     host.name.as_slice() == name
 }
 
-/// How many bytes were read in these flows. The error is want of memory, as of `add_read`.
-fn count_all(flows: &[FlowRecord]) -> Result<u128, AllocError>
-    ensures { IfOk result (λ count. count ≡ length (texts.all_read (map history_of flows.now))) }
+/// How many bytes were read in these flows, where they are fewer than 2^128.
+fn count_all(flows: &[FlowRecord]) -> Option<u128>
+    ensures some { IfSome result (λ count. count ≡ length (texts.all_read (map history_of flows.now))) }
+    ensures none { result ≡ None → 2 ^ 128 ≤ length (texts.all_read (map history_of flows.now)) }
 {
     let mut count = 0u128;
     for flow in flows {
         let sum = add_read(count, flow)?;
         count = sum;
     }
-    Ok(count)
+    Some(count)
 }
 
-/// The count, and how many bytes were read in the flow. The error is want of memory: all of them are held, and no
-/// memory holds more than a `u128` counts.
-fn add_read(count: u128, flow: &FlowRecord) -> Result<u128, AllocError>
-    ensures { IfOk result (λ sum. sum ≡ count + length (bytes_read flow.now.entries)) }
+/// The count and how many bytes were read in the flow, where that is below 2^128.
+fn add_read(count: u128, flow: &FlowRecord) -> Option<u128>
+    ensures some { IfSome result (λ sum. sum ≡ count + length (bytes_read flow.now.entries)) }
+    ensures none { result ≡ None → 2 ^ 128 ≤ count + length (bytes_read flow.now.entries) }
 {
-    match count.checked_add(count_read(flow)) {
-        Some(sum) => Ok(sum),
-        None => Err(AllocError),
-    }
+    count.checked_add(count_read(flow))
 }
 
 /// How many of these flows were closed by both of their ends.

@@ -5,8 +5,8 @@ use Rattle.tas_round.specs.Runs.{log_in}
 use Rattle.tas_round.proofs.Summing.{summary_is}
 use Rattle.tas_round.proofs.summary.summary_of.Goals as goal
 
-pub returns : goal.returns
-returns c =
+pub returns-clause-some : goal.returns-clause-some
+returns-clause-some c =
     summary_is c.args.clients _ _ _ (log_in c.args.log.now) refl
-    (c.in_ok-read.ensures ∙ ap (λ (flows : List Flow). length (all_read flows)) c.flows_on.ensures)
+    (c.in_ok-read.ensures.some ∙ ap (λ (flows : List Flow). length (all_read flows)) c.flows_on.ensures)
     (c.count_done-closed.ensures ∙ ap (count_by is_done) c.flows_on-2.ensures)
