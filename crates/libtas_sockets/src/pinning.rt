@@ -9,7 +9,7 @@ use app_reaper::PinList;
 use flow_lock::PinRefused;
 use tas_model::FlowId;
 
-/// How many sockets an application may have.
+/// How many sockets an application may have: what it leaves tells the place of the newest one in 32 bits.
 const MOST: usize = 4_294_967_295;
 
 /// Makes room for a socket on the flow. Where a socket is on its slot already, which is never so of a flow that the
