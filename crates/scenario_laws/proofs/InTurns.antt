@@ -21,7 +21,7 @@ use Rattle.scenario_laws.proofs.AllTurned.{NumbersRise, of_each, round_turned}
 
 -- ----- numbers of scripts
 -- on each host they rise
-abbrev AllRise : World → Type 0
+abbrev pub AllRise : World → Type 0
 AllRise [] = Unit {0}
 AllRise (site ∷ sites) = NumbersRise 0 site.scripts × AllRise sites
 
@@ -50,12 +50,12 @@ scripts_rise kills host n (app ∷ apps) =
     by_host true rest = (omega arith, rest)
     by_host false rest = rise_lower n (scripts_on kills host (n + 1) apps) rest
 
-start_rises : (s : Scenario) (lines : List HostLine) → AllRise (map (site_of s) lines)
+pub start_rises : (s : Scenario) (lines : List HostLine) → AllRise (map (site_of s) lines)
 start_rises s [] = tt
 start_rises s (l ∷ ls) = (scripts_rise s.kills l.name 0 s.apps, start_rises s ls)
 
 -- ----- one tick of all hosts
-abbrev tick_of : (tick : ℕ) → List Arrival → (before after : Site (List Script)) → HostTick
+abbrev pub tick_of : (tick : ℕ) → List Arrival → (before after : Site (List Script)) → HostTick
 tick_of t frames b a =
     record {
       tick = t;
@@ -115,7 +115,7 @@ turn_steps s p t site deeds b a had =
       script = b;
     }))
 
-all_step : (s : Scenario) (p : HostParams) (t : ℕ) (site : Site (List Script)) (deeds : List (Deed ℕ))
+pub all_step : (s : Scenario) (p : HostParams) (t : ℕ) (site : Site (List Script)) (deeds : List (Deed ℕ))
     (bs az : List Script) → OfEachScript (HadTurn s p t site deeds) bs az → OfEachScript (GoesOn t) bs az
 all_step s p t site deeds bs az had =
     of_each (HadTurn s p t site deeds) (GoesOn t) (λ b a one. turn_steps s p t site deeds b a one) bs az had

@@ -1,3 +1,8 @@
+pub mod PortsKept
+pub mod AllPorts
+pub mod AllKept
+pub mod Deeds
+pub mod Acts
 pub mod OneTick
 pub mod AllTicks
 pub mod LastTick

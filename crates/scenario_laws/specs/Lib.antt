@@ -2,3 +2,4 @@ pub mod Ticks
 pub mod Ends
 pub mod Controls
 pub mod Turns
+pub mod Ports
