@@ -1,3 +1,5 @@
+pub mod Silent
+pub mod FlowByFlow
 pub mod PortsKept
 pub mod AllPorts
 pub mod AllKept

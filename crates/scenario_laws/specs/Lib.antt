@@ -3,3 +3,4 @@ pub mod Ends
 pub mod Controls
 pub mod Turns
 pub mod Ports
+pub mod Kills
