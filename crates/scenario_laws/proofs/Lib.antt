@@ -1,3 +1,5 @@
+pub mod Kills
+pub mod Aborted
 pub mod Silent
 pub mod FlowByFlow
 pub mod PortsKept
