@@ -19,7 +19,7 @@ use Rattle.scenario_runs.specs.Worlds.{numbers_of, address_in, scripts_of, scrip
 use Rattle.scenario_runs.specs.Runs.{Run}
 use Rattle.scenario_laws.specs.Ticks.{HostTick, InEachTick}
 use Rattle.scenario_laws.specs.Turns.{OfEachScript, reached, turn_on, HadTurn, HadTurns, IsOrdered, at_first}
-use Rattle.scenario_laws.specs.Kills.{IsKilled, abort_ticks, IsAborted, AreAborted, HadKills}
+use Rattle.scenario_laws.specs.Kills.{IsKilled, KillsOn, abort_ticks, AbortsByKill, IsAborted, AreAborted, HadKills}
 use Rattle.scenario_laws.proofs.AllTurned.{NumbersRise, of_each, deed_rises}
 use Rattle.scenario_laws.proofs.Deeds.{At, OfEachFlow, AreByWorkers, deeds_keep, sweep_keeps}
 use Rattle.scenario_laws.proofs.InTurns.{tick_of}
@@ -145,11 +145,8 @@ turn_kills s p K t site deeds b a workers rise once had kill =
     }
 
 -- ----- every tick
-abbrev KillTick : Scenario → ℕ → Type 0
-KillTick s at = (number : ℕ) × IsKilled s number at
-
-abbrev Once_in : Scenario → HostLine → ℕ → At → Type 0
-Once_in s l t site = OnceAll (KillTick s) t site
+abbrev OnceIn : Scenario → HostLine → ℕ → At → Type 0
+OnceIn s l t site = OnceAll (KillsOn s l.name) t site
 
 later : (K : ℕ → Type 0) (t : ℕ) (ls : List Live) → Each (AbortsOnce K t) ls → Each (AbortsOnce K (t + 1)) ls
 later K t [] each = tt
@@ -171,10 +168,10 @@ abbrev AppsFrom : Scenario → (k : ℕ) → List AppLine → Type 0
 AppsFrom s k apps = (i : ℕ) → slice_get s.apps (k + i) ≡ slice_get apps i
 
 scripts_know : (s : Scenario) (host : List ℕ) (k : ℕ) (apps : List AppLine) → AppsFrom s k apps
-    → Each (KnowsKill (KillTick s)) (scripts_on s.kills host k apps)
+    → Each (KnowsKill (KillsOn s host)) (scripts_on s.kills host k apps)
 scripts_know s host k [] are = tt
 scripts_know s host k (app ∷ apps) are =
-    by_host (bytes_eq app.host host) (scripts_know s host (k + 1) apps (λ i. next i))
+    by_host (bytes_eq app.host host) refl (scripts_know s host (k + 1) apps (λ i. next i))
   where
     next : (i : ℕ) → slice_get s.apps (k + 1 + i) ≡ slice_get apps i
     next i = let same : k + 1 + i ≡ k + suc i = omega arith in ap (slice_get s.apps) same ∙ are (suc i)
@@ -182,8 +179,9 @@ scripts_know s host k (app ∷ apps) are =
     here : slice_get s.apps k ≡ Some app
     here = let same : k ≡ k + 0 = omega arith in ap (slice_get s.apps) same ∙ are 0
 
-    by_host : (b : Bool) → Each (KnowsKill (KillTick s)) (scripts_on s.kills host (k + 1) apps)
-        → Each (KnowsKill (KillTick s)) ((if b
+    by_host : (b : Bool) → bytes_eq app.host host ≡ b
+        → Each (KnowsKill (KillsOn s host)) (scripts_on s.kills host (k + 1) apps)
+        → Each (KnowsKill (KillsOn s host)) ((if b
         then (record {
           number = k;
           kill = kill_tick s.kills app;
@@ -194,10 +192,10 @@ scripts_know s host k (app ∷ apps) are =
         }) ∷ []
         else [])
         ++ scripts_on s.kills host (k + 1) apps)
-    by_host true rest = (λ at kill. (k, record { app = app; line = here; kill = kill }), rest)
-    by_host false rest = rest
+    by_host true e rest = (λ at kill. (k, record { app = app; line = here; kill = kill }, e), rest)
+    by_host false e rest = rest
 
-start_once : (s : Scenario) (lines : List HostLine) → Each (λ (l : HostLine). Once_in s l 0 (site_of s l)) lines
+start_once : (s : Scenario) (lines : List HostLine) → Each (λ (l : HostLine). OnceIn s l 0 (site_of s l)) lines
 start_once s [] = tt
 start_once s (l ∷ ls) = (
   record {
@@ -207,25 +205,25 @@ start_once s (l ∷ ls) = (
   start_once s ls,
 )
 
-once_stays : (s : Scenario) → Stays s (Once_in s)
+once_stays : (s : Scenario) → Stays s (OnceIn s)
 once_stays s = record {
   start = start_once s s.hosts;
-  keeps = λ l p t. flows_keep s p (KillTick s) (AbortsOnce (KillTick s) t) (Each (AbortsOnce (KillTick s) t)) t
-      (keeps_once (KillTick s) t) (each_listed (KillTick s) t);
+  keeps = λ l p t. flows_keep s p (KillsOn s l.name) (AbortsOnce (KillsOn s l.name) t)
+      (Each (AbortsOnce (KillsOn s l.name) t)) t (keeps_once (KillsOn s l.name) t) (each_listed (KillsOn s l.name) t);
   next = λ l t b a goes before after. record {
     scripts = after.scripts;
-    flows = later (KillTick s) t a.host.flows after.flows;
+    flows = later (KillsOn s l.name) t a.host.flows after.flows;
   };
 }
 
 -- ----- the laws
 all_kills : (s : Scenario) (l : HostLine) (x : HostTick) (had : HadTurns s x) → NumbersRise 0 x.scripts_before
-    → Once_in s l x.tick (record { host = x.before; scripts = x.scripts_before }) → HadKills s x
+    → OnceIn s l x.tick (record { host = x.before; scripts = x.scripts_before }) → HadKills s x
 all_kills s l x had rise once =
     let first : At = at_first x in
     let p : HostParams = x.before.params in
-    let once_first : OnceAll (KillTick s) x.tick first =
-    sweep_keeps s p (OnceAll (KillTick s) x.tick) x.tick (record { host = x.before; scripts = x.scripts_before })
+    let once_first : OnceAll (KillsOn s l.name) x.tick first =
+    sweep_keeps s p (OnceAll (KillsOn s l.name) x.tick) x.tick (record { host = x.before; scripts = x.scripts_before })
     ((once_stays s).keeps l p x.tick) once in (
       had.0,
       of_each (HadTurn s p x.tick first had.0.order) _ (λ b a one. (
@@ -234,32 +232,31 @@ all_kills s l x had rise once =
             (λ (site : At). AreAborted b.number x.tick (reached s p x.tick first one.one.earlier).host
             (reached s p x.tick first one.one.earlier).host.flows site.host.flows)
             had.0.made
-            (turn_kills s p (KillTick s) x.tick first had.0.order b a had.0.workers rise once_first one kill),
+            (turn_kills s p (KillsOn s l.name) x.tick first had.0.order b a had.0.workers rise once_first one kill),
       )) x.scripts_before x.scripts_after had.1,
     )
 
 pub ticks_kill : (s : Scenario) (log : RunLog) (run : Run s log) → InEachTick s log run (HadKills s)
 ticks_kill s log run =
-    each_tick s log run (Once_in s) (HadKills s) (once_stays s)
+    each_tick s log run (OnceIn s) (HadKills s) (once_stays s)
     (λ l t frames b a had rise once. all_kills s l (tick_of t frames b a) had rise once)
 
--- the ticks of kills, of which a flow has one at most
-abbrev pub OnceKilled : Scenario → Flow → Type 0
-OnceKilled s f = (length (abort_ticks f.entries) ≤ 1) × Each (KillTick s) (abort_ticks f.entries)
-
-flows_once : (s : Scenario) (t : ℕ) (ls : List Live) → Each (AbortsOnce (KillTick s) t) ls
-    → Each (OnceKilled s) (flows_of ls)
-flows_once s t [] each = tt
-flows_once s t (l ∷ ls) each = ((by_aborts each.0.aborts, each.0.kills), flows_once s t ls each.1) where
-  by_aborts : Aborts l → length (abort_ticks l.flow.entries) ≤ 1
-  by_aborts (Never none) =
-      let long : length (abort_ticks l.flow.entries) ≡ 0 = ap (λ (ticks : List ℕ). length ticks) none in omega arith
-  by_aborts (Once at aborted) =
-      let long : length (abort_ticks l.flow.entries) ≡ 1 = ap (λ (ticks : List ℕ). length ticks) aborted.aborts in
-      omega arith
+flows_once : (s : Scenario) (name : List ℕ) (t : ℕ) (ls : List Live) → Each (AbortsOnce (KillsOn s name) t) ls
+    → Each (AbortsByKill s name) (flows_of ls)
+flows_once s name t [] each = tt
+flows_once s name t (l ∷ ls) each =
+    (record { once = by_aborts each.0.aborts; kills = each.0.kills }, flows_once s name t ls each.1)
+  where
+    by_aborts : Aborts l → length (abort_ticks l.flow.entries) ≤ 1
+    by_aborts (Never none) =
+        let long : length (abort_ticks l.flow.entries) ≡ 0 = ap (λ (ticks : List ℕ). length ticks) none in omega arith
+    by_aborts (Once at aborted) =
+        let long : length (abort_ticks l.flow.entries) ≡ 1 =
+        ap (λ (ticks : List ℕ). length ticks) aborted.aborts in
+        omega arith
 
 pub hosts_once : (s : Scenario) (log : RunLog) → Run s log
-    → Each (λ (h : HostRun). Each (OnceKilled s) h.flows) log.hosts
+    → Each (λ (h : HostRun). Each (AbortsByKill s h.name) h.flows) log.hosts
 hosts_once s log run =
-    each_host s log (Once_in s) (λ ticks h. Each (OnceKilled s) h.flows) run (once_stays s)
-    (λ t l site once. flows_once s t site.host.flows once.flows)
+    each_host s log (OnceIn s) (λ ticks h. Each (AbortsByKill s h.name) h.flows) run (once_stays s)
+    (λ t l site once. flows_once s l.name t site.host.flows once.flows)

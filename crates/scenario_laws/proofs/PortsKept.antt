@@ -15,9 +15,9 @@ use Rattle.host_rounds.specs.declared.log.LogLine.{LogLine}
 use Rattle.host_rounds.specs.declared.log.LogEvent.{LogEvent}
 use Rattle.host_rounds.specs.declared.log.LogEvent.TheVariants as events
 use Rattle.host_rounds.specs.Lists.{Each, change_first, change_at}
-use Rattle.host_rounds.specs.Logs.{RunLog, HostRun}
+use Rattle.host_rounds.specs.Logs.{RunLog, HostRun, Flow}
 use Rattle.host_rounds.specs.Hosts.{Live, Host, Holder, Application, GivenUp, Listener, Numbers, with_call, logged}
-use Rattle.host_rounds.specs.Hosts.{is_listening, first_port, ports_given}
+use Rattle.host_rounds.specs.Hosts.{is_listening, first_port, ports_given, flows_of}
 use Rattle.host_rounds.proofs.AllLegal.{each_first, each_push}
 use Rattle.scenario_text.specs.declared.scenario.Step.{Step}
 use Rattle.scenario_text.specs.declared.scenario.Step.TheVariants as steps
@@ -30,7 +30,7 @@ use Rattle.scenario_runs.specs.Applications.{Script, Turn, is_concerned, let_go,
 use Rattle.scenario_runs.specs.Applications.{goes_on, turn_where}
 use Rattle.scenario_runs.specs.Worlds.{numbers_of, address_in, with_turn, scripts_on, kill_tick}
 use Rattle.scenario_runs.specs.Runs.{Run}
-use Rattle.scenario_laws.specs.Ports.{connect_ports, ports_from, all_ports, is_port_wanting, had_no_port}
+use Rattle.scenario_laws.specs.Ports.{begins_by_connect, connect_ports, ports_from, all_ports, is_port_wanting, had_no_port}
 use Rattle.scenario_laws.specs.Turns.{turn_on, GoesOn}
 use Rattle.scenario_laws.proofs.Goes.{turn_goes}
 use Rattle.scenario_laws.proofs.Acts.{Act, Rests, Calls, Accepts, Connects, GivesUp, Notes, Listens, leaves, IsPlainCall}
@@ -38,7 +38,7 @@ use Rattle.scenario_laws.proofs.Acts.{IsLastCall, MayNote, MayAct, Acted, step_a
 use Rattle.scenario_laws.proofs.Deeds.{At, Worked, OfEachFlow, IsFrameLine, opened_for, Keeps}
 use Rattle.scenario_laws.proofs.AllKept.{Stays, each_host}
 use Rattle.scenario_laws.proofs.AllPorts.{AllAlike, BegunAlike, called_alike, alike, all_worked_alike, at_alike}
-use Rattle.scenario_laws.proofs.AllPorts.{map_alike, ports_of, is_given, FlowsRight, ports_alike, right_alike}
+use Rattle.scenario_laws.proofs.AllPorts.{map_alike, IsAtListener, ports_of, is_given, FlowsRight, ports_alike, right_alike}
 use Rattle.scenario_laws.proofs.AllPorts.{connect_right, syn_right, ports_grow}
 
 -- ----- one host
@@ -362,3 +362,16 @@ pub ports_wanting : (s : Scenario) (log : RunLog) → IsInRange s → Run s log
 ports_wanting s log range run =
     each_host s log Right (λ ticks h. had_no_port h.log ≡ true → length (connect_ports h.flows) ≡ all_ports) run
     (ports_stay s range) (λ t l site right. right.host.log)
+
+low_flows : (ls : List Live) → Each IsAtListener ls
+    → Each (λ (f : Flow). begins_by_connect f.entries ≡ false → f.tuple.lport < first_port) (flows_of ls)
+low_flows [] each = tt
+low_flows (l ∷ ls) each = (each.0, low_flows ls each.1)
+
+pub ports_of_listeners : (s : Scenario) (log : RunLog) → IsInRange s → Run s log
+    → Each (λ (h : HostRun). Each (λ (f : Flow). begins_by_connect f.entries ≡ false → f.tuple.lport < first_port)
+    h.flows) log.hosts
+ports_of_listeners s log range run =
+    each_host s log Right
+    (λ ticks h. Each (λ (f : Flow). begins_by_connect f.entries ≡ false → f.tuple.lport < first_port) h.flows) run
+    (ports_stay s range) (λ t l site right. low_flows site.host.flows right.host.flows.low)

@@ -1,11 +1,13 @@
 -- What a kill leaves of an application and of its flows.
-use Rattle.std.specs.Prelude.{◌≡◌, ℕ, ◌<◌, ◌==◌, Bool, true, false, List, [], ◌∷◌, slice_get, Some, ⊤}
+use Rattle.std.specs.Prelude.{◌≡◌, ℕ, ◌≤◌, ◌<◌, ◌==◌, Bool, true, false, List, [], ◌∷◌, length, slice_get, bytes_eq}
+use Rattle.std.specs.Prelude.{Some, ⊤}
 use Rattle.tas_model.specs.declared.entry.Entry.{Entry}
 use Rattle.tas_model.specs.declared.entry.Caller.{Caller}
 use Rattle.tas_model.specs.declared.entry.Caller.TheVariants.{Slow, App}
 use Rattle.tas_model.specs.declared.entry.Call.{Call}
 use Rattle.tas_model.specs.declared.entry.Call.TheVariants as calls
 use Rattle.host_rounds.specs.Lists.{Each}
+use Rattle.host_rounds.specs.Logs.{Flow}
 use Rattle.host_rounds.specs.Hosts.{Live, Host, is_over, is_held}
 use Rattle.scenario_text.specs.declared.scenario.Scenario.{Scenario}
 use Rattle.scenario_text.specs.declared.scenario.AppLine.{AppLine}
@@ -24,6 +26,10 @@ pub record IsKilled (s : Scenario) (number at : ℕ) : Type 0 where
 abbrev pub CalledBefore : (number at : ℕ) → List Entry → Type 0
 CalledBefore number at xs = Each (λ (x : Entry). x.caller ≡ App number → x.tick < at) xs
 
+-- So an application of the host with this name is killed in the tick.
+abbrev pub KillsOn : Scenario → (name : List ℕ) → (at : ℕ) → Type 0
+KillsOn s name at = (number : ℕ) × (killed : IsKilled s number at) × (bytes_eq killed.app.host name ≡ true)
+
 -- ----- flows of a killed application
 abbrev pub is_abort_by_slow : Caller → Call → Bool
 is_abort_by_slow Slow calls.Abort = true
@@ -34,6 +40,11 @@ abbrev pub abort_ticks : List Entry → List ℕ
 abort_ticks [] = []
 abort_ticks (x ∷ xs) =
     elim (is_abort_by_slow x.caller x.call) [ true ↦ x.tick ∷ abort_ticks xs | false ↦ abort_ticks xs ]
+
+-- The slow path aborts a flow once at most, and then in the tick of a kill of an application of its host.
+pub record AbortsByKill (s : Scenario) (name : List ℕ) (f : Flow) : Type 0 where
+  pub once : length (abort_ticks f.entries) ≤ 1
+  pub kills : Each (KillsOn s name) (abort_ticks f.entries)
 
 -- The slow path made one Abort, in this tick and never else; the flow is closed, and no application holds it.
 pub record IsAborted (t : ℕ) (l : Live) : Type 0 where

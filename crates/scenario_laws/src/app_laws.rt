@@ -1,0 +1,40 @@
+ghost use Rattle.std.specs.Prelude.{◌≡◌, ℕ, ◌≤◌, ◌<◌, length, true, false};
+ghost use Rattle.host_rounds.specs.Logs.{HostRun, Flow, RunLog};
+ghost use Rattle.host_rounds.specs.Lists.{Each};
+ghost use Rattle.host_rounds.specs.Hosts.{first_port};
+ghost use Rattle.scenario_text.specs.declared.scenario.Scenario.{Scenario};
+ghost use Rattle.scenario_ranges.specs.Ranges.{IsInRange};
+ghost use Rattle.scenario_runs.specs.Runs.{Run};
+ghost use Rattle.scenario_laws.specs.Ticks.{InEachTick};
+ghost use Rattle.scenario_laws.specs.Ports.{begins_by_connect, connect_ports, ports_from, all_ports, had_no_port};
+ghost use Rattle.scenario_laws.specs.Kills.{IsKilled, CalledBefore, AbortsByKill, HadKills};
+
+/// The connects of a host get the ports from 49,152 on, one after the other and each once, where the scenario keeps
+/// the ranges of its grammar, as each does that is read from a text: there nobody listens on one of these ports.
+pub fn connects_have_ports_in_order()
+    // The flows that connects of a host opened have these local ports, in the order of their opening.
+    ensures ports { (s : Scenario) (log : RunLog) → IsInRange s → Run s log → Each (λ (h : HostRun).
+        connect_ports h.flows ≡ ports_from first_port (length (connect_ports h.flows))) log.hosts }
+    // A host has 16,384 of them at most,
+    ensures most { (s : Scenario) (log : RunLog) → IsInRange s → Run s log → Each (λ (h : HostRun).
+        length (connect_ports h.flows) ≤ all_ports) log.hosts }
+    // and a connect was refused for want of a port only where all of them were given.
+    ensures wanting { (s : Scenario) (log : RunLog) → IsInRange s → Run s log → Each (λ (h : HostRun).
+        had_no_port h.log ≡ true → length (connect_ports h.flows) ≡ all_ports) log.hosts }
+    // Each other flow was opened for a SYN, at a port below these.
+    ensures listeners { (s : Scenario) (log : RunLog) → IsInRange s → Run s log → Each (λ (h : HostRun).
+        Each (λ (f : Flow). begins_by_connect f.entries ≡ false → f.tuple.lport < first_port) h.flows) log.hosts }
+{}
+
+/// An application that is killed makes no call from then on, and the slow path aborts its flows.
+pub fn kills_end_applications()
+    // Each call that an application made is of a tick before that of its kill.
+    ensures calls { (s : Scenario) (log : RunLog) (number at : ℕ) → IsKilled s number at → Run s log
+        → Each (λ (h : HostRun). Each (λ (f : Flow). CalledBefore number at f.entries) h.flows) log.hosts }
+    // In each tick of a run, each flow that a kill concerns when its turn comes has then one Abort by the slow path,
+    // which is of this tick: each that the application holds, and each that waits at its listeners and is not closed.
+    ensures aborted { (s : Scenario) (log : RunLog) (run : Run s log) → InEachTick s log run (HadKills s) }
+    // No flow of a log has two such Aborts, and each is of the tick of a kill of an application of its host.
+    ensures once { (s : Scenario) (log : RunLog) → Run s log
+        → Each (λ (h : HostRun). Each (AbortsByKill s h.name) h.flows) log.hosts }
+{}
