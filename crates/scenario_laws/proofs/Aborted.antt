@@ -1,7 +1,7 @@
 -- A flow has one Abort by the slow path at most, by a kill; and a kill aborts each flow that it concerns.
-use Rattle.std.proofs.Common.{◌≡◌, ℕ, zero, suc, ◌+◌, ◌≤◌, ◌==◌, ◌&&◌, ◌||◌, not, Bool, true, false, List, [], ◌∷◌, ◌++◌}
-use Rattle.std.proofs.Common.{map, fold, max, length, Option, Some, None, is_some, if◌then◌else◌, refl, sym, subst, ap}
-use Rattle.std.proofs.Common.{◌∙◌, true≢false, arith, tests, append-nil}
+use Rattle.std.proofs.Common.{◌≡◌, ℕ, ◌≤◌, ◌==◌, ◌&&◌, not, Bool, true, false, List, [], ◌∷◌, ◌++◌}
+use Rattle.std.proofs.Common.{max, Option, Some, None, is_some, if◌then◌else◌, refl, sym, subst, ap}
+use Rattle.std.proofs.Common.{◌∙◌, true≢false, arith, append-nil}
 use Rattle.tas_model.specs.declared.entry.HostParams.{HostParams}
 use Rattle.tas_model.specs.declared.entry.Entry.{Entry}
 use Rattle.tas_model.specs.declared.entry.Reason.{Reason}
@@ -21,7 +21,6 @@ use Rattle.host_rounds.specs.Passing.{IsUpTo}
 use Rattle.host_rounds.proofs.AllLegal.{each_push}
 use Rattle.scenario_runs.specs.Applications.{is_concerned, let_go, aborted_where, has_listener}
 use Rattle.scenario_laws.specs.Kills.{is_abort_by_slow, abort_ticks, IsAborted}
-use Rattle.scenario_laws.proofs.Acts.{IsPlainCall, IsLastCall}
 use Rattle.scenario_laws.proofs.Deeds.{IsWorkerCall, IsWorkerEntry, Worked, OfEachFlow, over_push, call_low}
 use Rattle.scenario_laws.proofs.FlowByFlow.{IsNew, KeepsFlow, IsListed}
 

@@ -1,5 +1,5 @@
 -- What the turn of an application that is not killed does to its host: at most one act.
-use Rattle.std.proofs.Common.{◌≡◌, ℕ, ◌+◌, ◌^◌, Bool, true, false, List, [], ◌∷◌, ◌++◌, length, position, nat_lt}
+use Rattle.std.proofs.Common.{◌≡◌, ℕ, ◌+◌, ◌^◌, Bool, true, false, List, [], ◌∷◌, ◌++◌, position, nat_lt}
 use Rattle.std.proofs.Common.{Option, Some, None, refl}
 use Rattle.tas_model.specs.declared.entry.FourTuple.{FourTuple}
 use Rattle.tas_model.specs.declared.entry.Caller.TheVariants.{App}
@@ -11,7 +11,7 @@ use Rattle.host_rounds.specs.Hosts.{Live, Host, Application, GivenUp, Numbers, n
 use Rattle.host_rounds.specs.Hosts.{is_listened, is_ready, lowest_free, first_port, ports_given, first_entry, opened_in}
 use Rattle.scenario_text.specs.declared.scenario.Step.{Step}
 use Rattle.scenario_text.specs.declared.scenario.Step.TheVariants as steps
-use Rattle.scenario_runs.specs.Applications.{Script, Turn, listens_where, accepts_one, accepts, opens_where, connects}
+use Rattle.scenario_runs.specs.Applications.{Turn, listens_where, accepts_one, accepts, opens_where, connects}
 use Rattle.scenario_runs.specs.Applications.{on_flow, on_socket, connects_on, step_of, bound_in, flow_of, port_of}
 
 pub data Act : Type 0 where

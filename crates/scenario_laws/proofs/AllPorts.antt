@@ -1,43 +1,18 @@
 -- The connects of a host get its ports in order, where nobody listens on one of them.
-use Rattle.std.proofs.Common.{◌≡◌, ℕ, zero, suc, ◌+◌, ◌^◌, ◌≤◌, ◌<◌, ◌==◌, ◌&&◌, ◌||◌, not, Bool, true, false, cond, List, []}
-use Rattle.std.proofs.Common.{◌∷◌, ◌++◌, length, drop, map, filter, fold, count_by, nat_lt, nat_le, Option, Some, None}
+use Rattle.std.proofs.Common.{◌≡◌, ℕ, zero, suc, ◌+◌, ◌^◌, ◌≤◌, ◌<◌, Bool, true, false, cond, List, []}
+use Rattle.std.proofs.Common.{◌∷◌, ◌++◌, length, map, fold, count_by, nat_lt, nat_le}
 use Rattle.std.proofs.Common.{refl, sym, subst, ap, ◌∙◌, true≢false, arith, tests}
-use Rattle.std.specs.List.{list_any, find}
-use Rattle.std.proofs.lemmas.List.Folds.{list_any-append}
-use Rattle.tas_model.specs.declared.entry.HostParams.{HostParams}
 use Rattle.tas_model.specs.declared.entry.FourTuple.{FourTuple}
 use Rattle.tas_model.specs.declared.entry.Entry.{Entry}
 use Rattle.tas_model.specs.declared.entry.Caller.{Caller}
-use Rattle.tas_model.specs.declared.entry.Caller.TheVariants.{Slow, App}
 use Rattle.tas_model.specs.declared.entry.Call.{Call}
 use Rattle.tas_model.specs.declared.entry.Call.TheVariants as calls
-use Rattle.host_rounds.specs.declared.log.LogLine.{LogLine}
-use Rattle.host_rounds.specs.declared.log.LogEvent.{LogEvent}
-use Rattle.host_rounds.specs.declared.log.LogEvent.TheVariants as events
-use Rattle.host_rounds.specs.Lists.{Each, change_first, change_at}
-use Rattle.host_rounds.specs.Logs.{RunLog, HostRun}
-use Rattle.host_rounds.specs.Hosts.{Live, Host, Holder, Application, GivenUp, Listener, Numbers, with_call, flows_of}
-use Rattle.host_rounds.specs.Hosts.{is_listening, is_listened, first_port, ports_given, run_of}
-use Rattle.host_rounds.proofs.AllLegal.{each_first, each_push}
-use Rattle.scenario_text.specs.declared.scenario.Step.{Step}
-use Rattle.scenario_text.specs.declared.scenario.Step.TheVariants as steps
-use Rattle.scenario_text.specs.declared.scenario.Scenario.{Scenario}
-use Rattle.scenario_text.specs.declared.scenario.HostLine.{HostLine}
-use Rattle.scenario_text.specs.declared.scenario.AppLine.{AppLine}
-use Rattle.scenario_text.specs.declared.scenario.KillLine.{KillLine}
-use Rattle.scenario_ranges.specs.Ranges.{IsStepInRange, IsHostInRange, IsInRange}
-use Rattle.scenario_runs.specs.Applications.{Script, Turn, is_concerned, aborted_where, killed, is_killed_at, goes_on}
-use Rattle.scenario_runs.specs.Applications.{turn_where}
-use Rattle.scenario_runs.specs.Worlds.{numbers_of, address_in, with_turn, site_of, scripts_on, kill_tick}
-use Rattle.scenario_runs.specs.Runs.{Run}
+use Rattle.host_rounds.specs.Lists.{Each, change_at}
+use Rattle.host_rounds.specs.Hosts.{Live, with_call, flows_of}
+use Rattle.host_rounds.specs.Hosts.{first_port}
+use Rattle.host_rounds.proofs.AllLegal.{each_push}
 use Rattle.scenario_laws.specs.Ports.{is_connect, begins_by_connect, connect_ports, ports_from, all_ports}
-use Rattle.scenario_laws.specs.Ports.{is_port_wanting, had_no_port}
-use Rattle.scenario_laws.specs.Turns.{turn_on, GoesOn}
-use Rattle.scenario_laws.proofs.Goes.{turn_goes}
-use Rattle.scenario_laws.proofs.Acts.{Act, Rests, Calls, Accepts, Connects, GivesUp, Notes, Listens, leaves, IsPlainCall}
-use Rattle.scenario_laws.proofs.Acts.{IsLastCall, MayNote, MayAct, Acted, step_acts}
-use Rattle.scenario_laws.proofs.Deeds.{IsWorkerCall, IsWorkerEntry, Worked, OfEachFlow, At, IsFrameLine, opened_for, Keeps}
-use Rattle.scenario_laws.proofs.AllKept.{Stays, each_host}
+use Rattle.scenario_laws.proofs.Deeds.{IsWorkerCall, IsWorkerEntry, Worked, OfEachFlow}
 
 -- ----- how a flow began
 pub record BegunAlike (l m : Live) : Type 0 where

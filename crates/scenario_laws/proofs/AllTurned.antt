@@ -1,7 +1,7 @@
 -- Each application has one turn in a tick.
-use Rattle.std.proofs.Common.{◌≡◌, ℕ, zero, suc, ◌+◌, ◌≤◌, ◌<◌, ◌==◌, Bool, true, false, cond, List, [], ◌∷◌, ◌++◌}
+use Rattle.std.proofs.Common.{◌≡◌, ℕ, ◌+◌, ◌≤◌, ◌<◌, ◌==◌, Bool, true, false, cond, List, [], ◌∷◌, ◌++◌}
 use Rattle.std.proofs.Common.{◌||◌}
-use Rattle.std.proofs.Common.{map, fold, filter, Option, Some, None, refl, sym, subst, ap, ◌∙◌, true≢false, arith}
+use Rattle.std.proofs.Common.{map, fold, filter, Option, Some, None, refl, sym, subst, ap, ◌∙◌, arith}
 use Rattle.std.proofs.Common.{tests}
 use Rattle.std.specs.List.{find, list_any}
 use Rattle.tas_model.specs.Segments.{one_if}
@@ -174,8 +174,8 @@ all_stay s p t site m [] zeros = tt
 all_stay s p t site m (b ∷ bs) zeros = (stays s p t site m b (zeros b.number), all_stay s p t site m bs zeros)
 
 all_more : (s : Scenario) (p : HostParams) (t : ℕ) (site : Site (List Script)) (m : Deed ℕ) (deeds : List (Deed ℕ))
-    (bs cs az : List Script) → AllAsked s p t site m bs cs → AllTurned s p t (does (scripts_of s p) t site m) deeds cs az
-    → AllTurned s p t site (m ∷ deeds) bs az
+    (bs cs az : List Script) → AllAsked s p t site m bs cs
+    → AllTurned s p t (does (scripts_of s p) t site m) deeds cs az → AllTurned s p t site (m ∷ deeds) bs az
 all_more s p t site m deeds [] [] [] x y = tt
 all_more s p t site m deeds [] [] (a ∷ az) x y = absurd y
 all_more s p t site m deeds [] (c ∷ cs) az x y = absurd x
@@ -455,7 +455,8 @@ had_turns s p t site deeds (b ∷ bs) (a ∷ az) once all =
 -- In a tick in which each application of a host is due to be asked, each has one turn.
 pub round_turned : (s : Scenario) (p : HostParams) (t : ℕ) (frames : List Arrival) (b a : Site (List Script))
     → NumbersRise 0 b.scripts
-    → (round : Round (scripts_of s p) t (record { frames = frames; asks = map (λ (x : Script). x.number) b.scripts }) b a)
+    → (round :
+    Round (scripts_of s p) t (record { frames = frames; asks = map (λ (x : Script). x.number) b.scripts }) b a)
     → OfEachScript (HadTurn s p t (on_host all_swept b) round.order) b.scripts a.scripts × NumbersRise 0 a.scripts
 round_turned s p t frames b a rise round =
     let first : Site (List Script) = on_host all_swept b in

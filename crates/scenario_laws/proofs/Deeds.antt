@@ -1,5 +1,5 @@
 -- What each deed of a tick keeps of a host and its scripts, all of them keep.
-use Rattle.std.proofs.Common.{◌≡◌, ℕ, zero, suc, ◌+◌, ◌≤◌, ◌==◌, ◌&&◌, Bool, true, false, List, [], ◌∷◌, ◌++◌, map, fold}
+use Rattle.std.proofs.Common.{◌≡◌, ℕ, zero, suc, ◌==◌, ◌&&◌, Bool, true, false, List, [], ◌∷◌, ◌++◌, map, fold}
 use Rattle.std.proofs.Common.{Option, Some, None, refl, sym, subst, ap, ◌∙◌, true≢false, append_assoc, append-nil}
 use Rattle.std.specs.List.{find}
 use Rattle.tas_model.specs.declared.entry.HostParams.{HostParams}
@@ -13,18 +13,18 @@ use Rattle.tas_model.specs.declared.entry.Call.{Call}
 use Rattle.tas_model.specs.declared.entry.Call.TheVariants as calls
 use Rattle.tas_model.specs.Endpoint.{is_closed}
 use Rattle.tas_model.specs.NextSegment.{Going, going}
-use Rattle.tas_model.specs.LegalHistory.{last_tick, opened, replay, replay_on}
+use Rattle.tas_model.specs.LegalHistory.{opened, replay, replay_on}
 use Rattle.tas_model.proofs.Histories.{replay_on_push}
 use Rattle.tas_model.proofs.Tests.{on_cond}
 use Rattle.host_rounds.specs.declared.log.LogEvent.{LogEvent}
 use Rattle.host_rounds.specs.declared.log.LogEvent.TheVariants as events
 use Rattle.host_rounds.specs.Lists.{Each, change_first, change_at}
-use Rattle.host_rounds.specs.Hosts.{Live, Host, Holder, Waiting, endpoint, is_over, is_running, with_call, logged}
+use Rattle.host_rounds.specs.Hosts.{Live, Host, Waiting, endpoint, is_over, is_running, with_call, logged}
 use Rattle.host_rounds.specs.Hosts.{is_indexed_as, is_known, is_listening, is_full, lowest_free, next_number}
 use Rattle.host_rounds.specs.Hosts.{first_entry, opened_in}
 use Rattle.host_rounds.specs.Upkeep.{swept, all_swept, is_control_tick, controlled_where, timed, timed_unless, emits}
 use Rattle.host_rounds.specs.Upkeep.{emits_where}
-use Rattle.host_rounds.specs.Deliveries.{Arrival, Packet, Damaged, Segment, received, opens, opened_by_syn, met_no_flow}
+use Rattle.host_rounds.specs.Deliveries.{Packet, Damaged, Segment, received, opens, opened_by_syn, met_no_flow}
 use Rattle.host_rounds.specs.Deliveries.{arrived, delivered_packet}
 use Rattle.host_rounds.specs.Passing.{IsUpTo}
 use Rattle.host_rounds.specs.Scripts.{Site}

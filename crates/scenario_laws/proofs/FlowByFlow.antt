@@ -1,8 +1,7 @@
 -- What each deed of a tick keeps of a flow, a tick keeps of a host's flows, kills and sockets that change hands among
 -- the deeds.
-use Rattle.std.proofs.Common.{◌≡◌, ℕ, zero, suc, ◌+◌, ◌==◌, ◌&&◌, Bool, true, false, List, [], ◌∷◌, ◌++◌, map, position}
-use Rattle.std.proofs.Common.{slice_get, Option, Some, None, IfSome, refl, sym, subst, ap, ◌∙◌, true≢false, arith, tests}
-use Rattle.std.specs.List.{find}
+use Rattle.std.proofs.Common.{◌≡◌, ℕ, zero, suc, ◌==◌, Bool, true, false, List, [], ◌∷◌, ◌++◌, map, position}
+use Rattle.std.proofs.Common.{slice_get, Option, Some, None, IfSome, refl, sym, subst, ◌∙◌, true≢false, arith, tests}
 use Rattle.std.proofs.lemmas.List.Quantifiers.{position-Some}
 use Rattle.std.proofs.lemmas.Option.{get_or_from_slice_get}
 use Rattle.tas_model.specs.declared.entry.HostParams.{HostParams}
@@ -11,18 +10,19 @@ use Rattle.tas_model.specs.declared.entry.Caller.TheVariants.{App}
 use Rattle.tas_model.specs.declared.entry.Call.{Call}
 use Rattle.tas_model.specs.declared.entry.Call.TheVariants as calls
 use Rattle.host_rounds.specs.Lists.{Each, change_at}
-use Rattle.host_rounds.specs.Hosts.{Live, Host, Holder, Application, GivenUp, Numbers, with_call, is_ready}
-use Rattle.host_rounds.proofs.AllLegal.{each_first, each_push}
+use Rattle.host_rounds.specs.Hosts.{Live, Host, Application, GivenUp, Numbers, with_call, is_ready}
+use Rattle.host_rounds.proofs.AllLegal.{each_first}
 use Rattle.host_rounds.proofs.Rows.{change_twice}
 use Rattle.scenario_text.specs.declared.scenario.Step.{Step}
 use Rattle.scenario_text.specs.declared.scenario.Scenario.{Scenario}
-use Rattle.scenario_runs.specs.Applications.{Script, Turn, is_concerned, aborted_where, killed, is_killed_at, goes_on}
+use Rattle.scenario_runs.specs.Applications.{Script, Turn, is_concerned, aborted_where, is_killed_at, goes_on}
 use Rattle.scenario_runs.specs.Applications.{turn_where}
 use Rattle.scenario_runs.specs.Worlds.{numbers_of, address_in}
 use Rattle.scenario_laws.specs.Kills.{is_abort_by_slow}
 use Rattle.scenario_laws.specs.Turns.{turn_on, GoesOn}
 use Rattle.scenario_laws.proofs.Goes.{turn_goes}
-use Rattle.scenario_laws.proofs.Acts.{Act, Rests, Calls, Accepts, Connects, GivesUp, Notes, Listens, leaves, IsPlainCall}
+use Rattle.scenario_laws.proofs.Acts.{Act, Rests, Calls, Accepts, Connects, GivesUp, Notes, Listens, leaves}
+use Rattle.scenario_laws.proofs.Acts.{IsPlainCall}
 use Rattle.scenario_laws.proofs.Acts.{IsLastCall, MayAct, step_acts}
 use Rattle.scenario_laws.proofs.Deeds.{At, Worked, OfEachFlow, Keeps}
 use Rattle.scenario_laws.proofs.PortsKept.{found_has}
@@ -168,7 +168,8 @@ flows_keep s p K P Q t keeps listed = record {
     flows = listed.push site.host.flows _ (record { first = _; entries = refl; tick = refl; plain = refl }) i.flows;
   };
   turn = λ site k x found rise i. (
-      let knows : KnowsKill K x = found_has (KnowsKill K) (λ (b : Script). b.number == k) site.scripts x found i.scripts in
+      let knows : KnowsKill K x =
+      found_has (KnowsKill K) (λ (b : Script). b.number == k) site.scripts x found i.scripts in
       let goes : GoesOn t x (turn_on s p t site.host x).script =
       turn_goes (numbers_of p) (address_in s.hosts) t (record { host = site.host; script = x }) in
       record {

@@ -1,30 +1,27 @@
 -- A kill aborts the flows that it concerns when its turn comes, and each flow has one such Abort at most.
-use Rattle.std.proofs.Common.{◌≡◌, ℕ, zero, suc, ◌+◌, ◌≤◌, ◌<◌, ◌==◌, Bool, true, false, List, [], ◌∷◌, ◌++◌, map, fold}
-use Rattle.std.proofs.Common.{length, slice_get, Option, Some, None, IfSome, if◌then◌else◌, bytes_eq, refl, sym, subst, ap}
-use Rattle.std.proofs.Common.{◌∙◌, true≢false, arith}
+use Rattle.std.proofs.Common.{◌≡◌, ℕ, suc, ◌+◌, ◌≤◌, Bool, true, false, List, [], ◌∷◌, ◌++◌, map, fold}
+use Rattle.std.proofs.Common.{length, slice_get, Some, if◌then◌else◌, bytes_eq, refl, sym, subst, ap}
+use Rattle.std.proofs.Common.{◌∙◌, arith}
 use Rattle.tas_model.specs.declared.entry.HostParams.{HostParams}
 use Rattle.tas_model.specs.LegalHistory.{last_tick}
 use Rattle.host_rounds.specs.Lists.{Each}
-use Rattle.host_rounds.specs.Logs.{Flow, HostRun, RunLog}
+use Rattle.host_rounds.specs.Logs.{HostRun, RunLog}
 use Rattle.host_rounds.specs.Hosts.{Live, Host, flows_of}
-use Rattle.host_rounds.specs.Upkeep.{all_swept}
-use Rattle.host_rounds.specs.Passing.{IsUpTo}
-use Rattle.host_rounds.specs.Rounds.{Ask, Deed, does, on_host, Round}
+use Rattle.host_rounds.specs.Rounds.{Ask, Deed, does}
 use Rattle.scenario_text.specs.declared.scenario.Scenario.{Scenario}
 use Rattle.scenario_text.specs.declared.scenario.HostLine.{HostLine}
 use Rattle.scenario_text.specs.declared.scenario.AppLine.{AppLine}
-use Rattle.scenario_text.specs.declared.scenario.KillLine.{KillLine}
 use Rattle.scenario_runs.specs.Applications.{Script, is_concerned, aborted_where, killed, is_killed_at, turn_where}
 use Rattle.scenario_runs.specs.Worlds.{numbers_of, address_in, scripts_of, scripts_on, kill_tick, site_of}
 use Rattle.scenario_runs.specs.Runs.{Run}
 use Rattle.scenario_laws.specs.Ticks.{HostTick, InEachTick}
-use Rattle.scenario_laws.specs.Turns.{OfEachScript, reached, turn_on, HadTurn, HadTurns, IsOrdered, at_first}
-use Rattle.scenario_laws.specs.Kills.{IsKilled, KillsOn, abort_ticks, AbortsByKill, IsAborted, AreAborted, HadKills}
+use Rattle.scenario_laws.specs.Turns.{reached, HadTurn, HadTurns, at_first}
+use Rattle.scenario_laws.specs.Kills.{KillsOn, abort_ticks, AbortsByKill, IsAborted, AreAborted, HadKills}
 use Rattle.scenario_laws.proofs.AllTurned.{NumbersRise, of_each, deed_rises}
 use Rattle.scenario_laws.proofs.Deeds.{At, OfEachFlow, AreByWorkers, deeds_keep, sweep_keeps}
 use Rattle.scenario_laws.proofs.InTurns.{tick_of}
 use Rattle.scenario_laws.proofs.AllKept.{Stays, each_tick, each_host}
-use Rattle.scenario_laws.proofs.FlowByFlow.{IsNew, KeepsFlow, IsListed, KnowsKill, SiteFlows, flows_keep}
+use Rattle.scenario_laws.proofs.FlowByFlow.{IsNew, IsListed, KnowsKill, SiteFlows, flows_keep}
 use Rattle.scenario_laws.proofs.Aborted.{Aborts, Never, Once, AbortsOnce, concerned_aborted, keeps_aborted, keeps_once}
 use Rattle.scenario_laws.proofs.Aborted.{each_listed, Anyway}
 
@@ -91,7 +88,8 @@ turn_kills s p K t site deeds b a workers rise once had kill =
     marked_aborted t b.number found.host found.host.flows (reached s p t site deeds).host.flows
     (subst (λ (x : At). Marked t cs x.host.flows) (sym parts) (deeds_keep s p (SiteFlows Anyway (Marked t cs)) t next
     had.one.later (flows_keep s p Anyway (IsAborted t) (Marked t cs) t (keeps_aborted Anyway t t) (marked_listed t cs))
-    by_later (deed_rises s p t 0 found (record { by = had.one.by; action = Ask b.number }) rise_found) marked_next).flows)
+    by_later (deed_rises s p t 0 found (record { by = had.one.by; action = Ask b.number }) rise_found)
+    marked_next).flows)
   where
     found : At
     found = reached s p t site had.one.earlier

@@ -1,20 +1,17 @@
 -- In every run of a scenario whose grammar is kept the connects of a host get its ports in order.
-use Rattle.std.proofs.Common.{◌≡◌, ℕ, zero, suc, ◌+◌, ◌^◌, ◌≤◌, ◌<◌, ◌==◌, ◌&&◌, ◌||◌, not, Bool, true, false, cond, List, []}
-use Rattle.std.proofs.Common.{◌∷◌, ◌++◌, length, drop, map, filter, nat_lt, Option, Some, None, if◌then◌else◌, bytes_eq}
+use Rattle.std.proofs.Common.{◌≡◌, ℕ, zero, suc, ◌+◌, ◌≤◌, ◌<◌, ◌==◌, ◌||◌, Bool, true, false, cond, List, []}
+use Rattle.std.proofs.Common.{◌∷◌, ◌++◌, length, drop, map, filter, Some, if◌then◌else◌, bytes_eq}
 use Rattle.std.proofs.Common.{refl, sym, subst, ap, ◌∙◌, true≢false, arith, tests}
 use Rattle.std.specs.List.{list_any, find}
 use Rattle.std.proofs.lemmas.List.Folds.{list_any-append}
 use Rattle.tas_model.specs.declared.entry.HostParams.{HostParams}
-use Rattle.tas_model.specs.declared.entry.FourTuple.{FourTuple}
-use Rattle.tas_model.specs.declared.entry.FrameId.{FrameId}
-use Rattle.tas_model.specs.declared.entry.Seg.{Seg}
 use Rattle.tas_model.specs.declared.entry.Caller.TheVariants.{Slow, App}
 use Rattle.tas_model.specs.declared.entry.Call.{Call}
 use Rattle.tas_model.specs.declared.entry.Call.TheVariants as calls
 use Rattle.host_rounds.specs.declared.log.LogLine.{LogLine}
 use Rattle.host_rounds.specs.declared.log.LogEvent.{LogEvent}
 use Rattle.host_rounds.specs.declared.log.LogEvent.TheVariants as events
-use Rattle.host_rounds.specs.Lists.{Each, change_first, change_at}
+use Rattle.host_rounds.specs.Lists.{Each, change_at}
 use Rattle.host_rounds.specs.Logs.{RunLog, HostRun, Flow}
 use Rattle.host_rounds.specs.Hosts.{Live, Host, Holder, Application, GivenUp, Listener, Numbers, with_call, logged}
 use Rattle.host_rounds.specs.Hosts.{is_listening, first_port, ports_given, flows_of}
@@ -26,19 +23,21 @@ use Rattle.scenario_text.specs.declared.scenario.HostLine.{HostLine}
 use Rattle.scenario_text.specs.declared.scenario.AppLine.{AppLine}
 use Rattle.scenario_text.specs.declared.scenario.KillLine.{KillLine}
 use Rattle.scenario_ranges.specs.Ranges.{IsStepInRange, IsHostInRange, IsInRange}
-use Rattle.scenario_runs.specs.Applications.{Script, Turn, is_concerned, let_go, aborted_where, killed, is_killed_at}
+use Rattle.scenario_runs.specs.Applications.{Script, Turn, is_concerned, aborted_where, killed, is_killed_at}
 use Rattle.scenario_runs.specs.Applications.{goes_on, turn_where}
-use Rattle.scenario_runs.specs.Worlds.{numbers_of, address_in, with_turn, scripts_on, kill_tick}
+use Rattle.scenario_runs.specs.Worlds.{numbers_of, address_in, scripts_on, kill_tick}
 use Rattle.scenario_runs.specs.Runs.{Run}
-use Rattle.scenario_laws.specs.Ports.{begins_by_connect, connect_ports, ports_from, all_ports, is_port_wanting, had_no_port}
+use Rattle.scenario_laws.specs.Ports.{begins_by_connect, connect_ports, ports_from, all_ports, is_port_wanting}
+use Rattle.scenario_laws.specs.Ports.{had_no_port}
 use Rattle.scenario_laws.specs.Turns.{turn_on, GoesOn}
 use Rattle.scenario_laws.proofs.Goes.{turn_goes}
-use Rattle.scenario_laws.proofs.Acts.{Act, Rests, Calls, Accepts, Connects, GivesUp, Notes, Listens, leaves, IsPlainCall}
-use Rattle.scenario_laws.proofs.Acts.{IsLastCall, MayNote, MayAct, Acted, step_acts}
-use Rattle.scenario_laws.proofs.Deeds.{At, Worked, OfEachFlow, IsFrameLine, opened_for, Keeps}
+use Rattle.scenario_laws.proofs.Acts.{Act, Rests, Calls, Accepts, Connects, GivesUp, Notes, Listens, leaves}
+use Rattle.scenario_laws.proofs.Acts.{IsPlainCall}
+use Rattle.scenario_laws.proofs.Acts.{IsLastCall, MayNote, MayAct, step_acts}
+use Rattle.scenario_laws.proofs.Deeds.{At, IsFrameLine, Keeps}
 use Rattle.scenario_laws.proofs.AllKept.{Stays, each_host}
 use Rattle.scenario_laws.proofs.AllPorts.{AllAlike, BegunAlike, called_alike, alike, all_worked_alike, at_alike}
-use Rattle.scenario_laws.proofs.AllPorts.{map_alike, IsAtListener, ports_of, is_given, FlowsRight, ports_alike, right_alike}
+use Rattle.scenario_laws.proofs.AllPorts.{map_alike, IsAtListener, ports_of, FlowsRight, ports_alike, right_alike}
 use Rattle.scenario_laws.proofs.AllPorts.{connect_right, syn_right, ports_grow}
 
 -- ----- one host

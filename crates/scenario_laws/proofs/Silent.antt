@@ -1,8 +1,7 @@
 -- An application makes no call in the tick of its kill or later.
-use Rattle.std.proofs.Common.{◌≡◌, ℕ, zero, suc, ◌+◌, ◌≤◌, ◌<◌, ◌==◌, Bool, true, false, List, [], ◌∷◌, ◌++◌, drop, map, max}
-use Rattle.std.proofs.Common.{slice_get, Option, Some, None, IfSome, if◌then◌else◌, bytes_eq, refl, sym, subst, ap, ◌∙◌}
+use Rattle.std.proofs.Common.{◌≡◌, ℕ, zero, suc, ◌+◌, ◌≤◌, ◌<◌, ◌==◌, Bool, true, false, List, [], ◌∷◌, ◌++◌, drop, max}
+use Rattle.std.proofs.Common.{slice_get, Option, Some, IfSome, if◌then◌else◌, bytes_eq, refl, sym, subst, ap, ◌∙◌}
 use Rattle.std.proofs.Common.{◌≢◌, true≢false, arith, tests}
-use Rattle.std.specs.List.{find}
 use Rattle.tas_model.specs.declared.entry.HostParams.{HostParams}
 use Rattle.tas_model.specs.declared.entry.Entry.{Entry}
 use Rattle.tas_model.specs.declared.entry.Caller.{Caller}
@@ -10,7 +9,7 @@ use Rattle.tas_model.specs.declared.entry.Caller.TheVariants.{Slow, Core, App}
 use Rattle.tas_model.specs.declared.entry.Call.{Call}
 use Rattle.tas_model.specs.declared.entry.Call.TheVariants as calls
 use Rattle.tas_model.specs.LegalHistory.{last_tick}
-use Rattle.host_rounds.specs.Lists.{Each, change_at}
+use Rattle.host_rounds.specs.Lists.{Each}
 use Rattle.host_rounds.specs.Logs.{Flow, HostRun, RunLog}
 use Rattle.host_rounds.specs.Hosts.{Live, Host, Holder, Application, GivenUp, Numbers, with_call, flows_of}
 use Rattle.host_rounds.specs.Passing.{IsUpTo}
@@ -197,7 +196,8 @@ silence_keeps s p n at t = record {
     });
   };
   turn = λ site k x found rise i. (
-      let ends : Ends n at t x = found_has (Ends n at t) (λ (b : Script). b.number == k) site.scripts x found i.scripts in
+      let ends : Ends n at t x =
+      found_has (Ends n at t) (λ (b : Script). b.number == k) site.scripts x found i.scripts in
       let goes : GoesOn t x (turn_on s p t site.host x).script =
       turn_goes (numbers_of p) (address_in s.hosts) t (record { host = site.host; script = x }) in
       record {

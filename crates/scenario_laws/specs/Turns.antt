@@ -6,7 +6,7 @@ use Rattle.tas_model.specs.declared.entry.Caller.{Caller}
 use Rattle.host_rounds.specs.Hosts.{Host}
 use Rattle.host_rounds.specs.Upkeep.{all_swept}
 use Rattle.host_rounds.specs.Scripts.{Site}
-use Rattle.host_rounds.specs.Rounds.{Action, Ask, Deed, does, on_host, Due, Round}
+use Rattle.host_rounds.specs.Rounds.{Action, Ask, Deed, does, Round}
 use Rattle.scenario_text.specs.declared.scenario.Scenario.{Scenario}
 use Rattle.scenario_runs.specs.Applications.{Script, Turn, is_killed_at, turn}
 use Rattle.scenario_runs.specs.Worlds.{numbers_of, address_in, scripts_of}
