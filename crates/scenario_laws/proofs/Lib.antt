@@ -1,3 +1,4 @@
+pub mod Sockets
 pub mod Kills
 pub mod Aborted
 pub mod Silent
