@@ -121,8 +121,12 @@ not_concerned n host l over held = by_holder l.holder held where
   by_holder Waiting h = ap (λ (b : Bool). not b && has_listener n l.flow.tuple.lport host) over
   by_holder GivenUp h = refl
 
-abbrev pub Anyway : ℕ → Type 0
-Anyway t = Unit {0}
+abbrev pub Anyway : (number at : ℕ) → Type 0
+Anyway n t = Unit {0}
+
+-- some application is killed in the tick
+abbrev pub Someone : (K : (number at : ℕ) → Type 0) → ℕ → Type 0
+Someone K at = (number : ℕ) × K number at
 
 worked_aborted : (at t : ℕ) (l m : Live) → Worked t l m → IsAborted at l → IsAborted at m
 worked_aborted at t l m worked aborted = record {
@@ -142,12 +146,12 @@ called_aborted at t n call offer l aborted = record {
   held = aborted.held;
 }
 
-pub keeps_aborted : (K : ℕ → Type 0) (at t : ℕ) → KeepsFlow K t (IsAborted at)
+pub keeps_aborted : (K : (number at : ℕ) → Type 0) (at t : ℕ) → KeepsFlow K t (IsAborted at)
 keeps_aborted K at t = record {
   worked = worked_aborted at t;
-  plain = λ l n call offer kind aborted. called_aborted at t n call offer l aborted;
+  plain = λ l n call offer kind mine aborted. called_aborted at t n call offer l aborted;
   accept = λ l n port ready aborted. absurd (true≢false (sym ready ∙ not_ready port l aborted.over));
-  last = λ l n call kind aborted. (
+  last = λ l n call kind mine aborted. (
       let called : IsAborted at (with_call l (App n) t call []) = called_aborted at t n call [] l aborted in
       record { aborts = called.aborts; over = called.over; held = refl });
   killed = λ l n host kill aborted. subst (λ (b : Bool). IsAborted at (aborted_where b t l))
@@ -160,19 +164,19 @@ pub data Aborts (l : Live) : Type 0 where
   Once : (at : ℕ) → IsAborted at l → Aborts l
 
 -- The flow has begun and has no entry of a later tick; it has one Abort by the slow path at most, by a kill.
-pub record AbortsOnce (K : ℕ → Type 0) (t : ℕ) (l : Live) : Type 0 where
+pub record AbortsOnce (K : (number at : ℕ) → Type 0) (t : ℕ) (l : Live) : Type 0 where
   pub first : Entry
   pub rest : List Entry
   pub begun : l.flow.entries ≡ first ∷ rest
   pub low : IsUpTo t l
-  pub kills : Each K (abort_ticks l.flow.entries)
+  pub kills : Each (Someone K) (abort_ticks l.flow.entries)
   pub aborts : Aborts l
 
 begun_more : (h more : List Entry) (first : Entry) (rest : List Entry) → h ≡ first ∷ rest
     → h ++ more ≡ first ∷ (rest ++ more)
 begun_more h more first rest begun = ap (λ (xs : List Entry). xs ++ more) begun
 
-worked_once : (K : ℕ → Type 0) (t : ℕ) (l m : Live) → Worked t l m → AbortsOnce K t l → AbortsOnce K t m
+worked_once : (K : (number at : ℕ) → Type 0) (t : ℕ) (l m : Live) → Worked t l m → AbortsOnce K t l → AbortsOnce K t m
 worked_once K t l m worked once =
     let same : abort_ticks m.flow.entries ≡ abort_ticks l.flow.entries =
     ap abort_ticks worked.entries
@@ -182,7 +186,7 @@ worked_once K t l m worked once =
       rest = once.rest ++ worked.more;
       begun = worked.entries ∙ begun_more l.flow.entries worked.more once.first once.rest once.begun;
       low = worked.low once.low;
-      kills = subst (Each K) (sym same) once.kills;
+      kills = subst (Each (Someone K)) (sym same) once.kills;
       aborts = by_aborts same once.aborts;
     }
   where
@@ -191,7 +195,7 @@ worked_once K t l m worked once =
     by_aborts same (Once at aborted) = Once at (worked_aborted at t l m worked aborted)
 
 -- a call of an application, and then another holder where the flow was not aborted, or none
-called_once : (K : ℕ → Type 0) (t n : ℕ) (call : Call) (offer : List ℕ) (holder : Holder) (l : Live)
+called_once : (K : (number at : ℕ) → Type 0) (t n : ℕ) (call : Call) (offer : List ℕ) (holder : Holder) (l : Live)
     → ((at : ℕ) → IsAborted at l → IsAborted at (record (with_call l (App n) t call offer) { holder = holder }))
     → AbortsOnce K t l → AbortsOnce K t (record (with_call l (App n) t call offer) { holder = holder })
 called_once K t n call offer holder l keeps once =
@@ -202,7 +206,7 @@ called_once K t n call offer holder l keeps once =
       rest = _;
       begun = begun_more l.flow.entries _ once.first once.rest once.begun;
       low = call_low (App n) t call offer l once.low;
-      kills = subst (Each K) (sym same) once.kills;
+      kills = subst (Each (Someone K)) (sym same) once.kills;
       aborts = by_aborts same once.aborts;
     }
   where
@@ -232,7 +236,7 @@ abort_now t l first rest begun low none =
     }
 
 -- Where it concerns the flow, the flow is aborted in this tick.
-pub concerned_aborted : (K : ℕ → Type 0) (t n : ℕ) (host : Host) (l : Live) → AbortsOnce K t l
+pub concerned_aborted : (K : (number at : ℕ) → Type 0) (t n : ℕ) (host : Host) (l : Live) → AbortsOnce K t l
     → is_concerned n host l ≡ true → IsAborted t (aborted_where (is_concerned n host l) t l)
 concerned_aborted K t n host l once concerned =
     subst (λ (b : Bool). IsAborted t (aborted_where b t l)) (sym concerned) (by_aborts once.aborts)
@@ -242,7 +246,7 @@ concerned_aborted K t n host l once concerned =
     by_aborts (Once at aborted) =
         absurd (true≢false (sym concerned ∙ not_concerned n host l aborted.over aborted.held))
 
-killed_once : (K : ℕ → Type 0) (t n : ℕ) (host : Host) (l : Live) → K t → AbortsOnce K t l
+killed_once : (K : (number at : ℕ) → Type 0) (t n : ℕ) (host : Host) (l : Live) → K n t → AbortsOnce K t l
     → AbortsOnce K t (aborted_where (is_concerned n host l) t l)
 killed_once K t n host l kill once = by_concerned (is_concerned n host l) refl where
   m : Live
@@ -258,24 +262,24 @@ killed_once K t n host l kill once = by_concerned (is_concerned n host l) refl w
         rest = _;
         begun = begun_more l.flow.entries _ once.first once.rest once.begun;
         low = call_low Slow t calls.Abort [] l once.low;
-        kills = subst (Each K) (sym aborted.aborts) (kill, tt);
+        kills = subst (Each (Someone K)) (sym aborted.aborts) ((n, kill), tt);
         aborts = Once t aborted;
       }
 
-pub keeps_once : (K : ℕ → Type 0) (t : ℕ) → KeepsFlow K t (AbortsOnce K t)
+pub keeps_once : (K : (number at : ℕ) → Type 0) (t : ℕ) → KeepsFlow K t (AbortsOnce K t)
 keeps_once K t = record {
   worked = worked_once K t;
-  plain = λ l n call offer kind once. called_once K t n call offer l.holder l
+  plain = λ l n call offer kind mine once. called_once K t n call offer l.holder l
       (λ at aborted. called_aborted at t n call offer l aborted) once;
   accept = λ l n port ready once. called_once K t n calls.Accept [] (Application n) l
       (λ at aborted. absurd (true≢false (sym ready ∙ not_ready port l aborted.over))) once;
-  last = λ l n call kind once. called_once K t n call [] GivenUp l
-      (λ at aborted. (keeps_aborted Anyway at t).last l n call kind aborted) once;
+  last = λ l n call kind mine once. called_once K t n call [] GivenUp l
+      (λ at aborted. (keeps_aborted Anyway at t).last l n call kind mine aborted) once;
   killed = λ l n host kill once. killed_once K t n host l kill once;
 }
 
 -- ----- lists of flows
-pub each_listed : (K : ℕ → Type 0) (t : ℕ) → IsListed t (AbortsOnce K t) (Each (AbortsOnce K t))
+pub each_listed : (K : (number at : ℕ) → Type 0) (t : ℕ) → IsListed t (AbortsOnce K t) (Each (AbortsOnce K t))
 each_listed K t = record { each = carried; push = pushed } where
   carried : (ls ms : List Live) → OfEachFlow (λ l m. AbortsOnce K t l → AbortsOnce K t m) ls ms
       → Each (AbortsOnce K t) ls → Each (AbortsOnce K t) ms
@@ -292,7 +296,7 @@ each_listed K t = record { each = carried; push = pushed } where
         rest = [];
         begun = new.entries;
         low = subst (λ (xs : List Entry). last_tick 0 xs ≤ t) (sym new.entries) (up_to new.first.tick new.tick);
-        kills = subst (Each K) (sym none) tt;
+        kills = subst (Each (Someone K)) (sym none) tt;
         aborts = Never none;
       })
     where

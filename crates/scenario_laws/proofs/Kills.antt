@@ -11,17 +11,19 @@ use Rattle.host_rounds.specs.Rounds.{Ask, Deed, does}
 use Rattle.scenario_text.specs.declared.scenario.Scenario.{Scenario}
 use Rattle.scenario_text.specs.declared.scenario.HostLine.{HostLine}
 use Rattle.scenario_text.specs.declared.scenario.AppLine.{AppLine}
+use Rattle.scenario_text.specs.declared.scenario.KillLine.{KillLine}
 use Rattle.scenario_runs.specs.Applications.{Script, is_concerned, aborted_where, killed, is_killed_at, turn_where}
 use Rattle.scenario_runs.specs.Worlds.{numbers_of, address_in, scripts_of, scripts_on, kill_tick, site_of}
 use Rattle.scenario_runs.specs.Runs.{Run}
 use Rattle.scenario_laws.specs.Ticks.{HostTick, InEachTick}
 use Rattle.scenario_laws.specs.Turns.{reached, HadTurn, HadTurns, at_first}
-use Rattle.scenario_laws.specs.Kills.{KillsOn, abort_ticks, AbortsByKill, IsAborted, AreAborted, HadKills}
+use Rattle.scenario_laws.specs.Kills.{IsKilledOn, abort_ticks, AbortsByKill, IsAborted, AreAborted, HadKills}
 use Rattle.scenario_laws.proofs.AllTurned.{NumbersRise, of_each, deed_rises}
 use Rattle.scenario_laws.proofs.Deeds.{At, OfEachFlow, AreByWorkers, deeds_keep, sweep_keeps}
 use Rattle.scenario_laws.proofs.InTurns.{tick_of}
 use Rattle.scenario_laws.proofs.AllKept.{Stays, each_tick, each_host}
-use Rattle.scenario_laws.proofs.FlowByFlow.{IsNew, IsListed, KnowsKill, SiteFlows, flows_keep}
+use Rattle.scenario_laws.proofs.FlowByFlow.{IsNew, IsListed, KnowsKill, SiteFlows, Owns}
+use Rattle.scenario_laws.proofs.FlowByFlow.{flows_keep}
 use Rattle.scenario_laws.proofs.Aborted.{Aborts, Never, Once, AbortsOnce, concerned_aborted, keeps_aborted, keeps_once}
 use Rattle.scenario_laws.proofs.Aborted.{each_listed, Anyway}
 
@@ -47,7 +49,7 @@ marked_listed t cs = record { each = carried cs; push = pushed cs } where
   pushed (c ∷ cs) [] l new marked = absurd marked
   pushed (c ∷ cs) (m ∷ ls) l new marked = (marked.0, pushed cs ls l new marked.1)
 
-killed_marked : (K : ℕ → Type 0) (t n : ℕ) (host : Host) (ls : List Live) → Each (AbortsOnce K t) ls
+killed_marked : (K : (number at : ℕ) → Type 0) (t n : ℕ) (host : Host) (ls : List Live) → Each (AbortsOnce K t) ls
     → Marked t (map (is_concerned n host) ls) (map (λ (l : Live). aborted_where (is_concerned n host l) t l) ls)
 killed_marked K t n host [] each = tt
 killed_marked K t n host (l ∷ ls) each =
@@ -75,11 +77,11 @@ rises s p t site [] rise = rise
 rises s p t site (m ∷ deeds) rise =
     rises s p t (does (scripts_of s p) t site m) deeds (deed_rises s p t 0 site m rise)
 
-abbrev OnceAll : (K : ℕ → Type 0) → (tick : ℕ) → At → Type 0
+abbrev OnceAll : (K : (number at : ℕ) → Type 0) → (tick : ℕ) → At → Type 0
 OnceAll K t site = SiteFlows K (Each (AbortsOnce K t)) site
 
 -- Its one turn is the kill: the flows that it concerns then are aborted at the end of the deeds.
-turn_kills : (s : Scenario) (p : HostParams) (K : ℕ → Type 0) (t : ℕ) (site : At) (deeds : List (Deed ℕ)) (b a : Script)
+turn_kills : (s : Scenario) (p : HostParams) (K : (number at : ℕ) → Type 0) (t : ℕ) (site : At) (deeds : List (Deed ℕ)) (b a : Script)
     → AreByWorkers deeds → NumbersRise 0 site.scripts → OnceAll K t site → (had : HadTurn s p t site deeds b a)
     → is_killed_at t b.kill ≡ true
     → AreAborted b.number t (reached s p t site had.one.earlier).host (reached s p t site had.one.earlier).host.flows
@@ -131,6 +133,12 @@ turn_kills s p K t site deeds b a workers rise once had kill =
           script = b;
         })).host) kill
 
+    once_next : OnceAll K t next
+    once_next =
+        deeds_keep s p (OnceAll K t) t found (record { by = had.one.by; action = Ask b.number } ∷ [])
+        (flows_keep s p K (AbortsOnce K t) (Each (AbortsOnce K t)) t (keeps_once K t) (each_listed K t))
+        (split.1.0, tt) rise_found once_found
+
     knows_nothing : (bs : List Script) → Each (KnowsKill Anyway) bs
     knows_nothing [] = tt
     knows_nothing (x ∷ bs) = (λ at h. tt, knows_nothing bs)
@@ -138,15 +146,16 @@ turn_kills s p K t site deeds b a workers rise once had kill =
     marked_next : SiteFlows Anyway (Marked t cs) next
     marked_next = record {
       scripts = knows_nothing next.scripts;
+      owns = once_next.owns;
       flows = subst (λ (h : Host). Marked t cs h.flows) (sym host_next)
           (killed_marked K t b.number found.host found.host.flows once_found.flows);
     }
 
 -- ----- every tick
 abbrev OnceIn : Scenario → HostLine → ℕ → At → Type 0
-OnceIn s l t site = OnceAll (KillsOn s l.name) t site
+OnceIn s l t site = OnceAll (IsKilledOn s l.name) t site
 
-later : (K : ℕ → Type 0) (t : ℕ) (ls : List Live) → Each (AbortsOnce K t) ls → Each (AbortsOnce K (t + 1)) ls
+later : (K : (number at : ℕ) → Type 0) (t : ℕ) (ls : List Live) → Each (AbortsOnce K t) ls → Each (AbortsOnce K (t + 1)) ls
 later K t [] each = tt
 later K t (l ∷ ls) each =
     let low : last_tick 0 l.flow.entries ≤ t = each.0.low in (
@@ -166,7 +175,7 @@ abbrev AppsFrom : Scenario → (k : ℕ) → List AppLine → Type 0
 AppsFrom s k apps = (i : ℕ) → slice_get s.apps (k + i) ≡ slice_get apps i
 
 scripts_know : (s : Scenario) (host : List ℕ) (k : ℕ) (apps : List AppLine) → AppsFrom s k apps
-    → Each (KnowsKill (KillsOn s host)) (scripts_on s.kills host k apps)
+    → Each (KnowsKill (IsKilledOn s host)) (scripts_on s.kills host k apps)
 scripts_know s host k [] are = tt
 scripts_know s host k (app ∷ apps) are =
     by_host (bytes_eq app.host host) refl (scripts_know s host (k + 1) apps (λ i. next i))
@@ -178,8 +187,8 @@ scripts_know s host k (app ∷ apps) are =
     here = let same : k ≡ k + 0 = omega arith in ap (slice_get s.apps) same ∙ are 0
 
     by_host : (b : Bool) → bytes_eq app.host host ≡ b
-        → Each (KnowsKill (KillsOn s host)) (scripts_on s.kills host (k + 1) apps)
-        → Each (KnowsKill (KillsOn s host)) ((if b
+        → Each (KnowsKill (IsKilledOn s host)) (scripts_on s.kills host (k + 1) apps)
+        → Each (KnowsKill (IsKilledOn s host)) ((if b
         then (record {
           number = k;
           kill = kill_tick s.kills app;
@@ -190,13 +199,33 @@ scripts_know s host k (app ∷ apps) are =
         }) ∷ []
         else [])
         ++ scripts_on s.kills host (k + 1) apps)
-    by_host true e rest = (λ at kill. (k, record { app = app; line = here; kill = kill }, e), rest)
+    by_host true e rest = (λ at kill. record { killed = record { app = app; line = here; kill = kill }; host = e }, rest)
     by_host false e rest = rest
+
+pub none_named : (kills : List KillLine) (host : List ℕ) (k : ℕ) (apps : List AppLine)
+    → Each (Owns []) (scripts_on kills host k apps)
+none_named kills host k [] = tt
+none_named kills host k (app ∷ apps) = by_host (bytes_eq app.host host) (none_named kills host (k + 1) apps) where
+  by_host : (b : Bool) → Each (Owns []) (scripts_on kills host (k + 1) apps)
+      → Each (Owns []) ((if b
+      then (record {
+        number = k;
+        kill = kill_tick kills app;
+        left = app.steps;
+        done = 0;
+        begun = false;
+        names = [];
+      }) ∷ []
+      else [])
+      ++ scripts_on kills host (k + 1) apps)
+  by_host true rest = (record { held = tt; apart = tt }, rest)
+  by_host false rest = rest
 
 start_once : (s : Scenario) (lines : List HostLine) → Each (λ (l : HostLine). OnceIn s l 0 (site_of s l)) lines
 start_once s [] = tt
 start_once s (l ∷ ls) = (
   record {
+    owns = none_named s.kills l.name 0 s.apps;
     scripts = scripts_know s l.name 0 s.apps (λ i. (let same : 0 + i ≡ i = omega arith in ap (slice_get s.apps) same));
     flows = tt;
   },
@@ -206,11 +235,12 @@ start_once s (l ∷ ls) = (
 once_stays : (s : Scenario) → Stays s (OnceIn s)
 once_stays s = record {
   start = start_once s s.hosts;
-  keeps = λ l p t. flows_keep s p (KillsOn s l.name) (AbortsOnce (KillsOn s l.name) t)
-      (Each (AbortsOnce (KillsOn s l.name) t)) t (keeps_once (KillsOn s l.name) t) (each_listed (KillsOn s l.name) t);
+  keeps = λ l p t. flows_keep s p (IsKilledOn s l.name) (AbortsOnce (IsKilledOn s l.name) t)
+      (Each (AbortsOnce (IsKilledOn s l.name) t)) t (keeps_once (IsKilledOn s l.name) t) (each_listed (IsKilledOn s l.name) t);
   next = λ l t b a goes before after. record {
     scripts = after.scripts;
-    flows = later (KillsOn s l.name) t a.host.flows after.flows;
+    owns = after.owns;
+    flows = later (IsKilledOn s l.name) t a.host.flows after.flows;
   };
 }
 
@@ -220,8 +250,8 @@ all_kills : (s : Scenario) (l : HostLine) (x : HostTick) (had : HadTurns s x) �
 all_kills s l x had rise once =
     let first : At = at_first x in
     let p : HostParams = x.before.params in
-    let once_first : OnceAll (KillsOn s l.name) x.tick first =
-    sweep_keeps s p (OnceAll (KillsOn s l.name) x.tick) x.tick (record { host = x.before; scripts = x.scripts_before })
+    let once_first : OnceAll (IsKilledOn s l.name) x.tick first =
+    sweep_keeps s p (OnceAll (IsKilledOn s l.name) x.tick) x.tick (record { host = x.before; scripts = x.scripts_before })
     ((once_stays s).keeps l p x.tick) once in (
       had.0,
       of_each (HadTurn s p x.tick first had.0.order) _ (λ b a one. (
@@ -230,7 +260,7 @@ all_kills s l x had rise once =
             (λ (site : At). AreAborted b.number x.tick (reached s p x.tick first one.one.earlier).host
             (reached s p x.tick first one.one.earlier).host.flows site.host.flows)
             had.0.made
-            (turn_kills s p (KillsOn s l.name) x.tick first had.0.order b a had.0.workers rise once_first one kill),
+            (turn_kills s p (IsKilledOn s l.name) x.tick first had.0.order b a had.0.workers rise once_first one kill),
       )) x.scripts_before x.scripts_after had.1,
     )
 
@@ -239,7 +269,7 @@ ticks_kill s log run =
     each_tick s log run (OnceIn s) (HadKills s) (once_stays s)
     (λ l t frames b a had rise once. all_kills s l (tick_of t frames b a) had rise once)
 
-flows_once : (s : Scenario) (name : List ℕ) (t : ℕ) (ls : List Live) → Each (AbortsOnce (KillsOn s name) t) ls
+flows_once : (s : Scenario) (name : List ℕ) (t : ℕ) (ls : List Live) → Each (AbortsOnce (IsKilledOn s name) t) ls
     → Each (AbortsByKill s name) (flows_of ls)
 flows_once s name t [] each = tt
 flows_once s name t (l ∷ ls) each =

@@ -64,7 +64,7 @@ length_at k f [] = refl
 length_at zero f (l ∷ ls) = refl
 length_at (suc k) f (l ∷ ls) = ap suc (length_at k f ls)
 
-push_held : (ls : List Live) (l : Live) (n k : ℕ) → holder_at ls k ≡ Application n
+pub push_held : (ls : List Live) (l : Live) (n k : ℕ) → holder_at ls k ≡ Application n
     → holder_at (ls ++ l ∷ []) k ≡ Application n
 push_held [] l n k h = absurd (not_waiting n h)
 push_held (m ∷ ls) l n zero h = h

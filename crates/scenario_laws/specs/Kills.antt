@@ -26,9 +26,13 @@ pub record IsKilled (s : Scenario) (number at : ℕ) : Type 0 where
 abbrev pub CalledBefore : (number at : ℕ) → List Entry → Type 0
 CalledBefore number at xs = Each (λ (x : Entry). x.caller ≡ App number → x.tick < at) xs
 
--- So an application of the host with this name is killed in the tick.
-abbrev pub KillsOn : Scenario → (name : List ℕ) → (at : ℕ) → Type 0
-KillsOn s name at = (number : ℕ) × (killed : IsKilled s number at) × (bytes_eq killed.app.host name ≡ true)
+-- So it is, and it is an application of the host with this name.
+pub record IsKilledOn (s : Scenario) (name : List ℕ) (number at : ℕ) : Type 0 where
+  pub killed : IsKilled s number at
+  pub host : bytes_eq killed.app.host name ≡ true
+
+abbrev pub HasKill : Scenario → (name : List ℕ) → (at : ℕ) → Type 0
+HasKill s name at = (number : ℕ) × IsKilledOn s name number at
 
 -- ----- flows of a killed application
 abbrev pub is_abort_by_slow : Caller → Call → Bool
@@ -44,7 +48,7 @@ abort_ticks (x ∷ xs) =
 -- The slow path aborts a flow once at most, and then in the tick of a kill of an application of its host.
 pub record AbortsByKill (s : Scenario) (name : List ℕ) (f : Flow) : Type 0 where
   pub once : length (abort_ticks f.entries) ≤ 1
-  pub kills : Each (KillsOn s name) (abort_ticks f.entries)
+  pub kills : Each (HasKill s name) (abort_ticks f.entries)
 
 -- The slow path made one Abort, in this tick and never else; the flow is closed, and no application holds it.
 pub record IsAborted (t : ℕ) (l : Live) : Type 0 where
