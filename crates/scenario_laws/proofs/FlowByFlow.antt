@@ -11,7 +11,7 @@ use Rattle.tas_model.specs.declared.entry.Caller.TheVariants.{App}
 use Rattle.tas_model.specs.declared.entry.Call.{Call}
 use Rattle.tas_model.specs.declared.entry.Call.TheVariants as calls
 use Rattle.host_rounds.specs.Lists.{Each, change_at, change_first}
-use Rattle.host_rounds.specs.Hosts.{Live, Host, Application, GivenUp, Numbers, with_call, is_ready}
+use Rattle.host_rounds.specs.Hosts.{Live, Host, Waiting, Application, GivenUp, Numbers, with_call, is_ready}
 use Rattle.host_rounds.proofs.AllLegal.{each_first}
 use Rattle.host_rounds.proofs.Rows.{change_twice}
 use Rattle.scenario_text.specs.declared.scenario.Step.{Step}
@@ -20,6 +20,7 @@ use Rattle.scenario_runs.specs.Applications.{Script, Turn, is_concerned, aborted
 use Rattle.scenario_runs.specs.Applications.{turn_where, step_of}
 use Rattle.scenario_runs.specs.Worlds.{numbers_of, address_in}
 use Rattle.scenario_laws.specs.Kills.{is_abort_by_slow}
+use Rattle.scenario_laws.specs.Sockets.{holder_after, MayEnter}
 use Rattle.scenario_laws.specs.Turns.{turn_on, GoesOn}
 use Rattle.scenario_laws.proofs.Goes.{turn_goes}
 use Rattle.scenario_laws.proofs.Acts.{Act, Rests, Calls, Accepts, Connects, GivesUp, Notes, Listens, leaves}
@@ -38,6 +39,8 @@ pub record IsNew (t : ℕ) (l : Live) : Type 0 where
   pub entries : l.flow.entries ≡ first ∷ []
   pub tick : first.tick ≡ t
   pub plain : is_abort_by_slow first.caller first.call ≡ false
+  pub holder : l.holder ≡ holder_after Waiting first.caller first.call
+  pub may : (s : Scenario) → MayEnter s Waiting first.tick first.caller first.call
 
 -- Each deed keeps the fact of a flow; K says of an application and a tick that it is killed then.
 pub record KeepsFlow (K : (number at : ℕ) → Type 0) (t : ℕ) (P : Live → Type 0) : Type 0 where
@@ -115,7 +118,14 @@ act_keeps K P Q numbers t n step host (Accepts k) keeps listed may own q =
     (ready_keeps P f may.0 (slice_get host.flows k) (λ l ready. keeps.accept l n may.0 ready)
     (ready_there may.0 host.flows k (slice_get host.flows k) may.1 refl))) q)
 act_keeps K P Q numbers t n step host (Connects slot tuple) keeps listed may own q =
-    listed.push host.flows _ (record { first = _; entries = refl; tick = refl; plain = refl }) q
+    listed.push host.flows _ (record {
+      first = _;
+      entries = refl;
+      tick = refl;
+      plain = refl;
+      holder = refl;
+      may = λ s. refl;
+    }) q
 act_keeps K P Q numbers t n step host (GivesUp k call) keeps listed may own q =
     let f : Live → Live = λ (l : Live). record (with_call l (App n) t call []) { holder = GivenUp } in
     subst Q (sym (change_twice k (λ (l : Live). with_call l (App n) t call [])
@@ -270,7 +280,14 @@ flows_keep s p K P Q t keeps listed = record {
   syn = λ site slot number frame tuple seg listening i. record {
     scripts = i.scripts;
     owns = each_still site.host.flows _ site.scripts (λ n k h. push_held site.host.flows _ n k h) i.owns;
-    flows = listed.push site.host.flows _ (record { first = _; entries = refl; tick = refl; plain = refl }) i.flows;
+    flows = listed.push site.host.flows _ (record {
+      first = _;
+      entries = refl;
+      tick = refl;
+      plain = refl;
+      holder = refl;
+      may = λ s. tt;
+    }) i.flows;
   };
   turn = λ site k x found rise i. (
       let knows : KnowsKill K x =

@@ -174,7 +174,7 @@ later K t (l ∷ ls) each =
 abbrev AppsFrom : Scenario → (k : ℕ) → List AppLine → Type 0
 AppsFrom s k apps = (i : ℕ) → slice_get s.apps (k + i) ≡ slice_get apps i
 
-scripts_know : (s : Scenario) (host : List ℕ) (k : ℕ) (apps : List AppLine) → AppsFrom s k apps
+pub scripts_know : (s : Scenario) (host : List ℕ) (k : ℕ) (apps : List AppLine) → AppsFrom s k apps
     → Each (KnowsKill (IsKilledOn s host)) (scripts_on s.kills host k apps)
 scripts_know s host k [] are = tt
 scripts_know s host k (app ∷ apps) are =

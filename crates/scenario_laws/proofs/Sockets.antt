@@ -237,7 +237,7 @@ socket_goes ls ms n k name names same found own = record {
 }
 
 -- ----- acts
-ready_waits : (port : ℕ) (l : Live) → is_ready port l ≡ true → l.holder ≡ Waiting
+pub ready_waits : (port : ℕ) (l : Live) → is_ready port l ≡ true → l.holder ≡ Waiting
 ready_waits port l ready = by_holder l.holder (l.flow.tuple.lport == port) (is_running l) ready where
   by_holder : (holder : Holder) (a c : Bool) → (a && is_waiting_by holder && c) ≡ true → holder ≡ Waiting
   by_holder Waiting a c h = refl

@@ -4,3 +4,4 @@ pub mod Controls
 pub mod Turns
 pub mod Ports
 pub mod Kills
+pub mod Sockets
