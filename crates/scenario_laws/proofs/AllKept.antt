@@ -17,13 +17,25 @@ use Rattle.scenario_laws.proofs.AllTurned.{NumbersRise, round_turned}
 use Rattle.scenario_laws.proofs.InTurns.{AllRise, start_rises, tick_of, all_step}
 use Rattle.scenario_laws.proofs.Deeds.{At, Keeps, round_keeps}
 
--- A fact of a host with this line and of its scripts before a tick: it holds at the start, whatever is done in a tick
--- keeps it, and after the tick it holds of the next one.
+-- A tick leads from the fact of it to that of the next one.
+abbrev pub Leads : Scenario → (HostLine → ℕ → At → Type 0) → Type 0
+Leads s I =
+    (l : HostLine) (t : ℕ) (frames : List Arrival) (b a : At) → HadTurns s (tick_of t frames b a)
+    → NumbersRise 0 b.scripts → I l t b → I l (t + 1) a
+
+-- A fact of a host with this line and of its scripts before a tick: it holds at the start, and each tick leads to it.
 pub record Stays (s : Scenario) (I : HostLine → ℕ → At → Type 0) : Type 0 where
   pub start : Each (λ (l : HostLine). I l 0 (site_of s l)) s.hosts
-  pub keeps : (l : HostLine) (p : HostParams) (t : ℕ) → Keeps s p t (I l t)
-  pub next : (l : HostLine) (t : ℕ) (b a : At) → OfEachScript (GoesOn t) b.scripts a.scripts → I l t b → I l t a
-      → I l (t + 1) a
+  pub leads : Leads s I
+
+-- So it is where whatever is done in a tick keeps the fact, and after the tick it holds of the next one.
+pub leads_by : (s : Scenario) (I : HostLine → ℕ → At → Type 0)
+    → ((l : HostLine) (p : HostParams) (t : ℕ) → Keeps s p t (I l t))
+    → ((l : HostLine) (t : ℕ) (b a : At) → OfEachScript (GoesOn t) b.scripts a.scripts → I l t b → I l t a
+    → I l (t + 1) a) → Leads s I
+leads_by s I keeps next l t frames b a had rise i =
+    next l t b a (all_step s b.host.params t (on_host all_swept b) had.0.order b.scripts a.scripts had.1) i
+    (round_keeps s b.host.params (I l t) t _ b a (keeps l b.host.params t) rise had.0 i)
 
 -- ----- one tick of all hosts
 abbrev pub AllSites : (HostLine → ℕ → At → Type 0) → (tick : ℕ) → List HostLine → World → Type 0
@@ -59,13 +71,10 @@ hosts_kept s I Fact whole t h (l ∷ ls) (b ∷ bs) (a ∷ az) keep each rounds 
     round_turned s b.host.params t frames b a rise.0 rounds.0 in
     let rest : Kept s I Fact whole t (h + 1) ls bs az =
     hosts_kept s I Fact whole t (h + 1) ls bs az keep each rounds.1 sites.1 rise.1 in
-    let steps : OfEachScript (GoesOn t) b.scripts a.scripts =
-    all_step s b.host.params t (on_host all_swept b) rounds.0.order b.scripts a.scripts had.0 in
     record {
       fact = (each l t frames b a (rounds.0, had.0) rise.0 sites.0, rest.fact);
       sites = (
-        keep.next l t b a steps sites.0 (round_keeps s b.host.params (I l t) t _ b a
-            (keep.keeps l b.host.params t) rise.0 rounds.0 sites.0),
+        keep.leads l t frames b a (rounds.0, had.0) rise.0 sites.0,
         rest.sites,
       );
       rise = (had.1, rest.rise);

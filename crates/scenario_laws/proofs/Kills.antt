@@ -19,9 +19,9 @@ use Rattle.scenario_laws.specs.Ticks.{HostTick, InEachTick}
 use Rattle.scenario_laws.specs.Turns.{reached, HadTurn, HadTurns, at_first}
 use Rattle.scenario_laws.specs.Kills.{IsKilledOn, abort_ticks, AbortsByKill, IsAborted, AreAborted, HadKills}
 use Rattle.scenario_laws.proofs.AllTurned.{NumbersRise, of_each, deed_rises}
-use Rattle.scenario_laws.proofs.Deeds.{At, OfEachFlow, AreByWorkers, deeds_keep, sweep_keeps}
+use Rattle.scenario_laws.proofs.Deeds.{At, Keeps, OfEachFlow, AreByWorkers, deeds_keep, sweep_keeps}
 use Rattle.scenario_laws.proofs.InTurns.{tick_of}
-use Rattle.scenario_laws.proofs.AllKept.{Stays, each_tick, each_host}
+use Rattle.scenario_laws.proofs.AllKept.{Stays, leads_by, each_tick, each_host}
 use Rattle.scenario_laws.proofs.FlowByFlow.{IsNew, IsListed, KnowsKill, SiteFlows, Owns}
 use Rattle.scenario_laws.proofs.FlowByFlow.{flows_keep}
 use Rattle.scenario_laws.proofs.Aborted.{Aborts, Never, Once, AbortsOnce, concerned_aborted, keeps_aborted, keeps_once}
@@ -232,16 +232,19 @@ start_once s (l ∷ ls) = (
   start_once s ls,
 )
 
+once_keeps : (s : Scenario) (l : HostLine) (p : HostParams) (t : ℕ) → Keeps s p t (OnceIn s l t)
+once_keeps s l p t =
+    let K : (number at : ℕ) → Type 0 = IsKilledOn s l.name in
+    flows_keep s p K (AbortsOnce K t) (Each (AbortsOnce K t)) t (keeps_once K t) (each_listed K t)
+
 once_stays : (s : Scenario) → Stays s (OnceIn s)
 once_stays s = record {
   start = start_once s s.hosts;
-  keeps = λ l p t. flows_keep s p (IsKilledOn s l.name) (AbortsOnce (IsKilledOn s l.name) t)
-      (Each (AbortsOnce (IsKilledOn s l.name) t)) t (keeps_once (IsKilledOn s l.name) t) (each_listed (IsKilledOn s l.name) t);
-  next = λ l t b a goes before after. record {
+  leads = leads_by s (OnceIn s) (λ l p t. once_keeps s l p t) (λ l t b a goes before after. record {
     scripts = after.scripts;
     owns = after.owns;
     flows = later (IsKilledOn s l.name) t a.host.flows after.flows;
-  };
+  });
 }
 
 -- ----- the laws
@@ -252,7 +255,7 @@ all_kills s l x had rise once =
     let p : HostParams = x.before.params in
     let once_first : OnceAll (IsKilledOn s l.name) x.tick first =
     sweep_keeps s p (OnceAll (IsKilledOn s l.name) x.tick) x.tick (record { host = x.before; scripts = x.scripts_before })
-    ((once_stays s).keeps l p x.tick) once in (
+    (once_keeps s l p x.tick) once in (
       had.0,
       of_each (HadTurn s p x.tick first had.0.order) _ (λ b a one. (
         one,

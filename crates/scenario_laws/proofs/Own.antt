@@ -24,7 +24,7 @@ use Rattle.scenario_laws.proofs.Acts.{IsPlainCall, IsLastCall}
 use Rattle.scenario_laws.proofs.Deeds.{At, IsWorkerCall, IsWorkerEntry, Worked, OfEachFlow, call_low}
 use Rattle.scenario_laws.proofs.Sockets.{ready_waits}
 use Rattle.scenario_laws.proofs.FlowByFlow.{IsNew, KeepsFlow, IsListed, SiteFlows, flows_keep}
-use Rattle.scenario_laws.proofs.AllKept.{Stays, each_host}
+use Rattle.scenario_laws.proofs.AllKept.{Stays, leads_by, each_host}
 use Rattle.scenario_laws.proofs.Kills.{scripts_know, none_named}
 
 -- ----- histories
@@ -221,13 +221,13 @@ start_own s (l ∷ ls) = (
 pub own_stays : (s : Scenario) → Stays s (OwnIn s)
 own_stays s = record {
   start = start_own s s.hosts;
-  keeps = λ l p t. flows_keep s p (IsKilledOn s l.name) (OwnFlow s t) (Each (OwnFlow s t)) t (keeps_own s l.name t)
-      (own_listed s t);
-  next = λ l t b a goes before after. record {
-    scripts = after.scripts;
-    owns = after.owns;
-    flows = later s t a.host.flows after.flows;
-  };
+  leads = leads_by s (OwnIn s)
+      (λ l p t. flows_keep s p (IsKilledOn s l.name) (OwnFlow s t) (Each (OwnFlow s t)) t (keeps_own s l.name t)
+      (own_listed s t)) (λ l t b a goes before after. record {
+        scripts = after.scripts;
+        owns = after.owns;
+        flows = later s t a.host.flows after.flows;
+      });
 }
 
 flows_own : (s : Scenario) (t : ℕ) (ls : List Live) → Each (OwnFlow s t) ls

@@ -35,7 +35,7 @@ use Rattle.scenario_laws.proofs.Acts.{Act, Rests, Calls, Accepts, Connects, Give
 use Rattle.scenario_laws.proofs.Acts.{IsPlainCall}
 use Rattle.scenario_laws.proofs.Acts.{IsLastCall, MayNote, MayAct, step_acts}
 use Rattle.scenario_laws.proofs.Deeds.{At, IsFrameLine, Keeps}
-use Rattle.scenario_laws.proofs.AllKept.{Stays, each_host}
+use Rattle.scenario_laws.proofs.AllKept.{Stays, leads_by, each_host}
 use Rattle.scenario_laws.proofs.AllPorts.{AllAlike, BegunAlike, called_alike, alike, all_worked_alike, at_alike}
 use Rattle.scenario_laws.proofs.AllPorts.{map_alike, IsAtListener, ports_of, FlowsRight, ports_alike, right_alike}
 use Rattle.scenario_laws.proofs.AllPorts.{connect_right, syn_right, ports_grow}
@@ -339,8 +339,7 @@ start_right s (l ∷ ls) range each = (
 ports_stay : (s : Scenario) → IsInRange s → Stays s Right
 ports_stay s range = record {
   start = start_right s s.hosts range range.hosts;
-  keeps = λ l p t. ports_keep s p t;
-  next = λ l t b a goes before after. after;
+  leads = leads_by s Right (λ l p t. ports_keep s p t) (λ l t b a goes before after. after);
 }
 
 abbrev InOrder : HostRun → Type 0

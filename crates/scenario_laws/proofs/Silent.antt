@@ -29,7 +29,7 @@ use Rattle.scenario_laws.specs.Turns.{OfEachScript, turn_on, GoesOn}
 use Rattle.scenario_laws.proofs.Goes.{turn_goes}
 use Rattle.scenario_laws.proofs.Acts.{Act, Rests, Calls, Accepts, Connects, GivesUp, Notes, Listens, leaves, step_acts}
 use Rattle.scenario_laws.proofs.Deeds.{At, IsWorkerEntry, Worked, OfEachFlow, call_low, Keeps}
-use Rattle.scenario_laws.proofs.AllKept.{Stays, each_host}
+use Rattle.scenario_laws.proofs.AllKept.{Stays, leads_by, each_host}
 use Rattle.scenario_laws.proofs.PortsKept.{found_has}
 
 -- ----- one flow
@@ -276,11 +276,11 @@ start_silent s n at (l ∷ ls) killed = (
 silence_stays : (s : Scenario) (n at : ℕ) → IsKilled s n at → Stays s (λ l t site. SiteSilent n at t site)
 silence_stays s n at killed = record {
   start = start_silent s n at s.hosts killed;
-  keeps = λ l p t. silence_keeps s p n at t;
-  next = λ l t b a goes before after. record {
-    scripts = ended n at t b.scripts a.scripts goes before.scripts after.scripts;
-    flows = later n at t a.host.flows after.flows;
-  };
+  leads = leads_by s (λ l t site. SiteSilent n at t site) (λ l p t. silence_keeps s p n at t)
+      (λ l t b a goes before after. record {
+        scripts = ended n at t b.scripts a.scripts goes before.scripts after.scripts;
+        flows = later n at t a.host.flows after.flows;
+      });
 }
 
 flows_silent : (n at t : ℕ) (ls : List Live) → AllSilent n at t ls
