@@ -221,7 +221,7 @@ asked_where s p t host None bs = bs
 asked_where s p t host (Some x) bs =
     change_first (λ (b : Script). b.number == (turned s p t host x).number) (λ (b : Script). turned s p t host x) bs
 
-found_number : (k : ℕ) (bs : List Script) (x : Script) → find (λ (b : Script). b.number == k) bs ≡ Some x
+pub found_number : (k : ℕ) (bs : List Script) (x : Script) → find (λ (b : Script). b.number == k) bs ≡ Some x
     → (x.number == k) ≡ true
 found_number k [] x h = absurd (cc (h))
 found_number k (b ∷ bs) x h = by_test (b.number == k) refl h (found_number k bs x) where

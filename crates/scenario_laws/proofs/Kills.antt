@@ -62,16 +62,16 @@ marked_aborted t n host (l ∷ ls) [] marked = marked
 marked_aborted t n host (l ∷ ls) (m ∷ ms) marked = (marked.0, marked_aborted t n host ls ms marked.1)
 
 -- ----- one tick
-fold_append : {X Y : Type 0} (f : Y → X → Y) (y : Y) (xs zs : List X)
+pub fold_append : {X Y : Type 0} (f : Y → X → Y) (y : Y) (xs zs : List X)
     → fold f y (xs ++ zs) ≡ fold f (fold f y xs) zs
 fold_append f y [] zs = refl
 fold_append f y (x ∷ xs) zs = fold_append f (f y x) xs zs
 
-each_front : (P : Deed ℕ → Type 0) (xs ys : List (Deed ℕ)) → Each P (xs ++ ys) → Each P xs × Each P ys
+pub each_front : (P : Deed ℕ → Type 0) (xs ys : List (Deed ℕ)) → Each P (xs ++ ys) → Each P xs × Each P ys
 each_front P [] ys each = (tt, each)
 each_front P (x ∷ xs) ys each = let rest = each_front P xs ys each.1 in ((each.0, rest.0), rest.1)
 
-rises : (s : Scenario) (p : HostParams) (t : ℕ) (site : At) (deeds : List (Deed ℕ)) → NumbersRise 0 site.scripts
+pub rises : (s : Scenario) (p : HostParams) (t : ℕ) (site : At) (deeds : List (Deed ℕ)) → NumbersRise 0 site.scripts
     → NumbersRise 0 (fold (does (scripts_of s p) t) site deeds).scripts
 rises s p t site [] rise = rise
 rises s p t site (m ∷ deeds) rise =

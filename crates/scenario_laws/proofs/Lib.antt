@@ -1,3 +1,4 @@
+pub mod Gone
 pub mod Own
 pub mod Sockets
 pub mod Kills

@@ -112,9 +112,9 @@ act_silent n at t k numbers host (Notes event) may all = all
 act_silent n at t k numbers host (Listens port) may all = all
 
 -- a script of this number is killed then, and has no step left behind that
-record Ends (n at t : ℕ) (b : Script) : Type 0 where
-  kill : b.number ≡ n → b.kill ≡ Some at
-  left : b.number ≡ n → at < t → b.left ≡ []
+pub record Ends (n at t : ℕ) (b : Script) : Type 0 where
+  pub kill : b.number ≡ n → b.kill ≡ Some at
+  pub left : b.number ≡ n → at < t → b.left ≡ []
 
 not_killed : (at t : ℕ) (o : Option ℕ) → o ≡ Some at → is_killed_at t o ≡ false → (at ≡ t → ⊥)
 not_killed at t o same h now = absurd (true≢false (by_tick ∙ h)) where
@@ -154,7 +154,7 @@ turn_silent s p n at t host x ends all = by_kill (is_killed_at t x.kill) refl wh
       (λ l silent. aborted_silent n at t (is_concerned x.number host l) l silent) host.flows all
   by_kill false h = by_left x.left refl h
 
-none_left : (over : ℕ) (left : List Step) → left ≡ [] → drop over left ≡ []
+pub none_left : (over : ℕ) (left : List Step) → left ≡ [] → drop over left ≡ []
 none_left zero left h = h
 none_left (suc over) [] h = refl
 none_left (suc over) (step ∷ left) h = absurd (cc (h))
@@ -236,7 +236,7 @@ abbrev KilledFrom : List KillLine → (n at k : ℕ) → List AppLine → Type 0
 KilledFrom kills n at k apps =
     (i : ℕ) → k + i ≡ n → IfSome (slice_get apps i) (λ app. kill_tick kills app ≡ Some at)
 
-scripts_end : (kills : List KillLine) (host : List ℕ) (n at k : ℕ) (apps : List AppLine)
+pub scripts_end : (kills : List KillLine) (host : List ℕ) (n at k : ℕ) (apps : List AppLine)
     → KilledFrom kills n at k apps → Each (Ends n at 0) (scripts_on kills host k apps)
 scripts_end kills host n at k [] is = tt
 scripts_end kills host n at k (app ∷ apps) is =
@@ -258,7 +258,7 @@ scripts_end kills host n at k (app ∷ apps) is =
     by_host true rest = (record { kill = λ mine. is 0 (omega arith); left = λ mine early. absurd (omega arith) }, rest)
     by_host false rest = rest
 
-killed_from : (s : Scenario) (n at : ℕ) → IsKilled s n at → KilledFrom s.kills n at 0 s.apps
+pub killed_from : (s : Scenario) (n at : ℕ) → IsKilled s n at → KilledFrom s.kills n at 0 s.apps
 killed_from s n at killed i h =
     let same : i ≡ n = omega arith in
     subst (λ (o : Option AppLine). IfSome o (λ app. kill_tick s.kills app ≡ Some at))
