@@ -225,3 +225,169 @@ ask_left s p n t site rise kills (Some x) found =
       by_test false e rest = ((λ h. absurd (true≢false (sym (itself h) ∙ e))), rest) where
         itself : b.number ≡ n → (b.number == y.number) ≡ true
         itself h = grind (arith, tests, h, number)
+
+-- ----- its tick
+-- Its one turn among the deeds is its kill: at the end it is gone.
+turn_ends : (s : Scenario) (p : HostParams) (n t : ℕ) (site : At) (deeds : List (Deed ℕ)) (b a : Script)
+    → AreByWorkers deeds → NumbersRise 0 site.scripts → Each (KilledAt n t) site.scripts
+    → HadTurn s p t site deeds b a → b.number ≡ n → b.kill ≡ Some t → IsGone n (reached s p t site deeds)
+turn_ends s p n t site deeds b a workers rise kills had mine kill =
+    subst (IsGone n) (sym parts) (deeds_keep s p (IsGone n) t next had.one.later (gone_keeps s p n t) split.1.1
+    (deed_rises s p t 0 found asks rise_found) gone_next)
+  where
+    asks : Deed ℕ
+    asks = record { by = had.one.by; action = Ask b.number }
+
+    found : At
+    found = reached s p t site had.one.earlier
+
+    next : At
+    next = does (scripts_of s p) t found asks
+
+    split : AreByWorkers had.one.earlier × AreByWorkers (asks ∷ had.one.later)
+    split = each_front _ had.one.earlier _ (subst AreByWorkers had.one.all workers)
+
+    rise_found : NumbersRise 0 found.scripts
+    rise_found = rises s p t site had.one.earlier rise
+
+    kills_found : Each (KilledAt n t) found.scripts
+    kills_found =
+        deeds_keep s p (λ x. Each (KilledAt n t) x.scripts) t site had.one.earlier (kills_keep s p n t t) split.0 rise
+        kills
+
+    parts : reached s p t site deeds ≡ fold (does (scripts_of s p) t) next had.one.later
+    parts =
+        ap (fold (does (scripts_of s p) t) site) had.one.all
+        ∙ fold_append (does (scripts_of s p) t) site had.one.earlier _
+
+    now : is_killed_at t b.kill ≡ true
+    now = let e : (t == t) ≡ true = grind (arith, tests) in ap (is_killed_at t) kill ∙ e
+
+    host_next : next.host ≡ (killed t (record { host = found.host; script = b })).host
+    host_next =
+        sym (ap (λ (x : At). x.host) (fold_append (does (scripts_of s p) t) site had.one.earlier (asks ∷ [])))
+        ∙ had.host
+        ∙ ap (λ (c : Bool). (turn_where c (numbers_of p) (address_in s.hosts) t (record {
+          host = found.host;
+          script = b;
+        })).host) now
+
+    left_next : Each (HasNone n) next.scripts
+    left_next =
+        subst (λ (k : ℕ). Each (HasNone n) (does (scripts_of s p) t found (record {
+          by = had.one.by;
+          action = Ask k;
+        })).scripts) (sym mine) (ask_left s p n t found rise_found kills_found _ refl)
+
+    gone_next : IsGone n next
+    gone_next = record {
+      left = left_next;
+      flows = subst (λ (h : Host). Each (IsNotOf n) h.flows) (sym host_next)
+          (subst (λ (k : ℕ). Each (IsNotOf n) (map (λ (l : Live). aborted_where (is_concerned k found.host l) t l)
+          found.host.flows)) (sym mine) (killed_not n t found.host found.host.flows));
+    }
+
+-- ----- every tick
+-- one of the scripts has the number, with what holds of each, or none has it
+one_of : (F : Script → Script → Type 0) (G : Script → Type 0) (n : ℕ) (R : Type 0) (bs az : List Script)
+    → OfEachScript F bs az → Each G bs → ((b a : Script) → F b a → G b → b.number ≡ n → R)
+    → (Each (λ (b : Script). b.number ≡ n → ⊥) bs → R) → R
+one_of F G n R [] [] all each found none = none tt
+one_of F G n R [] (a ∷ az) all each found none = absurd all
+one_of F G n R (b ∷ bs) [] all each found none = absurd all
+one_of F G n R (b ∷ bs) (a ∷ az) all each found none =
+    by_number (b.number == n) refl (λ other. one_of F G n R bs az all.1 each.1 found (λ later. none (other, later)))
+  where
+    by_number : (c : Bool) → (b.number == n) ≡ c → ((b.number ≡ n → ⊥) → R) → R
+    by_number true e rest = found b a all.0 each.0 (same e) where
+      same : (b.number == n) ≡ true → b.number ≡ n
+      same h = grind (arith, tests, h)
+    by_number false e rest = rest (λ same. absurd (true≢false (sym (itself same) ∙ e))) where
+      itself : b.number ≡ n → (b.number == n) ≡ true
+      itself h = grind (arith, tests, h)
+
+abbrev pub IsPast : (n at t : ℕ) → Script → Type 0
+IsPast n at t b = b.number ≡ n → at < t
+
+-- where its kill is over, it is gone
+pub record GoneAfter (n at t : ℕ) (site : At) : Type 0 where
+  pub kills : Each (KilledAt n at) site.scripts
+  pub gone : Each (IsPast n at t) site.scripts → IsGone n site
+
+past_before : (n at t u : ℕ) (bs az : List Script) → OfEachScript (GoesOn t) bs az → (at < u → at < t)
+    → Each (IsPast n at u) az → Each (IsPast n at t) bs
+past_before n at t u [] [] goes earlier past = tt
+past_before n at t u [] (a ∷ az) goes earlier past = absurd goes
+past_before n at t u (b ∷ bs) [] goes earlier past = absurd goes
+past_before n at t u (b ∷ bs) (a ∷ az) goes earlier past =
+    ((λ mine. earlier (past.0 (goes.0.number ∙ mine))), past_before n at t u bs az goes.1 earlier past.1)
+
+none_past : (n at t : ℕ) (bs : List Script) → Each (λ (b : Script). b.number ≡ n → ⊥) bs → Each (IsPast n at t) bs
+none_past n at t [] none = tt
+none_past n at t (b ∷ bs) none = ((λ mine. absurd (none.0 mine)), none_past n at t bs none.1)
+
+still_gone : (s : Scenario) (n at t : ℕ) (frames : List Arrival) (b a : At) → HadTurns s (tick_of t frames b a)
+    → NumbersRise 0 b.scripts → GoneAfter n at t b → Each (IsPast n at t) b.scripts → IsGone n a
+still_gone s n at t frames b a had rise i past =
+    round_keeps s b.host.params (IsGone n) t _ b a (gone_keeps s b.host.params n t) rise had.0 (i.gone past)
+
+gone_leads : (s : Scenario) (n at : ℕ) → Leads s (λ l t site. GoneAfter n at t site)
+gone_leads s n at l t frames b a had rise i = record {
+  kills = round_keeps s p (λ x. Each (KilledAt n at) x.scripts) t _ b a (kills_keep s p n at t) rise had.0 i.kills;
+  gone = λ past. by_tick (at == t) refl past;
+} where
+  p : HostParams
+  p = b.host.params
+
+  first : At
+  first = on_host all_swept b
+
+  goes : OfEachScript (GoesOn t) b.scripts a.scripts
+  goes = all_step s p t first had.0.order b.scripts a.scripts had.1
+
+  in_tick : at ≡ t → IsGone n a
+  in_tick now =
+      one_of (HadTurn s p t first had.0.order) (KilledAt n at) n (IsGone n a) b.scripts a.scripts had.1 i.kills
+      (λ before after turn kills mine. subst (IsGone n) had.0.made (turn_ends s p n t first had.0.order before after
+      had.0.workers rise (subst (λ (u : ℕ). Each (KilledAt n u) b.scripts) now i.kills) turn mine
+      (subst (λ (u : ℕ). before.kill ≡ Some u) now (kills mine))))
+      (λ none. still_gone s n at t frames b a had rise i (none_past n at t b.scripts none))
+
+  by_tick : (c : Bool) → (at == t) ≡ c → Each (IsPast n at (t + 1)) a.scripts → IsGone n a
+  by_tick true e past = in_tick (grind (arith, tests, e))
+  by_tick false e past =
+      still_gone s n at t frames b a had rise i
+      (past_before n at t (t + 1) b.scripts a.scripts goes (λ h. earlier h) past)
+    where
+      earlier : at < t + 1 → at < t
+      earlier h = grind (arith, tests, e, h)
+
+-- ----- a run
+ends_kill : (n at t : ℕ) (bs : List Script) → Each (Ends n at t) bs → Each (KilledAt n at) bs
+ends_kill n at t [] each = tt
+ends_kill n at t (b ∷ bs) each = (each.0.kill, ends_kill n at t bs each.1)
+
+past_none : (n at : ℕ) (bs : List Script) → Each (IsPast n at 0) bs → Each (HasNone n) bs
+past_none n at [] past = tt
+past_none n at (b ∷ bs) past = ((λ mine. absurd (never (past.0 mine))), past_none n at bs past.1) where
+  never : at < 0 → ⊥
+  never h = omega arith
+
+start_gone : (s : Scenario) (n at : ℕ) (lines : List HostLine) → IsKilled s n at
+    → Each (λ (l : HostLine). GoneAfter n at 0 (site_of s l)) lines
+start_gone s n at [] killed = tt
+start_gone s n at (l ∷ ls) killed = (
+  record {
+    kills = ends_kill n at 0 (scripts_on s.kills l.name 0 s.apps)
+        (scripts_end s.kills l.name n at 0 s.apps (killed_from s n at killed));
+    gone = λ past. record { left = past_none n at (scripts_on s.kills l.name 0 s.apps) past; flows = tt };
+  },
+  start_gone s n at ls killed,
+)
+
+pub gone_stays : (s : Scenario) (n at : ℕ) → IsKilled s n at → Stays s (λ l t site. GoneAfter n at t site)
+gone_stays s n at killed = record { start = start_gone s n at s.hosts killed; leads = gone_leads s n at }
+
+pub all_past : (n at t : ℕ) (bs : List Script) → at < t → Each (IsPast n at t) bs
+all_past n at t [] h = tt
+all_past n at t (b ∷ bs) h = ((λ mine. h), all_past n at t bs h)
