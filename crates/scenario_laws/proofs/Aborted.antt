@@ -25,7 +25,7 @@ use Rattle.scenario_laws.proofs.Deeds.{IsWorkerCall, IsWorkerEntry, Worked, OfEa
 use Rattle.scenario_laws.proofs.FlowByFlow.{IsNew, KeepsFlow, IsListed}
 
 -- ----- histories
-aborts_append : (h more : List Entry) → abort_ticks (h ++ more) ≡ abort_ticks h ++ abort_ticks more
+pub aborts_append : (h more : List Entry) → abort_ticks (h ++ more) ≡ abort_ticks h ++ abort_ticks more
 aborts_append [] more = refl
 aborts_append (x ∷ h) more = by_abort (is_abort_by_slow x.caller x.call) (aborts_append h more) where
   by_abort : (b : Bool) → abort_ticks (h ++ more) ≡ abort_ticks h ++ abort_ticks more

@@ -17,6 +17,12 @@ use Rattle.scenario_laws.proofs.AllTurned.{NumbersRise, round_turned}
 use Rattle.scenario_laws.proofs.InTurns.{AllRise, start_rises, tick_of, all_step}
 use Rattle.scenario_laws.proofs.Deeds.{At, Keeps, round_keeps}
 
+-- two facts of each
+pub each_two : {X : Type 0} (P Q R : X → Type 0) → ((x : X) → P x → Q x → R x) → (xs : List X) → Each P xs → Each Q xs
+    → Each R xs
+each_two P Q R both [] p q = tt
+each_two P Q R both (x ∷ xs) p q = (both x p.0 q.0, each_two P Q R both xs p.1 q.1)
+
 -- A tick leads from the fact of it to that of the next one.
 abbrev pub Leads : Scenario → (HostLine → ℕ → At → Type 0) → Type 0
 Leads s I =
@@ -144,3 +150,12 @@ each_host s log I P run keep each =
     subst (λ (r : RunLog). Each (P r.ticks) r.hosts) (sym run.2)
     (each_of I (P run.0.ticks) run.0.ticks s.hosts run.0.world (each run.0.ticks)
     (end_kept s I s.limit 0 (at_start s) run.0 run.1 keep (starts s I s.hosts keep.start) (start_rises s s.hosts)))
+
+-- two such facts
+pub both_stay : (s : Scenario) (I J : HostLine → ℕ → At → Type 0) → Stays s I → Stays s J
+    → Stays s (λ l t site. I l t site × J l t site)
+both_stay s I J i j = record {
+  start = each_two (λ (l : HostLine). I l 0 (site_of s l)) (λ (l : HostLine). J l 0 (site_of s l)) _
+      (λ l x y. (x, y)) s.hosts i.start j.start;
+  leads = λ l t frames b a had rise x. (i.leads l t frames b a had rise x.0, j.leads l t frames b a had rise x.1);
+}

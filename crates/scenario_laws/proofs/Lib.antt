@@ -1,3 +1,4 @@
+pub mod Held
 pub mod Gone
 pub mod Own
 pub mod Sockets

@@ -28,7 +28,7 @@ use Rattle.scenario_laws.proofs.AllKept.{Stays, leads_by, each_host}
 use Rattle.scenario_laws.proofs.Kills.{scripts_know, none_named}
 
 -- ----- histories
-in_append : (holder : Holder) (h more : List Entry)
+pub in_append : (holder : Holder) (h more : List Entry)
     → holder_in holder (h ++ more) ≡ holder_in (holder_in holder h) more
 in_append holder [] more = refl
 in_append holder (x ∷ h) more = in_append (holder_after holder x.caller x.call) h more
