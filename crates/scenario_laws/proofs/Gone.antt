@@ -1,5 +1,5 @@
 -- From the tick of its kill on an application has no socket.
-use Rattle.std.proofs.Common.{◌≡◌, ℕ, zero, suc, ◌+◌, ◌≤◌, ◌<◌, ◌==◌, Bool, true, false, cond, List, [], ◌∷◌, ◌++◌, map}
+use Rattle.std.proofs.Common.{◌≡◌, ℕ, ◌+◌, ◌≤◌, ◌<◌, ◌==◌, Bool, true, false, cond, List, [], ◌∷◌, map}
 use Rattle.std.proofs.Common.{fold, Option, Some, None, refl, sym, subst, ap, ◌∙◌, true≢false, arith, tests}
 use Rattle.std.specs.List.{find}
 use Rattle.tas_model.specs.declared.entry.HostParams.{HostParams}

@@ -1,9 +1,9 @@
 -- In every run an application makes calls on its own sockets alone.
 use Rattle.std.proofs.Common.{◌≡◌, ℕ, ◌+◌, ◌≤◌, ◌==◌, ◌&&◌, not, Bool, true, false, List, [], ◌∷◌, ◌++◌, max, refl, sym}
-use Rattle.std.proofs.Common.{slice_get, subst, ap, ◌∙◌, true≢false, arith, tests}
+use Rattle.std.proofs.Common.{slice_get, subst, ap, ◌∙◌, arith, tests}
 use Rattle.tas_model.specs.declared.entry.Entry.{Entry}
 use Rattle.tas_model.specs.declared.entry.Caller.{Caller}
-use Rattle.tas_model.specs.declared.entry.Caller.TheVariants.{Slow, Core, App}
+use Rattle.tas_model.specs.declared.entry.Caller.TheVariants.{Slow, App}
 use Rattle.tas_model.specs.declared.entry.Call.{Call}
 use Rattle.tas_model.specs.declared.entry.Call.TheVariants as calls
 use Rattle.tas_model.specs.LegalHistory.{last_tick}

@@ -1,5 +1,5 @@
 -- The sockets that an application's names stand for are its own.
-use Rattle.std.proofs.Common.{◌≡◌, ℕ, zero, suc, ◌+◌, ◌<◌, ◌==◌, not, Bool, true, false, List, [], ◌∷◌, ◌++◌, length, map}
+use Rattle.std.proofs.Common.{◌≡◌, ℕ, zero, suc, ◌<◌, ◌==◌, not, Bool, true, false, List, [], ◌∷◌, ◌++◌, length, map}
 use Rattle.std.proofs.Common.{filter, position, slice_get, bytes_eq, Option, Some, None, if◌then◌else◌, refl, sym, subst}
 use Rattle.std.proofs.Common.{ap, ◌∙◌, ◌&&◌, true≢false, arith, tests}
 use Rattle.std.proofs.lemmas.List.Quantifiers.{position-Some}
@@ -9,8 +9,8 @@ use Rattle.host_rounds.specs.Hosts.{Live, Host, Holder, Waiting, Application, Gi
 use Rattle.host_rounds.specs.Hosts.{is_running}
 use Rattle.host_rounds.proofs.AllLegal.{each_push}
 use Rattle.scenario_text.specs.declared.scenario.Step.{Step}
-use Rattle.scenario_runs.specs.Applications.{Bound, AListener, ASocket, Script, Turn, bound_in, flow_of, is_concerned}
-use Rattle.scenario_runs.specs.Applications.{let_go, aborted_where}
+use Rattle.scenario_runs.specs.Applications.{Bound, AListener, ASocket, Turn, bound_in, flow_of, is_concerned}
+use Rattle.scenario_runs.specs.Applications.{aborted_where}
 use Rattle.scenario_laws.proofs.Acts.{Act, Rests, Calls, Accepts, Connects, GivesUp, Notes, Listens, leaves, MayAct, Names}
 use Rattle.scenario_laws.proofs.Acts.{IsNamed, MayName}
 use Rattle.scenario_laws.proofs.Deeds.{Worked, OfEachFlow}

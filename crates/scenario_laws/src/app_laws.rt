@@ -1,13 +1,14 @@
-ghost use Rattle.std.specs.Prelude.{◌≡◌, ℕ, ◌≤◌, ◌<◌, length, true, false};
+ghost use Rattle.std.specs.Prelude.{◌≡◌, ℕ, ◌≤◌, ◌<◌, [], ◌∷◌, length, true, false};
 ghost use Rattle.host_rounds.specs.Logs.{HostRun, Flow, RunLog};
 ghost use Rattle.host_rounds.specs.Lists.{Each};
-ghost use Rattle.host_rounds.specs.Hosts.{first_port};
+ghost use Rattle.host_rounds.specs.Hosts.{first_port, Waiting, Application};
 ghost use Rattle.scenario_text.specs.declared.scenario.Scenario.{Scenario};
 ghost use Rattle.scenario_ranges.specs.Ranges.{IsInRange};
 ghost use Rattle.scenario_runs.specs.Runs.{Run};
 ghost use Rattle.scenario_laws.specs.Ticks.{InEachTick};
 ghost use Rattle.scenario_laws.specs.Ports.{begins_by_connect, connect_ports, ports_from, all_ports, had_no_port};
-ghost use Rattle.scenario_laws.specs.Kills.{IsKilled, CalledBefore, AbortsByKill, HadKills};
+ghost use Rattle.scenario_laws.specs.Kills.{IsKilled, CalledBefore, abort_ticks, AbortsByKill, HadKills};
+ghost use Rattle.scenario_laws.specs.Sockets.{holder_in, AreByHolder, entries_before};
 
 /// The connects of a host get the ports from 49,152 on, one after the other and each once, where the scenario keeps
 /// the ranges of its grammar, as each does that is read from a text: there nobody listens on one of these ports.
@@ -37,4 +38,21 @@ pub fn kills_end_applications()
     // No flow of a log has two such Aborts, and each is of the tick of a kill of an application of its host.
     ensures once { (s : Scenario) (log : RunLog) → Run s log
         → Each (λ (h : HostRun). Each (AbortsByKill s h.name) h.flows) log.hosts }
+    // Where the run came to the tick of the kill, each flow that the application had before that tick, as its history
+    // shows, has one such Abort, which is of this tick,
+    ensures held { (s : Scenario) (log : RunLog) (number at : ℕ) → IsKilled s number at → at < log.ticks → Run s log
+        → Each (λ (h : HostRun). Each (λ (f : Flow).
+        holder_in Waiting (entries_before at f.entries) ≡ Application number → abort_ticks f.entries ≡ at ∷ [])
+        h.flows) log.hosts }
+    // and the application has no flow in the end.
+    ensures left { (s : Scenario) (log : RunLog) (number at : ℕ) → IsKilled s number at → at < log.ticks → Run s log
+        → Each (λ (h : HostRun). Each (λ (f : Flow).
+        holder_in Waiting f.entries ≡ Application number → ⊥) h.flows) log.hosts }
+{}
+
+/// Each call of an application is on a socket that it has, as the history of the flow shows, or gets it one that
+/// nobody has; and the slow path aborts the flow of an application in the tick of its kill alone.
+pub fn applications_use_their_own_sockets()
+    ensures { (s : Scenario) (log : RunLog) → Run s log
+        → Each (λ (h : HostRun). Each (λ (f : Flow). AreByHolder s Waiting f.entries) h.flows) log.hosts }
 {}
