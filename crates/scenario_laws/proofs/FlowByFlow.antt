@@ -102,9 +102,9 @@ ready_keeps P f port None keeps ready = tt
 ready_keeps P f port (Some l) keeps ready = keeps l ready
 
 -- ----- acts
-act_keeps : (K : (number at : ℕ) → Type 0) (P : Live → Type 0) (Q : List Live → Type 0) (numbers : Numbers) (t n : ℕ) (step : Step)
-    (host : Host) (act : Act) → KeepsFlow K t P → IsListed t P Q → MayAct step host act → IsOwned host n act
-    → Q host.flows → Q (leaves numbers t n host act).flows
+act_keeps : (K : (number at : ℕ) → Type 0) (P : Live → Type 0) (Q : List Live → Type 0) (numbers : Numbers)
+    (t n : ℕ) (step : Step) (host : Host) (act : Act) → KeepsFlow K t P → IsListed t P Q → MayAct step host act
+    → IsOwned host n act → Q host.flows → Q (leaves numbers t n host act).flows
 act_keeps K P Q numbers t n step host Rests keeps listed may own q = q
 act_keeps K P Q numbers t n step host (Calls k call offer) keeps listed may own q =
     listed.each host.flows _ (at_carry P k (λ (l : Live). with_call l (App n) t call offer) host.flows

@@ -60,7 +60,8 @@ act_not n t k numbers host (Calls flow call offer) other each =
     each_at (IsNotOf n) flow (λ (l : Live). with_call l (App k) t call offer) (λ l no_one. no_one) host.flows each
 act_not n t k numbers host (Accepts flow) other each =
     each_at (IsNotOf n) flow (λ (l : Live). record l { holder = Application k }) (λ l no_one. not_other k n other) _
-    (each_at (IsNotOf n) flow (λ (l : Live). with_call l (App k) t calls.Accept []) (λ l no_one. no_one) host.flows each)
+    (each_at (IsNotOf n) flow (λ (l : Live). with_call l (App k) t calls.Accept []) (λ l no_one. no_one) host.flows
+    each)
 act_not n t k numbers host (Connects slot tuple) other each =
     each_push (IsNotOf n) host.flows _ each (not_other k n other)
 act_not n t k numbers host (GivesUp flow call) other each =

@@ -226,7 +226,8 @@ flows_two P Q R both hs p q =
 
 pub held_are_aborted : (s : Scenario) (log : RunLog) (n at : ℕ) → IsKilled s n at → at < log.ticks → Run s log
     → Each (λ (h : HostRun). Each (λ (f : Flow).
-    holder_in Waiting (entries_before at f.entries) ≡ Application n → abort_ticks f.entries ≡ at ∷ []) h.flows) log.hosts
+    holder_in Waiting (entries_before at f.entries) ≡ Application n → abort_ticks f.entries ≡ at ∷ []) h.flows)
+    log.hosts
 held_are_aborted s log n at killed past run =
     flows_two Third Fourth Last (λ h f x y mine. aborted_once s n at f.params f.entries killed x.0 x.1 x.2 y.0 y.1 mine)
     log.hosts

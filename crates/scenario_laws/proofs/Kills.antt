@@ -81,9 +81,9 @@ abbrev OnceAll : (K : (number at : ℕ) → Type 0) → (tick : ℕ) → At → 
 OnceAll K t site = SiteFlows K (Each (AbortsOnce K t)) site
 
 -- Its one turn is the kill: the flows that it concerns then are aborted at the end of the deeds.
-turn_kills : (s : Scenario) (p : HostParams) (K : (number at : ℕ) → Type 0) (t : ℕ) (site : At) (deeds : List (Deed ℕ)) (b a : Script)
-    → AreByWorkers deeds → NumbersRise 0 site.scripts → OnceAll K t site → (had : HadTurn s p t site deeds b a)
-    → is_killed_at t b.kill ≡ true
+turn_kills : (s : Scenario) (p : HostParams) (K : (number at : ℕ) → Type 0) (t : ℕ) (site : At)
+    (deeds : List (Deed ℕ)) (b a : Script) → AreByWorkers deeds → NumbersRise 0 site.scripts → OnceAll K t site
+    → (had : HadTurn s p t site deeds b a) → is_killed_at t b.kill ≡ true
     → AreAborted b.number t (reached s p t site had.one.earlier).host (reached s p t site had.one.earlier).host.flows
     (reached s p t site deeds).host.flows
 turn_kills s p K t site deeds b a workers rise once had kill =
@@ -155,7 +155,8 @@ turn_kills s p K t site deeds b a workers rise once had kill =
 abbrev OnceIn : Scenario → HostLine → ℕ → At → Type 0
 OnceIn s l t site = OnceAll (IsKilledOn s l.name) t site
 
-later : (K : (number at : ℕ) → Type 0) (t : ℕ) (ls : List Live) → Each (AbortsOnce K t) ls → Each (AbortsOnce K (t + 1)) ls
+later : (K : (number at : ℕ) → Type 0) (t : ℕ) (ls : List Live) → Each (AbortsOnce K t) ls
+    → Each (AbortsOnce K (t + 1)) ls
 later K t [] each = tt
 later K t (l ∷ ls) each =
     let low : last_tick 0 l.flow.entries ≤ t = each.0.low in (
@@ -199,7 +200,8 @@ scripts_know s host k (app ∷ apps) are =
         }) ∷ []
         else [])
         ++ scripts_on s.kills host (k + 1) apps)
-    by_host true e rest = (λ at kill. record { killed = record { app = app; line = here; kill = kill }; host = e }, rest)
+    by_host true e rest =
+        (λ at kill. record { killed = record { app = app; line = here; kill = kill }; host = e }, rest)
     by_host false e rest = rest
 
 pub none_named : (kills : List KillLine) (host : List ℕ) (k : ℕ) (apps : List AppLine)
@@ -254,8 +256,8 @@ all_kills s l x had rise once =
     let first : At = at_first x in
     let p : HostParams = x.before.params in
     let once_first : OnceAll (IsKilledOn s l.name) x.tick first =
-    sweep_keeps s p (OnceAll (IsKilledOn s l.name) x.tick) x.tick (record { host = x.before; scripts = x.scripts_before })
-    (once_keeps s l p x.tick) once in (
+    sweep_keeps s p (OnceAll (IsKilledOn s l.name) x.tick) x.tick
+    (record { host = x.before; scripts = x.scripts_before }) (once_keeps s l p x.tick) once in (
       had.0,
       of_each (HadTurn s p x.tick first had.0.order) _ (λ b a one. (
         one,

@@ -1,7 +1,7 @@
 -- The sockets that an application's names stand for are its own.
 use Rattle.std.proofs.Common.{◌≡◌, ℕ, zero, suc, ◌<◌, ◌==◌, not, Bool, true, false, List, [], ◌∷◌, ◌++◌, length, map}
-use Rattle.std.proofs.Common.{filter, position, slice_get, bytes_eq, Option, Some, None, if◌then◌else◌, refl, sym, subst}
-use Rattle.std.proofs.Common.{ap, ◌∙◌, ◌&&◌, true≢false, arith, tests}
+use Rattle.std.proofs.Common.{filter, position, slice_get, bytes_eq, Option, Some, None, if◌then◌else◌, refl, sym}
+use Rattle.std.proofs.Common.{subst, ap, ◌∙◌, ◌&&◌, true≢false, arith, tests}
 use Rattle.std.proofs.lemmas.List.Quantifiers.{position-Some}
 use Rattle.std.proofs.lemmas.Option.{get_or_from_slice_get}
 use Rattle.host_rounds.specs.Lists.{Each, change_at}
@@ -11,8 +11,8 @@ use Rattle.host_rounds.proofs.AllLegal.{each_push}
 use Rattle.scenario_text.specs.declared.scenario.Step.{Step}
 use Rattle.scenario_runs.specs.Applications.{Bound, AListener, ASocket, Turn, bound_in, flow_of, is_concerned}
 use Rattle.scenario_runs.specs.Applications.{aborted_where}
-use Rattle.scenario_laws.proofs.Acts.{Act, Rests, Calls, Accepts, Connects, GivesUp, Notes, Listens, leaves, MayAct, Names}
-use Rattle.scenario_laws.proofs.Acts.{IsNamed, MayName}
+use Rattle.scenario_laws.proofs.Acts.{Act, Rests, Calls, Accepts, Connects, GivesUp, Notes, Listens, leaves, MayAct}
+use Rattle.scenario_laws.proofs.Acts.{Names, IsNamed, MayName}
 use Rattle.scenario_laws.proofs.Deeds.{Worked, OfEachFlow}
 
 -- ----- who has which socket
@@ -272,8 +272,8 @@ same_number : (m n : ℕ) → Application m ≡ Application n → m ≡ n
 same_number m n h = cc (h)
 
 -- The act of one application leaves the others their sockets,
-pub others_still : (numbers : Numbers) (t n : ℕ) (step : Step) (x : Turn) (act : Act) (after : Names) → x.script.number ≡ n
-    → MayAct step x.host act → MayName x act after → AreOwn x.host.flows n x.script.names
+pub others_still : (numbers : Numbers) (t n : ℕ) (step : Step) (x : Turn) (act : Act) (after : Names)
+    → x.script.number ≡ n → MayAct step x.host act → MayName x act after → AreOwn x.host.flows n x.script.names
     → (m : ℕ) → (m ≡ n → ⊥) → (k : ℕ) → holder_at x.host.flows k ≡ Application m
     → holder_at (leaves numbers t n x.host act).flows k ≡ Application m
 others_still numbers t n step x Rests after mine may named own m other k h = h
