@@ -1,7 +1,7 @@
 -- In every run of a scenario whose grammar is kept the connects of a host get its ports in order.
 use Rattle.std.proofs.Common.{◌≡◌, ℕ, zero, suc, ◌+◌, ◌≤◌, ◌<◌, ◌==◌, ◌||◌, Bool, true, false, cond, List, []}
 use Rattle.std.proofs.Common.{◌∷◌, ◌++◌, length, drop, map, filter, Some, if◌then◌else◌, bytes_eq}
-use Rattle.std.proofs.Common.{refl, sym, subst, ap, ◌∙◌, true≢false, arith, tests}
+use Rattle.std.proofs.Common.{nat_lt, ◌^◌, refl, sym, subst, ap, ◌∙◌, true≢false, arith, tests}
 use Rattle.std.specs.List.{list_any, find}
 use Rattle.std.proofs.lemmas.List.Folds.{list_any-append}
 use Rattle.tas_model.specs.declared.entry.HostParams.{HostParams}
@@ -25,6 +25,7 @@ use Rattle.scenario_text.specs.declared.scenario.KillLine.{KillLine}
 use Rattle.scenario_ranges.specs.Ranges.{IsStepInRange, IsHostInRange, IsInRange}
 use Rattle.scenario_runs.specs.Applications.{Script, Turn, is_concerned, aborted_where, killed, is_killed_at}
 use Rattle.scenario_runs.specs.Applications.{goes_on, turn_where}
+use Rattle.scenario_runs.specs.Applications.{opens_where, connects, refused}
 use Rattle.scenario_runs.specs.Worlds.{numbers_of, address_in, scripts_on, kill_tick}
 use Rattle.scenario_runs.specs.Runs.{Run}
 use Rattle.scenario_laws.specs.Ports.{begins_by_connect, connect_ports, ports_from, all_ports, is_port_wanting}
@@ -373,3 +374,17 @@ ports_of_listeners s log range run =
     each_host s log Right
     (λ ticks h. Each (λ (f : Flow). begins_by_connect f.entries ≡ false → f.tuple.lport < first_port) h.flows) run
     (ports_stay s range) (λ t l site right. low_flows site.host.flows right.host.flows.low)
+
+-- ----- no port left
+where_none : (left : Bool) (numbers : Numbers) (slot port t : ℕ) (socket : List ℕ) (raddr rport : ℕ) (x : Turn)
+    → left ≡ false → opens_where left numbers slot port t socket raddr rport x ≡ refused true t raddr rport x
+where_none true numbers slot port t socket raddr rport x h = absurd (true≢false h)
+where_none false numbers slot port t socket raddr rport x h = refl
+
+pub none_left_refused : (numbers : Numbers) (slot t : ℕ) (socket : List ℕ) (raddr rport : ℕ) (x : Turn)
+    → ports_given x.host ≡ all_ports
+    → connects numbers (Some slot) t socket raddr rport x ≡ refused true t raddr rport x
+none_left_refused numbers slot t socket raddr rport x h =
+    let past : 65536 ≤ first_port + ports_given x.host = omega arith in
+    where_none (nat_lt (first_port + ports_given x.host) (2 ^ 16)) numbers slot (first_port + ports_given x.host) t
+    socket raddr rport x (grind (arith, tests, past))

@@ -1,4 +1,5 @@
 use Rattle.scenario_laws.proofs.PortsKept.{ports_in_order, ports_most, ports_wanting, ports_of_listeners}
+use Rattle.scenario_laws.proofs.PortsKept.{none_left_refused}
 use Rattle.scenario_laws.proofs.app_laws.connects_have_ports_in_order.Goals as goal
 
 pub returns-clause-ports : goal.returns-clause-ports
@@ -6,6 +7,9 @@ returns-clause-ports c = ports_in_order
 
 pub returns-clause-most : goal.returns-clause-most
 returns-clause-most c = ports_most
+
+pub returns-clause-refused : goal.returns-clause-refused
+returns-clause-refused c = none_left_refused
 
 pub returns-clause-wanting : goal.returns-clause-wanting
 returns-clause-wanting c = ports_wanting
