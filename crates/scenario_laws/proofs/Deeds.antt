@@ -1,5 +1,5 @@
 -- What each deed of a tick keeps of a host and its scripts, all of them keep.
-use Rattle.std.proofs.Common.{◌≡◌, ℕ, zero, suc, ◌==◌, ◌&&◌, Bool, true, false, List, [], ◌∷◌, ◌++◌, map, fold}
+use Rattle.std.proofs.Common.{◌≡◌, ℕ, zero, suc, ◌==◌, ◌&&◌, Bool, true, false, cond, List, [], ◌∷◌, ◌++◌, map, fold}
 use Rattle.std.proofs.Common.{Option, Some, None, refl, sym, subst, ap, ◌∙◌, true≢false, append_assoc, append-nil}
 use Rattle.std.specs.List.{find}
 use Rattle.tas_model.specs.declared.entry.HostParams.{HostParams}
@@ -182,6 +182,17 @@ first_worked t test f each (l ∷ ls) = by_test (test l) (first_worked t test f 
   by_test false rest = (stays t l, rest)
 
 -- ----- what is kept
+-- what holds of each holds of one that is found
+pub found_has : (P : Script → Type 0) (test : Script → Bool) (bs : List Script) (x : Script) → find test bs ≡ Some x
+    → Each P bs → P x
+found_has P test [] x found each = absurd (cc (found))
+found_has P test (b ∷ bs) x found each =
+    by_test (test b) found (λ later. found_has P test bs x later each.1)
+  where
+    by_test : (c : Bool) → cond c (Some b) (find test bs) ≡ Some x → (find test bs ≡ Some x → P x) → P x
+    by_test true h rest = let same : b ≡ x = cc (h) in subst P same each.0
+    by_test false h rest = rest h
+
 abbrev pub At : Type 0
 At = Site (List Script)
 

@@ -31,7 +31,7 @@ use Rattle.scenario_laws.proofs.Deeds.{At, Worked, OfEachFlow, Keeps}
 use Rattle.scenario_laws.proofs.Sockets.{holder_by, holder_at, AreOwn, own_still, same_holders, push_held, IsOwned}
 use Rattle.scenario_laws.proofs.Sockets.{act_owned, others_still, own_after, kill_leaves}
 use Rattle.scenario_laws.proofs.AllTurned.{NumbersRise}
-use Rattle.scenario_laws.proofs.PortsKept.{found_has}
+use Rattle.scenario_laws.proofs.Deeds.{found_has}
 
 -- a flow with its first entry alone, by which it was opened
 pub record IsNew (t : ℕ) (l : Live) : Type 0 where

@@ -25,19 +25,14 @@ use Rattle.scenario_laws.proofs.AllTurned.{NumbersRise, found_number, deed_rises
 use Rattle.scenario_laws.proofs.Deeds.{At, Worked, OfEachFlow, AreByWorkers, Keeps, deeds_keep, round_keeps}
 use Rattle.scenario_laws.proofs.InTurns.{tick_of, all_step}
 use Rattle.scenario_laws.proofs.AllKept.{Stays, Leads}
-use Rattle.scenario_laws.proofs.PortsKept.{found_has}
+use Rattle.scenario_laws.proofs.Deeds.{found_has}
+use Rattle.scenario_laws.proofs.Sockets.{not_waiting, not_given}
 use Rattle.scenario_laws.proofs.Silent.{Ends, none_left, scripts_end, killed_from}
 use Rattle.scenario_laws.proofs.Kills.{fold_append, each_front, rises}
 
 -- ----- no socket
 abbrev pub IsNotOf : (number : ℕ) → Live → Type 0
 IsNotOf n l = l.holder ≡ Application n → ⊥
-
-not_waiting : (n : ℕ) → Waiting ≡ Application n → ⊥
-not_waiting n h = absurd (cc (h))
-
-not_given : (n : ℕ) → GivenUp ≡ Application n → ⊥
-not_given n h = absurd (cc (h))
 
 not_other : (m n : ℕ) → (m ≡ n → ⊥) → Application m ≡ Application n → ⊥
 not_other m n other h = other (cc (h))

@@ -20,6 +20,7 @@ use Rattle.scenario_laws.specs.Sockets.{holder_after, holder_in, MayAbort, MayEn
 use Rattle.scenario_laws.proofs.Aborted.{aborts_append}
 use Rattle.scenario_laws.proofs.AllTicks.{hosts_legal}
 use Rattle.scenario_laws.proofs.AllKept.{both_stay, each_host, each_two}
+use Rattle.scenario_laws.proofs.Sockets.{not_waiting}
 use Rattle.scenario_laws.proofs.Silent.{killed_is_silent}
 use Rattle.scenario_laws.proofs.Kills.{hosts_once}
 use Rattle.scenario_laws.proofs.Own.{in_append, OwnFlow, OwnIn, own_stays, calls_by_holders}
@@ -87,9 +88,6 @@ one_kill s n k at a b =
     let same : a.app ≡ b.app = cc (sym a.line ∙ b.line) in
     let ticks : Some k ≡ Some at = sym a.kill ∙ ap (kill_tick s.kills) same ∙ b.kill in
     cc (ticks)
-
-not_waiting : (n : ℕ) → Waiting ≡ Application n → ⊥
-not_waiting n h = absurd (cc (h))
 
 same_app : (m n : ℕ) → Application m ≡ Application n → App m ≡ App n
 same_app m n h = let same : m ≡ n = cc (h) in ap App same

@@ -1,8 +1,8 @@
 -- In every run of a scenario whose grammar is kept the connects of a host get its ports in order.
-use Rattle.std.proofs.Common.{◌≡◌, ℕ, zero, suc, ◌+◌, ◌≤◌, ◌<◌, ◌==◌, ◌||◌, Bool, true, false, cond, List, []}
-use Rattle.std.proofs.Common.{◌∷◌, ◌++◌, length, drop, map, filter, Some, if◌then◌else◌, bytes_eq}
+use Rattle.std.proofs.Common.{◌≡◌, ℕ, zero, suc, ◌+◌, ◌≤◌, ◌<◌, ◌==◌, ◌||◌, Bool, true, false, List, []}
+use Rattle.std.proofs.Common.{◌∷◌, ◌++◌, length, drop, map, Some, if◌then◌else◌, bytes_eq}
 use Rattle.std.proofs.Common.{nat_lt, ◌^◌, refl, sym, subst, ap, ◌∙◌, true≢false, arith, tests}
-use Rattle.std.specs.List.{list_any, find}
+use Rattle.std.specs.List.{list_any}
 use Rattle.std.proofs.lemmas.List.Folds.{list_any-append}
 use Rattle.tas_model.specs.declared.entry.HostParams.{HostParams}
 use Rattle.tas_model.specs.declared.entry.Caller.TheVariants.{Slow, App}
@@ -35,7 +35,8 @@ use Rattle.scenario_laws.proofs.Goes.{turn_goes}
 use Rattle.scenario_laws.proofs.Acts.{Act, Rests, Calls, Accepts, Connects, GivesUp, Notes, Listens, leaves}
 use Rattle.scenario_laws.proofs.Acts.{IsPlainCall}
 use Rattle.scenario_laws.proofs.Acts.{IsLastCall, MayNote, MayAct, step_acts}
-use Rattle.scenario_laws.proofs.Deeds.{At, IsFrameLine, Keeps}
+use Rattle.scenario_laws.proofs.Sockets.{each_filter}
+use Rattle.scenario_laws.proofs.Deeds.{found_has, At, IsFrameLine, Keeps}
 use Rattle.scenario_laws.proofs.AllKept.{Stays, leads_by, each_host}
 use Rattle.scenario_laws.proofs.AllPorts.{AllAlike, BegunAlike, called_alike, alike, all_worked_alike, at_alike}
 use Rattle.scenario_laws.proofs.AllPorts.{map_alike, IsAtListener, ports_of, FlowsRight, ports_alike, right_alike}
@@ -174,13 +175,6 @@ act_right numbers t n step host (Listens port) may range right =
     (line_right host t (events.Listen n port true) (λ h. absurd (true≢false (sym h))) right)
 
 -- ----- a kill
-each_filter : {X : Type 0} (P : X → Type 0) (test : X → Bool) (xs : List X) → Each P xs → Each P (filter test xs)
-each_filter P test [] each = tt
-each_filter {X} P test (x ∷ xs) each = by_test (test x) (each_filter P test xs each.1) where
-  by_test : (b : Bool) → Each P (filter test xs) → Each P (if b then x ∷ filter test xs else filter test xs)
-  by_test true rest = (each.0, rest)
-  by_test false rest = rest
-
 aborted_alike : (concerned : Bool) (t : ℕ) (l : Live) → BegunAlike l (aborted_where concerned t l)
 aborted_alike true t l =
     let called : BegunAlike l (with_call l Slow t calls.Abort []) = called_alike l Slow t calls.Abort [] refl in
@@ -237,17 +231,6 @@ turn_in_range s p t host x range = by_kill (is_killed_at t x.kill) refl where
 record SiteRight (site : At) : Type 0 where
   host : HostRight site.host
   scripts : Each AllInRange site.scripts
-
--- what holds of each holds of one that is found
-pub found_has : (P : Script → Type 0) (test : Script → Bool) (bs : List Script) (x : Script) → find test bs ≡ Some x
-    → Each P bs → P x
-found_has P test [] x found each = absurd (cc (found))
-found_has P test (b ∷ bs) x found each =
-    by_test (test b) found (λ later. found_has P test bs x later each.1)
-  where
-    by_test : (c : Bool) → cond c (Some b) (find test bs) ≡ Some x → (find test bs ≡ Some x → P x) → P x
-    by_test true h rest = let same : b ≡ x = cc (h) in subst P same each.0
-    by_test false h rest = rest h
 
 listened_below : (port : ℕ) (ls : List Listener) → Each IsBelow ls
     → list_any (λ (l : Listener). l.port == port) ls ≡ true → port < first_port

@@ -30,7 +30,7 @@ use Rattle.scenario_laws.proofs.Goes.{turn_goes}
 use Rattle.scenario_laws.proofs.Acts.{Act, Rests, Calls, Accepts, Connects, GivesUp, Notes, Listens, leaves, step_acts}
 use Rattle.scenario_laws.proofs.Deeds.{At, IsWorkerEntry, Worked, OfEachFlow, call_low, Keeps}
 use Rattle.scenario_laws.proofs.AllKept.{Stays, leads_by, each_host}
-use Rattle.scenario_laws.proofs.PortsKept.{found_has}
+use Rattle.scenario_laws.proofs.Deeds.{found_has}
 
 -- ----- one flow
 -- no call of the application in the tick `at` or later; and no entry of a later tick than t

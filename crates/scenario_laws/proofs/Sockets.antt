@@ -23,10 +23,10 @@ holder_by (Some l) = l.holder
 abbrev pub holder_at : List Live → (flow : ℕ) → Holder
 holder_at ls k = holder_by (slice_get ls k)
 
-not_waiting : (n : ℕ) → Waiting ≡ Application n → ⊥
+pub not_waiting : (n : ℕ) → Waiting ≡ Application n → ⊥
 not_waiting n h = absurd (cc (h))
 
-not_given : (n : ℕ) → GivenUp ≡ Application n → ⊥
+pub not_given : (n : ℕ) → GivenUp ≡ Application n → ⊥
 not_given n h = absurd (cc (h))
 
 -- the same flows have the same holders
@@ -168,7 +168,7 @@ listener_apart port name (b ∷ bs) apart = (
 )
 
 -- ----- a name goes
-each_filter : {X : Type 0} (P : X → Type 0) (test : X → Bool) (xs : List X) → Each P xs → Each P (filter test xs)
+pub each_filter : {X : Type 0} (P : X → Type 0) (test : X → Bool) (xs : List X) → Each P xs → Each P (filter test xs)
 each_filter P test [] each = tt
 each_filter {X} P test (x ∷ xs) each = by_test (test x) (each_filter P test xs each.1) where
   by_test : (b : Bool) → Each P (filter test xs) → Each P (if b then x ∷ filter test xs else filter test xs)
