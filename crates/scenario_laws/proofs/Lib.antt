@@ -1,3 +1,4 @@
+pub mod PortsNext
 pub mod Held
 pub mod Gone
 pub mod Own

@@ -103,19 +103,19 @@ listeners_right host ls below right = record {
 }
 
 -- ----- acts
-plain_call : (call : Call) → IsPlainCall call → (l : Live) (n t : ℕ) (offer : List ℕ)
+pub plain_call : (call : Call) → IsPlainCall call → (l : Live) (n t : ℕ) (offer : List ℕ)
     → BegunAlike l (with_call l (App n) t call offer)
 plain_call (calls.Connect iss) kind l n t offer = absurd kind
 plain_call call kind l n t offer = called_alike l (App n) t call offer refl
 
-last_call : (call : Call) → IsLastCall call → (l : Live) (n t : ℕ) → BegunAlike l (with_call l (App n) t call [])
+pub last_call : (call : Call) → IsLastCall call → (l : Live) (n t : ℕ) → BegunAlike l (with_call l (App n) t call [])
 last_call (calls.Connect iss) kind l n t = absurd kind
 last_call call kind l n t = called_alike l (App n) t call [] refl
 
-held_alike : (holder : Holder) (l : Live) → BegunAlike l (record l { holder = holder })
+pub held_alike : (holder : Holder) (l : Live) → BegunAlike l (record l { holder = holder })
 held_alike holder l = record { tuple = refl; connect = refl }
 
-all_both : (ls ms ns : List Live) → AllAlike ls ms → AllAlike ms ns → AllAlike ls ns
+pub all_both : (ls ms ns : List Live) → AllAlike ls ms → AllAlike ms ns → AllAlike ls ns
 all_both [] [] [] a b = tt
 all_both [] [] (n ∷ ns) a b = absurd b
 all_both [] (m ∷ ms) ns a b = absurd a
@@ -175,7 +175,7 @@ act_right numbers t n step host (Listens port) may range right =
     (line_right host t (events.Listen n port true) (λ h. absurd (true≢false (sym h))) right)
 
 -- ----- a kill
-aborted_alike : (concerned : Bool) (t : ℕ) (l : Live) → BegunAlike l (aborted_where concerned t l)
+pub aborted_alike : (concerned : Bool) (t : ℕ) (l : Live) → BegunAlike l (aborted_where concerned t l)
 aborted_alike true t l =
     let called : BegunAlike l (with_call l Slow t calls.Abort []) = called_alike l Slow t calls.Abort [] refl in
     record { tuple = refl; connect = called.connect }

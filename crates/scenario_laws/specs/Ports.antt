@@ -1,5 +1,5 @@
 -- The ports of a host's own connections.
-use Rattle.std.specs.Prelude.{ℕ, zero, suc, ◌+◌, Bool, true, false, List, [], ◌∷◌}
+use Rattle.std.specs.Prelude.{◌≡◌, ℕ, zero, suc, ◌+◌, Bool, true, false, List, [], ◌∷◌, nat_le, if◌then◌else◌, ⊤}
 use Rattle.std.specs.List.{list_any}
 use Rattle.tas_model.specs.declared.entry.Entry.{Entry}
 use Rattle.tas_model.specs.declared.entry.Call.{Call}
@@ -8,6 +8,7 @@ use Rattle.host_rounds.specs.declared.log.LogLine.{LogLine}
 use Rattle.host_rounds.specs.declared.log.LogEvent.{LogEvent}
 use Rattle.host_rounds.specs.declared.log.LogEvent.TheVariants as events
 use Rattle.host_rounds.specs.Logs.{Flow}
+use Rattle.host_rounds.specs.Hosts.{first_port}
 
 abbrev pub is_connect : Call → Bool
 is_connect (calls.Connect iss) = true
@@ -28,6 +29,14 @@ connect_ports (f ∷ fs) =
 abbrev pub ports_from : (port count : ℕ) → List ℕ
 ports_from port zero = []
 ports_from port (suc count) = port ∷ ports_from (port + 1) count
+
+-- Each of these flows that a connect of its host opened has the port 49,152 + n, where n of the flows before it have a
+-- port from 49,152 on: `given` that stand before all of these, and those of these.
+abbrev pub HaveNext : (given : ℕ) → List Flow → Type 0
+HaveNext n [] = ⊤
+HaveNext n (f ∷ fs) =
+    (begins_by_connect f.entries ≡ true → f.tuple.lport ≡ first_port + n)
+    × HaveNext (n + (if nat_le first_port f.tuple.lport then 1 else 0)) fs
 
 -- how many ports there are from 49,152 to 65,535
 abbrev pub all_ports : ℕ

@@ -7,14 +7,18 @@ ghost use Rattle.scenario_ranges.specs.Ranges.{IsInRange};
 ghost use Rattle.scenario_runs.specs.Applications.{Turn, connects, refused};
 ghost use Rattle.scenario_runs.specs.Runs.{Run};
 ghost use Rattle.scenario_laws.specs.Ticks.{InEachTick};
-ghost use Rattle.scenario_laws.specs.Ports.{begins_by_connect, connect_ports, ports_from, all_ports, had_no_port};
+ghost use Rattle.scenario_laws.specs.Ports.{HaveNext, begins_by_connect, connect_ports, ports_from, all_ports};
+ghost use Rattle.scenario_laws.specs.Ports.{had_no_port};
 ghost use Rattle.scenario_laws.specs.Kills.{IsKilled, CalledBefore, abort_ticks, AbortsByKill, HadKills};
 ghost use Rattle.scenario_laws.specs.Sockets.{holder_in, AreByHolder, entries_before};
 
 /// The connects of a host get the ports from 49,152 on, one after the other and each once, where the scenario keeps
 /// the ranges of its grammar, as each does that is read from a text: there nobody listens on one of these ports.
 pub fn connects_have_ports_in_order()
-    // The flows that connects of a host opened have these local ports, in the order of their opening.
+    // Whatever the scenario is, a connect gets the port that comes after as many as the host's flows before it have.
+    ensures next { (s : Scenario) (log : RunLog) → Run s log
+        → Each (λ (h : HostRun). HaveNext 0 h.flows) log.hosts }
+    // In its ranges, the flows that connects of a host opened have these local ports, in the order of their opening.
     ensures ports { (s : Scenario) (log : RunLog) → IsInRange s → Run s log → Each (λ (h : HostRun).
         connect_ports h.flows ≡ ports_from first_port (length (connect_ports h.flows))) log.hosts }
     // A host has 16,384 of them at most,

@@ -1,6 +1,10 @@
 use Rattle.scenario_laws.proofs.PortsKept.{ports_in_order, ports_most, ports_wanting, ports_of_listeners}
 use Rattle.scenario_laws.proofs.PortsKept.{none_left_refused}
+use Rattle.scenario_laws.proofs.PortsNext.{ports_next}
 use Rattle.scenario_laws.proofs.app_laws.connects_have_ports_in_order.Goals as goal
+
+pub returns-clause-next : goal.returns-clause-next
+returns-clause-next c = ports_next
 
 pub returns-clause-ports : goal.returns-clause-ports
 returns-clause-ports c = ports_in_order
