@@ -3,6 +3,7 @@
 use Rattle.std.proofs.Common.{◌≡◌, ℕ, zero, suc, ◌+◌, Bool, true, false, List, [], ◌∷◌, map, refl, sym, subst}
 use Rattle.tas_model.specs.declared.entry.FrameId.{FrameId}
 use Rattle.tas_model.specs.declared.entry.HostParams.{HostParams}
+use Rattle.tas_model.specs.LegalHistory.{Legal}
 use Rattle.host_rounds.specs.Lists.{Each}
 use Rattle.host_rounds.specs.Logs.{Flow, HostRun, RunLog}
 use Rattle.host_rounds.specs.Hosts.{Live, flows_of, run_of}
@@ -11,7 +12,7 @@ use Rattle.host_rounds.specs.Rounds.{Due, Round, IsQuiet}
 use Rattle.host_rounds.specs.Places.{uses, coming}
 use Rattle.host_rounds.specs.Passing.{AreTimed, Went}
 use Rattle.host_rounds.specs.Standing.{AreApart, AreFiled}
-use Rattle.host_rounds.specs.Histories.{HasSentAll}
+use Rattle.host_rounds.specs.Histories.{HasHistory, HasSentAll}
 use Rattle.host_rounds.proofs.OnePlace.{round_adds}
 use Rattle.host_rounds.proofs.AllTimed.{round_timed}
 use Rattle.host_rounds.proofs.AllStanding.{round_filed}
@@ -232,3 +233,14 @@ hosts_controlled s log run =
     each_host (λ (h : HostRun). Each IsControlled h.flows) s.hosts log.hosts
     (log_holds s log (λ t l h. Each IsControlled h.flows)
     (λ t l site stands. flows_controlled site.host.flows stands.controlled) run)
+
+flows_legal : (ls : List Live) → Each HasHistory ls → Each (λ (f : Flow). Legal f.params f.entries) (flows_of ls)
+flows_legal [] each = tt
+flows_legal (l ∷ ls) each = (each.0, flows_legal ls each.1)
+
+pub hosts_legal : (s : Scenario) (log : RunLog) → Run s log
+    → Each (λ (h : HostRun). Each (λ (f : Flow). Legal f.params f.entries) h.flows) log.hosts
+hosts_legal s log run =
+    each_host (λ (h : HostRun). Each (λ (f : Flow). Legal f.params f.entries) h.flows) s.hosts log.hosts
+    (log_holds s log (λ t l h. Each (λ (f : Flow). Legal f.params f.entries) h.flows)
+    (λ t l site stands. flows_legal site.host.flows stands.right.legal) run)

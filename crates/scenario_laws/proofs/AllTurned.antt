@@ -1,8 +1,9 @@
 -- Each application has one turn in a tick.
-use Rattle.std.proofs.Common.{◌≡◌, ℕ, zero, suc, ◌+◌, ◌≤◌, ◌<◌, ◌==◌, Bool, true, false, cond, List, [], ◌∷◌, ◌++◌}
-use Rattle.std.proofs.Common.{map, fold, filter, Option, Some, None, refl, sym, subst, ap, ◌∙◌, true≢false, arith}
+use Rattle.std.proofs.Common.{◌≡◌, ℕ, ◌+◌, ◌≤◌, ◌<◌, ◌==◌, Bool, true, false, cond, List, [], ◌∷◌, ◌++◌}
+use Rattle.std.proofs.Common.{◌||◌}
+use Rattle.std.proofs.Common.{map, fold, filter, Option, Some, None, refl, sym, subst, ap, ◌∙◌, arith}
 use Rattle.std.proofs.Common.{tests}
-use Rattle.std.specs.List.{find}
+use Rattle.std.specs.List.{find, list_any}
 use Rattle.tas_model.specs.Segments.{one_if}
 use Rattle.tas_model.specs.declared.entry.HostParams.{HostParams}
 use Rattle.tas_model.specs.declared.entry.Caller.{Caller}
@@ -16,90 +17,196 @@ use Rattle.host_rounds.specs.Rounds.{timers_from, OfScript, is_by, actions_of}
 use Rattle.scenario_text.specs.declared.scenario.Scenario.{Scenario}
 use Rattle.scenario_runs.specs.Applications.{Script, turn}
 use Rattle.scenario_runs.specs.Worlds.{numbers_of, address_in, scripts_of, asked_of}
-use Rattle.scenario_laws.specs.Turns.{OfEachScript, HadTurn}
+use Rattle.scenario_laws.specs.Turns.{OfEachScript, is_ask, is_turn_of, turn_on, HadTurn}
 use Rattle.scenario_laws.proofs.Goes.{turn_goes}
 
 -- ----- one script
--- k turns of it, as far as is said here
-record Turned (s : Scenario) (p : HostParams) (t k : ℕ) (b a : Script) : Type 0 where
+abbrev Act : Type 0
+Act = Action ℕ
+
+abbrev turn_in : Scenario → HostParams → Act → ℕ → ℕ
+turn_in s p a n = one_if (is_by (scripts_of s p) (OfScript n) a)
+
+abbrev turns_in : Scenario → HostParams → List Act → ℕ → ℕ
+turns_in s p [] n = 0
+turns_in s p (a ∷ rest) n = turn_in s p a n + turns_in s p rest n
+
+-- one deed, which is a turn of it or none
+record Asked (s : Scenario) (p : HostParams) (t : ℕ) (site : Site (List Script)) (m : Deed ℕ) (b a : Script)
+    : Type 0 where
   number : a.number ≡ b.number
-  none : k ≡ 0 → a ≡ b
-  one : k ≡ 1 → HadTurn s p t b a
+  none : turn_in s p m.action b.number ≡ 0 → a ≡ b
+  asks : turn_in s p m.action b.number ≡ 1 → m.action ≡ Ask b.number
+  script : turn_in s p m.action b.number ≡ 1 → a ≡ (turn_on s p t site.host b).script
+  host : turn_in s p m.action b.number ≡ 1
+      → (does (scripts_of s p) t site m).host ≡ (turn_on s p t site.host b).host
 
-stays : (s : Scenario) (p : HostParams) (t k : ℕ) (b : Script) → k ≡ 0 → Turned s p t k b b
-stays s p t k b zero_turns = record { number = refl; none = λ h. refl; one = λ h. absurd (omega arith) }
+-- these deeds, among which it has no turn or one, as far as is said here
+record Turned (s : Scenario) (p : HostParams) (t : ℕ) (site : Site (List Script)) (deeds : List (Deed ℕ))
+    (b a : Script) : Type 0 where
+  number : a.number ≡ b.number
+  none : turns_in s p (actions_of deeds) b.number ≡ 0 → a ≡ b
+  one : turns_in s p (actions_of deeds) b.number ≡ 1 → HadTurn s p t site deeds b a
 
-both : (s : Scenario) (p : HostParams) (t k j : ℕ) (b m a : Script) → Turned s p t k b m → Turned s p t j m a
-    → Turned s p t (k + j) b a
-both s p t k j b m a x y = record {
-  number = y.number ∙ x.number;
-  none = λ h. y.none (omega arith) ∙ x.none (omega arith);
-  one = λ h. by_first k refl h;
+stays : (s : Scenario) (p : HostParams) (t : ℕ) (site : Site (List Script)) (m : Deed ℕ) (b : Script)
+    → turn_in s p m.action b.number ≡ 0 → Asked s p t site m b b
+stays s p t site m b none_here =
+    record {
+      number = refl;
+      none = λ h. refl;
+      asks = λ h. absurd (omega arith);
+      script = λ h. absurd (omega arith);
+      host = λ h. absurd (omega arith);
+    }
+
+no_deeds : (s : Scenario) (p : HostParams) (t : ℕ) (site : Site (List Script)) (b : Script) → Turned s p t site [] b b
+no_deeds s p t site b = record { number = refl; none = λ h. refl; one = λ h. absurd (omega arith) }
+
+-- ----- deeds that are no turns
+not_turn : (s : Scenario) (p : HostParams) (n : ℕ) (a : Act) → turn_in s p a n ≡ 0 → is_ask n a ≡ false
+not_turn s p n (Timer flow) h = refl
+not_turn s p n (Frame x) h = refl
+not_turn s p n (Ask k) h = by_test (n == k) h where
+  by_test : (b : Bool) → one_if b ≡ 0 → b ≡ false
+  by_test true g = absurd (omega arith)
+  by_test false g = refl
+not_turn s p n (Emission flow) h = refl
+
+either_false : (a b : Bool) → a ≡ false → b ≡ false → (a || b) ≡ false
+either_false true b h g = h
+either_false false b h g = g
+
+none_among : (s : Scenario) (p : HostParams) (n : ℕ) (deeds : List (Deed ℕ))
+    → turns_in s p (actions_of deeds) n ≡ 0 → list_any (is_turn_of n) deeds ≡ false
+none_among s p n [] h = refl
+none_among s p n (m ∷ deeds) h =
+    either_false (is_turn_of n m) (list_any (is_turn_of n) deeds) (not_turn s p n m.action (omega arith))
+    (none_among s p n deeds (omega arith))
+
+-- ----- one deed more
+-- One that is no turn stands before those among which is one,
+before_turn : (s : Scenario) (p : HostParams) (t : ℕ) (site : Site (List Script)) (m : Deed ℕ)
+    (deeds : List (Deed ℕ)) (b a : Script) → turn_in s p m.action b.number ≡ 0
+    → HadTurn s p t (does (scripts_of s p) t site m) deeds b a → HadTurn s p t site (m ∷ deeds) b a
+before_turn s p t site m deeds b a none_here had = record {
+  one = record {
+    earlier = m ∷ had.one.earlier;
+    by = had.one.by;
+    later = had.one.later;
+    all = ap (λ (ds : List (Deed ℕ)). m ∷ ds) had.one.all;
+    none_earlier =
+        either_false (is_turn_of b.number m) (list_any (is_turn_of b.number) had.one.earlier)
+        (not_turn s p b.number m.action none_here) had.one.none_earlier;
+    none_later = had.one.none_later;
+  };
+  script = had.script;
+  host = had.host;
+}
+
+-- and one that is a turn before those that are none.
+turn_first : (s : Scenario) (p : HostParams) (t : ℕ) (site : Site (List Script)) (m : Deed ℕ)
+    (deeds : List (Deed ℕ)) (b c : Script) → turn_in s p m.action b.number ≡ 1
+    → turns_in s p (actions_of deeds) b.number ≡ 0 → Asked s p t site m b c → HadTurn s p t site (m ∷ deeds) b c
+turn_first s p t site m deeds b c here none_later asked =
+    let same : m ≡ record { by = m.by; action = Ask b.number } =
+    ap (λ (a : Act). record { by = m.by; action = a }) (asked.asks here) in
+    record {
+      one = record {
+        earlier = [];
+        by = m.by;
+        later = deeds;
+        all = ap (λ (d : Deed ℕ). d ∷ deeds) same;
+        none_earlier = refl;
+        none_later = none_among s p b.number deeds none_later;
+      };
+      script = asked.script here;
+      host = ap (λ (d : Deed ℕ). (does (scripts_of s p) t site d).host) (sym same) ∙ asked.host here;
+    }
+
+one_more : (s : Scenario) (p : HostParams) (t : ℕ) (site : Site (List Script)) (m : Deed ℕ) (deeds : List (Deed ℕ))
+    (b c a : Script) → Asked s p t site m b c → Turned s p t (does (scripts_of s p) t site m) deeds c a
+    → Turned s p t site (m ∷ deeds) b a
+one_more s p t site m deeds b c a asked rest = record {
+  number = rest.number ∙ asked.number;
+  none = λ h. rest.none (later (omega arith)) ∙ asked.none (omega arith);
+  one = λ h. by_deed (is_by (scripts_of s p) (OfScript b.number) m.action) refl h;
 } where
-  by_first : (i : ℕ) → k ≡ i → i + j ≡ 1 → HadTurn s p t b a
-  by_first zero e h =
-      let last : j ≡ 1 = omega arith in
-      subst (λ (c : Script). HadTurn s p t c a) (x.none e) (y.one last)
-  by_first (suc i) e h =
-      let last : j ≡ 0 = omega arith in
-      let first : k ≡ 1 = omega arith in
-      subst (HadTurn s p t b) (sym (y.none last)) (x.one first)
+  later : {n : ℕ} → turns_in s p (actions_of deeds) b.number ≡ n → turns_in s p (actions_of deeds) c.number ≡ n
+  later {n} h = subst (λ (k : ℕ). turns_in s p (actions_of deeds) k ≡ n) (sym asked.number) h
+
+  by_deed : (d : Bool) → is_by (scripts_of s p) (OfScript b.number) m.action ≡ d
+      → turns_in s p (actions_of (m ∷ deeds)) b.number ≡ 1 → HadTurn s p t site (m ∷ deeds) b a
+  by_deed true e h =
+      let here : turn_in s p m.action b.number ≡ 1 = ap one_if e in
+      let none_later : turns_in s p (actions_of deeds) b.number ≡ 0 = omega arith in
+      subst (HadTurn s p t site (m ∷ deeds) b) (sym (rest.none (later none_later)))
+      (turn_first s p t site m deeds b c here none_later asked)
+  by_deed false e h =
+      let none_here : turn_in s p m.action b.number ≡ 0 = ap one_if e in
+      let one_later : turns_in s p (actions_of deeds) b.number ≡ 1 = omega arith in
+      before_turn s p t site m deeds b a none_here
+      (subst (λ (x : Script). HadTurn s p t (does (scripts_of s p) t site m) deeds x a) (asked.none none_here)
+      (rest.one (later one_later)))
 
 -- ----- the scripts of a host
--- each with the turns of its number
-abbrev AllTurned : Scenario → HostParams → (tick : ℕ) → (turns : ℕ → ℕ) → (before after : List Script) → Type 0
-AllTurned s p t turns bs az = OfEachScript (λ (b : Script) (a : Script). Turned s p t (turns b.number) b a) bs az
+abbrev AllAsked : Scenario → HostParams → (tick : ℕ) → Site (List Script) → Deed ℕ → (before after : List Script)
+    → Type 0
+AllAsked s p t site m bs az = OfEachScript (Asked s p t site m) bs az
+
+abbrev AllTurned : Scenario → HostParams → (tick : ℕ) → Site (List Script) → List (Deed ℕ)
+    → (before after : List Script) → Type 0
+AllTurned s p t site deeds bs az = OfEachScript (Turned s p t site deeds) bs az
 
 -- their numbers rise, from `low` on
 abbrev pub NumbersRise : (low : ℕ) → List Script → Type 0
 NumbersRise low [] = Unit {0}
 NumbersRise low (x ∷ xs) = (low ≤ x.number) × NumbersRise (x.number + 1) xs
 
-all_stay : (s : Scenario) (p : HostParams) (t : ℕ) (turns : ℕ → ℕ) (bs : List Script) → ((n : ℕ) → turns n ≡ 0)
-    → AllTurned s p t turns bs bs
-all_stay s p t turns [] zeros = tt
-all_stay s p t turns (b ∷ bs) zeros =
-    (stays s p t (turns b.number) b (zeros b.number), all_stay s p t turns bs zeros)
+all_none : (s : Scenario) (p : HostParams) (t : ℕ) (site : Site (List Script)) (bs : List Script)
+    → AllTurned s p t site [] bs bs
+all_none s p t site [] = tt
+all_none s p t site (b ∷ bs) = (no_deeds s p t site b, all_none s p t site bs)
 
-all_both : (s : Scenario) (p : HostParams) (t : ℕ) (f g : ℕ → ℕ) (bs ms az : List Script) → AllTurned s p t f bs ms
-    → AllTurned s p t g ms az → AllTurned s p t (λ n. f n + g n) bs az
-all_both s p t f g [] [] [] x y = tt
-all_both s p t f g [] [] (a ∷ az) x y = absurd y
-all_both s p t f g [] (m ∷ ms) az x y = absurd x
-all_both s p t f g (b ∷ bs) [] az x y = absurd x
-all_both s p t f g (b ∷ bs) (m ∷ ms) [] x y = absurd y
-all_both s p t f g (b ∷ bs) (m ∷ ms) (a ∷ az) x y = (
-  both s p t (f b.number) (g b.number) b m a x.0
-      (subst (λ (n : ℕ). Turned s p t (g n) m a) x.0.number y.0),
-  all_both s p t f g bs ms az x.1 y.1,
-)
+-- a deed that is no application's turn
+all_stay : (s : Scenario) (p : HostParams) (t : ℕ) (site : Site (List Script)) (m : Deed ℕ) (bs : List Script)
+    → ((n : ℕ) → turn_in s p m.action n ≡ 0) → AllAsked s p t site m bs bs
+all_stay s p t site m [] zeros = tt
+all_stay s p t site m (b ∷ bs) zeros = (stays s p t site m b (zeros b.number), all_stay s p t site m bs zeros)
 
-rise_after : (s : Scenario) (p : HostParams) (t low : ℕ) (turns : ℕ → ℕ) (bs az : List Script)
-    → AllTurned s p t turns bs az → NumbersRise low bs → NumbersRise low az
-rise_after s p t low turns [] [] all rise = tt
-rise_after s p t low turns [] (a ∷ az) all rise = absurd all
-rise_after s p t low turns (b ∷ bs) [] all rise = absurd all
-rise_after s p t low turns (b ∷ bs) (a ∷ az) all rise =
-    let same : a.number ≡ b.number = all.0.number in
+all_more : (s : Scenario) (p : HostParams) (t : ℕ) (site : Site (List Script)) (m : Deed ℕ) (deeds : List (Deed ℕ))
+    (bs cs az : List Script) → AllAsked s p t site m bs cs
+    → AllTurned s p t (does (scripts_of s p) t site m) deeds cs az → AllTurned s p t site (m ∷ deeds) bs az
+all_more s p t site m deeds [] [] [] x y = tt
+all_more s p t site m deeds [] [] (a ∷ az) x y = absurd y
+all_more s p t site m deeds [] (c ∷ cs) az x y = absurd x
+all_more s p t site m deeds (b ∷ bs) [] az x y = absurd x
+all_more s p t site m deeds (b ∷ bs) (c ∷ cs) [] x y = absurd y
+all_more s p t site m deeds (b ∷ bs) (c ∷ cs) (a ∷ az) x y =
+    (one_more s p t site m deeds b c a x.0 y.0, all_more s p t site m deeds bs cs az x.1 y.1)
+
+-- numbers stay as they are
+abbrev SameNumbers : (before after : List Script) → Type 0
+SameNumbers bs az = OfEachScript (λ (b : Script) (a : Script). a.number ≡ b.number) bs az
+
+pub of_each : (F G : Script → Script → Type 0) → ((b a : Script) → F b a → G b a) → (bs az : List Script)
+    → OfEachScript F bs az → OfEachScript G bs az
+of_each F G each [] [] all = tt
+of_each F G each [] (a ∷ az) all = absurd all
+of_each F G each (b ∷ bs) [] all = absurd all
+of_each F G each (b ∷ bs) (a ∷ az) all = (each b a all.0, of_each F G each bs az all.1)
+
+rise_after : (low : ℕ) (bs az : List Script) → SameNumbers bs az → NumbersRise low bs → NumbersRise low az
+rise_after low [] [] all rise = tt
+rise_after low [] (a ∷ az) all rise = absurd all
+rise_after low (b ∷ bs) [] all rise = absurd all
+rise_after low (b ∷ bs) (a ∷ az) all rise =
+    let same : a.number ≡ b.number = all.0 in
     let here : low ≤ b.number = rise.0 in (
       omega arith,
-      subst (λ (n : ℕ). NumbersRise (n + 1) az) (sym same)
-          (rise_after s p t (b.number + 1) turns bs az all.1 rise.1),
+      subst (λ (n : ℕ). NumbersRise (n + 1) az) (sym same) (rise_after (b.number + 1) bs az all.1 rise.1),
     )
 
 -- ----- one is asked
--- no script from here on has this number
-later_stay : (s : Scenario) (p : HostParams) (t k low : ℕ) (bs : List Script) → k < low → NumbersRise low bs
-    → AllTurned s p t (λ n. one_if (n == k)) bs bs
-later_stay s p t k low [] small rise = tt
-later_stay s p t k low (b ∷ bs) small rise =
-    let here : low ≤ b.number = rise.0 in
-    let above : k < b.number = omega arith in
-    let other : (b.number == k) ≡ false = grind (arith, tests, above) in (
-      stays s p t (one_if (b.number == k)) b (ap one_if other),
-      later_stay s p t k (b.number + 1) bs (omega arith) rise.1,
-    )
-
 abbrev turned : Scenario → HostParams → ℕ → Host → Script → Script
 turned s p t host x =
     (turn (numbers_of p) (address_in s.hosts) t (record { host = host; script = x })).script
@@ -114,7 +221,7 @@ asked_where s p t host None bs = bs
 asked_where s p t host (Some x) bs =
     change_first (λ (b : Script). b.number == (turned s p t host x).number) (λ (b : Script). turned s p t host x) bs
 
-found_number : (k : ℕ) (bs : List Script) (x : Script) → find (λ (b : Script). b.number == k) bs ≡ Some x
+pub found_number : (k : ℕ) (bs : List Script) (x : Script) → find (λ (b : Script). b.number == k) bs ≡ Some x
     → (x.number == k) ≡ true
 found_number k [] x h = absurd (cc (h))
 found_number k (b ∷ bs) x h = by_test (b.number == k) refl h (found_number k bs x) where
@@ -134,13 +241,39 @@ changed_later : (test : Script → Bool) (f : Script → Script) (x : Script) (x
 changed_later test f x xs h =
     ap (λ (c : Bool). elim c [ true ↦ f x ∷ xs | false ↦ x ∷ change_first test f xs ]) h
 
-no_turn : (c : Bool) → c ≡ true → one_if c ≡ 0 → ⊥
-no_turn true e g = omega arith
-no_turn false e g = true≢false (sym e)
+-- what asking the script with this number leaves of one; `o` is what was found under the number
+record AskedBy (s : Scenario) (p : HostParams) (t k : ℕ) (host : Host) (o : Option Script) (b a : Script) : Type 0 where
+  number : a.number ≡ b.number
+  none : one_if (b.number == k) ≡ 0 → a ≡ b
+  found : one_if (b.number == k) ≡ 1 → o ≡ Some b
+  script : one_if (b.number == k) ≡ 1 → a ≡ turned s p t host b
+
+other_stays : (s : Scenario) (p : HostParams) (t k : ℕ) (host : Host) (o : Option Script) (b : Script)
+    → (b.number == k) ≡ false → AskedBy s p t k host o b b
+other_stays s p t k host o b other =
+    let none_here : one_if (b.number == k) ≡ 0 = ap one_if other in
+    record {
+      number = refl;
+      none = λ h. refl;
+      found = λ h. absurd (omega arith);
+      script = λ h. absurd (omega arith);
+    }
+
+-- no script from here on has this number
+later_stay : (s : Scenario) (p : HostParams) (t k low : ℕ) (host : Host) (o : Option Script) (bs : List Script)
+    → k < low → NumbersRise low bs → OfEachScript (AskedBy s p t k host o) bs bs
+later_stay s p t k low host o [] small rise = tt
+later_stay s p t k low host o (b ∷ bs) small rise =
+    let here : low ≤ b.number = rise.0 in
+    let above : k < b.number = omega arith in
+    let other : (b.number == k) ≡ false = grind (arith, tests, above) in (
+      other_stays s p t k host o b other,
+      later_stay s p t k (b.number + 1) host o bs (omega arith) rise.1,
+    )
 
 one_asked : (s : Scenario) (p : HostParams) (t k low : ℕ) (host : Host) (bs : List Script) → NumbersRise low bs
     → (o : Option Script) → find (λ (b : Script). b.number == k) bs ≡ o
-    → AllTurned s p t (λ n. one_if (n == k)) bs (asked_where s p t host o bs)
+    → OfEachScript (AskedBy s p t k host o) bs (asked_where s p t host o bs)
 one_asked s p t k low host [] rise None h = tt
 one_asked s p t k low host [] rise (Some x) h = tt
 one_asked s p t k low host (b ∷ bs) rise None h =
@@ -148,20 +281,20 @@ one_asked s p t k low host (b ∷ bs) rise None h =
   where
     by_test : (c : Bool) → (b.number == k) ≡ c
         → cond c (Some b) (find (λ (b : Script). b.number == k) bs) ≡ None
-        → (find (λ (b : Script). b.number == k) bs ≡ None → AllTurned s p t (λ n. one_if (n == k)) bs bs)
-        → AllTurned s p t (λ n. one_if (n == k)) (b ∷ bs) (b ∷ bs)
+        → (find (λ (b : Script). b.number == k) bs ≡ None → OfEachScript (AskedBy s p t k host None) bs bs)
+        → OfEachScript (AskedBy s p t k host None) (b ∷ bs) (b ∷ bs)
     by_test true e h rest = absurd (cc (h))
-    by_test false e h rest = (stays s p t (one_if (b.number == k)) b (ap one_if e), rest h)
+    by_test false e h rest = (other_stays s p t k host None b e, rest h)
 one_asked s p t k low host (b ∷ bs) rise (Some x) h =
     by_test (b.number == k) refl h (one_asked s p t k (b.number + 1) host bs rise.1 (Some x))
   where
     by_test : (c : Bool) → (b.number == k) ≡ c
         → cond c (Some b) (find (λ (b : Script). b.number == k) bs) ≡ Some x
         → (find (λ (b : Script). b.number == k) bs ≡ Some x
-        → AllTurned s p t (λ n. one_if (n == k)) bs
+        → OfEachScript (AskedBy s p t k host (Some x)) bs
         (change_first (λ (b : Script). b.number == (turned s p t host x).number)
         (λ (b : Script). turned s p t host x) bs))
-        → AllTurned s p t (λ n. one_if (n == k)) (b ∷ bs)
+        → OfEachScript (AskedBy s p t k host (Some x)) (b ∷ bs)
         (change_first (λ (b : Script). b.number == (turned s p t host x).number)
         (λ (b : Script). turned s p t host x) (b ∷ bs))
     by_test true e h rest =
@@ -170,66 +303,80 @@ one_asked s p t k low host (b ∷ bs) rise (Some x) h =
         turned_number s p t host x ∙ ap (λ (y : Script). y.number) (sym same) in
         let here : (b.number == (turned s p t host x).number) ≡ true = grind (arith, tests, number) in
         let small : k < b.number + 1 = grind (arith, tests, e) in
-        subst (AllTurned s p t (λ n. one_if (n == k)) (b ∷ bs))
+        let one_here : one_if (b.number == k) ≡ 1 = ap one_if e in
+        subst (OfEachScript (AskedBy s p t k host (Some x)) (b ∷ bs))
         (sym (changed_here (λ (b : Script). b.number == (turned s p t host x).number)
         (λ (b : Script). turned s p t host x) b bs here)) (
           record {
             number = number;
-            none = λ g. absurd (no_turn (b.number == k) e g);
-            one = λ g. (host, ap (turned s p t host) (sym same));
+            none = λ g. absurd (omega arith);
+            found = λ g. ap Some (sym same);
+            script = λ g. ap (turned s p t host) (sym same);
           },
-          later_stay s p t k (b.number + 1) bs small rise.1,
+          later_stay s p t k (b.number + 1) host (Some x) bs small rise.1,
         )
     by_test false e h rest =
         let found : (x.number == k) ≡ true = found_number k bs x h in
         let number : (turned s p t host x).number ≡ x.number = turned_number s p t host x in
         let other : (b.number == (turned s p t host x).number) ≡ false = grind (arith, tests, number, found, e) in
-        subst (AllTurned s p t (λ n. one_if (n == k)) (b ∷ bs))
+        subst (OfEachScript (AskedBy s p t k host (Some x)) (b ∷ bs))
         (sym (changed_later (λ (b : Script). b.number == (turned s p t host x).number)
         (λ (b : Script). turned s p t host x) b bs other)) (
-          stays s p t (one_if (b.number == k)) b (ap one_if e),
+          other_stays s p t k host (Some x) b e,
           rest h,
         )
 
 -- ----- a tick
-abbrev Act : Type 0
-Act = Action ℕ
-
-abbrev turn_in : Scenario → HostParams → Act → ℕ → ℕ
-turn_in s p a n = one_if (is_by (scripts_of s p) (OfScript n) a)
-
-abbrev turns_in : Scenario → HostParams → List Act → ℕ → ℕ
-turns_in s p [] n = 0
-turns_in s p (a ∷ rest) n = turn_in s p a n + turns_in s p rest n
-
 asked_is : (s : Scenario) (p : HostParams) (t : ℕ) (o : Option Script) (site : Site (List Script))
     → (asked_of (numbers_of p) (address_in s.hosts) t o site).scripts ≡ asked_where s p t site.host o site.scripts
 asked_is s p t None site = refl
 asked_is s p t (Some x) site = refl
 
+by_ask : (s : Scenario) (p : HostParams) (t k : ℕ) (site : Site (List Script)) (by : Caller) (b a : Script)
+    → AskedBy s p t k site.host (find (λ (x : Script). x.number == k) site.scripts) b a
+    → Asked s p t site (record { by = by; action = Ask k }) b a
+by_ask s p t k site by b a asked = record {
+  number = asked.number;
+  none = asked.none;
+  asks = λ h. ap Ask (same_number (b.number == k) refl h);
+  script = asked.script;
+  host = λ h. ap (λ (o : Option Script). (asked_of (numbers_of p) (address_in s.hosts) t o site).host) (asked.found h);
+} where
+  same_number : (c : Bool) → (b.number == k) ≡ c → one_if c ≡ 1 → k ≡ b.number
+  same_number true e h = grind (arith, tests, e)
+  same_number false e h = absurd (omega arith)
+
 done_turned : (s : Scenario) (p : HostParams) (t low : ℕ) (site : Site (List Script)) (by : Caller) (action : Act)
     → NumbersRise low site.scripts
-    → AllTurned s p t (turn_in s p action) site.scripts (done_by (scripts_of s p) t site by action).scripts
-done_turned s p t low site by (Timer n) rise = all_stay s p t _ site.scripts (λ n. refl)
-done_turned s p t low site by (Frame x) rise = all_stay s p t _ site.scripts (λ n. refl)
+    → AllAsked s p t site (record { by = by; action = action }) site.scripts
+    (done_by (scripts_of s p) t site by action).scripts
+done_turned s p t low site by (Timer n) rise = all_stay s p t site _ site.scripts (λ n. refl)
+done_turned s p t low site by (Frame x) rise = all_stay s p t site _ site.scripts (λ n. refl)
 done_turned s p t low site by (Ask k) rise =
-    subst (AllTurned s p t (λ n. one_if (n == k)) site.scripts)
-    (sym (asked_is s p t (find (λ (b : Script). b.number == k) site.scripts) site))
-    (one_asked s p t k low site.host site.scripts rise (find (λ (b : Script). b.number == k) site.scripts) refl)
-done_turned s p t low site by (Emission n) rise = all_stay s p t _ site.scripts (λ n. refl)
+    let o : Option Script = find (λ (b : Script). b.number == k) site.scripts in
+    subst (AllAsked s p t site (record { by = by; action = Ask k }) site.scripts) (sym (asked_is s p t o site))
+    (of_each (AskedBy s p t k site.host o) (Asked s p t site (record { by = by; action = Ask k }))
+    (λ b a asked. by_ask s p t k site by b a asked) site.scripts (asked_where s p t site.host o site.scripts)
+    (one_asked s p t k low site.host site.scripts rise o refl))
+done_turned s p t low site by (Emission n) rise = all_stay s p t site _ site.scripts (λ n. refl)
+
+-- each deed keeps the numbers of the scripts
+pub deed_rises : (s : Scenario) (p : HostParams) (t low : ℕ) (site : Site (List Script)) (m : Deed ℕ)
+    → NumbersRise low site.scripts → NumbersRise low (does (scripts_of s p) t site m).scripts
+deed_rises s p t low site m rise =
+    rise_after low site.scripts (does (scripts_of s p) t site m).scripts
+    (of_each (Asked s p t site m) (λ b a. a.number ≡ b.number) (λ b a asked. asked.number) site.scripts
+    (does (scripts_of s p) t site m).scripts (done_turned s p t low site m.by m.action rise)) rise
 
 all_turned : (s : Scenario) (p : HostParams) (t low : ℕ) (site : Site (List Script)) (order : List (Deed ℕ))
     → NumbersRise low site.scripts
-    → AllTurned s p t (turns_in s p (actions_of order)) site.scripts
-    (fold (does (scripts_of s p) t) site order).scripts
-all_turned s p t low site [] rise = all_stay s p t _ site.scripts (λ n. refl)
+    → AllTurned s p t site order site.scripts (fold (does (scripts_of s p) t) site order).scripts
+all_turned s p t low site [] rise = all_none s p t site site.scripts
 all_turned s p t low site (m ∷ order) rise =
     let next : Site (List Script) = does (scripts_of s p) t site m in
-    let one : AllTurned s p t (turn_in s p m.action) site.scripts next.scripts =
-    done_turned s p t low site m.by m.action rise in
-    all_both s p t (turn_in s p m.action) (turns_in s p (actions_of order)) site.scripts next.scripts
-    (fold (does (scripts_of s p) t) next order).scripts one
-    (all_turned s p t low next order (rise_after s p t low (turn_in s p m.action) site.scripts next.scripts one rise))
+    all_more s p t site m order site.scripts next.scripts (fold (does (scripts_of s p) t) next order).scripts
+    (done_turned s p t low site m.by m.action rise)
+    (all_turned s p t low next order (deed_rises s p t low site m rise))
 
 -- ----- what is due
 turns_filter : (s : Scenario) (p : HostParams) (n : ℕ) (xs : List Act)
@@ -296,26 +443,32 @@ once_from s p turns low (b ∷ bs) rise are =
         let other : (n == b.number) ≡ false = grind (arith, tests, h) in
         let none_here : one_if (n == b.number) ≡ 0 = ap one_if other in omega arith
 
-had_turns : (s : Scenario) (p : HostParams) (t : ℕ) (turns : ℕ → ℕ) (bs az : List Script) → Once s p bs turns
-    → AllTurned s p t turns bs az → OfEachScript (HadTurn s p t) bs az
-had_turns s p t turns [] [] once all = tt
-had_turns s p t turns [] (a ∷ az) once all = absurd all
-had_turns s p t turns (b ∷ bs) [] once all = absurd all
-had_turns s p t turns (b ∷ bs) (a ∷ az) once all = (all.0.one once.0, had_turns s p t turns bs az once.1 all.1)
+had_turns : (s : Scenario) (p : HostParams) (t : ℕ) (site : Site (List Script)) (deeds : List (Deed ℕ))
+    (bs az : List Script) → Once s p bs (turns_in s p (actions_of deeds)) → AllTurned s p t site deeds bs az
+    → OfEachScript (HadTurn s p t site deeds) bs az
+had_turns s p t site deeds [] [] once all = tt
+had_turns s p t site deeds [] (a ∷ az) once all = absurd all
+had_turns s p t site deeds (b ∷ bs) [] once all = absurd all
+had_turns s p t site deeds (b ∷ bs) (a ∷ az) once all =
+    (all.0.one once.0, had_turns s p t site deeds bs az once.1 all.1)
 
 -- In a tick in which each application of a host is due to be asked, each has one turn.
 pub round_turned : (s : Scenario) (p : HostParams) (t : ℕ) (frames : List Arrival) (b a : Site (List Script))
     → NumbersRise 0 b.scripts
-    → Round (scripts_of s p) t (record { frames = frames; asks = map (λ (x : Script). x.number) b.scripts }) b a
-    → OfEachScript (HadTurn s p t) b.scripts a.scripts × NumbersRise 0 a.scripts
+    → (round :
+    Round (scripts_of s p) t (record { frames = frames; asks = map (λ (x : Script). x.number) b.scripts }) b a)
+    → OfEachScript (HadTurn s p t (on_host all_swept b) round.order) b.scripts a.scripts × NumbersRise 0 a.scripts
 round_turned s p t frames b a rise round =
-    let turns : ℕ → ℕ = turns_in s p (actions_of round.order) in
-    let all : AllTurned s p t turns b.scripts a.scripts =
-    subst (λ (site : Site (List Script)). AllTurned s p t turns b.scripts site.scripts) round.made
-    (all_turned s p t 0 (on_host all_swept b) round.order rise) in (
-      had_turns s p t turns b.scripts a.scripts
-          (once_from s p turns 0 b.scripts rise (λ n h. turns_are n)) all,
-      rise_after s p t 0 turns b.scripts a.scripts all rise,
+    let first : Site (List Script) = on_host all_swept b in
+    let all : AllTurned s p t first round.order b.scripts a.scripts =
+    subst (λ (site : Site (List Script)). AllTurned s p t first round.order b.scripts site.scripts) round.made
+    (all_turned s p t 0 first round.order rise) in (
+      had_turns s p t first round.order b.scripts a.scripts
+          (once_from s p (turns_in s p (actions_of round.order)) 0 b.scripts rise (λ n h. turns_are n)) all,
+      rise_after 0 b.scripts a.scripts
+          (of_each (Turned s p t first round.order) (λ b a. a.number ≡ b.number) (λ b a turns. turns.number) b.scripts
+          a.scripts all)
+          rise,
     )
   where
     turns_are : (n : ℕ) → turns_in s p (actions_of round.order) n ≡ turns_in s p (asks_of b.scripts) n

@@ -3,7 +3,9 @@ use Rattle.std.proofs.Common.{ℕ, zero, suc, ◌+◌, ◌≤◌, Bool, true, fa
 use Rattle.std.proofs.Common.{if◌then◌else◌, arith, bytes_eq}
 use Rattle.tas_model.specs.declared.entry.HostParams.{HostParams}
 use Rattle.host_rounds.specs.Logs.{RunLog}
+use Rattle.host_rounds.specs.Upkeep.{all_swept}
 use Rattle.host_rounds.specs.Scripts.{Site}
+use Rattle.host_rounds.specs.Rounds.{Deed, on_host}
 use Rattle.host_rounds.specs.Deliveries.{Arrival}
 use Rattle.scenario_text.specs.declared.scenario.Scenario.{Scenario}
 use Rattle.scenario_text.specs.declared.scenario.HostLine.{HostLine}
@@ -13,13 +15,13 @@ use Rattle.scenario_runs.specs.Applications.{Script}
 use Rattle.scenario_runs.specs.Worlds.{World, at_start, site_of, scripts_on, kill_tick, numbers_of, address_in, due_at}
 use Rattle.scenario_runs.specs.Runs.{AreRounds, End, RunsFrom, Run}
 use Rattle.scenario_laws.specs.Ticks.{HostTick, OfEachHost, FromTick, InEachTick}
-use Rattle.scenario_laws.specs.Turns.{OfEachScript, HadTurn, GoesOn}
+use Rattle.scenario_laws.specs.Turns.{OfEachScript, reached, HadTurn, HadTurns, GoesOn}
 use Rattle.scenario_laws.proofs.Goes.{turn_goes}
-use Rattle.scenario_laws.proofs.AllTurned.{NumbersRise, round_turned}
+use Rattle.scenario_laws.proofs.AllTurned.{NumbersRise, of_each, round_turned}
 
 -- ----- numbers of scripts
 -- on each host they rise
-abbrev AllRise : World → Type 0
+abbrev pub AllRise : World → Type 0
 AllRise [] = Unit {0}
 AllRise (site ∷ sites) = NumbersRise 0 site.scripts × AllRise sites
 
@@ -48,23 +50,27 @@ scripts_rise kills host n (app ∷ apps) =
     by_host true rest = (omega arith, rest)
     by_host false rest = rise_lower n (scripts_on kills host (n + 1) apps) rest
 
-start_rises : (s : Scenario) (lines : List HostLine) → AllRise (map (site_of s) lines)
+pub start_rises : (s : Scenario) (lines : List HostLine) → AllRise (map (site_of s) lines)
 start_rises s [] = tt
 start_rises s (l ∷ ls) = (scripts_rise s.kills l.name 0 s.apps, start_rises s ls)
 
 -- ----- one tick of all hosts
--- it holds of a tick of a host in which each of its applications had one turn
-abbrev OfEachTurned : Scenario → (HostTick → Type 0) → Type 0
-OfEachTurned s Fact =
-    (t : ℕ) (frames : List Arrival) (b a : Site (List Script))
-    → OfEachScript (HadTurn s b.host.params t) b.scripts a.scripts → Fact (record {
+abbrev pub tick_of : (tick : ℕ) → List Arrival → (before after : Site (List Script)) → HostTick
+tick_of t frames b a =
+    record {
       tick = t;
       frames = frames;
       before = b.host;
       after = a.host;
       scripts_before = b.scripts;
       scripts_after = a.scripts;
-    })
+    }
+
+-- it holds of a tick of a host in which each of its applications had one turn
+abbrev OfEachTurned : Scenario → (HostTick → Type 0) → Type 0
+OfEachTurned s Fact =
+    (t : ℕ) (frames : List Arrival) (b a : Site (List Script)) → HadTurns s (tick_of t frames b a)
+    → Fact (tick_of t frames b a)
 
 hosts_turned : (s : Scenario) (Fact : HostTick → Type 0) (whole : World) (t h : ℕ) (before after : World)
     → OfEachTurned s Fact → AreRounds s whole t h before after → AllRise before
@@ -74,11 +80,12 @@ hosts_turned s Fact whole t h [] (a ∷ az) each rounds rise = absurd rounds
 hosts_turned s Fact whole t h (b ∷ bs) [] each rounds rise = absurd rounds
 hosts_turned s Fact whole t h (b ∷ bs) (a ∷ az) each rounds rise =
     let frames : List Arrival = (due_at s whole t h b.scripts).frames in
-    let here : OfEachScript (HadTurn s b.host.params t) b.scripts a.scripts × NumbersRise 0 a.scripts =
+    let here : OfEachScript (HadTurn s b.host.params t (on_host all_swept b) rounds.0.order) b.scripts a.scripts
+    × NumbersRise 0 a.scripts =
     round_turned s b.host.params t frames b a rise.0 rounds.0 in
     let rest : OfEachHost s Fact whole t (h + 1) bs az × AllRise az =
     hosts_turned s Fact whole t (h + 1) bs az each rounds.1 rise.1 in
-    ((each t frames b a here.0, rest.0), (here.1, rest.1))
+    ((each t frames b a (rounds.0, here.0), rest.0), (here.1, rest.1))
 
 -- ----- all ticks
 from_turned : (s : Scenario) (Fact : HostTick → Type 0) (most t : ℕ) (world : World) (end : End)
@@ -97,27 +104,24 @@ ticks_turned s log run Fact each =
     from_turned s Fact s.limit 0 (at_start s) run.0 run.1 each (start_rises s s.hosts)
 
 -- ----- the law
-pub ticks_asked : (s : Scenario) (log : RunLog) (run : Run s log)
-    → InEachTick s log run (λ x. OfEachScript (HadTurn s x.before.params x.tick) x.scripts_before x.scripts_after)
-ticks_asked s log run =
-    ticks_turned s log run
-    (λ x. OfEachScript (HadTurn s x.before.params x.tick) x.scripts_before x.scripts_after)
-    (λ t frames b a had. had)
+pub ticks_asked : (s : Scenario) (log : RunLog) (run : Run s log) → InEachTick s log run (HadTurns s)
+ticks_asked s log run = ticks_turned s log run (HadTurns s) (λ t frames b a had. had)
 
-turn_steps : (s : Scenario) (p : HostParams) (t : ℕ) (b a : Script) → HadTurn s p t b a → GoesOn t b a
-turn_steps s p t b a had =
-    subst (GoesOn t b) (sym had.1)
-    (turn_goes (numbers_of p) (address_in s.hosts) t (record { host = had.0; script = b }))
+turn_steps : (s : Scenario) (p : HostParams) (t : ℕ) (site : Site (List Script)) (deeds : List (Deed ℕ)) (b a : Script)
+    → HadTurn s p t site deeds b a → GoesOn t b a
+turn_steps s p t site deeds b a had =
+    subst (GoesOn t b) (sym had.script) (turn_goes (numbers_of p) (address_in s.hosts) t (record {
+      host = (reached s p t site had.one.earlier).host;
+      script = b;
+    }))
 
-all_step : (s : Scenario) (p : HostParams) (t : ℕ) (bs az : List Script) → OfEachScript (HadTurn s p t) bs az
-    → OfEachScript (GoesOn t) bs az
-all_step s p t [] [] had = tt
-all_step s p t [] (a ∷ az) had = absurd had
-all_step s p t (b ∷ bs) [] had = absurd had
-all_step s p t (b ∷ bs) (a ∷ az) had = (turn_steps s p t b a had.0, all_step s p t bs az had.1)
+pub all_step : (s : Scenario) (p : HostParams) (t : ℕ) (site : Site (List Script)) (deeds : List (Deed ℕ))
+    (bs az : List Script) → OfEachScript (HadTurn s p t site deeds) bs az → OfEachScript (GoesOn t) bs az
+all_step s p t site deeds bs az had =
+    of_each (HadTurn s p t site deeds) (GoesOn t) (λ b a one. turn_steps s p t site deeds b a one) bs az had
 
 pub ticks_step : (s : Scenario) (log : RunLog) (run : Run s log)
     → InEachTick s log run (λ x. OfEachScript (GoesOn x.tick) x.scripts_before x.scripts_after)
 ticks_step s log run =
     ticks_turned s log run (λ x. OfEachScript (GoesOn x.tick) x.scripts_before x.scripts_after)
-    (λ t frames b a had. all_step s b.host.params t b.scripts a.scripts had)
+    (λ t frames b a had. all_step s b.host.params t (on_host all_swept b) had.0.order b.scripts a.scripts had.1)

@@ -5,7 +5,7 @@ ghost use Rattle.scenario_text.specs.declared.scenario.Scenario.{Scenario};
 ghost use Rattle.scenario_runs.specs.Runs.{Run};
 ghost use Rattle.scenario_laws.specs.Ticks.{InEachTick};
 ghost use Rattle.scenario_laws.specs.Controls.{IsControlled};
-ghost use Rattle.scenario_laws.specs.Turns.{OfEachScript, HadTurn, GoesOn};
+ghost use Rattle.scenario_laws.specs.Turns.{OfEachScript, HadTurns, GoesOn};
 
 /// The rate of a flow is controlled directly behind each Tick in which that is due and which left the flow past
 /// SYN-RECEIVED and not closed; and nowhere else.
@@ -18,11 +18,12 @@ pub fn rates_are_controlled()
         → Each (λ (h : HostRun). Each IsControlled h.flows) log.hosts }
 {}
 
-/// In each tick of a run each application's script becomes what one turn may leave of it: it goes one step on at most.
+/// In each tick of a run each application has one turn on its own host, and its script becomes what that turn leaves
+/// of it: it goes one step on at most.
 pub fn scripts_go_step_by_step()
-    // After the tick each script is what one turn leaves of the script before it, on some host.
-    ensures asked { (s : Scenario) (log : RunLog) (run : Run s log) → InEachTick s log run (λ x.
-        OfEachScript (HadTurn s x.before.params x.tick) x.scripts_before x.scripts_after) }
+    // There is a right order of the tick in which each script has one turn: on its own host as the deeds before that
+    // turn left it. After the tick the script is what the turn left of it.
+    ensures asked { (s : Scenario) (log : RunLog) (run : Run s log) → InEachTick s log run (HadTurns s) }
     // It stands at the same step then or at the next one, never further and never back; and where the application is
     // killed in the tick, no step is left.
     ensures steps { (s : Scenario) (log : RunLog) (run : Run s log) → InEachTick s log run (λ x.

@@ -1,9 +1,13 @@
 //! What holds of every tick of every run of a scenario, and of the log that a run leaves: laws of all orders.
 #![tactic(auto)]
 
+mod app_laws;
 mod call_laws;
 mod laws;
 
+pub use app_laws::{
+    applications_use_their_own_sockets, connects_have_ports_in_order, kills_end_applications,
+};
 pub use call_laws::{rates_are_controlled, scripts_go_step_by_step};
 pub use laws::{
     flows_are_opened_rightly, frames_have_one_place, nothing_may_go, open_flows_have_one_tick,
