@@ -108,6 +108,26 @@ fn reaped_beside(
     left
 }
 
+/// Reaps what an application left. The first entries of the flow's history then.
+fn reaped(
+    table: &FlowTable<FlowRecord>,
+    slow: &mut SlowPass<FlowRecord>,
+    core: &mut Pass<FlowRecord>,
+    pin: &Pin,
+    left: Ended,
+) -> Option<[Option<Act>; 4]>
+    requires left { (slow.old.table ≡ table.now) × IsEnded table.now left }
+    requires core { IsUser table.now pin.now core.old × (pin.now.slot < table.now.slots) }
+{
+    if reap(table, slow, left, 3).is_err() {
+        return None;
+    }
+    match found(table, core, pin) {
+        Ok(entries) => Some(entries),
+        Err(_) => None,
+    }
+}
+
 #[test]
 fn a_reaper_stops_where_a_core_holds_the_record(rt: HostRuntime) -> Result<(), Fail> {
     let (table, mut slow) = start(rt.alloc())?;
@@ -122,9 +142,11 @@ fn a_reaper_stops_where_a_core_holds_the_record(rt: HostRuntime) -> Result<(), F
         panic!(rt; "the reaper was not stopped by the core")
     };
     assert!(rt; word.busy && word.live && word.pins == 3);
-    assert!(rt; reap(&table, &mut slow, left, 3).is_ok());
     let entries = [Some(Act::Connect), Some(Act::SlowAbort), None, None];
-    assert_eq!(rt; found(&table, &mut core, &pin), Ok(entries));
+    assert_eq!(rt;
+        reaped(&table, &mut slow, &mut core, &pin, left),
+        Some(entries)
+    );
     Ok(())
 }
 
@@ -208,13 +230,15 @@ fn an_application_that_ended_holding_is_reaped(rt: HostRuntime) -> Result<(), Fa
         panic!(rt; "the application held nothing")
     };
     assert!(rt; word.busy);
-    assert!(rt; reap(&table, &mut slow, left, 3).is_ok());
     let entries = [
         Some(Act::Connect),
         Some(Act::Shut),
         Some(Act::SlowAbort),
         None,
     ];
-    assert_eq!(rt; found(&table, &mut core, &pin), Ok(entries));
+    assert_eq!(rt;
+        reaped(&table, &mut slow, &mut core, &pin, left),
+        Some(entries)
+    );
     Ok(())
 }
