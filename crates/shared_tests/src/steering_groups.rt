@@ -17,19 +17,30 @@ fn flow(lport: u16, rport: u16) -> FourTuple {
 
 #[test]
 fn a_group_is_the_sum_of_a_four_tuple_modulo_64(rt: HostRuntime) {
-    assert_eq!(rt; group(&flow(80, 49_152)), 19);
-    assert_eq!(rt; group(&flow(80, 49_153)), 20);
+    let groups = [group(&flow(80, 49_152)), group(&flow(80, 49_153))];
+    assert_eq!(rt; groups, [19, 20]);
+}
+
+// The cores of groups 18, 19 and 21.
+fn cores<R: Wait>(rt: &R, steering: &Steering, pass: &mut SteerPass) -> [u32; 3]
+    requires { pass.old.place ≡ steering.now }
+    ensures { pass.new.place ≡ pass.old.place }
+{
+    [
+        steering.core_of(rt, pass, 18),
+        steering.core_of(rt, pass, 19),
+        steering.core_of(rt, pass, 21),
+    ]
 }
 
 #[test]
 fn a_group_goes_where_it_is_assigned(rt: HostRuntime) -> Result<(), Fail> {
     let (steering, mut first) = Steering::new(rt.alloc(), 2)?;
     let mut other = steering.pass(rt.alloc(), &mut first)?;
-    assert_eq!(rt; steering.core_of(&rt, &mut other, 19), 1);
+    let before = cores(&rt, &steering, &mut other);
     steering.assign(&rt, &mut first, 19, 0);
-    assert_eq!(rt; steering.core_of(&rt, &mut other, 19), 0);
-    assert_eq!(rt; steering.core_of(&rt, &mut other, 18), 0);
-    assert_eq!(rt; steering.core_of(&rt, &mut other, 21), 1);
+    let after = cores(&rt, &steering, &mut other);
+    assert_eq!(rt; [before, after], [[0, 1, 1], [0, 0, 1]]);
     Ok(())
 }
 
