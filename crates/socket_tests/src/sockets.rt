@@ -1,12 +1,11 @@
 //! Calls on a socket.
-ghost use Rattle.std.specs.Prelude.{◌<◌};
-ghost use Rattle.flow_lock.specs.Callers.{IsUser};
 ghost use Rattle.socket_tests.specs.Going.{HasOpened};
 
-use crate::flows::{application, greeted, guest, shared, start};
-use flow_lock::{FlowTable, Pass, Pin};
+use crate::flows::{greeted, guest, joined, start};
+use flow_lock::FlowTable;
 use flow_state::{Answer, FlowRecord};
 use libtas_sockets::{App, Socket, SocketError};
+use std::alloc::Global;
 use std::test::*;
 
 /// The application ends its stream.
@@ -24,32 +23,25 @@ pub fn shut(
 
 /// The answers to three calls that end the stream, the first before the peer has answered, and what the core answers
 /// the peer.
-fn shut_thrice(
-    table: &FlowTable<FlowRecord>,
-    core: &mut Pass<FlowRecord>,
-    pin: &Pin,
-    app: &mut App,
-    s: Socket,
-) -> ([Result<(), SocketError>; 3], Option<Answer>)
-    requires app { HasOpened table.now s app.old }
-    requires core { IsUser table.now pin.now core.old × (pin.now.slot < table.now.slots) }
-{
-    let early = shut(table, app, s, 1);
-    let greeting = greeted(table, core, pin);
-    let answers = [early, shut(table, app, s, 3), shut(table, app, s, 3)];
-    (answers, greeting)
+fn shut_thrice(alloc: Global) -> Option<([Result<(), SocketError>; 3], Option<Answer>)> {
+    let Ok((table, mut slow)) = start(alloc) else {
+        return None;
+    };
+    let pass = guest(&table, &mut slow);
+    let mut joined = joined(alloc, &table, &mut slow, pass)?;
+    let early = shut(&table, &mut joined.app, joined.s, 1);
+    let greeting = greeted(&table, &mut joined.core, &joined.pin);
+    let first = shut(&table, &mut joined.app, joined.s, 3);
+    let second = shut(&table, &mut joined.app, joined.s, 3);
+    Some(([early, first, second], greeting))
 }
 
 #[test]
 fn a_stream_is_shut_once(rt: HostRuntime) -> Result<(), Fail> {
-    let (table, mut slow) = start(rt.alloc())?;
-    let pass = guest(&table, &mut slow);
-    let mut core = guest(&table, &mut slow);
-    let mut app = application(rt.alloc(), pass)?;
-    let Some((s, pin)) = shared(rt.alloc(), &table, &mut slow, &mut core, &mut app) else {
+    let Some(made) = shut_thrice(rt.alloc()) else {
         panic!(rt; "the core has no flow of the application")
     };
-    let (answers, greeting) = shut_thrice(&table, &mut core, &pin, &mut app, s);
+    let (answers, greeting) = made;
     assert_eq!(rt;
         answers,
         [Err(SocketError::NotOpen), Ok(()), Err(SocketError::Shut)]

@@ -179,20 +179,23 @@ fn ask_at_once<R: Threads + Wait + Sync>(
     )
 }
 
+/// The record of a flow on which two cores made all their calls at once.
+fn called_by_two<R: Threads + Wait + Sync>(rt: &R, alloc: Global) -> Option<FlowRecord> {
+    let Ok((table, mut slow)) = start(alloc) else {
+        return None;
+    };
+    let (first, second) = two_guests(&table, &mut slow);
+    let pin = opened(alloc, &table, &mut slow)?;
+    let (first, second) = two_askers(&table, first, second, &pin)?;
+    let (first, second) = ask_at_once(rt, &table, first, second, 0);
+    two_farewells(&table, &mut slow, first, second);
+    last_record(alloc, table, slow)
+}
+
 #[test]
 fn two_cores_call_on_one_flow(rt: HostRuntime) -> Result<(), Fail> {
-    let (table, mut slow) = start(rt.alloc())?;
-    let (first, second) = two_guests(&table, &mut slow);
-    let Some(pin) = opened(rt.alloc(), &table, &mut slow) else {
-        panic!(rt; "no flow was opened")
-    };
-    let Some((first, second)) = two_askers(&table, first, second, &pin) else {
-        panic!(rt; "a core has no pin")
-    };
-    let (first, second) = ask_at_once(&rt, &table, first, second, 0);
-    two_farewells(&table, &mut slow, first, second);
-    let Some(flow) = last_record(rt.alloc(), table, slow) else {
-        panic!(rt; "no record came out")
+    let Some(flow) = called_by_two(&rt, rt.alloc()) else {
+        panic!(rt; "no flow was opened, or a core has no pin, or no record came out")
     };
     assert!(rt; has_all_of(&flow, 0) && has_all_of(&flow, 1) && flow.entries() == 2_001);
     Ok(())
@@ -236,25 +239,26 @@ fn has_all_of_four(flow: &FlowRecord) -> bool {
     true
 }
 
-#[test]
-fn four_cores_call_on_one_flow(rt: HostRuntime) -> Result<(), Fail> {
-    let (table, mut slow) = start(rt.alloc())?;
+/// The record of a flow on which four cores made all their calls at once.
+fn called_by_four<R: Threads + Wait + Sync>(rt: &R, alloc: Global) -> Option<FlowRecord> {
+    let Ok((table, mut slow)) = start(alloc) else {
+        return None;
+    };
     let (first, second) = two_guests(&table, &mut slow);
     let (third, fourth) = two_guests(&table, &mut slow);
-    let Some(pin) = opened(rt.alloc(), &table, &mut slow) else {
-        panic!(rt; "no flow was opened")
-    };
-    let Some(low) = two_askers(&table, first, second, &pin) else {
-        panic!(rt; "one of the first two cores has no pin")
-    };
-    let Some(high) = two_askers(&table, third, fourth, &pin) else {
-        panic!(rt; "one of the last two cores has no pin")
-    };
-    let ((first, second), (third, fourth)) = ask_by_four(&rt, &table, low, high);
+    let pin = opened(alloc, &table, &mut slow)?;
+    let low = two_askers(&table, first, second, &pin)?;
+    let high = two_askers(&table, third, fourth, &pin)?;
+    let ((first, second), (third, fourth)) = ask_by_four(rt, &table, low, high);
     two_farewells(&table, &mut slow, first, second);
     two_farewells(&table, &mut slow, third, fourth);
-    let Some(flow) = last_record(rt.alloc(), table, slow) else {
-        panic!(rt; "no record came out")
+    last_record(alloc, table, slow)
+}
+
+#[test]
+fn four_cores_call_on_one_flow(rt: HostRuntime) -> Result<(), Fail> {
+    let Some(flow) = called_by_four(&rt, rt.alloc()) else {
+        panic!(rt; "no flow was opened, or a core has no pin, or no record came out")
     };
     assert!(rt; has_all_of_four(&flow) && flow.entries() == 4_001);
     Ok(())
@@ -416,25 +420,37 @@ fn visit_at_once<R: Threads + Sync>(
     )
 }
 
-#[test]
-fn flows_come_and_go_while_cores_look_for_them(rt: HostRuntime) -> Result<(), Fail> {
-    let (table, mut slow) = start(rt.alloc())?;
+/// Flows come and go while two cores look for them. The records that were filed, where none stayed in the table, and how
+/// many entries the cores made.
+fn filed_beside<R: Threads + Wait + Sync>(rt: &R, alloc: Global) -> Option<(FiledList, usize)> {
+    let Ok((table, mut slow)) = start(alloc) else {
+        return None;
+    };
     let (first, second) = two_guests(&table, &mut slow);
-    let (shared, runtime, alloc) = (&table, &rt, rt.alloc());
+    let shared = &table;
     let ((filed, mut slow), ((one, first), (two, second))) = thread::join(
-        &rt,
+        rt,
         move ||
             requires { IsKeeper shared.now slow × (slow.view.opened ≡ 0) }
             ensures { IsKeeper shared.entry.now result.1 }
-        { come_and_go(runtime, alloc, shared, slow) },
+        { come_and_go(rt, alloc, shared, slow) },
         move ||
             requires { IsGuest shared.now first × IsGuest shared.now second × (shared.now.slots ≡ 2) }
             ensures { IsGuest shared.entry.now result.0.1 × IsGuest shared.entry.now result.1.1 }
-        { visit_at_once(runtime, shared, first, second) },
+        { visit_at_once(rt, shared, first, second) },
     );
     two_farewells(&table, &mut slow, first, second);
-    assert!(rt; filed.len() == 100 && last_record(rt.alloc(), table, slow).is_none());
-    let asked = (one as usize).saturating_add(two as usize);
-    assert!(rt; entries_in(&filed) == Some(asked.saturating_add(100)));
+    match last_record(alloc, table, slow) {
+        Some(_) => None,
+        None => Some((filed, (one as usize).saturating_add(two as usize))),
+    }
+}
+
+#[test]
+fn flows_come_and_go_while_cores_look_for_them(rt: HostRuntime) -> Result<(), Fail> {
+    let Some((filed, asked)) = filed_beside(&rt, rt.alloc()) else {
+        panic!(rt; "there is no table, or a record stayed in it")
+    };
+    assert!(rt; filed.len() == 100 && entries_in(&filed) == Some(asked.saturating_add(100)));
     Ok(())
 }
