@@ -1,5 +1,6 @@
 use segment_fields::{Flags, Segment};
 use slow_handshake::{ListenRefused, SlowPath, SynAnswer};
+use std::alloc::{AllocError, Global};
 use std::test::*;
 use tas_model::{FlowId, HostParams};
 use tas_num::Seq;
@@ -76,26 +77,32 @@ fn met(path: &mut SlowPath) -> (SynAnswer, [Option<FlowId>; 3]) {
     )
 }
 
+const ID: FlowId = FlowId {
+    slot: 3,
+    generation: 2,
+};
+
+/// What is met while a flow waits at a port with a backlog of one, once it is ready, and once it has left.
+fn met_at_one(alloc: Global) -> Result<[(SynAnswer, [Option<FlowId>; 3]); 3], AllocError> {
+    let mut path = SlowPath::new(alloc, PARAMS)?;
+    let _listens = path.listen(5, 80);
+    path.opened(ID, 80)?;
+    let opened = met(&mut path);
+    path.became_ready(ID);
+    let ready = met(&mut path);
+    path.left(ID);
+    let left = met(&mut path);
+    Ok([opened, ready, left])
+}
+
 #[test]
 fn a_full_backlog_has_room_again(rt: HostRuntime) -> Result<(), Fail> {
-    let mut path = SlowPath::new(rt.alloc(), PARAMS)?;
-    let id = FlowId {
-        slot: 3,
-        generation: 2,
-    };
-    assert!(rt; listens_alone(&mut path));
-    path.opened(id, 80)?;
-    let opened = met(&mut path);
-    path.became_ready(id);
-    let ready = met(&mut path);
-    path.left(id);
-    let left = met(&mut path);
-    let waits = [None, Some(id), None];
-    assert_eq!(rt; opened, (SynAnswer::BacklogFull(1), waits));
-    assert_eq!(rt;
-        ready,
-        (SynAnswer::BacklogFull(1), [Some(id), Some(id), None])
-    );
-    assert_eq!(rt; left, (SynAnswer::Opens, [None, None, None]));
+    let met = met_at_one(rt.alloc())?;
+    let expected = [
+        (SynAnswer::BacklogFull(1), [None, Some(ID), None]),
+        (SynAnswer::BacklogFull(1), [Some(ID), Some(ID), None]),
+        (SynAnswer::Opens, [None, None, None]),
+    ];
+    assert_eq!(rt; met, expected);
     Ok(())
 }

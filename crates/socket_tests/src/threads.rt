@@ -420,8 +420,8 @@ fn visit_at_once<R: Threads + Sync>(
     )
 }
 
-/// Flows come and go while two cores look for them. The records that were filed, where none stayed in the table, and how
-/// many entries the cores made.
+/// Flows come and go while two cores look for them. The records that were filed, where none stayed in the table, and
+/// how many entries the cores made.
 fn filed_beside<R: Threads + Wait + Sync>(rt: &R, alloc: Global) -> Option<(FiledList, usize)> {
     let Ok((table, mut slow)) = start(alloc) else {
         return None;
