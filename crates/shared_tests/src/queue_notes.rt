@@ -1,6 +1,7 @@
 ghost use Rattle.std.specs.Prelude.{◌≡◌};
 
 use context_queue::*;
+use std::alloc::{AllocError, Global};
 use std::sync::Wait;
 use std::test::*;
 use std::thread;
@@ -36,15 +37,24 @@ fn drained<R: Wait>(rt: &R, queue: &ContextQueue, receiver: &mut ReceiverPass) -
     ]
 }
 
+// The answers to three drains, then to three posts, and then to three drains.
+fn drained_and_posted<R: Wait>(
+    rt: &R,
+    alloc: Global,
+) -> Result<([Option<Note>; 3], [Result<(), Full>; 3], [Option<Note>; 3]), AllocError> {
+    let (queue, mut receiver) = ContextQueue::new(alloc, 2)?;
+    let mut sender = queue.sender(alloc, &mut receiver)?;
+    let before = drained(rt, &queue, &mut receiver);
+    let posted = posted(rt, &queue, &mut sender);
+    let after = drained(rt, &queue, &mut receiver);
+    Ok((before, posted, after))
+}
+
 #[test]
 fn a_queue_of_two_holds_two_notes_in_order(rt: HostRuntime) -> Result<(), Fail> {
-    let (queue, mut receiver) = ContextQueue::new(rt.alloc(), 2)?;
-    let mut sender = queue.sender(rt.alloc(), &mut receiver)?;
-    let before = drained(&rt, &queue, &mut receiver);
-    let posted = posted(&rt, &queue, &mut sender);
-    let after = drained(&rt, &queue, &mut receiver);
-    assert_eq!(rt; posted, [Ok(()), Ok(()), Err(Full)]);
+    let (before, posted, after) = drained_and_posted(&rt, rt.alloc())?;
     assert_eq!(rt; before, [None, None, None]);
+    assert_eq!(rt; posted, [Ok(()), Ok(()), Err(Full)]);
     assert_eq!(rt; after, [Some(readable(1, 7)), Some(readable(1, 8)), None]);
     Ok(())
 }

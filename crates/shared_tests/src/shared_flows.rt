@@ -230,15 +230,19 @@ fn flow(slot: u32, generation: u32) -> FlowId {
     FlowId { slot, generation }
 }
 
+/// The flows of three lives, one after the other.
+fn three_lives(alloc: Global) -> Result<[Option<FlowId>; 3], AllocError> {
+    let (table, mut slow) = start(alloc)?;
+    let mut pass = guest(&table, &mut slow);
+    let first = one_life(alloc, &table, &mut slow, &mut pass);
+    let second = one_life(alloc, &table, &mut slow, &mut pass);
+    let third = one_life(alloc, &table, &mut slow, &mut pass);
+    Ok([first, second, third])
+}
+
 #[test]
 fn a_slot_is_used_again_and_again(rt: HostRuntime) -> Result<(), Fail> {
-    let (table, mut slow) = start(rt.alloc())?;
-    let mut pass = guest(&table, &mut slow);
-    let lives = [
-        one_life(rt.alloc(), &table, &mut slow, &mut pass),
-        one_life(rt.alloc(), &table, &mut slow, &mut pass),
-        one_life(rt.alloc(), &table, &mut slow, &mut pass),
-    ];
+    let lives = three_lives(rt.alloc())?;
     assert_eq!(rt;
         lives,
         [Some(flow(0, 1)), Some(flow(0, 2)), Some(flow(0, 3))]
@@ -301,23 +305,19 @@ struct Life {
 }
 
 /// A flow is shared by two passes, doomed, and freed once they have given their pins up.
-fn shared_life(
-    alloc: Global,
-    table: &FlowTable<Record>,
-    slow: &mut SlowPass<Record>,
-    app: &mut Pass<Record>,
-    core: &mut Pass<Record>,
-    late: &mut Pass<Record>,
-) -> Option<Life>
-    requires slow { IsKeeper table.now slow.old × (slow.old.view.opened < 1000) }
-    requires passes { IsGuest table.now app.old × IsGuest table.now core.old × IsGuest table.now late.old }
-{
-    let (opened, pin) = open_next(alloc, table, slow)?;
-    let (held, first, second) = shared_by_two(table, app, core, opened)?;
-    let (pins, doomed, pin) = held_back(table, slow, pin, late)?;
-    leave(table, app, first);
-    leave(table, core, second);
-    let Ok(record) = retire(table, slow, pin) else {
+fn shared_life(alloc: Global) -> Option<Life> {
+    let Ok((table, mut slow)) = start(alloc) else {
+        return None;
+    };
+    let mut app = guest(&table, &mut slow);
+    let mut core = guest(&table, &mut slow);
+    let mut late = guest(&table, &mut slow);
+    let (opened, pin) = open_next(alloc, &table, &mut slow)?;
+    let (held, first, second) = shared_by_two(&table, &mut app, &mut core, opened)?;
+    let (pins, doomed, pin) = held_back(&table, &mut slow, pin, &mut late)?;
+    leave(&table, &mut app, first);
+    leave(&table, &mut core, second);
+    let Ok(record) = retire(&table, &mut slow, pin) else {
         return None;
     };
     Some(Life {
@@ -331,19 +331,7 @@ fn shared_life(
 
 #[test]
 fn a_flow_is_shared_doomed_and_freed(rt: HostRuntime) -> Result<(), Fail> {
-    let (table, mut slow) = start(rt.alloc())?;
-    let mut app = guest(&table, &mut slow);
-    let mut core = guest(&table, &mut slow);
-    let mut late = guest(&table, &mut slow);
-    let life = shared_life(
-        rt.alloc(),
-        &table,
-        &mut slow,
-        &mut app,
-        &mut core,
-        &mut late,
-    );
-    let Some(life) = life else {
+    let Some(life) = shared_life(rt.alloc()) else {
         panic!(rt; "no flow was shared, doomed and freed")
     };
     assert_eq!(rt; [life.opened, life.freed], [flow(0, 1), flow(0, 1)]);
@@ -389,23 +377,51 @@ fn records(alloc: Global, table: FlowTable<Record>, slow: SlowPass<Record>) -> O
     Some([first.id, second.id])
 }
 
-#[test]
-fn a_freed_slot_is_opened_first(rt: HostRuntime) -> Result<(), Fail> {
-    let (table, mut slow) = start(rt.alloc())?;
+/// What passes see of two slots of which one was used before.
+#[derive(Clone, Copy)]
+struct Reuse {
+    past: FlowId,
+    again: FlowId,
+    /// The word that a pass meets which still asks for the flow of the past.
+    word: Word,
+    last: FlowId,
+    /// Whether both slots have flows then, and the one of the past is none of them.
+    full: bool,
+    closed: [FlowId; 2],
+}
+
+/// A flow comes and goes, both slots are opened, and the table is closed.
+fn reused(alloc: Global) -> Option<Reuse> {
+    let Ok((table, mut slow)) = start(alloc) else {
+        return None;
+    };
     let mut pass = guest(&table, &mut slow);
     let mut late = guest(&table, &mut slow);
-    let Some(past) = one_life(rt.alloc(), &table, &mut slow, &mut pass) else {
-        panic!(rt; "no flow came and went")
-    };
-    let Some((again, word, last)) = opened_after(rt.alloc(), &table, &mut slow, &mut late, past)
-    else {
-        panic!(rt; "the slots were not opened, or the flow of the past was pinned")
-    };
-    assert!(rt; slow.next_flow().is_none() && slow.is_open(again) && !slow.is_open(past));
+    let past = one_life(alloc, &table, &mut slow, &mut pass)?;
+    let (again, word, last) = opened_after(alloc, &table, &mut slow, &mut late, past)?;
+    let full = slow.next_flow().is_none() && slow.is_open(again) && !slow.is_open(past);
     farewell(&table, &mut slow, pass);
     farewell(&table, &mut slow, late);
-    assert_eq!(rt; records(rt.alloc(), table, slow), Some([again, last]));
-    assert_eq!(rt; [past, again, last], [flow(0, 1), flow(0, 2), flow(1, 1)]);
-    assert_eq!(rt; word.generation, 2);
+    let closed = records(alloc, table, slow)?;
+    Some(Reuse {
+        past,
+        again,
+        word,
+        last,
+        full,
+        closed,
+    })
+}
+
+#[test]
+fn a_freed_slot_is_opened_first(rt: HostRuntime) -> Result<(), Fail> {
+    let Some(reuse) = reused(rt.alloc()) else {
+        panic!(rt; "no flow came and went, or the slots were not opened, or a record is missing")
+    };
+    assert!(rt; reuse.full && reuse.word.generation == 2);
+    let closed = reuse.closed;
+    assert_eq!(rt; closed, [reuse.again, reuse.last]);
+    let flows = [reuse.past, reuse.again, reuse.last];
+    assert_eq!(rt; flows, [flow(0, 1), flow(0, 2), flow(1, 1)]);
     Ok(())
 }
