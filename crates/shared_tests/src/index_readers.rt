@@ -23,36 +23,51 @@ fn flow(generation: u32) -> FlowId {
     }
 }
 
-// What is found before a publish, after it, of another four-tuple, after a second put, and after a remove.
-fn answers<R: Wait>(rt: &R, writer: &mut IndexWriter) -> Result<[Found; 5], AllocError>
-    requires { 0 < writer.old.left }
-{
-    let mut reader = writer.reader(rt)?;
+// What is found before the first publish, after it, and of another four-tuple.
+fn first_found<R: Wait>(
+    rt: &R,
+    writer: &mut IndexWriter,
+    reader: &mut IndexReader,
+) -> Result<[Found; 3], AllocError> {
     writer.put(tuple(49_152), flow(1))?;
     let before = reader.find(rt, tuple(49_152));
     writer.publish(rt)?;
     let after = reader.find(rt, tuple(49_152));
-    let other = reader.find(rt, tuple(49_153));
+    Ok([before, after, reader.find(rt, tuple(49_153))])
+}
+
+// What is found after a second put, and after a remove.
+fn later_found<R: Wait>(
+    rt: &R,
+    writer: &mut IndexWriter,
+    reader: &mut IndexReader,
+) -> Result<[Found; 2], AllocError> {
     writer.put(tuple(49_152), flow(2))?;
     writer.publish(rt)?;
     let again = reader.find(rt, tuple(49_152));
     writer.remove(tuple(49_152))?;
     writer.publish(rt)?;
-    let removed = reader.find(rt, tuple(49_152));
-    Ok([before, after, other, again, removed])
+    Ok([again, reader.find(rt, tuple(49_152))])
+}
+
+// What a reader finds in both.
+fn found<R: Wait>(rt: &R, writer: &mut IndexWriter) -> Result<([Found; 3], [Found; 2]), AllocError>
+    requires { 0 < writer.old.left }
+{
+    let mut reader = writer.reader(rt)?;
+    let first = first_found(rt, writer, &mut reader)?;
+    let later = later_found(rt, writer, &mut reader)?;
+    Ok((first, later))
 }
 
 #[test]
 fn what_is_published_is_found(rt: HostRuntime) -> Result<(), Fail> {
     let mut writer = IndexWriter::new(rt.alloc(), 1)?;
-    let found = answers(&rt, &mut writer);
+    let found = found(&rt, &mut writer);
     writer.end(&rt);
-    let [before, after, other, again, removed] = found?;
-    assert_eq!(rt; before, Found::Absent);
-    assert_eq!(rt; after, Found::Flow(flow(1)));
-    assert_eq!(rt; other, Found::Absent);
-    assert_eq!(rt; again, Found::Flow(flow(2)));
-    assert_eq!(rt; removed, Found::Absent);
+    let (first, later) = found?;
+    assert_eq!(rt; first, [Found::Absent, Found::Flow(flow(1)), Found::Absent]);
+    assert_eq!(rt; later, [Found::Flow(flow(2)), Found::Absent]);
     Ok(())
 }
 

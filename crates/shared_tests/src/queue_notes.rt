@@ -1,6 +1,7 @@
 ghost use Rattle.std.specs.Prelude.{◌≡◌};
 
 use context_queue::*;
+use std::alloc::{AllocError, Global};
 use std::sync::Wait;
 use std::test::*;
 use std::thread;
@@ -13,17 +14,48 @@ fn readable(sender: u8, slot: u32) -> Note {
     }
 }
 
+// The answers to three posts.
+fn posted<R: Wait>(rt: &R, queue: &ContextQueue, sender: &mut SenderPass) -> [Result<(), Full>; 3]
+    requires { sender.old.line ≡ queue.now.line }
+{
+    [
+        queue.post(rt, sender, readable(1, 7)),
+        queue.post(rt, sender, readable(1, 8)),
+        queue.post(rt, sender, readable(1, 9)),
+    ]
+}
+
+// The answers to three drains.
+fn drained<R: Wait>(rt: &R, queue: &ContextQueue, receiver: &mut ReceiverPass) -> [Option<Note>; 3]
+    requires { receiver.old.line ≡ queue.now.line }
+    ensures { receiver.new.line ≡ receiver.old.line }
+{
+    [
+        queue.drain_one(rt, receiver),
+        queue.drain_one(rt, receiver),
+        queue.drain_one(rt, receiver),
+    ]
+}
+
+// The answers to three drains, then to three posts, and then to three drains.
+fn drained_and_posted<R: Wait>(
+    rt: &R,
+    alloc: Global,
+) -> Result<([Option<Note>; 3], [Result<(), Full>; 3], [Option<Note>; 3]), AllocError> {
+    let (queue, mut receiver) = ContextQueue::new(alloc, 2)?;
+    let mut sender = queue.sender(alloc, &mut receiver)?;
+    let before = drained(rt, &queue, &mut receiver);
+    let posted = posted(rt, &queue, &mut sender);
+    let after = drained(rt, &queue, &mut receiver);
+    Ok((before, posted, after))
+}
+
 #[test]
 fn a_queue_of_two_holds_two_notes_in_order(rt: HostRuntime) -> Result<(), Fail> {
-    let (queue, mut receiver) = ContextQueue::new(rt.alloc(), 2)?;
-    let mut sender = queue.sender(rt.alloc(), &mut receiver)?;
-    assert_eq!(rt; queue.drain_one(&rt, &mut receiver), None);
-    assert_eq!(rt; queue.post(&rt, &mut sender, readable(1, 7)), Ok(()));
-    assert_eq!(rt; queue.post(&rt, &mut sender, readable(1, 8)), Ok(()));
-    assert_eq!(rt; queue.post(&rt, &mut sender, readable(1, 9)), Err(Full));
-    assert_eq!(rt; queue.drain_one(&rt, &mut receiver), Some(readable(1, 7)));
-    assert_eq!(rt; queue.drain_one(&rt, &mut receiver), Some(readable(1, 8)));
-    assert_eq!(rt; queue.drain_one(&rt, &mut receiver), None);
+    let (before, posted, after) = drained_and_posted(&rt, rt.alloc())?;
+    assert_eq!(rt; before, [None, None, None]);
+    assert_eq!(rt; posted, [Ok(()), Ok(()), Err(Full)]);
+    assert_eq!(rt; after, [Some(readable(1, 7)), Some(readable(1, 8)), None]);
     Ok(())
 }
 

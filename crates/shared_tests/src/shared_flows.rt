@@ -1,6 +1,5 @@
 //! Cores and applications share flows.
-ghost use Rattle.std.specs.Prelude.{true, ◌≡◌, ℕ, ◌+◌, ◌<◌, ◌≤◌, ◌∷◌, ◌++◌, [], length, List, IfOk, IfErr, IfSome};
-ghost use Rattle.tas_model.specs.declared.entry.Entry.{Entry};
+ghost use Rattle.std.specs.Prelude.{true, ◌≡◌, ℕ, ◌+◌, ◌<◌, ◌≤◌, ◌∷◌, [], length, IfOk, IfErr, IfSome};
 ghost use Rattle.flow_lock.specs.Callers.{IsGuest, IsUser, IsHolder, IsKeeper, IsOwner};
 ghost use Rattle.flow_lock.specs.Answers.{next_in};
 ghost use Rattle.flow_lock.specs.Passes.{Seen};
@@ -87,27 +86,6 @@ fn leave(table: &FlowTable<Record>, pass: &mut Pass<Record>, pin: Pin)
     table.unpin(pass, pin);
 }
 
-fn append(record: &mut Record, core: u32) -> bool
-    ensures ends { (record.new.id ≡ record.old.id) × (record.new.tuple ≡ record.old.tuple)
-        × (record.new.params ≡ record.old.params) }
-    ensures entries { (rest : List Entry) × (record.new.entries.items ≡ record.old.entries.items ++ rest) }
-{
-    record.entries.push(entry(core)).is_ok()
-}
-
-/// Takes the record, appends one entry and gives it back, unless another pass holds it.
-fn add(table: &FlowTable<Record>, pass: &mut Pass<Record>, pin: &Pin, core: u32) -> bool
-    requires { IsUser table.now pin.now pass.old × (pin.now.slot < table.now.slots) }
-    ensures { IsUser table.now pin.now pass.new }
-{
-    let Ok(mut item) = table.take(pass, pin) else {
-        return false;
-    };
-    let added = append(&mut item, core);
-    table.give(pass, pin, item);
-    added
-}
-
 /// The word with its busy bit set, where another pass holds the record.
 fn busy_word(table: &FlowTable<Record>, pass: &mut Pass<Record>, pin: &Pin) -> Option<Word>
     requires { IsUser table.now pin.now pass.old × (pin.now.slot < table.now.slots) }
@@ -161,6 +139,23 @@ fn open(
     }
 }
 
+/// Opens the next flow, for a record with one entry. `None`: no slot is free, or memory is wanting.
+fn open_next(
+    alloc: Global,
+    table: &FlowTable<Record>,
+    slow: &mut SlowPass<Record>,
+) -> Option<(FlowId, Pin)>
+    requires { IsKeeper table.now slow.old × (slow.old.view.opened < 1000) }
+    ensures opened { IfSome result (λ p. (p.1 ≡ p.0) × (p.0.slot < table.now.slots) × IsOwner p.0 slow.new) }
+    ensures keeper { IsKeeper table.now slow.new × (slow.new.view.opened ≤ slow.old.view.opened + 1) }
+{
+    let next = slow.next_flow()?;
+    let Ok(item) = record_of(alloc, next) else {
+        return None;
+    };
+    open(table, slow, item)
+}
+
 /// Dooms a flow, and frees it unless another pass has pinned it.
 fn retire(
     table: &FlowTable<Record>,
@@ -203,129 +198,230 @@ fn farewell(table: &FlowTable<Record>, slow: &mut SlowPass<Record>, pass: Pass<R
     table.join(slow, pass);
 }
 
-/// A slot is opened, pinned by another pass, doomed, and freed once that pin is given up. It answers the generation.
+/// A flow is opened, pinned by another pass, doomed, and freed once that pin is given up.
 fn one_life(
     alloc: Global,
     table: &FlowTable<Record>,
     slow: &mut SlowPass<Record>,
     pass: &mut Pass<Record>,
-) -> Result<Option<u32>, AllocError>
+) -> Option<FlowId>
     requires slow { IsKeeper table.now slow.old × (slow.old.view.opened < 1000) }
     requires pass { IsGuest table.now pass.old }
-    ensures slow { IfOk result (λ o. IfSome o (λ _. IsKeeper table.now slow.new
-        × (slow.new.view.opened ≤ slow.old.view.opened + 1))) }
-    ensures pass { IfOk result (λ o. IfSome o (λ _. IsGuest table.now pass.new)) }
+    ensures slow { IsKeeper table.now slow.new × (slow.new.view.opened ≤ slow.old.view.opened + 1) }
+    ensures pass { IsGuest table.now pass.new }
+    ensures slot { IfSome result (λ id. id.slot < table.now.slots) }
 {
-    let Some(next) = slow.next_flow() else {
-        return Ok(None);
-    };
-    let item = record_of(alloc, next)?;
-    let Some((id, pin)) = open(table, slow, item) else {
-        return Ok(None);
-    };
+    let (id, pin) = open_next(alloc, table, slow)?;
     let Ok(mine) = enter(table, pass, id) else {
-        return Ok(None);
+        return None;
     };
-    let Err((2, pin)) = retire(table, slow, pin) else {
-        return Ok(None);
-    };
+    let held_back = retire(table, slow, pin);
     leave(table, pass, mine);
-    let Ok(record) = retire(table, slow, pin) else {
-        return Ok(None);
+    let Err((2, pin)) = held_back else {
+        return None;
     };
-    drop(record);
-    Ok(Some(id.generation))
+    match retire(table, slow, pin) {
+        Ok(_) => Some(id),
+        Err(_) => None,
+    }
+}
+
+fn flow(slot: u32, generation: u32) -> FlowId {
+    FlowId { slot, generation }
+}
+
+/// The flows of three lives, one after the other.
+fn three_lives(alloc: Global) -> Result<[Option<FlowId>; 3], AllocError> {
+    let (table, mut slow) = start(alloc)?;
+    let mut pass = guest(&table, &mut slow);
+    let first = one_life(alloc, &table, &mut slow, &mut pass);
+    let second = one_life(alloc, &table, &mut slow, &mut pass);
+    let third = one_life(alloc, &table, &mut slow, &mut pass);
+    Ok([first, second, third])
 }
 
 #[test]
 fn a_slot_is_used_again_and_again(rt: HostRuntime) -> Result<(), Fail> {
-    let (table, mut slow) = start(rt.alloc())?;
-    let mut pass = guest(&table, &mut slow);
-    let Some(first) = one_life(rt.alloc(), &table, &mut slow, &mut pass)? else {
-        panic!(rt; "the first flow did not come and go")
-    };
-    let Some(second) = one_life(rt.alloc(), &table, &mut slow, &mut pass)? else {
-        panic!(rt; "the second flow did not come and go")
-    };
-    let Some(third) = one_life(rt.alloc(), &table, &mut slow, &mut pass)? else {
-        panic!(rt; "the third flow did not come and go")
-    };
-    assert!(rt; first == 1 && second == 2 && third == 3);
+    let lives = three_lives(rt.alloc())?;
+    assert_eq!(rt;
+        lives,
+        [Some(flow(0, 1)), Some(flow(0, 2)), Some(flow(0, 3))]
+    );
     Ok(())
+}
+
+/// Two passes pin the flow. What the second finds while the first holds the record, and the two pins.
+fn shared_by_two(
+    table: &FlowTable<Record>,
+    app: &mut Pass<Record>,
+    core: &mut Pass<Record>,
+    id: FlowId,
+) -> Option<(Word, Pin, Pin)>
+    requires { IsGuest table.now app.old × IsGuest table.now core.old × (id.slot < table.now.slots) }
+    ensures app { IfSome result (λ s. (s.1 ≡ id) × IsUser table.now id app.new) }
+    ensures core { IfSome result (λ s. (s.2 ≡ id) × IsUser table.now id core.new) }
+{
+    let Ok(first) = enter(table, app, id) else {
+        return None;
+    };
+    let Ok(second) = enter(table, core, id) else {
+        return None;
+    };
+    let word = found_beside(table, app, &first, core, &second)?;
+    Some((word, first, second))
+}
+
+/// Dooms a flow that other passes have pinned. How many pins it has, and what a pass meets that comes then.
+fn held_back(
+    table: &FlowTable<Record>,
+    slow: &mut SlowPass<Record>,
+    pin: Pin,
+    late: &mut Pass<Record>,
+) -> Option<(u16, Word, Pin)>
+    requires slow { IsKeeper table.now slow.old × IsOwner pin slow.old × (pin.slot < table.now.slots) }
+    requires late { IsGuest table.now late.old }
+    ensures { IfSome result (λ h. (h.2 ≡ pin) × IsKeeper table.now slow.new × IsOwner pin slow.new) }
+{
+    let Err((pins, pin)) = retire(table, slow, pin) else {
+        return None;
+    };
+    match enter(table, late, pin.id()) {
+        Ok(_) => None,
+        Err(word) => Some((pins, word, pin)),
+    }
+}
+
+/// What passes see of a flow.
+#[derive(Clone, Copy)]
+struct Life {
+    opened: FlowId,
+    /// While a pass holds its record.
+    held: Word,
+    /// How many pins it has when it is doomed.
+    pins: u16,
+    /// By then.
+    doomed: Word,
+    freed: FlowId,
+}
+
+/// A flow is shared by two passes, doomed, and freed once they have given their pins up.
+fn shared_life(alloc: Global) -> Option<Life> {
+    let Ok((table, mut slow)) = start(alloc) else {
+        return None;
+    };
+    let mut app = guest(&table, &mut slow);
+    let mut core = guest(&table, &mut slow);
+    let mut late = guest(&table, &mut slow);
+    let (opened, pin) = open_next(alloc, &table, &mut slow)?;
+    let (held, first, second) = shared_by_two(&table, &mut app, &mut core, opened)?;
+    let (pins, doomed, pin) = held_back(&table, &mut slow, pin, &mut late)?;
+    leave(&table, &mut app, first);
+    leave(&table, &mut core, second);
+    let Ok(record) = retire(&table, &mut slow, pin) else {
+        return None;
+    };
+    Some(Life {
+        opened,
+        held,
+        pins,
+        doomed,
+        freed: record.id,
+    })
 }
 
 #[test]
 fn a_flow_is_shared_doomed_and_freed(rt: HostRuntime) -> Result<(), Fail> {
-    let (table, mut slow) = start(rt.alloc())?;
-    let mut app = guest(&table, &mut slow);
-    let mut core = guest(&table, &mut slow);
-    let mut third = guest(&table, &mut slow);
-    let Some(next) = slow.next_flow() else {
-        panic!(rt; "no slot is free")
+    let Some(life) = shared_life(rt.alloc()) else {
+        panic!(rt; "no flow was shared, doomed and freed")
     };
-    let item = record_of(rt.alloc(), next)?;
-    let Some((id, pin)) = open(&table, &mut slow, item) else {
-        panic!(rt; "nothing was opened")
+    assert_eq!(rt; [life.opened, life.freed], [flow(0, 1), flow(0, 1)]);
+    assert!(rt; life.held.busy && life.held.live && life.held.pins == 3);
+    assert!(rt; life.pins == 3 && life.doomed.live && life.doomed.doomed);
+    Ok(())
+}
+
+/// The slots once a flow was freed: the next flow of its slot, what a pass meets that still asks for the one of the
+/// past, and the flow of the slot that is left.
+fn opened_after(
+    alloc: Global,
+    table: &FlowTable<Record>,
+    slow: &mut SlowPass<Record>,
+    late: &mut Pass<Record>,
+    past: FlowId,
+) -> Option<(FlowId, Word, FlowId)>
+    requires slow { IsKeeper table.now slow.old × (slow.old.view.opened < 900) }
+    requires late { IsGuest table.now late.old × (past.slot < table.now.slots) }
+    ensures slow { IfSome result (λ o. IsKeeper table.now slow.new × (o.0.slot < table.now.slots)) }
+    ensures late { IfSome result (λ _. IsGuest table.now late.new) }
+{
+    let (again, _) = open_next(alloc, table, slow)?;
+    let Err(word) = enter(table, late, past) else {
+        return None;
     };
-    assert!(rt; id.slot == 0 && id.generation == 1);
-    let Ok(app_pin) = enter(&table, &mut app, id) else {
-        panic!(rt; "the application has no pin")
+    let (last, _) = open_next(alloc, table, slow)?;
+    Some((again, word, last))
+}
+
+/// The two flows whose records come out.
+fn records(alloc: Global, table: FlowTable<Record>, slow: SlowPass<Record>) -> Option<[FlowId; 2]>
+    requires { (slow.table ≡ table) × (slow.view.held ≡ []) }
+{
+    let Ok(mut closed) = table.close(alloc, slow) else {
+        return None;
     };
-    let Ok(core_pin) = enter(&table, &mut core, id) else {
-        panic!(rt; "the core has no pin")
+    let first = closed.next()?;
+    let second = closed.next()?;
+    if closed.next().is_some() {
+        return None;
+    }
+    Some([first.id, second.id])
+}
+
+/// What passes see of two slots of which one was used before.
+#[derive(Clone, Copy)]
+struct Reuse {
+    past: FlowId,
+    again: FlowId,
+    /// The word that a pass meets which still asks for the flow of the past.
+    word: Word,
+    last: FlowId,
+    /// Whether both slots have flows then, and the one of the past is none of them.
+    full: bool,
+    closed: [FlowId; 2],
+}
+
+/// A flow comes and goes, both slots are opened, and the table is closed.
+fn reused(alloc: Global) -> Option<Reuse> {
+    let Ok((table, mut slow)) = start(alloc) else {
+        return None;
     };
-    let Some(word) = found_beside(&table, &mut app, &app_pin, &mut core, &core_pin) else {
-        panic!(rt; "two passes held one record")
+    let mut pass = guest(&table, &mut slow);
+    let mut late = guest(&table, &mut slow);
+    let past = one_life(alloc, &table, &mut slow, &mut pass)?;
+    let (again, word, last) = opened_after(alloc, &table, &mut slow, &mut late, past)?;
+    let full = slow.next_flow().is_none() && slow.is_open(again) && !slow.is_open(past);
+    farewell(&table, &mut slow, pass);
+    farewell(&table, &mut slow, late);
+    let closed = records(alloc, table, slow)?;
+    Some(Reuse {
+        past,
+        again,
+        word,
+        last,
+        full,
+        closed,
+    })
+}
+
+#[test]
+fn a_freed_slot_is_opened_first(rt: HostRuntime) -> Result<(), Fail> {
+    let Some(reuse) = reused(rt.alloc()) else {
+        panic!(rt; "no flow came and went, or the slots were not opened, or a record is missing")
     };
-    assert!(rt; word.busy && word.live && word.pins == 3);
-    let Err((count, pin)) = retire(&table, &mut slow, pin) else {
-        panic!(rt; "a pinned flow was freed")
-    };
-    assert_eq!(rt; count, 3);
-    let Err(word) = enter(&table, &mut third, id) else {
-        panic!(rt; "a doomed flow was pinned")
-    };
-    assert!(rt; word.live && word.doomed);
-    leave(&table, &mut app, app_pin);
-    leave(&table, &mut core, core_pin);
-    let Ok(freed) = retire(&table, &mut slow, pin) else {
-        panic!(rt; "the flow was not freed")
-    };
-    assert!(rt; freed.id == id);
-    let Some(next) = slow.next_flow() else {
-        panic!(rt; "no slot is free")
-    };
-    let item = record_of(rt.alloc(), next)?;
-    let Some((again, _)) = open(&table, &mut slow, item) else {
-        panic!(rt; "nothing was opened")
-    };
-    assert!(rt; again.slot == 0 && again.generation == 2);
-    let Err(word) = enter(&table, &mut third, id) else {
-        panic!(rt; "a flow of the past was pinned")
-    };
-    assert_eq!(rt; word.generation, 2);
-    let Some(next) = slow.next_flow() else {
-        panic!(rt; "no slot is free")
-    };
-    let item = record_of(rt.alloc(), next)?;
-    let Some((last, _)) = open(&table, &mut slow, item) else {
-        panic!(rt; "nothing was opened")
-    };
-    assert!(rt; last.slot == 1 && last.generation == 1);
-    assert!(rt; slow.next_flow().is_none() && slow.is_open(again) && !slow.is_open(id));
-    farewell(&table, &mut slow, app);
-    farewell(&table, &mut slow, core);
-    farewell(&table, &mut slow, third);
-    let Ok(mut closed) = table.close(rt.alloc(), slow) else {
-        panic!(rt; "the table was not closed")
-    };
-    let Some(record) = closed.next() else {
-        panic!(rt; "no record came out")
-    };
-    assert!(rt; record.id == again);
-    let Some(record) = closed.next() else {
-        panic!(rt; "one record alone came out")
-    };
-    assert!(rt; record.id == last && closed.next().is_none());
+    assert!(rt; reuse.full && reuse.word.generation == 2);
+    let closed = reuse.closed;
+    assert_eq!(rt; closed, [reuse.again, reuse.last]);
+    let flows = [reuse.past, reuse.again, reuse.last];
+    assert_eq!(rt; flows, [flow(0, 1), flow(0, 2), flow(1, 1)]);
     Ok(())
 }

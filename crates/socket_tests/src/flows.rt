@@ -5,7 +5,7 @@ ghost use Rattle.flow_lock.specs.Answers.{next_in};
 ghost use Rattle.flow_lock.specs.Callers.{IsGuest, IsUser, IsKeeper, IsOwner};
 ghost use Rattle.flow_state.specs.Calls.{IsSmall, IsTimely};
 ghost use Rattle.tas_model.specs.declared.entry.Phase.{Phase};
-ghost use Rattle.socket_tests.specs.Going.{IsGoing, HasOpened, IsIdle};
+ghost use Rattle.socket_tests.specs.Going.{IsGoing, HasOpened, IsIdle, IsFresh, MayAsk};
 
 use app_reaper::{PinList, make_call};
 use context_queue::ContextQueue;
@@ -130,7 +130,7 @@ pub fn leave(table: &FlowTable<FlowRecord>, pass: &mut Pass<FlowRecord>, pin: Pi
 }
 
 /// Application 1, with no sockets.
-pub fn application(alloc: Global, pass: Pass<FlowRecord>) -> Result<App, AllocError>
+fn application(alloc: Global, pass: Pass<FlowRecord>) -> Result<App, AllocError>
     requires { (pass.view.pins ≡ []) × (pass.view.held ≡ []) }
     ensures { IfOk result (λ app. (app.pass ≡ pass) × (app.begun ≡ [])) }
 {
@@ -139,7 +139,7 @@ pub fn application(alloc: Global, pass: Pass<FlowRecord>) -> Result<App, AllocEr
 }
 
 /// The application connects.
-pub fn connected(
+fn connected(
     alloc: Global,
     table: &FlowTable<FlowRecord>,
     slow: &mut SlowPass<FlowRecord>,
@@ -158,7 +158,7 @@ pub fn connected(
 }
 
 /// Makes a call by a pass that has pinned the flow.
-pub fn made<E: Engine>(
+fn made<E: Engine>(
     table: &FlowTable<FlowRecord>,
     core: &mut Pass<FlowRecord>,
     pin: &Pin,
@@ -217,7 +217,7 @@ pub fn greeted(
 }
 
 /// A core pins the flow of the socket.
-pub fn beside(
+fn beside(
     table: &FlowTable<FlowRecord>,
     app: &App,
     s: Socket,
@@ -237,7 +237,7 @@ pub fn beside(
 }
 
 /// The application has a connection, which the core has pinned too.
-pub fn shared(
+fn shared(
     alloc: Global,
     table: &FlowTable<FlowRecord>,
     slow: &mut SlowPass<FlowRecord>,
@@ -256,4 +256,33 @@ pub fn shared(
     };
     let pin = beside(table, app, s, core)?;
     Some((s, pin))
+}
+
+/// An application with a connection, and a core that has pinned its flow.
+#[derive(Drop)]
+pub struct Connection {
+    pub app: App,
+    pub s: Socket,
+    pub core: Pass<FlowRecord>,
+    pub pin: Pin,
+}
+
+/// An application with this pass connects, and a core pins its flow.
+pub fn joined(
+    alloc: Global,
+    table: &FlowTable<FlowRecord>,
+    slow: &mut SlowPass<FlowRecord>,
+    pass: Pass<FlowRecord>,
+) -> Option<Connection>
+    requires { IsFresh table.now slow.old × IsGuest table.now pass }
+    ensures slow { IfSome result (λ _. IsIdle table.now slow.new) }
+    ensures app { IfSome result (λ j. HasOpened table.now j.s j.app) }
+    ensures core { IfSome result (λ j. MayAsk table.now j.pin j.core) }
+{
+    let mut core = guest(table, slow);
+    let Ok(mut app) = application(alloc, pass) else {
+        return None;
+    };
+    let (s, pin) = shared(alloc, table, slow, &mut core, &mut app)?;
+    Some(Connection { app, s, core, pin })
 }

@@ -1,16 +1,16 @@
 //! Applications that end while cores use their flows.
-ghost use Rattle.std.specs.Prelude.{◌≡◌, ◌<◌, IfOk, IfSome};
+ghost use Rattle.std.specs.Prelude.{◌≡◌, ◌<◌, IfSome};
 ghost use Rattle.flow_lock.specs.Callers.{IsTurned, IsGuest, IsUser};
 ghost use Rattle.app_reaper.specs.Reaping.{IsEnded};
 ghost use Rattle.socket_tests.specs.Going.{HasOpened, IsIdle, IsFresh};
 
-use crate::flows::{application, farewell, guest, shared, start};
+use crate::flows::{farewell, guest, joined, start};
 use crate::sockets::shut;
 use app_reaper::{Ended, ReapFault, reap};
 use flow_lock::{CloseRefused, FlowTable, Pass, Pin, SlowPass, Word};
 use flow_state::{CallView, EntryView, FlowRecord};
 use libtas_sockets::{App, Socket, SocketError};
-use std::alloc::{AllocError, Global};
+use std::alloc::Global;
 use std::test::*;
 use tas_model::Caller;
 
@@ -108,23 +108,52 @@ fn reaped_beside(
     left
 }
 
+/// Reaps what an application left. The first entries of the flow's history then.
+fn reaped(
+    table: &FlowTable<FlowRecord>,
+    slow: &mut SlowPass<FlowRecord>,
+    core: &mut Pass<FlowRecord>,
+    pin: &Pin,
+    left: Ended,
+) -> Option<[Option<Act>; 4]>
+    requires left { (slow.old.table ≡ table.now) × IsEnded table.now left }
+    requires core { IsUser table.now pin.now core.old × (pin.now.slot < table.now.slots) }
+{
+    if reap(table, slow, left, 3).is_err() {
+        return None;
+    }
+    match found(table, core, pin) {
+        Ok(entries) => Some(entries),
+        Err(_) => None,
+    }
+}
+
+/// An application ends while a core holds its flow's record. The word that stops the reaper, and the first entries of
+/// the flow's history once the rest was reaped.
+fn reaped_in_two(alloc: Global) -> Option<(Word, [Option<Act>; 4])> {
+    let Ok((table, mut slow)) = start(alloc) else {
+        return None;
+    };
+    let pass = guest(&table, &mut slow);
+    let joined = joined(alloc, &table, &mut slow, pass)?;
+    let (mut core, pin) = (joined.core, joined.pin);
+    let left = ended(&table, joined.app, false);
+    let (word, left) = reaped_beside(&table, &mut slow, &mut core, &pin, left)?;
+    let entries = reaped(&table, &mut slow, &mut core, &pin, left)?;
+    Some((word, entries))
+}
+
 #[test]
 fn a_reaper_stops_where_a_core_holds_the_record(rt: HostRuntime) -> Result<(), Fail> {
-    let (table, mut slow) = start(rt.alloc())?;
-    let pass = guest(&table, &mut slow);
-    let mut core = guest(&table, &mut slow);
-    let mut app = application(rt.alloc(), pass)?;
-    let Some((_, pin)) = shared(rt.alloc(), &table, &mut slow, &mut core, &mut app) else {
-        panic!(rt; "the core has no flow of the application")
+    let Some(made) = reaped_in_two(rt.alloc()) else {
+        panic!(rt; "the reaper was not stopped by the core, or not by it alone")
     };
-    let left = ended(&table, app, false);
-    let Some((word, left)) = reaped_beside(&table, &mut slow, &mut core, &pin, left) else {
-        panic!(rt; "the reaper was not stopped by the core")
-    };
+    let (word, entries) = made;
     assert!(rt; word.busy && word.live && word.pins == 3);
-    assert!(rt; reap(&table, &mut slow, left, 3).is_ok());
-    let entries = [Some(Act::Connect), Some(Act::SlowAbort), None, None];
-    assert_eq!(rt; found(&table, &mut core, &pin), Ok(entries));
+    assert_eq!(rt;
+        entries,
+        [Some(Act::Connect), Some(Act::SlowAbort), None, None]
+    );
     Ok(())
 }
 
@@ -146,29 +175,28 @@ fn still_out(
 /// A table of which two passes were split off and one was joined, with the other. It could not be closed.
 fn left_out(
     alloc: Global,
-) -> Result<
-    Option<
-        (
-            FlowTable<FlowRecord>,
-            SlowPass<FlowRecord>,
-            Pass<FlowRecord>,
-        ),
-    >,
-    AllocError,
+) -> Option<
+    (
+        FlowTable<FlowRecord>,
+        SlowPass<FlowRecord>,
+        Pass<FlowRecord>,
+    ),
 >
-    ensures { IfOk result (λ o. IfSome o (λ t. IsFresh t.0 t.1 × IsGuest t.0 t.2)) }
+    ensures { IfSome result (λ t. IsFresh t.0 t.1 × IsGuest t.0 t.2) }
 {
-    let (table, mut slow) = start(alloc)?;
+    let Ok((table, mut slow)) = start(alloc) else {
+        return None;
+    };
     let first = guest(&table, &mut slow);
     let second = guest(&table, &mut slow);
     let Some((2, table, mut slow)) = still_out(alloc, table, slow) else {
-        return Ok(None);
+        return None;
     };
     farewell(&table, &mut slow, first);
     let Some((1, table, slow)) = still_out(alloc, table, slow) else {
-        return Ok(None);
+        return None;
     };
-    Ok(Some((table, slow, second)))
+    Some((table, slow, second))
 }
 
 /// The application makes one entry and ends holding. The word that the core finds then, and what the application left.
@@ -194,27 +222,32 @@ fn ended_holding(
     }
 }
 
+/// An application ends holding its flow's record. The word that a core finds then, and the first entries of the flow's
+/// history once the application was reaped.
+fn reaped_holding(alloc: Global) -> Option<(Word, [Option<Act>; 4])> {
+    let (table, mut slow, pass) = left_out(alloc)?;
+    let joined = joined(alloc, &table, &mut slow, pass)?;
+    let (mut core, pin) = (joined.core, joined.pin);
+    let (word, left) = ended_holding(&table, &mut core, &pin, joined.app, joined.s)?;
+    let entries = reaped(&table, &mut slow, &mut core, &pin, left)?;
+    Some((word, entries))
+}
+
 #[test]
 fn an_application_that_ended_holding_is_reaped(rt: HostRuntime) -> Result<(), Fail> {
-    let Some((table, mut slow, pass)) = left_out(rt.alloc())? else {
-        panic!(rt; "the table was closed while passes were out")
+    let Some(made) = reaped_holding(rt.alloc()) else {
+        panic!(rt;
+            "the table was closed with passes out, or the application held nothing, or was not reaped"
+        )
     };
-    let mut core = guest(&table, &mut slow);
-    let mut app = application(rt.alloc(), pass)?;
-    let Some((s, pin)) = shared(rt.alloc(), &table, &mut slow, &mut core, &mut app) else {
-        panic!(rt; "the core has no flow of the application")
-    };
-    let Some((word, left)) = ended_holding(&table, &mut core, &pin, app, s) else {
-        panic!(rt; "the application held nothing")
-    };
+    let (word, entries) = made;
     assert!(rt; word.busy);
-    assert!(rt; reap(&table, &mut slow, left, 3).is_ok());
-    let entries = [
+    let acts = [
         Some(Act::Connect),
         Some(Act::Shut),
         Some(Act::SlowAbort),
         None,
     ];
-    assert_eq!(rt; found(&table, &mut core, &pin), Ok(entries));
+    assert_eq!(rt; entries, acts);
     Ok(())
 }

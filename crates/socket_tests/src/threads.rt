@@ -1,5 +1,5 @@
 //! Threads share flows: cores call on one flow, and flows come and go while cores look for them.
-ghost use Rattle.std.specs.Prelude.{◌≡◌, ◌+◌, ◌<◌, ◌≤◌, IfOk, IfSome};
+ghost use Rattle.std.specs.Prelude.{◌≡◌, ◌+◌, ◌<◌, ◌≤◌, true, IfOk, IfSome};
 ghost use Rattle.flow_lock.specs.Callers.{IsGuest, IsUser, IsKeeper, IsOwner};
 ghost use Rattle.socket_tests.specs.Going.{IsIdle, MayAsk};
 
@@ -11,6 +11,7 @@ use std::alloc::{AllocError, Global};
 use std::sync::Wait;
 use std::test::*;
 use std::thread;
+use std::thread::Threads;
 use tas_model::{Caller, FlowId};
 
 /// How many calls each core makes on a flow.
@@ -91,107 +92,175 @@ fn last_record(
     closed.next()
 }
 
+/// The passes of two cores.
+fn two_guests(
+    table: &FlowTable<FlowRecord>,
+    slow: &mut SlowPass<FlowRecord>,
+) -> (Pass<FlowRecord>, Pass<FlowRecord>)
+    requires { IsKeeper table.now slow.old × (slow.old.view.baton ≡ true) × (4001 < slow.old.view.parts) }
+    ensures guests { IsGuest table.now result.0 × IsGuest table.now result.1 }
+    ensures slow { IsKeeper table.now slow.new × (slow.new.view.baton ≡ true) }
+    ensures same { (slow.new.view.parts + 2 ≡ slow.old.view.parts) × (slow.new.view.opened ≡ slow.old.view.opened) }
+{
+    let first = guest(table, slow);
+    (first, guest(table, slow))
+}
+
+/// Two passes are joined.
+fn two_farewells(
+    table: &FlowTable<FlowRecord>,
+    slow: &mut SlowPass<FlowRecord>,
+    first: Pass<FlowRecord>,
+    second: Pass<FlowRecord>,
+)
+    requires { IsKeeper table.now slow.old × IsGuest table.now first × IsGuest table.now second }
+    ensures { IsKeeper table.now slow.new }
+{
+    farewell(table, slow, first);
+    farewell(table, slow, second);
+}
+
+/// A core's pass that has pinned a flow.
+#[derive(Drop)]
+struct Asker {
+    pass: Pass<FlowRecord>,
+    pin: Pin,
+}
+
+/// A core pins the flow.
+fn asker_of(table: &FlowTable<FlowRecord>, mut pass: Pass<FlowRecord>, flow: &Pin) -> Option<Asker>
+    requires { IsGuest table.now pass × (flow.now.slot < table.now.slots) }
+    ensures { IfSome result (λ a. MayAsk table.now a.pin a.pass) }
+{
+    match enter(table, &mut pass, flow.id()) {
+        Ok(pin) => Some(Asker { pass, pin }),
+        Err(_) => None,
+    }
+}
+
+/// Two cores pin the flow.
+fn two_askers(
+    table: &FlowTable<FlowRecord>,
+    first: Pass<FlowRecord>,
+    second: Pass<FlowRecord>,
+    flow: &Pin,
+) -> Option<(Asker, Asker)>
+    requires { IsGuest table.now first × IsGuest table.now second × (flow.now.slot < table.now.slots) }
+    ensures { IfSome result (λ a. MayAsk table.now a.0.pin a.0.pass × MayAsk table.now a.1.pin a.1.pass) }
+{
+    let first = asker_of(table, first, flow)?;
+    let second = asker_of(table, second, flow)?;
+    Some((first, second))
+}
+
+/// Two cores, this one and the next, make all their calls at once.
+fn ask_at_once<R: Threads + Wait + Sync>(
+    rt: &R,
+    table: &FlowTable<FlowRecord>,
+    first: Asker,
+    second: Asker,
+    core: u32,
+) -> (Pass<FlowRecord>, Pass<FlowRecord>)
+    requires first { MayAsk table.now first.pin first.pass × (core < 1000) }
+    requires second { MayAsk table.now second.pin second.pass }
+    ensures { IsGuest table.now result.0 × IsGuest table.now result.1 }
+{
+    let next = core + 1;
+    thread::join(
+        rt,
+        move ||
+            requires { MayAsk table.now first.pin first.pass }
+            ensures { IsGuest table.entry.now result }
+        { ask_all(rt, table, first.pass, first.pin, core) },
+        move ||
+            requires { MayAsk table.now second.pin second.pass }
+            ensures { IsGuest table.entry.now result }
+        { ask_all(rt, table, second.pass, second.pin, next) },
+    )
+}
+
+/// The record of a flow on which two cores made all their calls at once.
+fn called_by_two<R: Threads + Wait + Sync>(rt: &R, alloc: Global) -> Option<FlowRecord> {
+    let Ok((table, mut slow)) = start(alloc) else {
+        return None;
+    };
+    let (first, second) = two_guests(&table, &mut slow);
+    let pin = opened(alloc, &table, &mut slow)?;
+    let (first, second) = two_askers(&table, first, second, &pin)?;
+    let (first, second) = ask_at_once(rt, &table, first, second, 0);
+    two_farewells(&table, &mut slow, first, second);
+    last_record(alloc, table, slow)
+}
+
 #[test]
 fn two_cores_call_on_one_flow(rt: HostRuntime) -> Result<(), Fail> {
-    let (table, mut slow) = start(rt.alloc())?;
-    let mut first = guest(&table, &mut slow);
-    let mut second = guest(&table, &mut slow);
-    let Some(pin) = opened(rt.alloc(), &table, &mut slow) else {
-        panic!(rt; "no flow was opened")
-    };
-    let (Ok(one), Ok(two)) = (
-        enter(&table, &mut first, pin.id()),
-        enter(&table, &mut second, pin.id()),
-    ) else {
-        panic!(rt; "a core has no pin")
-    };
-    let (shared, runtime) = (&table, &rt);
-    let (first, second) = thread::join(
-        &rt,
-        move ||
-            requires { MayAsk shared.now one first }
-            ensures { IsGuest shared.entry.now result }
-        { ask_all(runtime, shared, first, one, 0) },
-        move ||
-            requires { MayAsk shared.now two second }
-            ensures { IsGuest shared.entry.now result }
-        { ask_all(runtime, shared, second, two, 1) },
-    );
-    farewell(&table, &mut slow, first);
-    farewell(&table, &mut slow, second);
-    let Some(flow) = last_record(rt.alloc(), table, slow) else {
-        panic!(rt; "no record came out")
+    let Some(flow) = called_by_two(&rt, rt.alloc()) else {
+        panic!(rt; "no flow was opened, or a core has no pin, or no record came out")
     };
     assert!(rt; has_all_of(&flow, 0) && has_all_of(&flow, 1) && flow.entries() == 2_001);
     Ok(())
 }
 
+/// Two pairs of cores make all their calls at once.
+fn ask_by_four<R: Threads + Wait + Sync>(
+    rt: &R,
+    table: &FlowTable<FlowRecord>,
+    low: (Asker, Asker),
+    high: (Asker, Asker),
+) -> (
+    (Pass<FlowRecord>, Pass<FlowRecord>),
+    (Pass<FlowRecord>, Pass<FlowRecord>),
+)
+    requires low { MayAsk table.now low.0.pin low.0.pass × MayAsk table.now low.1.pin low.1.pass }
+    requires high { MayAsk table.now high.0.pin high.0.pass × MayAsk table.now high.1.pin high.1.pass }
+    ensures low { IsGuest table.now result.0.0 × IsGuest table.now result.0.1 }
+    ensures high { IsGuest table.now result.1.0 × IsGuest table.now result.1.1 }
+{
+    thread::join(
+        rt,
+        move ||
+            requires { MayAsk table.now low.0.pin low.0.pass × MayAsk table.now low.1.pin low.1.pass }
+            ensures { IsGuest table.entry.now result.0 × IsGuest table.entry.now result.1 }
+        { ask_at_once(rt, table, low.0, low.1, 0) },
+        move ||
+            requires { MayAsk table.now high.0.pin high.0.pass × MayAsk table.now high.1.pin high.1.pass }
+            ensures { IsGuest table.entry.now result.0 × IsGuest table.entry.now result.1 }
+        { ask_at_once(rt, table, high.0, high.1, 2) },
+    )
+}
+
+/// Whether the history has all calls of four cores.
+fn has_all_of_four(flow: &FlowRecord) -> bool {
+    for core in 0..4 {
+        if !has_all_of(flow, core) {
+            return false;
+        }
+    }
+    true
+}
+
+/// The record of a flow on which four cores made all their calls at once.
+fn called_by_four<R: Threads + Wait + Sync>(rt: &R, alloc: Global) -> Option<FlowRecord> {
+    let Ok((table, mut slow)) = start(alloc) else {
+        return None;
+    };
+    let (first, second) = two_guests(&table, &mut slow);
+    let (third, fourth) = two_guests(&table, &mut slow);
+    let pin = opened(alloc, &table, &mut slow)?;
+    let low = two_askers(&table, first, second, &pin)?;
+    let high = two_askers(&table, third, fourth, &pin)?;
+    let ((first, second), (third, fourth)) = ask_by_four(rt, &table, low, high);
+    two_farewells(&table, &mut slow, first, second);
+    two_farewells(&table, &mut slow, third, fourth);
+    last_record(alloc, table, slow)
+}
+
 #[test]
 fn four_cores_call_on_one_flow(rt: HostRuntime) -> Result<(), Fail> {
-    let (table, mut slow) = start(rt.alloc())?;
-    let mut first = guest(&table, &mut slow);
-    let mut second = guest(&table, &mut slow);
-    let mut third = guest(&table, &mut slow);
-    let mut fourth = guest(&table, &mut slow);
-    let Some(pin) = opened(rt.alloc(), &table, &mut slow) else {
-        panic!(rt; "no flow was opened")
+    let Some(flow) = called_by_four(&rt, rt.alloc()) else {
+        panic!(rt; "no flow was opened, or a core has no pin, or no record came out")
     };
-    let (Ok(one), Ok(two), Ok(three), Ok(four)) = (
-        enter(&table, &mut first, pin.id()),
-        enter(&table, &mut second, pin.id()),
-        enter(&table, &mut third, pin.id()),
-        enter(&table, &mut fourth, pin.id()),
-    ) else {
-        panic!(rt; "a core has no pin")
-    };
-    let (shared, runtime) = (&table, &rt);
-    let ((first, second), (third, fourth)) = thread::join(
-        &rt,
-        move ||
-            requires { MayAsk shared.now one first × MayAsk shared.now two second }
-            ensures { IsGuest shared.entry.now result.0 × IsGuest shared.entry.now result.1 }
-        {
-            thread::join(
-                runtime,
-                move ||
-                    requires { MayAsk shared.now one first }
-                    ensures { IsGuest shared.entry.now result }
-                { ask_all(runtime, shared, first, one, 0) },
-                move ||
-                    requires { MayAsk shared.now two second }
-                    ensures { IsGuest shared.entry.now result }
-                { ask_all(runtime, shared, second, two, 1) },
-            )
-        },
-        move ||
-            requires { MayAsk shared.now three third × MayAsk shared.now four fourth }
-            ensures { IsGuest shared.entry.now result.0 × IsGuest shared.entry.now result.1 }
-        {
-            thread::join(
-                runtime,
-                move ||
-                    requires { MayAsk shared.now three third }
-                    ensures { IsGuest shared.entry.now result }
-                { ask_all(runtime, shared, third, three, 2) },
-                move ||
-                    requires { MayAsk shared.now four fourth }
-                    ensures { IsGuest shared.entry.now result }
-                { ask_all(runtime, shared, fourth, four, 3) },
-            )
-        },
-    );
-    farewell(&table, &mut slow, first);
-    farewell(&table, &mut slow, second);
-    farewell(&table, &mut slow, third);
-    farewell(&table, &mut slow, fourth);
-    let Some(flow) = last_record(rt.alloc(), table, slow) else {
-        panic!(rt; "no record came out")
-    };
-    let all = has_all_of(&flow, 0)
-        && has_all_of(&flow, 1)
-        && has_all_of(&flow, 2)
-        && has_all_of(&flow, 3);
-    assert!(rt; all && flow.entries() == 4_001);
+    assert!(rt; has_all_of_four(&flow) && flow.entries() == 4_001);
     Ok(())
 }
 
@@ -328,40 +397,60 @@ fn entries_in(filed: &FiledList) -> Option<usize> {
     Some(entries)
 }
 
-#[test]
-fn flows_come_and_go_while_cores_look_for_them(rt: HostRuntime) -> Result<(), Fail> {
-    let (table, mut slow) = start(rt.alloc())?;
-    let first = guest(&table, &mut slow);
-    let second = guest(&table, &mut slow);
-    let (shared, runtime, alloc) = (&table, &rt, rt.alloc());
-    let ((filed, slow), ((one, first), (two, second))) = thread::join(
-        &rt,
+/// Two cores look for flows at once, each until the last is gone.
+fn visit_at_once<R: Threads + Sync>(
+    rt: &R,
+    table: &FlowTable<FlowRecord>,
+    first: Pass<FlowRecord>,
+    second: Pass<FlowRecord>,
+) -> ((u32, Pass<FlowRecord>), (u32, Pass<FlowRecord>))
+    requires { IsGuest table.now first × IsGuest table.now second × (table.now.slots ≡ 2) }
+    ensures { IsGuest table.now result.0.1 × IsGuest table.now result.1.1 }
+{
+    thread::join(
+        rt,
+        move ||
+            requires { IsGuest table.now first × (table.now.slots ≡ 2) }
+            ensures { IsGuest table.entry.now result.1 }
+        { visit_all(table, first, 0) },
+        move ||
+            requires { IsGuest table.now second × (table.now.slots ≡ 2) }
+            ensures { IsGuest table.entry.now result.1 }
+        { visit_all(table, second, 1) },
+    )
+}
+
+/// Flows come and go while two cores look for them. The records that were filed, where none stayed in the table, and
+/// how many entries the cores made.
+fn filed_beside<R: Threads + Wait + Sync>(rt: &R, alloc: Global) -> Option<(FiledList, usize)> {
+    let Ok((table, mut slow)) = start(alloc) else {
+        return None;
+    };
+    let (first, second) = two_guests(&table, &mut slow);
+    let shared = &table;
+    let ((filed, mut slow), ((one, first), (two, second))) = thread::join(
+        rt,
         move ||
             requires { IsKeeper shared.now slow × (slow.view.opened ≡ 0) }
             ensures { IsKeeper shared.entry.now result.1 }
-        { come_and_go(runtime, alloc, shared, slow) },
+        { come_and_go(rt, alloc, shared, slow) },
         move ||
             requires { IsGuest shared.now first × IsGuest shared.now second × (shared.now.slots ≡ 2) }
             ensures { IsGuest shared.entry.now result.0.1 × IsGuest shared.entry.now result.1.1 }
-        {
-            thread::join(
-                runtime,
-                move ||
-                    requires { IsGuest shared.now first × (shared.now.slots ≡ 2) }
-                    ensures { IsGuest shared.entry.now result.1 }
-                { visit_all(shared, first, 0) },
-                move ||
-                    requires { IsGuest shared.now second × (shared.now.slots ≡ 2) }
-                    ensures { IsGuest shared.entry.now result.1 }
-                { visit_all(shared, second, 1) },
-            )
-        },
+        { visit_at_once(rt, shared, first, second) },
     );
-    let mut slow = slow;
-    farewell(&table, &mut slow, first);
-    farewell(&table, &mut slow, second);
-    assert!(rt; filed.len() == 100 && last_record(rt.alloc(), table, slow).is_none());
-    let asked = (one as usize).saturating_add(two as usize);
-    assert!(rt; entries_in(&filed) == Some(asked.saturating_add(100)));
+    two_farewells(&table, &mut slow, first, second);
+    match last_record(alloc, table, slow) {
+        Some(_) => None,
+        None => Some((filed, (one as usize).saturating_add(two as usize))),
+    }
+}
+
+#[test]
+fn flows_come_and_go_while_cores_look_for_them(rt: HostRuntime) -> Result<(), Fail> {
+    let Some((filed, asked)) = filed_beside(&rt, rt.alloc()) else {
+        panic!(rt; "there is no table, or a record stayed in it")
+    };
+    assert!(rt; filed.len() == 100 && entries_in(&filed) == Some(asked.saturating_add(100)));
     Ok(())
 }
