@@ -101,15 +101,15 @@ core_keeps core t frame seg = record { same = λ l. record { tuple = refl; id = 
 core_stays : (core t : ℕ) (frame : FrameId) (seg : Seg) → Stays (received (Core core) t frame seg)
 core_stays core t frame seg l = refl
 
-frame_known : (known : FourTuple → Option Openings) (slots : ℕ → Option ℕ) (places : List ℕ) (given core t : ℕ)
-    (frame : FrameId) (p : Packet) (F : List Live) → is_some (place_in F p) ≡ true
-    → IsKnown known slots places given F → IsKnown known slots places given (taken_packet core t frame p F)
-frame_known known slots places given core t frame (Damaged rule) F here is = is
-frame_known known slots places given core t frame (Segment tuple seg) F here is =
+frame_known : (known : FourTuple → Option Openings) (slots : ℕ → Option ℕ) (places : List ℕ) (given : ℕ)
+    (marks : List Bool) (core t : ℕ) (frame : FrameId) (p : Packet) (F : List Live) → is_some (place_in F p) ≡ true
+    → IsKnown known slots places given marks F → IsKnown known slots places given marks (taken_packet core t frame p F)
+frame_known known slots places given marks core t frame (Damaged rule) F here is = is
+frame_known known slots places given marks core t frame (Segment tuple seg) F here is =
     let f : Live → Live = received (Core core) t frame seg in
     let at = found_at F (Segment tuple seg) here in
-    subst (IsKnown known slots places given) (found_change (is_indexed_as tuple) f F at.0 at.1).1
-    (known_change known slots places given f F at.0 (core_keeps core t frame seg) (core_stays core t frame seg)
+    subst (IsKnown known slots places given marks) (found_change (is_indexed_as tuple) f F at.0 at.1).1
+    (known_change known slots places given marks f F at.0 (core_keeps core t frame seg) (core_stays core t frame seg)
     (found_stands tuple F at.0 at.1 is.filed) is)
 
 frame_host : {params : HostParams} {listeners : List code.Listener} (core t : ℕ) (frame : FrameId) (p : Packet)
@@ -163,13 +163,15 @@ first_known : (F : List Live) (x : Taken) (order : List Taken) → AreKnown F (x
     → is_some (place_in F x.arrival.packet) ≡ true
 first_known F x order all = All-head (λ (y : Taken). is_some (place_in F y.arrival.packet) ≡ true) x order all
 
-order_known : (known : FourTuple → Option Openings) (slots : ℕ → Option ℕ) (places : List ℕ) (given t : ℕ)
-    (order : List Taken) (F : List Live) → AreKnown F order → IsKnown known slots places given F
-    → IsKnown known slots places given (fold (flow_taken t) F order)
-order_known known slots places given t [] F all is = is
-order_known known slots places given t (x ∷ order) F all is =
-    order_known known slots places given t order (flow_taken t F x) (rest_known t F x order all)
-    (frame_known known slots places given x.core t x.arrival.frame x.arrival.packet F (first_known F x order all) is)
+order_known : (known : FourTuple → Option Openings) (slots : ℕ → Option ℕ) (places : List ℕ) (given : ℕ)
+    (marks : List Bool) (t : ℕ) (order : List Taken) (F : List Live) → AreKnown F order
+    → IsKnown known slots places given marks F
+    → IsKnown known slots places given marks (fold (flow_taken t) F order)
+order_known known slots places given marks t [] F all is = is
+order_known known slots places given marks t (x ∷ order) F all is =
+    order_known known slots places given marks t order (flow_taken t F x) (rest_known t F x order all)
+    (frame_known known slots places given marks x.core t x.arrival.frame x.arrival.packet F (first_known F x order all)
+    is)
 
 order_host : {params : HostParams} {listeners : List code.Listener} (t : ℕ) (order : List Taken) (F : List Live)
     → AreKnown F order → IsHost params listeners F → IsHost params listeners (fold (flow_taken t) F order)
@@ -178,12 +180,13 @@ order_host {params} {listeners} t (x ∷ order) F all is =
     order_host t order (flow_taken t F x) (rest_known t F x order all)
     (frame_host x.core t x.arrival.frame x.arrival.packet F (first_known F x order all) is)
 
-pub took_known : {known : FourTuple → Option Openings} {slots : ℕ → Option ℕ} {places : List ℕ} {given t : ℕ}
-    {old after : List Live} {frames rest : List Arrival} → TookFrames t old frames rest after
-    → IsKnown known slots places given old → IsKnown known slots places given after
-took_known {known} {slots} {places} {given} {t} {old} {after} {frames} {rest} took is =
-    subst (IsKnown known slots places given) took.made
-    (order_known known slots places given t took.order old took.known is)
+pub took_known : {known : FourTuple → Option Openings} {slots : ℕ → Option ℕ} {places : List ℕ} {given : ℕ}
+    {marks : List Bool} {t : ℕ} {old after : List Live} {frames rest : List Arrival}
+    → TookFrames t old frames rest after → IsKnown known slots places given marks old
+    → IsKnown known slots places given marks after
+took_known {known} {slots} {places} {given} {marks} {t} {old} {after} {frames} {rest} took is =
+    subst (IsKnown known slots places given marks) took.made
+    (order_known known slots places given marks t took.order old took.known is)
 
 pub took_host : {params : HostParams} {listeners : List code.Listener} {t : ℕ} {old after : List Live}
     {frames rest : List Arrival} → TookFrames t old frames rest after → IsHost params listeners old
@@ -244,9 +247,10 @@ Given t old after frames r =
     IfOk r (λ (v : Vec code_arrival.Arrival). TookFrames t old frames (map arrival_in v.items) after)
 
 pub sound_took : {E : Type 0} {known : FourTuple → Option Openings} {slots : ℕ → Option ℕ} {places : List ℕ}
-    {given : ℕ} (t : ℕ) (old after : List Live) (frames : List Arrival) (r : Result (Vec code_arrival.Arrival) E)
-    → Given t old after frames r → IsKnown known slots places given old
-    → OnOk r (IsKnown known slots places given after)
+    {given : ℕ} {marks : List Bool} (t : ℕ) (old after : List Live) (frames : List Arrival)
+    (r : Result (Vec code_arrival.Arrival) E)
+    → Given t old after frames r → IsKnown known slots places given marks old
+    → OnOk r (IsKnown known slots places given marks after)
 sound_took t old after frames (Ok v) took is = took_known took is
 sound_took t old after frames (Err e) took is = tt
 

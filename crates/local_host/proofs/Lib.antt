@@ -6,6 +6,7 @@ pub mod Fitting
 pub mod Places
 pub mod Hosting
 pub mod Indexing
+pub mod Slots
 pub mod Standing
 pub mod Records
 pub mod Staging

@@ -36,6 +36,7 @@ use Rattle.local_host.proofs.Places.{ok_by, wrote_change}
 use Rattle.local_host.proofs.Given.{one_given, given_push, given_map, given_change}
 use Rattle.local_host.proofs.Indexing.{length_change, all_kept, Keeps, swept_keeps, map_index, change_index}
 use Rattle.local_host.proofs.Indexing.{pushed_index}
+use Rattle.local_host.proofs.Slots.{marked_map, marked_change, marked_push, marked_swept}
 
 -- ----- what a flow at rest stays
 abbrev pub Rests : (Live → Live) → Type 0
@@ -292,10 +293,6 @@ passes_get test [] i d low = absurd (omega (arith, low))
 passes_get test (l ∷ ls) zero d low = refl
 passes_get test (l ∷ ls) (suc i) d low = passes_get test ls i d (omega (arith, low))
 
-pub or_none : (b : Bool) → (b || false) ≡ b
-or_none true = refl
-or_none false = refl
-
 pub passes_past : (test : Live → Bool) (ls : List Live) (i : ℕ) → length ls ≤ i → passes_at test ls i ≡ false
 passes_past test [] i past = refl
 passes_past test (l ∷ ls) zero past = absurd (omega (arith, past))
@@ -375,50 +372,67 @@ in_few slot (l ∷ ls) =
 
 -- ----- all that is known
 pub known_map : (known : FourTuple → Option Openings) (slots : ℕ → Option ℕ) (places : List ℕ) (given : ℕ)
-    (f : Live → Live) (ls : List Live) → Keeps f → Rests f → Stays f → IsKnown known slots places given ls
-    → IsKnown known slots places given (map f ls)
-known_map known slots places given f ls keeps rests stays is = record {
+    (marks : List Bool) (f : Live → Live) (ls : List Live) → Keeps f → Rests f → Stays f
+    → IsKnown known slots places given marks ls
+    → IsKnown known slots places given marks (map f ls)
+known_map known slots places given marks f ls keeps rests stays is = record {
   index = map_index known f ls keeps is.index;
   counts = λ slot. is.counts slot ∙ sym (in_map slot f keeps ls);
   standing = is.standing ∙ sym (places_map f stays ls);
   filed = rest_map f rests stays ls is.filed;
   ports = is.ports ∙ sym (given_map f keeps ls);
+  taken = marked_map marks f keeps stays ls is.taken;
 }
 
 pub known_change : (known : FourTuple → Option Openings) (slots : ℕ → Option ℕ) (places : List ℕ) (given : ℕ)
-    (f : Live → Live) (ls : List Live) (i : ℕ) → Keeps f → Stays f → passes_at is_standing ls i ≡ true
-    → IsKnown known slots places given ls
-    → IsKnown known slots places given (change_at i f ls)
-known_change known slots places given f ls i keeps stays stands is = record {
+    (marks : List Bool) (f : Live → Live) (ls : List Live) (i : ℕ) → Keeps f → Stays f
+    → passes_at is_standing ls i ≡ true
+    → IsKnown known slots places given marks ls
+    → IsKnown known slots places given marks (change_at i f ls)
+known_change known slots places given marks f ls i keeps stays stands is = record {
   index = change_index known f ls i keeps is.index;
   counts = λ slot. is.counts slot ∙ sym (in_change slot f keeps ls i);
   standing = is.standing ∙ sym (places_change f stays ls i);
   filed = rest_change f stays ls i stands is.filed;
   ports = is.ports ∙ sym (given_change f keeps ls i);
+  taken = marked_change marks f keeps stays ls i is.taken;
 }
 
 pub known_calm : (known : FourTuple → Option Openings) (slots : ℕ → Option ℕ) (places : List ℕ) (given : ℕ)
-    (f : Live → Live) (ls : List Live) (i : ℕ) → Keeps f → Calms f → Stays f → IsKnown known slots places given ls
-    → IsKnown known slots places given (change_at i f ls)
-known_calm known slots places given f ls i keeps calms stays is = record {
+    (marks : List Bool) (f : Live → Live) (ls : List Live) (i : ℕ) → Keeps f → Calms f → Stays f
+    → IsKnown known slots places given marks ls
+    → IsKnown known slots places given marks (change_at i f ls)
+known_calm known slots places given marks f ls i keeps calms stays is = record {
   index = change_index known f ls i keeps is.index;
   counts = λ slot. is.counts slot ∙ sym (in_change slot f keeps ls i);
   standing = is.standing ∙ sym (places_change f stays ls i);
   filed = rest_calm f calms stays ls i is.filed;
   ports = is.ports ∙ sym (given_change f keeps ls i);
+  taken = marked_change marks f keeps stays ls i is.taken;
 }
 
+-- after a sweep
+pub places_left : {places later : List ℕ} (ls : List Live) {after : List Live} → places ≡ standing_places ls
+    → after ≡ map swept ls
+    → later ≡ filter (passes_at is_standing after) places → later ≡ standing_places after
+places_left {places} {later} ls {after} is made left =
+    left ∙ (ap (λ (ms : List Live). filter (passes_at is_standing ms) places) made
+    ∙ (ap (filter (passes_at is_standing (map swept ls))) is ∙ (places_swept ls ∙ ap standing_places (sym made))))
+
 pub known_swept : {known : FourTuple → Option Openings} {slots : ℕ → Option ℕ} {places later : List ℕ} {given : ℕ}
-    {ls after : List Live} → IsKnown known slots places given ls → after ≡ map swept ls
-    → later ≡ filter (passes_at is_standing after) places → IsKnown known slots later given after
-known_swept {known} {slots} {places} {later} {given} {ls} {after} is made left =
-    subst (IsKnown known slots later given) (sym made) (record {
+    {marks anew : List Bool} {ls after : List Live} → IsKnown known slots places given marks ls → after ≡ map swept ls
+    → later ≡ standing_places after → length anew ≡ length marks
+    → ((slot : ℕ) → slot < length marks → get_or anew slot false ≡ list_any (is_in_slot slot) after)
+    → IsKnown known slots later given anew after
+known_swept {known} {slots} {places} {later} {given} {marks} {anew} {ls} {after} is made left same noted =
+    subst (IsKnown known slots later given anew) (sym made) (record {
       index = map_index known swept ls swept_keeps is.index;
       counts = λ slot. is.counts slot ∙ sym (in_map slot swept swept_keeps ls);
-      standing = left ∙ (ap (λ (ms : List Live). filter (passes_at is_standing ms) places) made
-          ∙ (ap (filter (passes_at is_standing (map swept ls))) is.standing ∙ places_swept ls));
+      standing = left ∙ ap standing_places made;
       filed = rest_swept ls is.filed;
       ports = is.ports ∙ sym (given_map swept swept_keeps ls);
+      taken = marked_swept marks anew ls is.taken same
+          (λ slot low. noted slot low ∙ ap (list_any (is_in_slot slot)) made);
     })
 
 -- ----- a loop over the places
@@ -460,16 +474,17 @@ leads_to_all {f} {places} {k} {ls} {old} rests leads is rest past =
 
 -- ----- one flow more
 pub known_push : (known later : FourTuple → Option Openings) (slots more : ℕ → Option ℕ) (places longer : List ℕ)
-    (given more_ports : ℕ) (tuple : FourTuple) (now : Openings) (ls : List Live) (l : Live)
+    (given more_ports : ℕ) (marks anew : List Bool) (tuple : FourTuple) (now : Openings) (ls : List Live) (l : Live)
     → now.latest ≡ length ls → now.count ≡ 1 + opened_as tuple ls
     → ((q : FourTuple) → later q ≡ cond (equal_tuple tuple q) (Some now) (known q))
     → ((slot : ℕ) → number_of (more slot) ≡ number_of (slots slot) + cond (l.flow.id.slot == slot) 1 0)
     → longer ≡ places ++ length ls ∷ [] → more_ports ≡ given + one_given l
+    → ((slot : ℕ) → get_or anew slot false ≡ (get_or marks slot false || l.flow.id.slot == slot))
     → l.flow.tuple ≡ tuple → position (is_indexed_as tuple) ls ≡ None → l.filed ≡ false
-    → IsKnown known slots places given ls
-    → IsKnown later more longer more_ports (ls ++ l ∷ [])
-known_push known later slots more places longer given more_ports tuple now ls l latest count noted counted grown
-    counts_port own none fresh is =
+    → IsKnown known slots places given marks ls
+    → IsKnown later more longer more_ports anew (ls ++ l ∷ [])
+known_push known later slots more places longer given more_ports marks anew tuple now ls l latest count noted counted
+    grown counts_port marked own none fresh is =
     record {
       index =
           pushed_index known later tuple ls l now.latest (opened_as tuple ls) latest refl
@@ -480,6 +495,7 @@ known_push known later slots more places longer given more_ports tuple now ls l 
       standing = grown ∙ (ap (λ (ps : List ℕ). ps ++ length ls ∷ []) is.standing ∙ sym (places_push ls l fresh));
       filed = rest_push ls l fresh is.filed;
       ports = counts_port ∙ (ap (λ (n : ℕ). n + one_given l) is.ports ∙ sym (given_push ls l));
+      taken = marked_push marks anew ls l fresh marked is.taken;
     }
 
 -- ----- a slice that was written whole
@@ -492,38 +508,41 @@ written_whole made old n all same =
 -- ----- what was done
 -- What is known is right after a change of all flows,
 pub sound_by_map : {T E : Type 0} (r : Result T E) {known : FourTuple → Option Openings} {slots : ℕ → Option ℕ}
-    {places : List ℕ} {given : ℕ} {f : Live → Live} {ls : List Live} (after : List Live) → Keeps f → Rests f → Stays f
-    → IsKnown known slots places given ls → OnOk r (after ≡ map f ls)
-    → OnOk r (IsKnown known slots places given after)
-sound_by_map r {known} {slots} {places} {given} {f} {ls} after keeps rests stays sound = ok_by r
-    (λ made. subst (IsKnown known slots places given) (sym made)
-    (known_map known slots places given f ls keeps rests stays sound))
+    {places : List ℕ} {given : ℕ} {marks : List Bool} {f : Live → Live} {ls : List Live} (after : List Live)
+    → Keeps f → Rests f → Stays f
+    → IsKnown known slots places given marks ls → OnOk r (after ≡ map f ls)
+    → OnOk r (IsKnown known slots places given marks after)
+sound_by_map r {known} {slots} {places} {given} {marks} {f} {ls} after keeps rests stays sound = ok_by r
+    (λ made. subst (IsKnown known slots places given marks) (sym made)
+    (known_map known slots places given marks f ls keeps rests stays sound))
 
 -- and of one that stands,
 pub sound_by_change : {T E : Type 0} (r : Result T E) {known : FourTuple → Option Openings} {slots : ℕ → Option ℕ}
-    {places : List ℕ} {given : ℕ} (f : Live → Live) (i : ℕ) {ls seen : List Live} (was made : Live) → Keeps f → Stays f
-    → IsKnown known slots places given ls → ls ≡ seen → passes_at is_standing seen i ≡ true → was ≡ get_or ls i was
-    → OnOk r (made ≡ f was) → OnOk r (IsKnown known slots places given (set ls i made))
-sound_by_change r {known} {slots} {places} {given} f i {ls} {seen} was made keeps stays sound same stands read =
+    {places : List ℕ} {given : ℕ} {marks : List Bool} (f : Live → Live) (i : ℕ) {ls seen : List Live} (was made : Live)
+    → Keeps f → Stays f → IsKnown known slots places given marks ls → ls ≡ seen → passes_at is_standing seen i ≡ true
+    → was ≡ get_or ls i was
+    → OnOk r (made ≡ f was) → OnOk r (IsKnown known slots places given marks (set ls i made))
+sound_by_change r {known} {slots} {places} {given} {marks} f i {ls} {seen} was made keeps stays sound same stands read =
     ok_by r
-    (λ by. subst (IsKnown known slots places given) (sym
+    (λ by. subst (IsKnown known slots places given marks) (sym
     (wrote_change f ls ls i was made refl (stands_below i same stands) read by))
-    (known_change known slots places given f ls i keeps stays
+    (known_change known slots places given marks f ls i keeps stays
     (subst (λ (ms : List Live). passes_at is_standing ms i ≡ true) (sym same) stands) sound))
 
 -- or of any that stays at rest,
 pub sound_calm : {known : FourTuple → Option Openings} {slots : ℕ → Option ℕ} {places : List ℕ} {given : ℕ}
-    (f : Live → Live) (i : ℕ) {ls : List Live} (was made : Live) → Keeps f → Calms f → Stays f
-    → IsKnown known slots places given ls
-    → i < length ls → was ≡ get_or ls i was → made ≡ f was → IsKnown known slots places given (set ls i made)
-sound_calm {known} {slots} {places} {given} f i {ls} was made keeps calms stays sound low read by =
-    subst (IsKnown known slots places given) (sym (wrote_change f ls ls i was made refl low read by))
-    (known_calm known slots places given f ls i keeps calms stays sound)
+    {marks : List Bool} (f : Live → Live) (i : ℕ) {ls : List Live} (was made : Live) → Keeps f → Calms f → Stays f
+    → IsKnown known slots places given marks ls
+    → i < length ls → was ≡ get_or ls i was → made ≡ f was → IsKnown known slots places given marks (set ls i made)
+sound_calm {known} {slots} {places} {given} {marks} f i {ls} was made keeps calms stays sound low read by =
+    subst (IsKnown known slots places given marks) (sym (wrote_change f ls ls i was made refl low read by))
+    (known_calm known slots places given marks f ls i keeps calms stays sound)
 
 pub sound_if_calm : {T E : Type 0} (r : Result T E) {known : FourTuple → Option Openings} {slots : ℕ → Option ℕ}
-    {places : List ℕ} {given : ℕ} (f : Live → Live) (i : ℕ) {ls : List Live} (was made : Live) → Keeps f → Calms f
-    → Stays f → IsKnown known slots places given ls → i < length ls → was ≡ get_or ls i was → OnOk r (made ≡ f was)
-    → OnOk r (IsKnown known slots places given (set ls i made))
+    {places : List ℕ} {given : ℕ} {marks : List Bool} (f : Live → Live) (i : ℕ) {ls : List Live} (was made : Live)
+    → Keeps f → Calms f → Stays f → IsKnown known slots places given marks ls → i < length ls → was ≡ get_or ls i was
+    → OnOk r (made ≡ f was)
+    → OnOk r (IsKnown known slots places given marks (set ls i made))
 sound_if_calm r f i was made keeps calms stays sound low read =
     ok_by r (λ by. sound_calm f i was made keeps calms stays sound low read by)
 

@@ -1,9 +1,10 @@
 -- What the host keeps of its flows beside themselves, so that no search walks over all of them.
 use Rattle.std.specs.Prelude.{◌≡◌, ℕ, nat_eq, zero, suc, ◌<◌, ◌==◌, Bool, true, false, not, List, [], ◌∷◌, length, map}
-use Rattle.std.specs.Prelude.{count_by, nat_le, Option, Some, None, ⊤}
+use Rattle.std.specs.Prelude.{count_by, get_or, nat_le, Option, Some, None, ⊤}
+use Rattle.std.specs.List.{list_any}
 use Rattle.std.specs.HashMap.{get}
 use Rattle.tas_model.specs.declared.entry.FourTuple.{FourTuple}
-use Rattle.host_rounds.specs.Hosts.{Live, is_indexed_as, is_over, opened_as, first_port}
+use Rattle.host_rounds.specs.Hosts.{Live, is_indexed_as, is_in_slot, is_over, opened_as, first_port}
 use Rattle.capture_items.specs.Numbers.{equal_tuple}
 use Rattle.local_host.specs.declared.flows.Openings.{Openings}
 use Rattle.local_host.specs.declared.flows.Table.{Table}
@@ -68,6 +69,10 @@ number_of (Some n) = n
 abbrev pub flows_in : (slot : ℕ) → List Live → ℕ
 flows_in slot flows = count_by (λ (l : Live). l.flow.id.slot == slot) flows
 
+-- The slots in which records of flows stand are marked; no record stands in a slot past the marks.
+abbrev pub AreMarked : (marks : List Bool) → List Live → Type 0
+AreMarked marks flows = (slot : ℕ) → get_or marks slot false ≡ list_any (is_in_slot slot) flows
+
 -- ----- ports
 -- how many flows have ports that connects are given
 abbrev pub given_in : List Live → ℕ
@@ -75,12 +80,14 @@ given_in flows = count_by (λ (l : Live). nat_le first_port l.flow.tuple.lport) 
 
 -- ----- all of it
 pub record IsKnown (known : FourTuple → Option Openings) (slots : ℕ → Option ℕ) (places : List ℕ) (given : ℕ)
-    (flows : List Live) : Type 0 where
+    (marks : List Bool) (flows : List Live) : Type 0 where
   pub index : IsIndex known flows
   pub counts : (slot : ℕ) → number_of (slots slot) ≡ flows_in slot flows
   pub standing : places ≡ standing_places flows
   pub filed : AreAtRest flows
   pub ports : given ≡ given_in flows
+  pub taken : AreMarked marks flows
 
 abbrev pub IsSound : Table → Type 0
-IsSound t = IsKnown (get equal_tuple t.openings) (get nat_eq t.generations) t.standing.items t.given t.flows.items
+IsSound t = IsKnown (get equal_tuple t.openings) (get nat_eq t.generations) t.standing.items t.given t.taken.items
+    t.flows.items

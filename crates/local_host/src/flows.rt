@@ -1,4 +1,4 @@
-ghost use Rattle.std.specs.Prelude.{true, false, ◌≡◌, ℕ, ◌<◌, ◌+◌, ◌-◌, ◌^◌, ◌==◌, ◌++◌, ◌∷◌, [], length, map};
+ghost use Rattle.std.specs.Prelude.{true, false, ◌≡◌, ℕ, ◌<◌, ◌≤◌, ◌+◌, ◌-◌, ◌^◌, ◌==◌, ◌++◌, ◌∷◌, [], length, map};
 ghost use Rattle.std.specs.Prelude.{position, get_or, nat_eq, ◌||◌, List, slice_get, Some, None, cond, IfOk, IfSome};
 ghost use Rattle.std.specs.Prelude.{OnErr, OnOk, is_some, nat_le, count_by, All};
 ghost use Rattle.std.specs.List.{list_any, list_all, filter};
@@ -18,7 +18,7 @@ ghost use Rattle.local_host.specs.Handing.{AreDistinct, TookFrames, place_in};
 ghost use Rattle.tas_runs.specs.Records.{Content, is_remote};
 ghost use Rattle.tas_runs.specs.LocalScript.{resets_here};
 ghost use Rattle.local_host.specs.Index.{IsSound, AreAtRest, is_standing, standing_places, passes_at, number_of};
-ghost use Rattle.local_host.specs.Index.{given_in};
+ghost use Rattle.local_host.specs.Index.{given_in, AreMarked};
 ghost use Rattle.local_host.specs.Ports.{MayAsk};
 ghost use Rattle.local_host.specs.Script.{asked_all, asked_live};
 ghost use Rattle.local_host.specs.Live.{flow_in, holder_in, IsLegal};
@@ -63,6 +63,8 @@ struct Table {
     generations: HashMap<u32, usize>,
     /// How many flows have ports that connects are given.
     given: usize,
+    /// Whether a flow's record stands in a slot. None stands in those past the last mark.
+    taken: Vec<bool>,
 }
 
 /// The flows of a host, in the order of their opening, filed ones among them. A flow is found by its four-tuple without
@@ -97,6 +99,7 @@ impl Flows {
                 openings: HashMap::new(alloc),
                 generations: HashMap::new(alloc),
                 given: 0,
+                taken: Vec::new(alloc),
             },
         }
     }
@@ -188,17 +191,15 @@ impl Flows {
         }
     }
 
-    /// The lowest free slot of so many, and none where as many flows were opened as a host may open. The error is want
-    /// of memory.
-    pub fn lowest_free(&self, alloc: Global, slots: u32) -> Result<Option<u32>, AllocError>
-        ensures free { IfOk result (λ free. free ≡ free_slot slots self.now) }
-        ensures few { IfOk result (λ free. IfSome free (λ slot. length self.now < 2 ^ 32 - 1)) }
+    /// The lowest free slot of so many, and none where as many flows were opened as a host may open.
+    pub fn lowest_free(&self, slots: u32) -> Option<u32>
+        ensures free { result ≡ free_slot slots self.now }
+        ensures few { IfSome result (λ slot. length self.now < 2 ^ 32 - 1) }
     {
         if self.len() >= MOST_FLOWS {
-            return Ok(None);
+            return None;
         }
-        let taken = taken_slots(alloc, &self.table.flows, &self.table.standing, slots)?;
-        Ok(first_free(&taken, slots))
+        first_free(&self.table.taken, slots)
     }
 
     /// The next generation of a slot: one more than there were flows in it.
@@ -230,6 +231,11 @@ impl Flows {
     {
         sweep_all(&mut self.table.flows, &self.table.standing);
         drop_filed(&mut self.table.standing, &self.table.flows);
+        mark_anew(
+            &mut self.table.taken,
+            &self.table.flows,
+            &self.table.standing,
+        );
     }
 
     /// One tick passes for each flow that is not closed. The error is want of memory.
@@ -391,7 +397,9 @@ impl Table {
         ensures sound { OnOk result (IsSound self.new) }
     {
         note_opening(&mut self.openings, tuple, now)?;
-        note_slot(&mut self.generations, flow.id().slot)?;
+        let slot = flow.id().slot;
+        note_slot(&mut self.generations, slot)?;
+        take_slot(&mut self.taken, slot)?;
         self.given = self.given + count_given(tuple.lport);
         self.standing.push(self.flows.len())?;
         self.flows.push(flow)?;
@@ -412,6 +420,7 @@ impl Table {
             self.openings.clear();
             self.generations.clear();
             self.given = 0;
+            self.taken.clear();
         }
         done
     }
@@ -525,23 +534,38 @@ fn is_over_at(flows: &[LiveFlow], place: usize) -> bool
     }
 }
 
-/// Which of so many slots a flow's record stands in.
-fn taken_slots(
-    alloc: Global,
-    flows: &[LiveFlow],
-    standing: &[usize],
-    slots: u32,
-) -> Result<Vec<bool>, AllocError>
-    requires { standing.now ≡ standing_places flows.now }
-    ensures len { IfOk result (λ taken. length taken.items ≡ slots) }
-    ensures taken { IfOk result (λ taken. (slot : ℕ) → slot < slots
-        → get_or taken.items slot false ≡ list_any (is_in_slot slot) flows.now) }
+/// A flow's record stands in the slot. The error is want of memory.
+fn take_slot(taken: &mut Vec<bool>, slot: u32) -> Result<(), AllocError>
+    ensures { OnOk result ((q : ℕ) → get_or taken.new.items q false
+        ≡ (get_or taken.old.items q false || slot == q)) }
 {
-    let mut taken = vec![in alloc; false; slots as usize]?;
-    for place in standing {
-        mark_at(&mut taken, flows, *place);
+    reach(taken, slot as usize + 1)?;
+    taken[slot as usize] = true;
+    Ok(())
+}
+
+/// There are marks for so many slots at least; no slot is taken by that. The error is want of memory.
+fn reach(taken: &mut Vec<bool>, slots: usize) -> Result<(), AllocError>
+    ensures len { OnOk result (slots ≤ length taken.new.items) }
+    ensures same { OnOk result ((q : ℕ) → get_or taken.new.items q false ≡ get_or taken.old.items q false) }
+{
+    if taken.len() < slots {
+        taken.resize(slots, false)?;
     }
-    Ok(taken)
+    Ok(())
+}
+
+/// Marks the slots, of those that there are marks for, that a flow's record stands in.
+fn mark_anew(taken: &mut [bool], flows: &[LiveFlow], standing: &[usize])
+    requires { standing.now ≡ standing_places flows.now }
+    ensures len { length taken.new ≡ length taken.old }
+    ensures taken { (slot : ℕ) → slot < length taken.old
+        → get_or taken.new slot false ≡ list_any (is_in_slot slot) flows.now }
+{
+    taken.fill(false);
+    for place in standing {
+        mark_at(taken, flows, *place);
+    }
 }
 
 /// The slot of the record of the flow at this place is taken.
@@ -570,16 +594,24 @@ fn mark(taken: &mut [bool], flow: &LiveFlow)
 
 /// The lowest slot that is not taken.
 fn first_free(taken: &[bool], slots: u32) -> Option<u32>
-    requires { length taken.now ≡ slots }
-    ensures { (flows : List Live) → ((slot : ℕ) → slot < slots
-        → get_or taken.now slot false ≡ list_any (is_in_slot slot) flows) → result ≡ free_from slots 0 flows }
+    ensures { (flows : List Live) → AreMarked taken.now flows → result ≡ free_from slots 0 flows }
 {
     for slot in 0..slots {
-        if !taken[slot as usize] {
+        if !is_taken(taken, slot) {
             return Some(slot);
         }
     }
     None
+}
+
+/// Whether the slot is marked. None past the last mark is.
+fn is_taken(taken: &[bool], slot: u32) -> bool
+    ensures { result ≡ get_or taken.now slot false }
+{
+    match taken.get(slot as usize) {
+        Some(taken) => *taken,
+        None => false,
+    }
 }
 
 fn sweep_all(flows: &mut Vec<LiveFlow>, standing: &[usize])

@@ -261,7 +261,7 @@ impl LocalHost {
         ensures { IfOk result (λ answer.
             IsConnecting (N.numbers numbers.now) tick app raddr rport self.old self.new answer) }
     {
-        let Some(slot) = self.flows.lowest_free(self.alloc, self.params.slots)? else {
+        let Some(slot) = self.flows.lowest_free(self.params.slots) else {
             return Ok(Connecting::NoSlot);
         };
         let Some(lport) = self.next_port() else {
@@ -414,7 +414,7 @@ impl LocalHost {
                 },
             );
         }
-        match self.flows.lowest_free(self.alloc, self.params.slots)? {
+        match self.flows.lowest_free(self.params.slots) {
             None => self.note(
                 tick,
                 LogEvent::Dropped {
@@ -455,7 +455,7 @@ impl LocalHost {
             (next_number (N.numbers numbers.now) self.old tuple) tick self.old tuple) }
         ensures params { self.new.params ≡ self.old.params }
     {
-        match self.flows.lowest_free(self.alloc, self.params.slots)? {
+        match self.flows.lowest_free(self.params.slots) {
             None => self.note(
                 tick,
                 LogEvent::ConnectRefused {

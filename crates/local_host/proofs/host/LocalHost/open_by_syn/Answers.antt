@@ -19,7 +19,7 @@ invariant_of-self g c =
     host_done c.push.result (c.self.inside.flows ++ c.in_ok-flow-in-Some.flow ∷ []) c.push.new.self c.self.invariant
     (host_low c.in_ok-flow-in-Some.flow
     (subst (λ (o : Option ℕ). IfSome o (λ (slot : ℕ). length c.self.inside.flows < 2 ^ 32 - 1)) c.in-Some.is
-    c.in_ok-lowest_free.ensures.few)
+    c.lowest_free.ensures.few)
     (λ loose.
     subst (λ (t : FourTuple). t.lport < first_port)
     (sym (ap (λ (l : Live). l.flow.tuple) c.in_ok-flow-in-Some.ensures))
@@ -35,7 +35,7 @@ returns-in_ok-flow-in-Some-clause-made g c =
     let x : Entry = first_entry Slow c.args.tick (calls.Passive c.args.frame c.next_number-iss.result seg) in
     let free : lowest_free host ≡ Some c.in-Some.slot =
     subst (λ (h : Host). lowest_free h ≡ Some c.in-Some.slot) c.self.view_is
-    (sym c.in_ok-lowest_free.ensures.free ∙ c.in-Some.is) in
+    (sym c.lowest_free.ensures.free ∙ c.in-Some.is) in
     let full : is_full host c.args.tuple.lport ≡ false = sym c.is_full.ensures ∙ c.if-is_full.false in
     ok_by c.push.result
     (λ made.
