@@ -58,11 +58,11 @@ and_both true true h g = refl
 and_both false b h g = absurd (true≢false (sym h))
 and_both true false h g = absurd (true≢false (sym g))
 
-or_first : (a b : Bool) → (a || b) ≡ false → a ≡ false
+pub or_first : (a b : Bool) → (a || b) ≡ false → a ≡ false
 or_first false b h = refl
 or_first true b h = h
 
-or_second : (a b : Bool) → (a || b) ≡ false → b ≡ false
+pub or_second : (a b : Bool) → (a || b) ≡ false → b ≡ false
 or_second false b h = h
 or_second true b h = absurd (true≢false h)
 

@@ -1,5 +1,5 @@
 -- A flow at its place among the flows, and the slots that they stand in.
-use Rattle.std.proofs.Common.{◌≡◌, ℕ, zero, suc, ◌+◌, ◌-◌, ◌<◌, ◌≤◌, ◌||◌, take, Bool, true, false, List, [], ◌∷◌}
+use Rattle.std.proofs.Common.{◌≡◌, ℕ, zero, suc, ◌+◌, ◌-◌, ◌<◌, ◌≤◌, Bool, true, false, List, [], ◌∷◌}
 use Rattle.std.proofs.Common.{length, set, get_or, slice_get, position, Some, None, Result, Ok, Err, OnOk, IfOk}
 use Rattle.std.proofs.Common.{refl, sym}
 use Rattle.std.proofs.Common.{ap, subst, ◌∙◌, arith}
@@ -80,24 +80,3 @@ pub no_slots : (slots slot : ℕ) (flows : List Live) → slots ≤ slot → fre
 no_slots slots slot flows past = ap (λ (n : ℕ). free_from n slot flows) (none_left slots slot past) where
   none_left : (a b : ℕ) → a ≤ b → a - b ≡ 0
   none_left a b h = omega arith
-
--- the flow that is left of the one at a place
-
--- one flow more
-pub any_more : {X : Type 0} (test : X → Bool) (xs : List X) (i : ℕ) (d : X) → i < length xs
-    → list_any test (take (i + 1) xs) ≡ (list_any test (take i xs) || test (get_or xs i d))
-any_more test [] i d below = absurd (omega arith)
-any_more test (x ∷ xs) zero d below = or_none (test x)
-  where
-    or_none : (b : Bool) → (b || false) ≡ b
-    or_none true = refl
-    or_none false = refl
-any_more {X} test (x ∷ xs) (suc i) d below =
-    let next : suc i + 1 ≡ suc (i + 1) = omega arith in
-    ap (λ (n : ℕ). list_any test (take n (x ∷ xs))) next
-    ∙ (ap (λ (b : Bool). test x || b) (any_more test xs i d (omega arith))
-    ∙ sym (or_grouped (test x) (list_any test (take i xs)) (test (get_or xs i d))))
-  where
-    or_grouped : (a b c : Bool) → ((a || b) || c) ≡ (a || (b || c))
-    or_grouped true b c = refl
-    or_grouped false b c = refl

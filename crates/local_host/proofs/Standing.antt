@@ -293,10 +293,6 @@ passes_get test [] i d low = absurd (omega (arith, low))
 passes_get test (l ∷ ls) zero d low = refl
 passes_get test (l ∷ ls) (suc i) d low = passes_get test ls i d (omega (arith, low))
 
-pub or_none : (b : Bool) → (b || false) ≡ b
-or_none true = refl
-or_none false = refl
-
 pub passes_past : (test : Live → Bool) (ls : List Live) (i : ℕ) → length ls ≤ i → passes_at test ls i ≡ false
 passes_past test [] i past = refl
 passes_past test (l ∷ ls) zero past = absurd (omega (arith, past))

@@ -83,10 +83,8 @@ fn collect_flows(
     ensures last { OnOk result (AreUpTo tick sent.new) }
 {
     for place in 0..host.flow_count() {
-        let Ok(flow) = u32::try_from(place) else {
-            return Err(AllocError);
-        };
-        counts.collect_flow(alloc, sender, flow, tick, host.flow(place).record(), sent)?;
+        let number = host.flow_number(place);
+        counts.collect_flow(alloc, sender, number, tick, host.flow(place).record(), sent)?;
     }
     Ok(())
 }

@@ -1,4 +1,4 @@
-use Rattle.std.proofs.Common.{◌≡◌, get_or, set, sym, ap, ◌∙◌, rules}
+use Rattle.std.proofs.Common.{◌≡◌, get_or, set, sym, ap, ◌∙◌}
 use Rattle.host_rounds.specs.Logs.{Flow}
 use Rattle.sent_frames.specs.Sending.{sent_by, sent_before}
 use Rattle.scenario_world.proofs.Counted.{count_there, counts_more, flows_more}
@@ -7,7 +7,7 @@ use Rattle.scenario_world.proofs.collecting.collect_flows.Goals as goal
 pub collect_flow-requires-clause-number : goal.collect_flow-requires-clause-number
 collect_flow-requires-clause-number c =
     let t = c.args.tick in
-    let place : c.in-Ok.flow ≡ c.loop-place.place = search rules in
+    let place : c.flow_number-number.result ≡ c.loop-place.place = c.flow_number-number.ensures in
     ap (λ i. get_or c.loop-place.counts.flows.items i 0) place
     ∙ (count_there t c.loop-place.counts.flows.items c.args.host.now.flows c.loop-place.place c.flow.result.now
     c.flow.ensures c.loop-place.invariant.flows
@@ -20,7 +20,7 @@ loop-place-preserved c =
     let i = c.loop-place.place in
     let l = c.flow.result.now in
     let old = c.loop-place.counts.flows.items in
-    let place : c.in-Ok.flow ≡ c.loop-place.place = search rules in
+    let place : c.flow_number-number.result ≡ c.loop-place.place = c.flow_number-number.ensures in
     record {
       flows = counts_more t c.loop-place.counts.flows.items c.collect_flow.new.self.flows.items ls i l c.flow.ensures
           c.loop-place.invariant.flows
@@ -29,8 +29,9 @@ loop-place-preserved c =
           ∙ ap (λ (f : Flow). set old i (sent_by f.entries)) c.record.ensures.flow));
       answers = c.in_ok-collect_flow.ensures.answers ∙ c.loop-place.invariant.answers;
       lines = c.in_ok-collect_flow.ensures.lines ∙ c.loop-place.invariant.lines;
-      frames = λ world same. flows_more world c.args.sender.now.host t c.in-Ok.flow ls i l c.record.result.now
-          c.args.sent.now c.loop-place.sent c.collect_flow.new.sent c.flow.ensures place c.record.ensures.flow
+      frames = λ world same. flows_more world c.args.sender.now.host t c.flow_number-number.result ls i l
+          c.record.result.now c.args.sent.now c.loop-place.sent c.collect_flow.new.sent c.flow.ensures place
+          c.record.ensures.flow
           (c.loop-place.invariant.frames world same) (c.in_ok-collect_flow.ensures.frames world same);
       last = c.in_ok-collect_flow.ensures.last;
     }
