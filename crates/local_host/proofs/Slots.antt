@@ -10,11 +10,7 @@ use Rattle.host_rounds.specs.Lists.{change_at}
 use Rattle.host_rounds.specs.Hosts.{Live, is_in_slot, is_over, is_held}
 use Rattle.host_rounds.specs.Upkeep.{swept}
 use Rattle.local_host.specs.Index.{AreMarked}
-<<<<<<< HEAD
-use Rattle.local_host.proofs.Indexing.{Keeps}
-=======
 use Rattle.local_host.proofs.Indexing.{Keeps, or_first, or_second}
->>>>>>> 064d49467a40c81900301a31d71301703b857043
 
 -- ----- flows that change
 same_slot : (slot : ℕ) (l m : Live) → m.flow.id ≡ l.flow.id → m.filed ≡ l.filed
@@ -48,11 +44,7 @@ pub marked_change : (marks : List Bool) (f : Live → Live) → Keeps f → ((l 
 marked_change marks f keeps stays ls i marked = λ slot. marked slot ∙ sym (any_change slot f keeps stays ls i)
 
 -- ----- one flow more
-<<<<<<< HEAD
-or_none : (b : Bool) → (b || false) ≡ b
-=======
 pub or_none : (b : Bool) → (b || false) ≡ b
->>>>>>> 064d49467a40c81900301a31d71301703b857043
 or_none true = refl
 or_none false = refl
 
@@ -78,18 +70,6 @@ both_none : (a b : Bool) → a ≡ false → b ≡ false → (a || b) ≡ false
 both_none false b h g = g
 both_none true b h g = h
 
-<<<<<<< HEAD
-or_first : (a b : Bool) → (a || b) ≡ false → a ≡ false
-or_first false b h = refl
-or_first true b h = h
-
-or_second : (a b : Bool) → (a || b) ≡ false → b ≡ false
-or_second false b h = h
-or_second true false h = refl
-or_second true true h = h
-
-=======
->>>>>>> 064d49467a40c81900301a31d71301703b857043
 any_swept : (slot : ℕ) (ls : List Live) → list_any (is_in_slot slot) ls ≡ false
     → list_any (is_in_slot slot) (map swept ls) ≡ false
 any_swept slot [] h = refl
