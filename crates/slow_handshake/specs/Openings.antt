@@ -1,6 +1,6 @@
 -- What a host keeps of the flows that are being opened: who listens, which flows wait for Accept, and which numbers are
 -- given next.
-use Rattle.std.specs.Prelude.{ℕ, ◌+◌, ◌%◌, ◌^◌, ◌==◌, ◌&&◌, not, Bool, true, List, [], length, map, nat_lt, Option}
+use Rattle.std.specs.Prelude.{ℕ, ◌+◌, ◌%◌, ◌^◌, ◌==◌, ◌&&◌, not, Bool, true, List, [], length, map, nat_lt, min, Option}
 use Rattle.std.specs.Prelude.{if◌then◌else◌}
 use Rattle.std.specs.List.{list_any, filter, find}
 use Rattle.std.specs.Option.{option_map}
@@ -64,13 +64,17 @@ abbrev pub waiting_for : Openings → (app : ℕ) → List FlowId
 waiting_for o app = map id_of (filter (waits_for o.listeners app) o.flows)
 
 -- ----- a SYN that comes to no flow
+-- A count as 32 bits tell it: 4,294,967,295 where it is more.
+abbrev pub told : (count : ℕ) → ℕ
+told count = min count 4294967295
+
 -- In a replay every port listens, and without a limit. Else it needs a listener whose backlog isn't full.
 abbrev pub syn_answer : Openings → (port : ℕ) → SynAnswer
 syn_answer o port =
     if o.params.fixed then syn.Opens
     else if not (is_taken o port) then syn.NoListener
     else if nat_lt (backlog_of o port) o.params.backlog then syn.Opens
-    else syn.BacklogFull (backlog_of o port)
+    else syn.BacklogFull (told (backlog_of o port))
 
 -- ----- ports and first numbers
 -- the first port that is given, and how many are (RFC 6335, section 6: the dynamic ports)

@@ -46,7 +46,8 @@ pub struct NoPort;
 pub enum SynAnswer {
     /// It opens a flow.
     Opens,
-    /// So many flows wait for Accept, and no more may.
+    /// So many flows of the port wait for Accept, and no more may. Where they are more than 4,294,967,295, it tells
+    /// this number.
     BacklogFull(u32),
     NoListener,
 }

@@ -3,7 +3,7 @@ ghost use Rattle.std.specs.Prelude.{length, Some, IfOk, IsErr, OnErr, OnOk};
 ghost use Rattle.std.specs.List.{filter, slice_get, list_any};
 ghost use Rattle.slow_handshake.specs.Openings.{no_openings, is_taken, is_owned_by, syn_answer, next_after, first_port};
 ghost use Rattle.slow_handshake.specs.Openings.{all_ports, readied, is_named, first_ready, waiting_for, backlog_of};
-ghost use Rattle.slow_handshake.specs.Openings.{waits_for};
+ghost use Rattle.slow_handshake.specs.Openings.{waits_for, told};
 
 use crate::openings::{ListenRefused, Listener, NoPort, PassiveFlow, SynAnswer};
 use segment_fields::Segment;
@@ -32,7 +32,7 @@ pub struct SlowPath {
 }
 
 impl Model for SlowPath {
-    ghost use Rattle.std.specs.Prelude.{◌≤◌, ◌<◌, ◌^◌, length};
+    ghost use Rattle.std.specs.Prelude.{◌≤◌};
     ghost use Rattle.slow_handshake.specs.Openings.{Openings};
 
     ghost Value = { Openings };
@@ -45,7 +45,7 @@ impl Model for SlowPath {
       next_iss = s.next_iss;
     } };
 
-    ghost invariant = { λ s. (s.ports ≤ 16384) × (length s.flows.items < 2 ^ 32) };
+    ghost invariant = { λ s. s.ports ≤ 16384 };
 }
 
 /// The flow is past SYN-RECEIVED, where it stands in the list.
@@ -55,6 +55,13 @@ fn note_ready(flows: &mut Vec<PassiveFlow>, id: FlowId)
     for flow in flows.iter_mut() {
         flow.note_ready(id);
     }
+}
+
+/// A count as `BacklogFull` carries it.
+fn told(count: usize) -> u32
+    ensures { result ≡ told count }
+{
+    u32::try_from(count).unwrap_or(u32::MAX)
 }
 
 impl SlowPath {
@@ -141,18 +148,18 @@ impl SlowPath {
             return SynAnswer::NoListener;
         }
         let count = self.backlog(seg.dport);
-        if count < self.params.backlog {
+        if count < self.params.backlog as usize {
             SynAnswer::Opens
         } else {
-            SynAnswer::BacklogFull(count)
+            SynAnswer::BacklogFull(told(count))
         }
     }
 
     /// How many flows of the port are neither accepted nor closed.
-    fn backlog(&self, port: u16) -> u32
+    fn backlog(&self, port: u16) -> usize
         ensures { result ≡ backlog_of self.now port }
     {
-        self.flows.iter().filter(|flow| flow.port == port).count() as u32
+        self.flows.iter().filter(|flow| flow.port == port).count()
     }
 
     /// A peer's SYN opened the flow at this port. The error is want of memory, and leaves all as it was.
@@ -163,9 +170,6 @@ impl SlowPath {
         }) }
         ensures err { OnErr result (self.new ≡ self.old) }
     {
-        if self.flows.len() >= u32::MAX as usize {
-            return Err(AllocError);
-        }
         self.flows.push(PassiveFlow {
             id,
             port,
