@@ -79,7 +79,7 @@ impl<R: Recorded + Drop> FlowTable<R> {
         ensures flows { map R.id result.items ≡ flows_from 0 pass.view.marks }
         ensures last { All (IsLast R.id (history_of R.tuple R.params R.entries) pass.view) result.items }
     {
-        let FlowTable { table } = self;
+        let FlowTable { table, .. } = self;
         let Pass { seat } = pass;
         let mut closed = table.close_with(seat);
         let mut room = room;

@@ -21,6 +21,7 @@ use tas_model::{FlowId, Recorded};
 #[derive(Drop)]
 pub struct FlowTable<R: Recorded + Drop> {
     pub(crate) table: Table<Option<R>, View, u64, Claims<R>, Global>,
+    pub(crate) slots: u32,
 }
 
 impl<R: Recorded + Drop> Model for FlowTable<R> {
@@ -29,7 +30,8 @@ impl<R: Recorded + Drop> Model for FlowTable<R> {
     ghost view = { λ t. t.table.shared.table_id };
 
     ghost invariant = { λ t. (t.table.shared.table_id.words ≡ t.table.shared.table_id.slots)
-        × (0 < t.table.shared.table_id.slots) };
+        × (0 < t.table.shared.table_id.slots)
+        × (t.slots ≡ t.table.shared.table_id.slots) };
 }
 
 impl<R: Recorded + Drop> FlowTable<R> {
@@ -54,7 +56,14 @@ impl<R: Recorded + Drop> FlowTable<R> {
             marks,
             passes: 0,
         };
-        Ok((FlowTable { table }, slow))
+        Ok((FlowTable { table, slots }, slow))
+    }
+
+    /// How many slots there are.
+    pub fn slots(&self) -> u32
+        ensures { result ≡ self.now.slots }
+    {
+        self.slots
     }
 
     /// The word of a slot, in one load.
