@@ -1,6 +1,7 @@
 -- A record with one entry more.
 use Rattle.std.proofs.Common.{◌≡◌, ℕ, ◌+◌, ◌^◌, ◌<◌, ◌≤◌, cond, List, [], ◌∷◌, ◌++◌, length, take, drop, max, Option}
 use Rattle.std.proofs.Common.{Some, None, refl, sym, ◌∙◌, ap, subst, arith, take-append-drop, length-append}
+use Rattle.std.specs.Option.{option_or}
 use Rattle.tas_model.specs.declared.entry.HostParams.{HostParams}
 use Rattle.tas_model.specs.declared.entry.Entry.{Entry}
 use Rattle.tas_model.specs.declared.entry.Caller.{Caller}
@@ -20,6 +21,7 @@ use Rattle.flow_state.specs.declared.slot.Slot.{Slot}
 use Rattle.flow_state.specs.declared.counts.CallerCount.{CallerCount}
 use Rattle.flow_state.specs.Calls.{call_of, offer_of, reply_of, answer_of}
 use Rattle.flow_state.specs.Counts.{counted_for, AreCounts}
+use Rattle.flow_state.specs.Application.{got_by, application_of}
 use Rattle.flow_state.specs.Flow.{next_entry, reply_to}
 use Rattle.flow_state.specs.Made.{IsStep, IsMadeWith, IsMadeAt}
 use Rattle.flow_state.specs.Record.{IsRecord}
@@ -29,6 +31,7 @@ use Rattle.flow_state.specs.Slots.{entry_of, IsWithin}
 use Rattle.flow_state.specs.Stretches.{entries_of, StretchWithin, AllWithin}
 use Rattle.flow_state.specs.Stands.{Stands}
 use Rattle.flow_state.proofs.Counting.{counts_push, counts_first}
+use Rattle.flow_state.proofs.Owning.{application_push}
 use Rattle.flow_state.proofs.Entries.{entries_kept}
 use Rattle.flow_state.proofs.Runs.{last_push}
 use Rattle.flow_state.proofs.Sending.{step_again, answer_is}
@@ -107,24 +110,26 @@ entries_push old new before after s x front within is added =
 
 -- what one more entry leaves
 pub record Grown (before after : Parts) (old new : List ℕ) (stretches stretches' : List Stretch)
-    (counts : List CallerCount) (made last : ℕ) (caller : Caller) (tick : ℕ) (call : CallIn) (a : Answer) : Type 0 where
-  pub kept : IsRecord after new stretches' counts made last
+    (counts : List CallerCount) (app : Option ℕ) (made last : ℕ) (caller : Caller) (tick : ℕ) (call : CallIn)
+    (a : Answer) : Type 0 where
+  pub kept : IsRecord after new stretches' counts app made last
   pub exact : entries_of new stretches' ≡ extended_by before.params (entries_of old stretches) caller tick
       (call_of call) (offer_of call)
   pub answer : a ≡ answer_of (reply_to before.params (entries_of old stretches) tick (call_of call) (offer_of call))
 
 -- all that the record keeps true, after one more entry
 pub kept_after : (before after : Parts) (old new : List ℕ) (stretches stretches' : List Stretch) (s : Slot)
-    (counts counts' : List CallerCount) (made last : ℕ) (caller : Caller) (tick number t : ℕ) (call : CallIn)
-    (answer : Answer)
-    → IsRecord before old stretches counts made last → after.params ≡ before.params → take (length old) new ≡ old
+    (counts counts' : List CallerCount) (app app' : Option ℕ) (made last : ℕ) (caller : Caller) (tick number t : ℕ)
+    (call : CallIn) (answer : Answer)
+    → IsRecord before old stretches counts app made last → after.params ≡ before.params → take (length old) new ≡ old
     → length old ≤ length new
     → number ≡ counted_for caller counts → t ≡ max tick last → t < 2 ^ 32 → Added stretches stretches' s
     → ((other : Caller) → counted_for other counts' ≡ counted_for other counts + cond (same_caller caller other) 1 0)
+    → ((out : List ℕ) → app' ≡ option_or app (got_by caller (call_of call) (reply_of answer out)))
     → IsMadeAt before after new caller number t call answer s
-    → Grown before after old new stretches stretches' counts' (made + 1) t caller tick call answer
-kept_after before after old new stretches stretches' s counts counts' made last caller tick number t call answer is same
-    front longer n-is t-at low added more done =
+    → Grown before after old new stretches stretches' counts' app' (made + 1) t caller tick call answer
+kept_after before after old new stretches stretches' s counts counts' app app' made last caller tick number t call
+    answer is same front longer n-is t-at low added more got done =
     let h : List Entry = entries_of old stretches in
     let n-is' : number ≡ next_number caller h = n-is ∙ is.counts caller in
     let t-is : t ≡ max tick (last_tick 0 h) = t-at ∙ ap (max tick) is.last in
@@ -150,6 +155,9 @@ kept_after before after old new stretches stretches' s counts counts' made last 
         within = added.within (length new)
             (within_longer (length old) (length new) stretches longer is.within) done'.within;
         counts = subst (AreCounts counts') (sym grown) (counts_push counts counts' h x is.counts more);
+        application = got done.0
+            ∙ (ap (λ (o : Option ℕ). option_or o (got_by caller (call_of call) (reply_of answer done.0))) is.application
+            ∙ (sym (application_push h x) ∙ sym (ap application_of grown)));
         made = omega (arith, is.made, ap (length {A = Entry}) grown, length-append h (x ∷ []));
         last = t-is ∙ sym (ap (last_tick 0) grown ∙ last_push 0 h x);
         few = omega (arith, few, at, is.few, is.last);
@@ -161,12 +169,12 @@ kept_after before after old new stretches stretches' s counts counts' made last 
 
 -- a record with its first entry
 pub opens_record : (p : Parts) (params : HostParams) (arena : List ℕ) (stretches : List Stretch)
-    (counts : List CallerCount) (s : Slot) (x : Entry)
+    (counts : List CallerCount) (app : Option ℕ) (s : Slot) (x : Entry)
     → x.tick < 2 ^ 32 → InRange params → p.params ≡ params → stretches ≡ One s ∷ [] → entry_of arena s ≡ x
     → IsWithin (length arena) s → IsFirst x
     → counts ≡ record { caller = x.caller; made = 1 } ∷ [] → Stands p (opened params x.call)
-    → IsRecord p arena stretches counts 1 x.tick
-opens_record p params arena stretches counts s x low fits same one is within first counted stands =
+    → app ≡ got_by x.caller x.call x.reply → IsRecord p arena stretches counts app 1 x.tick
+opens_record p params arena stretches counts app s x low fits same one is within first counted stands got =
     let entries : entries_of arena stretches ≡ x ∷ [] = ap (entries_of arena) one ∙ ap (λ (y : Entry). y ∷ []) is in
     let P : HostParams → List Entry → Type 0 = λ q es. Legal q es × Stands p (replay q es) in
     let begun : P params (x ∷ []) = ((first, tt), subst (Stands p) (sym (replay_first params x)) stands) in
@@ -181,6 +189,7 @@ opens_record p params arena stretches counts s x low fits same one is within fir
       counts = subst (λ (cs : List CallerCount). AreCounts cs (entries_of arena stretches)) (sym counted)
           (subst (AreCounts (record { caller = x.caller; made = 1 } ∷ [])) (sym entries)
           (counts_first x.caller x refl));
+      application = got ∙ sym (ap application_of entries ∙ application_push [] x);
       made = sym (ap (length {A = Entry}) entries);
       last = sym (ap (last_tick 0) entries);
       few = omega (arith, ap (length {A = Stretch}) one);

@@ -1,6 +1,7 @@
 pub mod Entries
 pub mod Runs
 pub mod Counting
+pub mod Owning
 pub mod Memory
 pub mod Sending
 pub mod Receiving

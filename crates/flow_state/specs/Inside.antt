@@ -19,4 +19,4 @@ flow_of r = record {
 
 -- what it keeps true
 abbrev pub IsKept : Inside → Type 0
-IsKept r = IsRecord r.parts r.arena.bytes r.stretches.items r.counts.items r.made r.last
+IsKept r = IsRecord r.parts r.arena.bytes r.stretches.items r.counts.items r.application r.made r.last

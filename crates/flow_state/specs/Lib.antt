@@ -6,6 +6,7 @@ pub mod Made
 pub mod Arena
 pub mod Sharing
 pub mod Flow
+pub mod Application
 pub mod Counts
 pub mod Record
 pub mod Inside

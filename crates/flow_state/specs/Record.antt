@@ -1,5 +1,5 @@
--- What a record keeps true of its parts, its memory, its slots and its counts.
-use Rattle.std.specs.Prelude.{◌≡◌, ℕ, ◌+◌, ◌^◌, ◌<◌, ◌≤◌, List, length}
+-- What a record keeps true of its parts, its memory, its slots, its counts and its application.
+use Rattle.std.specs.Prelude.{◌≡◌, ℕ, ◌+◌, ◌^◌, ◌<◌, ◌≤◌, List, length, Option}
 use Rattle.tas_model.specs.LegalHistory.{Legal, replay, last_tick}
 use Rattle.tas_model.specs.Valid.{InRange}
 use Rattle.flow_state.specs.declared.parts.Parts.{Parts}
@@ -7,17 +7,19 @@ use Rattle.flow_state.specs.declared.stretch.Stretch.{Stretch}
 use Rattle.flow_state.specs.declared.counts.CallerCount.{CallerCount}
 use Rattle.flow_state.specs.Stretches.{AllWithin, entries_of}
 use Rattle.flow_state.specs.Counts.{AreCounts}
+use Rattle.flow_state.specs.Application.{application_of}
 use Rattle.flow_state.specs.Stands.{Stands}
 
 -- The parts stand for the endpoint that the entries lead to, and these are a legal history. Their number is kept, and
 -- the tick of the last; a run has no more of them than ticks passed.
 pub record IsRecord (parts : Parts) (arena : List ℕ) (stretches : List Stretch) (table : List CallerCount)
-    (n t : ℕ) : Type 0 where
+    (app : Option ℕ) (n t : ℕ) : Type 0 where
   pub fits : InRange parts.params
   pub legal : Legal parts.params (entries_of arena stretches)
   pub stands : Stands parts (replay parts.params (entries_of arena stretches))
   pub within : AllWithin (length arena) stretches
   pub counts : AreCounts table (entries_of arena stretches)
+  pub application : app ≡ application_of (entries_of arena stretches)
   pub made : n ≡ length (entries_of arena stretches)
   pub last : t ≡ last_tick 0 (entries_of arena stretches)
   pub few : n ≤ length stretches + t

@@ -5,6 +5,7 @@ mod app;
 mod app_end;
 mod app_recv;
 mod app_send;
+mod application;
 mod arena;
 mod call;
 mod counts;

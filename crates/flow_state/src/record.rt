@@ -8,10 +8,12 @@ ghost use Rattle.flow_state.specs.Stands.{Stands, IsNear};
 ghost use Rattle.flow_state.specs.Calls.{call_of, offer_of, answer_of, reply_bytes, payload_of, seg_of, cost_of};
 ghost use Rattle.flow_state.specs.Calls.{IsSmall, IsTimely};
 ghost use Rattle.flow_state.specs.Flow.{Flow, reply_to, last_reply, first_passive, first_connect};
+ghost use Rattle.flow_state.specs.Application.{application_of};
 ghost use Rattle.flow_state.specs.Stretches.{entries_of, entries_in, StretchWithin};
 ghost use Rattle.flow_state.specs.Made.{IsMadeAt};
 ghost use Rattle.flow_state.specs.Views.{seen_entry};
 
+use crate::application::got_by;
 use crate::arena::Arena;
 use crate::call::{Answer, CallIn};
 use crate::counts::{CallerCount, count_one, number_of};
@@ -39,6 +41,8 @@ pub struct FlowRecord {
     stretches: Vec<Stretch>,
     arena: Arena,
     counts: Vec<CallerCount>,
+    /// The application that the flow is of.
+    application: Option<u32>,
     /// How many entries there are.
     made: usize,
     /// The tick of the last.
@@ -100,6 +104,7 @@ impl FlowRecord {
             stretches,
             arena,
             counts,
+            application: None,
             made: 1,
             last: tick,
         })
@@ -132,6 +137,7 @@ impl FlowRecord {
             stretches,
             arena: Arena::new(alloc),
             counts,
+            application: got_by(caller, &CallIn::Connect { iss }, &Answer::Ok),
             made: 1,
             last: tick,
         })
@@ -171,6 +177,13 @@ impl FlowRecord {
         ensures { result.now ≡ self.now.params }
     {
         &self.parts.params
+    }
+
+    /// The application that the flow is of: the first whose Connect opened it, or whose Accept was answered Ok.
+    pub fn application(&self) -> Option<u32>
+        ensures { result ≡ application_of self.now.entries }
+    {
+        self.application
     }
 
     /// How many entries its history has.
@@ -267,6 +280,7 @@ impl FlowRecord {
         };
         self.made += 1;
         self.last = tick;
+        self.application = self.application.or(got_by(caller, call, &answer));
         count_one(&mut self.counts, caller);
         add(&mut self.stretches, &slot);
         Ok(Some(answer))
