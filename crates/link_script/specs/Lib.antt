@@ -1,3 +1,4 @@
 pub mod LinkLines
 pub mod Emitted
 pub mod DueFrames
+pub mod Coming

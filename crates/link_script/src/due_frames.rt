@@ -5,7 +5,7 @@ ghost use Rattle.std.specs.Ordering.{nat_cmp};
 ghost use Rattle.link_script.specs.DueFrames.{is_due, inverted, coming_of, coming_after, copies_under, is_dropped};
 ghost use Rattle.link_script.specs.DueFrames as frames;
 
-use crate::frames::{DueList, Sent, SentList};
+use crate::frames::{DueFrame, DueList, Sent, SentList};
 use crate::script::{LinkAct, LinkScript};
 use std::alloc::{AllocError, Global};
 use std::collections::BTreeSet;
@@ -25,28 +25,28 @@ struct Turn {
 /// it. They stand by tick of emission, then by host, flow, number and copy.
 /// The error is want of memory. It looks at the frames alone that were sent one tick earlier, or earlier by a delay
 /// that a line has.
-pub fn due(
+pub fn due<'a>(
     alloc: Global,
     script: &LinkScript,
-    emitted: &SentList,
+    emitted: &'a SentList,
     tick: u32,
-) -> Result<DueList, AllocError>
+) -> Result<DueList<'a>, AllocError>
     ensures { IfOk result (λ d. d ≡ frames.due script.now emitted.now tick) }
 {
     let mut frames = coming(alloc, script, emitted, tick, script.delays())?;
-    frames.sort_by_key(|frame| turn_of(frame))?;
+    frames.sort_by_key(|coming| turn_of(coming.frame()))?;
     Ok(DueList::of(frames))
 }
 
 /// What comes in a tick of the frames that were sent earlier by one of these delays, and one. The error is want of
 /// memory.
-fn coming(
+fn coming<'a>(
     alloc: Global,
     script: &LinkScript,
-    emitted: &SentList,
+    emitted: &'a SentList,
     tick: u32,
     delays: &BTreeSet<u32>,
-) -> Result<Vec<Sent>, AllocError>
+) -> Result<Vec<DueFrame<'a>>, AllocError>
     ensures frames { IfOk result (λ frames. frames.items
         ≡ flat_map (coming_after script.now emitted.now tick) delays.now.keys) }
     ensures delays { OnOk result (IsStrictlySortedBy nat_cmp delays.now.keys) }
@@ -78,13 +78,13 @@ fn turn_of(frame: &Sent) -> Turn
 }
 
 /// Takes what comes of the frames that were sent so many ticks earlier, and one. The error is want of memory.
-fn take_after(
+fn take_after<'a>(
     alloc: Global,
     script: &LinkScript,
-    emitted: &SentList,
+    emitted: &'a SentList,
     tick: u32,
     delay: u32,
-    frames: &mut Vec<Sent>,
+    frames: &mut Vec<DueFrame<'a>>,
 ) -> Result<(), AllocError>
     ensures { OnOk result (frames.new.items ≡ frames.old.items ++ coming_after script.now emitted.now tick delay) }
 {
@@ -101,12 +101,12 @@ fn take_after(
 }
 
 /// Takes what comes of a frame in a tick. The error is want of memory.
-fn take_coming(
+fn take_coming<'a>(
     alloc: Global,
     script: &LinkScript,
     tick: u32,
-    frame: &Sent,
-    frames: &mut Vec<Sent>,
+    frame: &'a Sent,
+    frames: &mut Vec<DueFrame<'a>>,
 ) -> Result<(), AllocError>
     ensures { OnOk result (frames.new.items ≡ frames.old.items ++ coming_of script.now tick frame.now) }
 {
@@ -116,11 +116,13 @@ fn take_coming(
     }
     match act {
         Some(LinkAct::Dup) => {
-            frames.push(copy_of(alloc, frame, frame.id.copy)?)?;
-            frames.push(copy_of(alloc, frame, 1)?)?;
+            frames.push(DueFrame::as_sent(frame))?;
+            frames.push(DueFrame::made_of(frame, second_copy(alloc, frame)?))?;
         }
-        Some(LinkAct::Corrupt(place)) => frames.push(corrupted(alloc, frame, place)?)?,
-        _ => frames.push(copy_of(alloc, frame, frame.id.copy)?)?,
+        Some(LinkAct::Corrupt(place)) => {
+            frames.push(DueFrame::made_of(frame, corrupted(alloc, frame, place)?))?;
+        }
+        _ => frames.push(DueFrame::as_sent(frame))?,
     }
     Ok(())
 }
@@ -143,12 +145,15 @@ fn is_dropped(act: Option<LinkAct>) -> bool
     matches!(act, Some(LinkAct::Drop))
 }
 
-/// A copy of a frame, with its number among the copies. The error is want of memory.
-fn copy_of(alloc: Global, frame: &Sent, copy: u32) -> Result<Sent, AllocError>
-    ensures { IfOk result (λ s. s ≡ record (frame.now) { id = record (frame.now.id) { copy = copy } }) }
+/// The second copy of a frame that comes twice. The error is want of memory.
+fn second_copy(alloc: Global, frame: &Sent) -> Result<Sent, AllocError>
+    ensures { IfOk result (λ s. s ≡ record (frame.now) { id = record (frame.now.id) { copy = 1 } }) }
 {
     Ok(Sent {
-        id: FrameId { copy, ..frame.id },
+        id: FrameId {
+            copy: 1,
+            ..frame.id
+        },
         tick: frame.tick,
         to: frame.to,
         packet: Bytes::copy(alloc, frame.packet.as_slice())?,

@@ -116,13 +116,58 @@ fn count_until(frames: &[Sent], tick: u32) -> usize
     frames.partition_point(|frame| frame.tick <= tick)
 }
 
-/// Frames that are due, seen as their list.
+/// A frame that comes: the one that was sent, or another that the link made of it.
 #[derive(Drop)]
-pub struct DueList {
-    frames: Vec<Sent>,
+pub struct DueFrame<'a> {
+    sent: &'a Sent,
+    made: Option<Sent>,
 }
 
-impl Model for DueList {
+impl<'a> Model for DueFrame<'a> {
+    ghost use Rattle.link_script.specs.declared.frames.Sent.{Sent};
+    ghost use Rattle.link_script.specs.Coming.{frame_in};
+
+    ghost Value = { Sent };
+
+    ghost view = { λ c. frame_in c.sent.now c.made };
+}
+
+impl<'a> DueFrame<'a> {
+    /// It comes as it was sent.
+    pub fn as_sent(sent: &'a Sent) -> DueFrame<'a>
+        ensures { result ≡ sent.now }
+    {
+        DueFrame { sent, made: None }
+    }
+
+    /// This one comes in its place.
+    pub fn made_of(sent: &'a Sent, made: Sent) -> DueFrame<'a>
+        ensures { result ≡ made }
+    {
+        DueFrame {
+            sent,
+            made: Some(made),
+        }
+    }
+
+    /// The frame as it comes.
+    pub fn frame(&self) -> &Sent
+        ensures { result.now ≡ self.now }
+    {
+        match &self.made {
+            Some(made) => made,
+            None => self.sent,
+        }
+    }
+}
+
+/// Frames that are due, seen as their list. Those that come as they were sent are not copied.
+#[derive(Drop)]
+pub struct DueList<'a> {
+    frames: Vec<DueFrame<'a>>,
+}
+
+impl<'a> Model for DueList<'a> {
     ghost use Rattle.std.specs.Prelude.{List};
     ghost use Rattle.link_script.specs.declared.frames.Sent.{Sent};
 
@@ -131,9 +176,9 @@ impl Model for DueList {
     ghost view = { λ s. s.frames.items };
 }
 
-impl DueList {
+impl<'a> DueList<'a> {
     /// A list without frames. It takes no memory.
-    pub fn new(alloc: Global) -> DueList
+    pub fn new(alloc: Global) -> DueList<'a>
         ensures { result ≡ [] }
     {
         DueList {
@@ -142,18 +187,18 @@ impl DueList {
     }
 
     /// Frames that were collected elsewhere.
-    pub fn of(frames: Vec<Sent>) -> DueList
-        ensures { result ≡ frames.items }
+    pub fn of(frames: Vec<DueFrame<'a>>) -> DueList<'a>
+        ensures { result ≡ frames.entry.items }
     {
         DueList { frames }
     }
 
-    /// Appends a frame. The error is want of memory, and leaves the list as it was.
-    pub fn push(&mut self, s: Sent) -> Result<(), AllocError>
-        ensures ok { OnOk result (self.new ≡ self.old ++ s ∷ []) }
+    /// Appends a frame that comes. The error is want of memory, and leaves the list as it was.
+    pub fn push(&mut self, coming: DueFrame<'a>) -> Result<(), AllocError>
+        ensures ok { OnOk result (self.new ≡ self.old ++ coming.entry ∷ []) }
         ensures err { OnErr result (self.new ≡ self.old) }
     {
-        self.frames.push(s)?;
+        self.frames.push(coming)?;
         Ok(())
     }
 
@@ -169,6 +214,6 @@ impl DueList {
         requires { i < length self.now }
         ensures { slice_get self.now i ≡ Some result.now }
     {
-        &self.frames[i]
+        self.frames[i].frame()
     }
 }

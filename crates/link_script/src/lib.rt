@@ -7,6 +7,6 @@ mod laws;
 mod script;
 
 pub use due_frames::due;
-pub use frames::{DueList, Sent, SentList};
+pub use frames::{DueFrame, DueList, Sent, SentList};
 pub use laws::due_goes_by_ticks;
 pub use script::{DropEach, LinkAct, LinkScript, Target};
