@@ -10,7 +10,8 @@ use Rattle.flow_state.specs.declared.call.CallIn.{CallIn}
 use Rattle.flow_state.specs.declared.call.CallIn.TheVariants as ins
 use Rattle.flow_state.specs.declared.call.Answer.{Answer}
 use Rattle.flow_state.specs.declared.call.Answer.TheVariants as answers
-use Rattle.flow_state.specs.Calls.{call_of, offer_of, reply_of, answer_of, answer_len, reply_room, cost_of, payload_of}
+use Rattle.flow_state.specs.Calls.{call_of, offer_of, reply_of, answer_of, answer_len, reply_room, need_of, cost_of}
+use Rattle.flow_state.specs.declared.parts.Parts.{Parts}
 use Rattle.flow_state.specs.Slots.{IsBare}
 
 some_is : {A : Type 0} (x y : A) → ◌≡◌ {A = Option A} (Some x) (Some y) → x ≡ y
@@ -78,25 +79,16 @@ same_reply (answers.Took len) xs ys same = ap (λ bs. replies.Took bs) same
 same_reply (answers.Got len update) xs ys same = ap (λ bs. replies.Got bs update) same
 same_reply _ xs ys same = refl
 
-pub room_within_cost : (mss : ℕ) (call : CallIn) → reply_room mss call ≤ cost_of mss call
-room_within_cost mss (ins.Send bytes) = omega arith
-room_within_cost mss (ins.Recv most) = omega arith
-room_within_cost mss ins.Emit = omega arith
-room_within_cost mss (ins.Passive frame iss seg) = omega arith
-room_within_cost mss (ins.Rx frame seg) = omega arith
-room_within_cost mss _ = omega arith
-
-pub bytes_within_cost : (mss : ℕ) (call : CallIn) (n : ℕ) → n ≤ reply_room mss call
-    → n + length (payload_of call) ≤ cost_of mss call
-bytes_within_cost mss (ins.Send bytes) n h = omega arith
-bytes_within_cost mss (ins.Recv most) n h = omega arith
-bytes_within_cost mss ins.Emit n h = omega arith
-bytes_within_cost mss (ins.Passive frame iss seg) n h = omega arith
-bytes_within_cost mss (ins.Rx frame seg) n h = omega arith
-bytes_within_cost mss _ n h = omega arith
+pub need_within_cost : (p : Parts) (call : CallIn) → need_of p call ≤ cost_of p.smss call
+need_within_cost p (ins.Send bytes) = omega arith
+need_within_cost p (ins.Recv most) = omega arith
+need_within_cost p ins.Emit = omega arith
+need_within_cost p (ins.Passive frame iss seg) = omega arith
+need_within_cost p (ins.Rx frame seg) = omega arith
+need_within_cost p _ = omega arith
 
 -- a reply to a received segment has no bytes, as there is no room for any
-pub bare_reply : (mss : ℕ) (call : CallIn) (n : ℕ) → n ≤ reply_room mss call → IsBare call n
-bare_reply mss (ins.Passive frame iss seg) n h = omega arith
-bare_reply mss (ins.Rx frame seg) n h = omega arith
-bare_reply mss _ n h = tt
+pub bare_reply : (p : Parts) (call : CallIn) (n : ℕ) → n ≤ reply_room p call → IsBare call n
+bare_reply p (ins.Passive frame iss seg) n h = omega arith
+bare_reply p (ins.Rx frame seg) n h = omega arith
+bare_reply p _ n h = tt

@@ -1,5 +1,5 @@
 -- What a call and an answer of the code mean in the model.
-use Rattle.std.specs.Prelude.{◌≡◌, ℕ, ◌^◌, ◌<◌, Bool, true, false, List, [], length, take, ⊤}
+use Rattle.std.specs.Prelude.{◌≡◌, ℕ, ◌+◌, ◌^◌, ◌<◌, Bool, true, false, List, [], length, take, min, ⊤}
 use Rattle.segment_fields.specs.declared.segment.Segment.{Segment}
 use Rattle.tas_model.specs.declared.entry.Call.{Call}
 use Rattle.tas_model.specs.declared.entry.Call.TheVariants as calls
@@ -9,6 +9,8 @@ use Rattle.tas_model.specs.declared.entry.Head.{Head}
 use Rattle.tas_model.specs.declared.entry.Seg.{Seg}
 use Rattle.tas_model.specs.declared.entry.Phase.{Phase}
 use Rattle.tas_model.specs.declared.entry.Phase.TheVariants as phases
+use Rattle.payload_ring.specs.Window.{room_of}
+use Rattle.flow_state.specs.declared.parts.Parts.{Parts}
 use Rattle.flow_state.specs.declared.call.CallIn.{CallIn}
 use Rattle.flow_state.specs.declared.call.CallIn.TheVariants as ins
 use Rattle.flow_state.specs.declared.call.Answer.{Answer}
@@ -104,14 +106,18 @@ answer_len (answers.Got len update) = len
 answer_len _ = 0
 
 -- ----- conditions
--- how many bytes a reply to it may have, at this send MSS
-abbrev pub reply_room : (mss : ℕ) → CallIn → ℕ
-reply_room mss (ins.Send bytes) = length bytes.now
-reply_room mss (ins.Recv most) = most
-reply_room mss ins.Emit = mss
-reply_room mss _ = 0
+-- how many bytes a reply to it may have here: a Send takes what fits, and a Recv gives what is unread
+abbrev pub reply_room : Parts → CallIn → ℕ
+reply_room p (ins.Send bytes) = min (length bytes.now) (room_of p.tx)
+reply_room p (ins.Recv most) = min most (length p.rx.bytes)
+reply_room p ins.Emit = p.smss
+reply_room p _ = 0
 
--- how many bytes a reply to it, or its own payload, may have
+-- how many bytes its reply, and its own payload, take at most here
+abbrev pub need_of : Parts → CallIn → ℕ
+need_of p call = reply_room p call + length (payload_of call)
+
+-- the same wherever the connection stands, at this send MSS
 abbrev pub cost_of : (mss : ℕ) → CallIn → ℕ
 cost_of mss (ins.Passive frame iss seg) = length seg.payload.now
 cost_of mss (ins.Rx frame seg) = length seg.payload.now

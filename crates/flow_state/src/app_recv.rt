@@ -16,10 +16,10 @@ use tas_model::{Head, Reason};
 
 /// Recv in any phase.
 pub fn recv(parts: &mut Parts, most: u32, out: &mut [u8]) -> Answer
-    requires { most ≤ length out.old }
+    requires { min most (length parts.old.rx.bytes) ≤ length out.old }
     ensures made { (e : Endpoint) → Valid e → Stands parts.old e
         → IsOutcome parts.new result out.new (recv_in (column e) e most) }
-    ensures len { answer_len result ≤ most }
+    ensures len { answer_len result ≤ min most (length parts.old.rx.bytes) }
     ensures params { parts.new.params ≡ parts.old.params }
     ensures tuple { parts.new.tuple ≡ parts.old.tuple }
 {
@@ -32,10 +32,10 @@ pub fn recv(parts: &mut Parts, most: u32, out: &mut [u8]) -> Answer
 
 /// Recv where bytes may be left.
 fn recv_open(parts: &mut Parts, most: u32, out: &mut [u8]) -> Answer
-    requires { most ≤ length out.old }
+    requires { min most (length parts.old.rx.bytes) ≤ length out.old }
     ensures made { (e : Endpoint) → Valid e → Stands parts.old e
         → IsOutcome parts.new result out.new (model_recv_open e most) }
-    ensures len { answer_len result ≤ most }
+    ensures len { answer_len result ≤ min most (length parts.old.rx.bytes) }
     ensures params { parts.new.params ≡ parts.old.params }
     ensures tuple { parts.new.tuple ≡ parts.old.tuple }
 {
@@ -62,10 +62,10 @@ fn empty_answer(parts: &Parts) -> Answer
 
 /// Gives the first unread bytes.
 fn recv_some(parts: &mut Parts, most: u32, out: &mut [u8]) -> Answer
-    requires room { most ≤ length out.old }
+    requires room { min most (length parts.old.rx.bytes) ≤ length out.old }
     ensures made { (e : Endpoint) → Valid e → Stands parts.old e
         → IsOutcome parts.new result out.new (recv_given e most) }
-    ensures len { answer_len result ≤ most }
+    ensures len { answer_len result ≤ min most (length parts.old.rx.bytes) }
     ensures params { parts.new.params ≡ parts.old.params }
     ensures tuple { parts.new.tuple ≡ parts.old.tuple }
 {

@@ -1,4 +1,5 @@
-ghost use Rattle.std.specs.Prelude.{◌≡◌, ℕ, List, ◌+◌, ◌-◌, ◌^◌, ◌<◌, ◌≤◌, ◌++◌, false, length, take};
+ghost use Rattle.std.specs.Prelude.{◌≡◌, ℕ, List, ◌+◌, ◌-◌, ◌^◌, ◌<◌, ◌≤◌, ◌++◌, false, length, take, min};
+ghost use Rattle.payload_ring.specs.Window.{room_of};
 ghost use Rattle.tas_model.specs.declared.entry.Reply.TheVariants as replies;
 ghost use Rattle.tas_model.specs.Endpoint.{Endpoint, send_room};
 ghost use Rattle.tas_model.specs.ApplicationCalls.{column, Running, send_in};
@@ -13,12 +14,12 @@ use crate::stage::Stage;
 
 /// Send in any phase.
 pub fn send(parts: &mut Parts, bytes: &[u8], out: &mut [u8]) -> Answer
-    requires room { length bytes.now ≤ length out.old }
+    requires room { min (length bytes.now) (room_of parts.old.tx) ≤ length out.old }
     requires small { length bytes.now < 2 ^ 32 }
     requires near { IsNear parts.old }
     ensures made { (e : Endpoint) → Valid e → Stands parts.old e
         → IsStep parts.new result out.new (send_in (column e) e (length bytes.now) (take (send_room e) bytes.now)) }
-    ensures len { answer_len result ≤ length bytes.now }
+    ensures len { answer_len result ≤ min (length bytes.now) (room_of parts.old.tx) }
     ensures params { parts.new.params ≡ parts.old.params }
     ensures tuple { parts.new.tuple ≡ parts.old.tuple }
 {
@@ -31,12 +32,12 @@ pub fn send(parts: &mut Parts, bytes: &[u8], out: &mut [u8]) -> Answer
 
 /// Send where the connection stands: the first bytes that fit are taken.
 fn send_open(parts: &mut Parts, bytes: &[u8], out: &mut [u8]) -> Answer
-    requires room { length bytes.now ≤ length out.old }
+    requires room { min (length bytes.now) (room_of parts.old.tx) ≤ length out.old }
     requires small { length bytes.now < 2 ^ 32 }
     requires near { IsNear parts.old }
     ensures made { (e : Endpoint) → Valid e → Stands parts.old e → column e ≡ Running
         → IsStep parts.new result out.new (send_in Running e (length bytes.now) (take (send_room e) bytes.now)) }
-    ensures len { answer_len result ≤ length bytes.now }
+    ensures len { answer_len result ≤ min (length bytes.now) (room_of parts.old.tx) }
     ensures params { parts.new.params ≡ parts.old.params }
     ensures tuple { parts.new.tuple ≡ parts.old.tuple }
 {

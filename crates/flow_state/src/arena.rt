@@ -1,12 +1,12 @@
 ghost use Rattle.std.specs.Prelude.{◌≡◌, ◌↔◌, ℕ, List, ◌+◌, ◌-◌, ◌≤◌, ◌++◌, [], length, take, drop, vec_len};
 ghost use Rattle.std.specs.Prelude.{vec_capacity, IfOk, IfSome, IfNone, IsSome, OnOk, IsOk};
-ghost use Rattle.flow_state.specs.Calls.{call_of, reply_of, payload_of, answer_len, cost_of, IsSmall, IsTimely};
+ghost use Rattle.flow_state.specs.Calls.{call_of, reply_of, payload_of, answer_len, need_of, IsSmall, IsTimely};
 ghost use Rattle.flow_state.specs.Made.{IsMadeAt};
 ghost use Rattle.flow_state.specs.Slots.{entry_of, IsWithin, IsBare};
 ghost use Rattle.flow_state.specs.Stands.{IsNear};
 
 use crate::call::{Answer, CallIn};
-use crate::engine::{Engine, cost};
+use crate::engine::{Engine, need};
 use crate::parts::Parts;
 use crate::sharing::{Kept, Known, keep, next_bytes};
 use crate::slot::{Slot, call_slot, reply_slot};
@@ -98,7 +98,7 @@ impl Arena {
         requires small { IsSmall call.now }
         requires timely { IsTimely parts.old.phase call.now }
         requires near { IsNear parts.old }
-        requires room { cost_of parts.old.smss call.now ≤ self.old.spare }
+        requires room { need_of parts.old call.now ≤ self.old.spare }
         ensures made { IfSome result
             (λ r. IsMadeAt parts.old parts.new self.new.bytes caller number tick call.now r.0 r.1) }
         ensures unmade { IfNone result (parts.new ≡ parts.old) }
@@ -106,7 +106,7 @@ impl Arena {
         ensures serves { IsSome result ↔ E.serves engine.now parts.old call.now }
         ensures kept { take (length self.old.bytes) self.new.bytes ≡ self.old.bytes }
         ensures longer { length self.old.bytes ≤ length self.new.bytes }
-        ensures spent { self.old.spare ≤ self.new.spare + cost_of parts.old.smss call.now }
+        ensures spent { self.old.spare ≤ self.new.spare + need_of parts.old call.now }
         ensures params { parts.new.params ≡ parts.old.params }
         ensures tuple { parts.new.tuple ≡ parts.old.tuple }
     {
@@ -151,12 +151,12 @@ fn answer_behind<E: Engine>(
     requires timely { IsTimely parts.old.phase call.now }
     requires near { IsNear parts.old }
     requires within { used ≤ vec_len bytes.old }
-    requires room { used + cost_of parts.old.smss call.now ≤ vec_capacity bytes.old }
+    requires room { used + need_of parts.old call.now ≤ vec_capacity bytes.old }
     ensures made { IfSome result (λ r. IsMadeAt parts.old parts.new (take r.2 bytes.new.items) stamp.caller stamp.number
         stamp.tick call.now r.0 r.1) }
     ensures few { IfSome result (λ r. r.2 ≤ vec_len bytes.new) }
     ensures past { IfSome result (λ r. used ≤ r.2) }
-    ensures cost { IfSome result (λ r. r.2 ≤ used + cost_of parts.old.smss call.now) }
+    ensures need { IfSome result (λ r. r.2 ≤ used + need_of parts.old call.now) }
     ensures unmade { IfNone result (parts.new ≡ parts.old) }
     ensures serves { IsSome result ↔ E.serves engine.now parts.old call.now }
     ensures kept { take used bytes.new.items ≡ take used bytes.old.items }
@@ -165,7 +165,7 @@ fn answer_behind<E: Engine>(
     ensures params { parts.new.params ≡ parts.old.params }
     ensures tuple { parts.new.tuple ≡ parts.old.tuple }
 {
-    fill_with_zeros(bytes, used + cost(parts, call));
+    fill_with_zeros(bytes, used + need(parts, call));
     let next = next_bytes(parts);
     let answer = engine.run(parts, stamp.tick, call, &mut bytes[used..])?;
     let (slot, kept) = keep_entry(

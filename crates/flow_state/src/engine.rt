@@ -2,13 +2,13 @@ ghost use Rattle.std.specs.Prelude.{◌≡◌, ℕ, ◌+◌, ◌-◌, ◌^◌, �
 ghost use Rattle.tas_model.specs.Endpoint.{Endpoint};
 ghost use Rattle.tas_model.specs.Valid.{Valid};
 ghost use Rattle.flow_state.specs.Stands.{Stands, IsNear};
-ghost use Rattle.flow_state.specs.Calls.{answer_len, reply_room, cost_of, IsSmall, IsTimely};
+ghost use Rattle.flow_state.specs.Calls.{answer_len, reply_room, need_of, cost_of, IsSmall, IsTimely};
 ghost use Rattle.flow_state.specs.Made.{Makes};
 
 use crate::call::{Answer, CallIn};
 use crate::parts::Parts;
 
-/// How many bytes a reply to the call, or the call's own payload, may have.
+/// How many bytes a reply to the call, or the call's own payload, may have, wherever the connection stands.
 pub fn cost(parts: &Parts, call: &CallIn<'_>) -> usize
     ensures { result ≡ cost_of parts.now.smss call.now }
 {
@@ -16,6 +16,19 @@ pub fn cost(parts: &Parts, call: &CallIn<'_>) -> usize
         CallIn::Passive { seg, .. } | CallIn::Rx { seg, .. } => seg.payload.len(),
         CallIn::Send { bytes } => bytes.len(),
         CallIn::Recv { most } => *most as usize,
+        CallIn::Emit => parts.smss as usize,
+        _ => 0,
+    }
+}
+
+/// How many bytes a reply to the call and its own payload have at most here, which is no more than its cost.
+pub fn need(parts: &Parts, call: &CallIn<'_>) -> usize
+    ensures { result ≡ need_of parts.now call.now }
+{
+    match call {
+        CallIn::Passive { seg, .. } | CallIn::Rx { seg, .. } => seg.payload.len(),
+        CallIn::Send { bytes } => bytes.len().min(parts.tx.room() as usize),
+        CallIn::Recv { most } => (*most).min(parts.rx.len()) as usize,
         CallIn::Emit => parts.smss as usize,
         _ => 0,
     }
@@ -37,13 +50,13 @@ pub trait Engine {
     ///
     /// Accept and Control are calls only past SYN-RECEIVED and before CLOSED, Tick only before CLOSED.
     fn run(&self, parts: &mut Parts, tick: u32, call: &CallIn<'_>, out: &mut [u8]) -> Option<Answer>
-        requires room { cost_of parts.old.smss call.now ≤ length out.old }
+        requires room { need_of parts.old call.now ≤ length out.old }
         requires small { IsSmall call.now }
         requires timely { IsTimely parts.old.phase call.now }
         requires near { IsNear parts.old }
         ensures made { IfSome result (λ answer. (e : Endpoint) → Valid e → Stands parts.old e
             → Makes e tick call.now parts.new out.new answer) }
-        ensures bytes { IfSome result (λ answer. answer_len answer ≤ reply_room parts.old.smss call.now) }
+        ensures bytes { IfSome result (λ answer. answer_len answer ≤ reply_room parts.old call.now) }
         ensures tuple { parts.new.tuple ≡ parts.old.tuple }
         ensures params { parts.new.params ≡ parts.old.params }
         ensures unmade { IfNone result (parts.new ≡ parts.old) }

@@ -17,7 +17,7 @@ use crate::application::got_by;
 use crate::arena::Arena;
 use crate::call::{Answer, CallIn};
 use crate::counts::{CallerCount, count_one, number_of};
-use crate::engine::{Engine, cost};
+use crate::engine::{Engine, need};
 use crate::open::{connect_parts, passive_parts};
 use crate::parts::Parts;
 use crate::slot::{connect_slot, passive_slot};
@@ -271,7 +271,7 @@ impl FlowRecord {
         let number = number_of(&self.counts, caller);
         self.stretches.reserve(1)?;
         self.counts.reserve(1)?;
-        self.arena.reserve(cost(&self.parts, call))?;
+        self.arena.reserve(need(&self.parts, call))?;
         let Some((answer, slot)) = self
             .arena
             .answer(engine, &mut self.parts, caller, number, tick, call)

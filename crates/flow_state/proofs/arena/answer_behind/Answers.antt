@@ -1,35 +1,31 @@
 use Rattle.std.proofs.Common.{◌≡◌, ℕ, ◌≤◌, ◌+◌, ◌-◌, length, take, drop, vec_len, ap, sym, subst, List, arith}
 use Rattle.std.proofs.Common.{length-take, length-drop}
 use Rattle.std.proofs.lemmas.Grind.{common_steps}
-use Rattle.flow_state.specs.Calls.{answer_len, cost_of, payload_of}
+use Rattle.flow_state.specs.Calls.{answer_len, reply_room, payload_of}
 use Rattle.flow_state.specs.Made.{IsMadeAt}
 use Rattle.flow_state.specs.Slots.{IsWithin}
-use Rattle.flow_state.proofs.Sending.{bytes_within_cost, bare_reply}
+use Rattle.flow_state.proofs.Sending.{bare_reply}
 use Rattle.flow_state.proofs.arena.answer_behind.Goals as goal
 
 pub keep_entry-requires-clause-bare : goal.keep_entry-requires-clause-bare
 keep_entry-requires-clause-bare g c =
-    bare_reply c.args.parts.now.smss c.args.call.now (answer_len c.in_ok-answer.answer) c.in_ok-answer.ensures.bytes
+    bare_reply c.args.parts.now c.args.call.now (answer_len c.in_ok-answer.answer) c.in_ok-answer.ensures.bytes
 
-pub returns-clause-cost : goal.returns-clause-cost
-returns-clause-cost g c =
-    let cost : answer_len c.in_ok-answer.answer + length (payload_of c.args.call.now)
-    ≤ cost_of c.args.parts.now.smss c.args.call.now =
-    bytes_within_cost c.args.parts.now.smss c.args.call.now
-    (answer_len c.in_ok-answer.answer) c.in_ok-answer.ensures.bytes in
-    omega (arith, cost, ap length c.payload.ensures, c.keep_entry.ensures.past)
+pub returns-clause-need : goal.returns-clause-need
+returns-clause-need g c =
+    let room : answer_len c.in_ok-answer.answer ≤ reply_room c.args.parts.now c.args.call.now =
+    c.in_ok-answer.ensures.bytes in
+    omega (arith, room, ap length c.payload.ensures, c.keep_entry.ensures.past)
 
 pub returns-clause-few : goal.returns-clause-few
 returns-clause-few g c =
-    let cost : answer_len c.in_ok-answer.answer + length (payload_of c.args.call.now)
-    ≤ cost_of c.args.parts.now.smss c.args.call.now =
-    bytes_within_cost c.args.parts.now.smss c.args.call.now
-    (answer_len c.in_ok-answer.answer) c.in_ok-answer.ensures.bytes in
+    let room : answer_len c.in_ok-answer.answer ≤ reply_room c.args.parts.now c.args.call.now =
+    c.in_ok-answer.ensures.bytes in
     omega (
       arith,
-      cost,
+      room,
       ap length c.payload.ensures,
-      c.cost.ensures,
+      c.need.ensures,
       c.fill_with_zeros.ensures.end,
       c.keep_entry.ensures.len,
       c.keep_entry.ensures.past,
@@ -37,10 +33,8 @@ returns-clause-few g c =
 
 pub returns-clause-made : goal.returns-clause-made
 returns-clause-made g c =
-    let cost : answer_len c.in_ok-answer.answer + length (payload_of c.args.call.now)
-    ≤ cost_of c.args.parts.now.smss c.args.call.now =
-    bytes_within_cost c.args.parts.now.smss c.args.call.now
-    (answer_len c.in_ok-answer.answer) c.in_ok-answer.ensures.bytes in
+    let room : answer_len c.in_ok-answer.answer ≤ reply_room c.args.parts.now c.args.call.now =
+    c.in_ok-answer.ensures.bytes in
     let all : List ℕ = c.deref_mut.result.now in
     let end : ℕ = c.keep_entry.result.1.end + length (payload_of c.args.call.now) in
     let whole : length all ≡ vec_len c.fill_with_zeros.new.bytes =
@@ -48,10 +42,10 @@ returns-clause-made g c =
     let kept : length (take end c.keep_entry.new.bytes.items) ≡ end =
     omega (
       arith,
-      cost,
+      room,
       length-take end c.keep_entry.new.bytes.items,
       c.keep_entry.new.bytes.ok,
-      c.cost.ensures,
+      c.need.ensures,
       c.fill_with_zeros.ensures.end,
       c.keep_entry.ensures.len,
       c.keep_entry.ensures.past,
@@ -68,11 +62,11 @@ returns-clause-made g c =
         within = subst (λ (n : ℕ). IsWithin n c.keep_entry.result.0) (sym kept) c.keep_entry.ensures.within;
         bytes = omega (
           arith,
-          cost,
+          room,
           length-take (length all - c.args.used) (drop c.args.used all),
           length-drop c.args.used all,
           whole,
-          c.cost.ensures,
+          c.need.ensures,
           c.fill_with_zeros.ensures.end,
         );
       },
