@@ -28,7 +28,7 @@ use Rattle.flow_state.specs.Record.{IsRecord}
 use Rattle.flow_state.specs.declared.stretch.Stretch.{Stretch}
 use Rattle.flow_state.specs.declared.stretch.Stretch.TheVariants.{One, Quiet}
 use Rattle.flow_state.specs.Slots.{entry_of, IsWithin}
-use Rattle.flow_state.specs.Stretches.{entries_of, StretchWithin, AllWithin}
+use Rattle.flow_state.specs.Stretches.{entries_of, StretchWithin, AllWithin, Added}
 use Rattle.flow_state.specs.Stands.{Stands}
 use Rattle.flow_state.proofs.Counting.{counts_push, counts_first}
 use Rattle.flow_state.proofs.Owning.{application_push}
@@ -87,13 +87,6 @@ stretch_longer n m (Quiet r) le is = is
 within_longer : (n m : ℕ) (stretches : List Stretch) → n ≤ m → AllWithin n stretches → AllWithin m stretches
 within_longer n m [] le all = tt
 within_longer n m (s ∷ stretches) le all = (stretch_longer n m s le all.0, within_longer n m stretches le all.1)
-
--- the stretches with one entry more
-pub record Added (before after : List Stretch) (s : Slot) : Type 0 where
-  pub entries : (arena : List ℕ) → entries_of arena after ≡ entries_of arena before ++ entry_of arena s ∷ []
-  pub within : (n : ℕ) → AllWithin n before → IsWithin n s → AllWithin n after
-  pub few : (arena : List ℕ) → last_tick 0 (entries_of arena before) ≤ s.tick
-      → length before + last_tick 0 (entries_of arena before) + 1 ≤ length after + s.tick
 
 -- their entries in memory that grew
 entries_push : (old new : List ℕ) (before after : List Stretch) (s : Slot) (x : Entry) → take (length old) new ≡ old

@@ -65,12 +65,12 @@ three false b c h = absurd (cc (h))
 equal : (k j : ℕ) → eqb k j ≡ true → k ≡ j
 equal k j h = grind (arith, nat_tests)
 
-pub next_is : (r : QuietRun) (s : Slot) → comes_next r s ≡ true
-    → (r.caller ≡ s.caller) × (s.number ≡ r.number + r.more + 1) × (s.tick ≡ r.tick + r.more + 1)
-next_is r s h =
-    let all = three (same_caller r.caller s.caller) (eqb s.number (r.number + r.more + 1))
-    (eqb s.tick (r.tick + r.more + 1)) h in
-    (caller_is r.caller s.caller all.0, equal _ _ all.1, equal _ _ all.2)
+pub next_is : (r : QuietRun) (caller : Caller) (number tick : ℕ) → comes_next r caller number tick ≡ true
+    → (r.caller ≡ caller) × (number ≡ r.number + r.more + 1) × (tick ≡ r.tick + r.more + 1)
+next_is r caller number tick h =
+    let all = three (same_caller r.caller caller) (eqb number (r.number + r.more + 1))
+    (eqb tick (r.tick + r.more + 1)) h in
+    (caller_is r.caller caller all.0, equal _ _ all.1, equal _ _ all.2)
 
 pub quiet_entry : (arena : List ℕ) (s : Slot) → is_quiet_tick s ≡ true
     → entry_of arena s ≡ quiet_tick s.caller s.number s.tick
@@ -78,36 +78,36 @@ quiet_entry arena s h = let is : (s.call ≡ cs.Tick) × (s.reply ≡ rs.Quiet) 
     let bytes : List ℕ = bytes_at arena s.bytes in
     cc (ap (call_in bytes) is.0, ap (reply_in (reply_part s.call bytes)) is.1)
 
-run_longer : (arena : List ℕ) (r : QuietRun) (s : Slot) → is_quiet_tick s ≡ true → comes_next r s ≡ true
-    → run_entries (record r { more = r.more + 1 }) ≡ run_entries r ++ entry_of arena s ∷ []
-run_longer arena r s quiet next =
-    let is : (r.caller ≡ s.caller) × (s.number ≡ r.number + r.more + 1) × (s.tick ≡ r.tick + r.more + 1) =
-    next_is r s next in
-    let number : r.number + suc r.more ≡ s.number = omega (arith, is.1) in
-    let tick : r.tick + suc r.more ≡ s.tick = omega (arith, is.2) in
-    let same : quiet_tick r.caller (r.number + suc r.more) (r.tick + suc r.more) ≡ entry_of arena s =
-    cc (quiet_entry arena s quiet, is.0, number, tick) in
+run_longer : (r : QuietRun) (caller : Caller) (n t : ℕ) → comes_next r caller n t ≡ true
+    → run_entries (record r { more = r.more + 1 }) ≡ run_entries r ++ quiet_tick caller n t ∷ []
+run_longer r caller n t next =
+    let is : (r.caller ≡ caller) × (n ≡ r.number + r.more + 1) × (t ≡ r.tick + r.more + 1) =
+    next_is r caller n t next in
+    let number : r.number + suc r.more ≡ n = omega (arith, is.1) in
+    let tick : r.tick + suc r.more ≡ t = omega (arith, is.2) in
+    let same : quiet_tick r.caller (r.number + suc r.more) (r.tick + suc r.more) ≡ quiet_tick caller n t =
+    cc (is.0, number, tick) in
     let count : suc (r.more + 1) ≡ suc (suc r.more) = omega arith in
     ap (quiet_ticks r.caller r.number r.tick) count
     ∙ (ticks_push r.caller r.number r.tick (suc r.more) ∙ ap (λ (x : Entry). run_entries r ++ x ∷ []) same)
 
 -- the history with its last run lengthened
-pub longer : (arena : List ℕ) (ss : List Stretch) (i : ℕ) (d : Stretch) (r : QuietRun) (s : Slot) → length ss ≡ suc i
-    → get_or ss i d ≡ Quiet r → is_quiet_tick s ≡ true → comes_next r s ≡ true
+pub longer : (arena : List ℕ) (ss : List Stretch) (i : ℕ) (d : Stretch) (r : QuietRun) (caller : Caller) (n t : ℕ)
+    → length ss ≡ suc i → get_or ss i d ≡ Quiet r → comes_next r caller n t ≡ true
     → entries_of arena (set ss i (Quiet (record r { more = r.more + 1 }))) ≡ entries_of arena ss
-    ++ entry_of arena s ∷ []
-longer arena [] i d r s len is quiet next = absurd (omega (arith, len))
-longer arena (x ∷ []) zero d r s len is quiet next =
+    ++ quiet_tick caller n t ∷ []
+longer arena [] i d r caller n t len is next = absurd (omega (arith, len))
+longer arena (x ∷ []) zero d r caller n t len is next =
     let run : entries_in arena x ≡ run_entries r = ap (entries_in arena) is in
     append-nil (run_entries (record r { more = r.more + 1 }))
-    ∙ (run_longer arena r s quiet next
-    ∙ ap (λ (xs : List Entry). xs ++ entry_of arena s ∷ []) (sym run ∙ sym (append-nil (entries_in arena x))))
-longer arena (x ∷ []) (suc i) d r s len is quiet next = absurd (omega (arith, len))
-longer arena (x ∷ y ∷ ss) zero d r s len is quiet next = absurd (omega (arith, len))
-longer arena (x ∷ y ∷ ss) (suc i) d r s len is quiet next =
+    ∙ (run_longer r caller n t next
+    ∙ ap (λ (xs : List Entry). xs ++ quiet_tick caller n t ∷ []) (sym run ∙ sym (append-nil (entries_in arena x))))
+longer arena (x ∷ []) (suc i) d r caller n t len is next = absurd (omega (arith, len))
+longer arena (x ∷ y ∷ ss) zero d r caller n t len is next = absurd (omega (arith, len))
+longer arena (x ∷ y ∷ ss) (suc i) d r caller n t len is next =
     ap (λ (xs : List Entry). entries_in arena x ++ xs)
-    (longer arena (y ∷ ss) i d r s (omega (arith, len)) is quiet next)
-    ∙ sym (append_assoc (entries_in arena x) (entries_of arena (y ∷ ss)) (entry_of arena s ∷ []))
+    (longer arena (y ∷ ss) i d r caller n t (omega (arith, len)) is next)
+    ∙ sym (append_assoc (entries_in arena x) (entries_of arena (y ∷ ss)) (quiet_tick caller n t ∷ []))
 
 -- ----- the last tick
 last_both : (t : ℕ) (xs ys : List Entry) → last_tick t (xs ++ ys) ≡ last_tick (last_tick t xs) ys

@@ -1,10 +1,11 @@
 -- The history that stretches mean: a stretch is one entry, or a run of quiet ticks.
-use Rattle.std.specs.Prelude.{ℕ, zero, suc, ◌+◌, ◌^◌, ◌<◌, ◌==◌, ◌&&◌, Bool, true, false, List, [], ◌∷◌, flat_map, ⊤}
+use Rattle.std.specs.Prelude.{◌≡◌, ℕ, zero, suc, ◌+◌, ◌^◌, ◌<◌, ◌≤◌, ◌==◌, ◌&&◌, Bool, true, false, List, [], ◌∷◌}
+use Rattle.std.specs.Prelude.{◌++◌, length, flat_map, ⊤}
 use Rattle.tas_model.specs.declared.entry.Caller.{Caller}
 use Rattle.tas_model.specs.declared.entry.Call.TheVariants as calls
 use Rattle.tas_model.specs.declared.entry.Reply.TheVariants as replies
 use Rattle.tas_model.specs.declared.entry.Entry.{Entry}
-use Rattle.tas_model.specs.LegalHistory.{same_caller}
+use Rattle.tas_model.specs.LegalHistory.{same_caller, last_tick}
 use Rattle.flow_state.specs.declared.slot.CallSlot.{CallSlot}
 use Rattle.flow_state.specs.declared.slot.CallSlot.TheVariants as cs
 use Rattle.flow_state.specs.declared.slot.ReplySlot.{ReplySlot}
@@ -13,6 +14,8 @@ use Rattle.flow_state.specs.declared.slot.Slot.{Slot}
 use Rattle.flow_state.specs.declared.stretch.QuietRun.{QuietRun}
 use Rattle.flow_state.specs.declared.stretch.Stretch.{Stretch}
 use Rattle.flow_state.specs.declared.stretch.Stretch.TheVariants.{One, Quiet}
+use Rattle.flow_state.specs.declared.call.Answer.{Answer}
+use Rattle.flow_state.specs.Calls.{reply_of}
 use Rattle.flow_state.specs.Slots.{entry_of, IsWithin}
 
 -- a call of Tick that nothing came of
@@ -68,6 +71,35 @@ is_quiet_pair _ _ = false
 abbrev pub is_quiet_tick : Slot → Bool
 is_quiet_tick s = is_quiet_pair s.call s.reply
 
--- with its caller, number and tick it is the next one of the run
-abbrev pub comes_next : QuietRun → Slot → Bool
-comes_next r s = same_caller r.caller s.caller && s.number == r.number + r.more + 1 && s.tick == r.tick + r.more + 1
+-- a quiet tick with this caller, number and tick is the next one of the run
+abbrev pub comes_next : QuietRun → Caller → (number tick : ℕ) → Bool
+comes_next r caller number tick =
+    same_caller r.caller caller && number == r.number + r.more + 1 && tick == r.tick + r.more + 1
+
+-- ----- one entry more
+-- The stretches have the entry of this slot behind the others. Where no stretch came to them, a tick passed.
+pub record Added (before after : List Stretch) (s : Slot) : Type 0 where
+  pub entries : (arena : List ℕ) → entries_of arena after ≡ entries_of arena before ++ entry_of arena s ∷ []
+  pub within : (n : ℕ) → AllWithin n before → IsWithin n s → AllWithin n after
+  pub few : (arena : List ℕ) → last_tick 0 (entries_of arena before) ≤ s.tick
+      → length before + last_tick 0 (entries_of arena before) + 1 ≤ length after + s.tick
+
+-- the entry of a Tick with an answer that has no bytes
+abbrev pub tick_entry : Caller → (number tick : ℕ) → Answer → Entry
+tick_entry caller number tick answer = record {
+  caller = caller;
+  number = number;
+  tick = tick;
+  call = calls.Tick;
+  reply = reply_of answer [];
+}
+
+-- a slot of that entry, wherever its memory ends
+pub record IsTickSlot (caller : Caller) (number tick : ℕ) (answer : Answer) (s : Slot) : Type 0 where
+  pub entry : (arena : List ℕ) → entry_of arena s ≡ tick_entry caller number tick answer
+  pub within : (n : ℕ) → IsWithin n s
+
+-- the stretches have the entry of a Tick more
+abbrev pub AddedTick : (before after : List Stretch) → Caller → (number tick : ℕ) → Answer → Type 0
+AddedTick before after caller number tick answer =
+    (s : Slot) × IsTickSlot caller number tick answer s × Added before after s

@@ -1,6 +1,7 @@
 ghost use Rattle.std.specs.Prelude.{◌≡◌, ℕ, ◌+◌, ◌-◌, ◌^◌, ◌<◌, ◌≤◌, ◌++◌, ◌∷◌, ◌↔◌, [], List, length, take, slice_get};
 ghost use Rattle.std.specs.Prelude.{Some, replicate, max, vec_len, vec_capacity, flat_map, IfOk, IfSome, IfNone};
 ghost use Rattle.std.specs.Prelude.{IsSome, OnErr, OnOk, IsOk};
+ghost use Rattle.tas_model.specs.declared.entry.Call.TheVariants as calls;
 ghost use Rattle.tas_model.specs.Endpoint.{phase};
 ghost use Rattle.tas_model.specs.LegalHistory.{Legal, replay, extended_by};
 ghost use Rattle.tas_model.specs.Valid.{InRange};
@@ -10,6 +11,7 @@ ghost use Rattle.flow_state.specs.Calls.{IsSmall, IsTimely};
 ghost use Rattle.flow_state.specs.Flow.{Flow, reply_to, last_reply, first_passive, first_connect};
 ghost use Rattle.flow_state.specs.Application.{application_of};
 ghost use Rattle.flow_state.specs.Stretches.{entries_of, entries_in, StretchWithin};
+ghost use Rattle.flow_state.specs.declared.call.CallIn.TheVariants as ins;
 ghost use Rattle.flow_state.specs.Made.{IsMadeAt};
 ghost use Rattle.flow_state.specs.Views.{seen_entry};
 
@@ -21,7 +23,7 @@ use crate::engine::{Engine, need};
 use crate::open::{connect_parts, passive_parts};
 use crate::parts::Parts;
 use crate::slot::{connect_slot, passive_slot};
-use crate::stretch::{Stretch, add};
+use crate::stretch::{Stretch, add, add_tick};
 use crate::stretches::Stretches;
 use crate::view::{EntryView, entry_view};
 use segment_fields::Segment;
@@ -267,6 +269,44 @@ impl FlowRecord {
         ensures tuple { self.new.tuple ≡ self.old.tuple }
         ensures params { self.new.params ≡ self.old.params }
     {
+        match call {
+            CallIn::Tick => self.act_tick(caller, tick, engine),
+            _ => self.act_any(caller, tick, call, engine),
+        }
+    }
+
+    /// The same, for any call.
+    fn act_any<E: Engine>(
+        &mut self,
+        caller: Caller,
+        tick: u32,
+        call: &CallIn<'_>,
+        engine: &E,
+    ) -> Result<Option<Answer>, AllocError>
+        requires small { IsSmall call.now }
+        requires timely { IsTimely self.old.parts.phase call.now }
+        ensures exact { IfOk result
+            (λ r. IfSome r (λ a. self.new.entries ≡ extended_by self.old.params self.old.entries caller tick
+            (call_of call.now) (offer_of call.now))) }
+        ensures answer { IfOk result
+            (λ r. IfSome r
+            (λ a. a ≡ answer_of (reply_to self.old.params self.old.entries tick (call_of call.now)
+            (offer_of call.now)))) }
+        ensures unmade { IfOk result (λ r. IfNone r (self.new.entries ≡ self.old.entries)) }
+        ensures unmade_parts { IfOk result (λ r. IfNone r (self.new.parts ≡ self.old.parts)) }
+        ensures err { OnErr result (self.new.entries ≡ self.old.entries) }
+        ensures err_parts { OnErr result (self.new.parts ≡ self.old.parts) }
+        ensures serves { IfOk result (λ r. IsSome r ↔ E.serves engine.now self.old.parts call.now) }
+        ensures spare { 1 ≤ self.old.spare_entries → cost_of self.old.parts.smss call.now ≤ self.old.spare_bytes
+            → IsOk result }
+        ensures spent_entries { self.old.spare_entries ≤ self.new.spare_entries + 1 }
+        ensures spent_bytes { self.old.spare_bytes ≤ self.new.spare_bytes + cost_of self.old.parts.smss call.now }
+        ensures legal { Legal self.new.params self.new.entries }
+        ensures stands { Stands self.new.parts (replay self.new.params self.new.entries) }
+        ensures id { self.new.id ≡ self.old.id }
+        ensures tuple { self.new.tuple ≡ self.old.tuple }
+        ensures params { self.new.params ≡ self.old.params }
+    {
         let tick = tick.max(self.last);
         let number = number_of(&self.counts, caller);
         self.stretches.reserve(1)?;
@@ -283,6 +323,50 @@ impl FlowRecord {
         self.application = self.application.or(got_by(caller, call, &answer));
         count_one(&mut self.counts, caller);
         add(&mut self.stretches, &slot);
+        Ok(Some(answer))
+    }
+
+    /// The same, for a Tick. It has no bytes, and most are quiet: these lengthen the last run.
+    fn act_tick<E: Engine>(
+        &mut self,
+        caller: Caller,
+        tick: u32,
+        engine: &E,
+    ) -> Result<Option<Answer>, AllocError>
+        requires timely { IsTimely self.old.parts.phase ins.Tick }
+        ensures exact { IfOk result
+            (λ r. IfSome r (λ a. self.new.entries ≡ extended_by self.old.params self.old.entries caller tick
+            calls.Tick [])) }
+        ensures answer { IfOk result
+            (λ r. IfSome r
+            (λ a. a ≡ answer_of (reply_to self.old.params self.old.entries tick calls.Tick
+            []))) }
+        ensures unmade { IfOk result (λ r. IfNone r (self.new.entries ≡ self.old.entries)) }
+        ensures unmade_parts { IfOk result (λ r. IfNone r (self.new.parts ≡ self.old.parts)) }
+        ensures err { OnErr result (self.new.entries ≡ self.old.entries) }
+        ensures err_parts { OnErr result (self.new.parts ≡ self.old.parts) }
+        ensures serves { IfOk result (λ r. IsSome r ↔ E.serves engine.now self.old.parts ins.Tick) }
+        ensures spare { 1 ≤ self.old.spare_entries → cost_of self.old.parts.smss ins.Tick ≤ self.old.spare_bytes
+            → IsOk result }
+        ensures spent_entries { self.old.spare_entries ≤ self.new.spare_entries + 1 }
+        ensures spent_bytes { self.old.spare_bytes ≤ self.new.spare_bytes + cost_of self.old.parts.smss ins.Tick }
+        ensures legal { Legal self.new.params self.new.entries }
+        ensures stands { Stands self.new.parts (replay self.new.params self.new.entries) }
+        ensures id { self.new.id ≡ self.old.id }
+        ensures tuple { self.new.tuple ≡ self.old.tuple }
+        ensures params { self.new.params ≡ self.old.params }
+    {
+        let tick = tick.max(self.last);
+        let number = number_of(&self.counts, caller);
+        self.stretches.reserve(1)?;
+        self.counts.reserve(1)?;
+        let Some(answer) = engine.run(&mut self.parts, tick, &CallIn::Tick, &mut []) else {
+            return Ok(None);
+        };
+        self.made += 1;
+        self.last = tick;
+        count_one(&mut self.counts, caller);
+        add_tick(&mut self.stretches, caller, number, tick, &answer);
         Ok(Some(answer))
     }
 }

@@ -4,6 +4,7 @@ ghost use Rattle.flow_state.specs.Calls.{IsSmall};
 ghost use Rattle.flow_state.specs.Flow.{first_passive, first_connect};
 ghost use Rattle.flow_state.specs.Slots.{Holds, call_in, reply_part, reply_in, bytes_at, SpanWithin, IsWithin, IsBare};
 ghost use Rattle.flow_state.specs.Slots.{entry_of, head_in};
+ghost use Rattle.flow_state.specs.Stretches.{IsTickSlot};
 
 use crate::call::{Answer, CallIn};
 use segment_fields::Segment;
@@ -224,6 +225,21 @@ pub fn reply_slot(answer: &Answer) -> ReplySlot
         Answer::Expired => ReplySlot::Expired,
         Answer::TimedOut => ReplySlot::TimedOut,
         Answer::Window { cwnd, ssthresh } => ReplySlot::Window { cwnd, ssthresh },
+    }
+}
+
+/// The slot of a Tick that was answered so, without bytes.
+pub fn tick_slot(caller: Caller, number: u64, tick: u32, answer: &Answer) -> Slot
+    requires { answer_len answer.now ≡ 0 }
+    ensures { IsTickSlot caller number tick answer.now result }
+{
+    Slot {
+        caller,
+        number,
+        tick,
+        call: CallSlot::Tick,
+        bytes: Span { from: 0, len: 0 },
+        reply: reply_slot(answer),
     }
 }
 

@@ -4,9 +4,12 @@ ghost use Rattle.tas_model.specs.LegalHistory.{last_tick};
 ghost use Rattle.flow_state.specs.Slots.{IsWithin, entry_of};
 ghost use Rattle.flow_state.specs.Stretches.{AllWithin, entries_of, entries_in, StretchWithin, IsRun};
 ghost use Rattle.flow_state.specs.Stretches.{is_quiet_tick as model_quiet, comes_next as model_next};
+ghost use Rattle.flow_state.specs.Stretches.{quiet_tick, AddedTick};
+ghost use Rattle.flow_state.specs.Calls.{answer_len};
 
+use crate::call::Answer;
 use crate::counts::is_same;
-use crate::slot::{CallSlot, ReplySlot, Slot};
+use crate::slot::{CallSlot, ReplySlot, Slot, tick_slot};
 use tas_model::Caller;
 
 /// A run of quiet ticks: calls of Tick by one caller that nothing came of, each at the tick after the one before.
@@ -38,33 +41,33 @@ fn is_quiet_tick(slot: &Slot) -> bool
 }
 
 /// Whether a quiet tick with this caller, number and tick is the next one of the run.
-fn comes_next(run: &QuietRun, slot: &Slot) -> bool
-    ensures { result ≡ model_next run.now slot.now }
+fn comes_next(run: &QuietRun, caller: Caller, number: u64, tick: u32) -> bool
+    ensures { result ≡ model_next run.now caller number tick }
 {
-    is_same(run.caller, slot.caller)
-        && u128::from(slot.number) == u128::from(run.number) + u128::from(run.more) + 1
-        && u64::from(slot.tick) == u64::from(run.tick) + u64::from(run.more) + 1
+    is_same(run.caller, caller)
+        && u128::from(number) == u128::from(run.number) + u128::from(run.more) + 1
+        && u64::from(tick) == u64::from(run.tick) + u64::from(run.more) + 1
 }
 
-/// Lengthens the last run by a quiet tick, where the entry is its next one, and tells whether it is.
-fn lengthen(stretches: &mut Vec<Stretch>, slot: &Slot) -> bool
-    ensures entries { (arena : List ℕ) → result ≡ true
-        → entries_of arena stretches.new.items ≡ entries_of arena stretches.old.items ++ entry_of arena slot.now ∷ [] }
+/// Lengthens the last run by a quiet tick, where it is its next one, and tells whether it is.
+fn lengthen(stretches: &mut Vec<Stretch>, caller: Caller, number: u64, tick: u32) -> bool
+    ensures entries { (arena : List ℕ) → result ≡ true → entries_of arena stretches.new.items
+        ≡ entries_of arena stretches.old.items ++ quiet_tick caller number tick ∷ [] }
     ensures tick { (arena : List ℕ) → result ≡ true
-        → slot.now.tick ≡ last_tick 0 (entries_of arena stretches.old.items) + 1 }
+        → tick ≡ last_tick 0 (entries_of arena stretches.old.items) + 1 }
     ensures within { (n : ℕ) → AllWithin n stretches.old.items → AllWithin n stretches.new.items }
     ensures unmade { result ≡ false → stretches.new ≡ stretches.old }
     ensures len { vec_len stretches.new ≡ vec_len stretches.old }
     ensures capacity { vec_capacity stretches.new ≡ vec_capacity stretches.old }
 {
     let n = stretches.len();
-    if n == 0 || !is_quiet_tick(slot) {
+    if n == 0 {
         return false;
     }
     let Stretch::Quiet(run) = stretches[n - 1] else {
         return false;
     };
-    if !comes_next(&run, slot) {
+    if !comes_next(&run, caller, number, tick) {
         return false;
     }
     stretches[n - 1] = Stretch::Quiet(QuietRun {
@@ -100,20 +103,23 @@ fn first_of(caller: Caller, number: u64, tick: u32) -> QuietRun
     }
 }
 
-/// The stretch of one entry.
-pub fn stretch_of(slot: &Slot) -> Stretch
-    ensures entries { (arena : List ℕ) → entries_in arena result ≡ entry_of arena slot.now ∷ [] }
-    ensures within { (n : ℕ) → IsWithin n slot.now → StretchWithin n result }
+/// Adds a quiet tick behind the others, which have room for one: to the run before it, where it is the next of that.
+fn add_quiet(stretches: &mut Vec<Stretch>, caller: Caller, number: u64, tick: u32)
+    requires { vec_len stretches.old < vec_capacity stretches.old }
+    ensures entries { (arena : List ℕ) → entries_of arena stretches.new.items
+        ≡ entries_of arena stretches.old.items ++ quiet_tick caller number tick ∷ [] }
+    ensures within { (n : ℕ) → AllWithin n stretches.old.items → AllWithin n stretches.new.items }
+    ensures few { (arena : List ℕ) → last_tick 0 (entries_of arena stretches.old.items) ≤ tick
+        → vec_len stretches.old + last_tick 0 (entries_of arena stretches.old.items) + 1 ≤ vec_len stretches.new + tick }
+    ensures len { vec_len stretches.new ≤ vec_len stretches.old + 1 }
+    ensures capacity { vec_capacity stretches.old ≤ vec_capacity stretches.new }
 {
-    if is_quiet_tick(slot) {
-        Stretch::Quiet(first_of(slot.caller, slot.number, slot.tick))
-    } else {
-        Stretch::One(*slot)
+    if !lengthen(stretches, caller, number, tick) {
+        push(stretches, Stretch::Quiet(first_of(caller, number, tick)));
     }
 }
 
-/// Adds an entry behind the others, which have room for one: a quiet tick to the run before it, where it is the next of
-/// that.
+/// Adds an entry behind the others, which have room for one.
 pub fn add(stretches: &mut Vec<Stretch>, slot: &Slot)
     requires { vec_len stretches.old < vec_capacity stretches.old }
     ensures entries { (arena : List ℕ) → entries_of arena stretches.new.items ≡ entries_of arena stretches.old.items
@@ -126,7 +132,29 @@ pub fn add(stretches: &mut Vec<Stretch>, slot: &Slot)
     ensures len { vec_len stretches.new ≤ vec_len stretches.old + 1 }
     ensures capacity { vec_capacity stretches.old ≤ vec_capacity stretches.new }
 {
-    if !lengthen(stretches, slot) {
-        push(stretches, stretch_of(slot));
+    if is_quiet_tick(slot) {
+        add_quiet(stretches, slot.caller, slot.number, slot.tick);
+    } else {
+        push(stretches, Stretch::One(*slot));
+    }
+}
+
+/// Adds the entry of a Tick that was answered so, without bytes, behind the others, which have room for one.
+pub fn add_tick(
+    stretches: &mut Vec<Stretch>,
+    caller: Caller,
+    number: u64,
+    tick: u32,
+    answer: &Answer,
+)
+    requires room { vec_len stretches.old < vec_capacity stretches.old }
+    requires bare { answer_len answer.now ≡ 0 }
+    ensures added { AddedTick stretches.old.items stretches.new.items caller number tick answer.now }
+    ensures len { vec_len stretches.new ≤ vec_len stretches.old + 1 }
+    ensures capacity { vec_capacity stretches.old ≤ vec_capacity stretches.new }
+{
+    match answer {
+        Answer::Quiet => add_quiet(stretches, caller, number, tick),
+        _ => add(stretches, &tick_slot(caller, number, tick, answer)),
     }
 }

@@ -1,7 +1,7 @@
 use Rattle.std.proofs.Common.{◌≡◌, suc, ◌+◌, ◌-◌, true, length, get_or, List, sym, ◌∙◌, arith}
 use Rattle.flow_state.specs.declared.stretch.Stretch.{Stretch}
 use Rattle.flow_state.specs.declared.stretch.Stretch.TheVariants.{Quiet}
-use Rattle.flow_state.specs.Stretches.{comes_next, is_quiet_tick}
+use Rattle.flow_state.specs.Stretches.{comes_next}
 use Rattle.flow_state.proofs.Runs.{longer, last_is, next_is, within_set}
 use Rattle.flow_state.proofs.stretch.lengthen.Goals as goal
 
@@ -12,10 +12,10 @@ returns-clause-entries c arena is =
     omega (arith, c.len-n.ensures, c.if-n-eq0.false, c.args.stretches.now.ok) in
     let last : get_or ss (c.len-n.result - 1) c.index.result.now ≡ Quiet c.in-Quiet.run' = sym c.index.ensures
     ∙ c.in-Quiet.is in
-    let next : comes_next c.in-Quiet.run' c.args.slot.now ≡ true = sym c.comes_next.ensures
+    let next : comes_next c.in-Quiet.run' c.args.caller c.args.number c.args.tick ≡ true = sym c.comes_next.ensures
     ∙ c.if-not-comes_next.false in
-    let quiet : is_quiet_tick c.args.slot.now ≡ true = sym c.is_quiet_tick.ensures ∙ c.if-not-is_quiet_tick.false in
-    longer arena ss (c.len-n.result - 1) c.index.result.now c.in-Quiet.run' c.args.slot.now one last quiet next
+    longer arena ss (c.len-n.result - 1) c.index.result.now c.in-Quiet.run' c.args.caller c.args.number c.args.tick one
+    last next
 
 pub returns-clause-tick : goal.returns-clause-tick
 returns-clause-tick c arena is =
@@ -24,19 +24,19 @@ returns-clause-tick c arena is =
     omega (arith, c.len-n.ensures, c.if-n-eq0.false, c.args.stretches.now.ok) in
     let last : get_or ss (c.len-n.result - 1) c.index.result.now ≡ Quiet c.in-Quiet.run' = sym c.index.ensures
     ∙ c.in-Quiet.is in
-    let next : comes_next c.in-Quiet.run' c.args.slot.now ≡ true = sym c.comes_next.ensures
+    let next : comes_next c.in-Quiet.run' c.args.caller c.args.number c.args.tick ≡ true = sym c.comes_next.ensures
     ∙ c.if-not-comes_next.false in
     omega (
       arith,
       last_is arena 0 ss (c.len-n.result - 1) c.index.result.now c.in-Quiet.run' one last,
-      (next_is c.in-Quiet.run' c.args.slot.now next).2,
+      (next_is c.in-Quiet.run' c.args.caller c.args.number c.args.tick next).2,
     )
 
 pub returns-clause-within : goal.returns-clause-within
 returns-clause-within c n all =
-    let next : comes_next c.in-Quiet.run' c.args.slot.now ≡ true = sym c.comes_next.ensures
+    let next : comes_next c.in-Quiet.run' c.args.caller c.args.number c.args.tick ≡ true = sym c.comes_next.ensures
     ∙ c.if-not-comes_next.false in
-    let is = next_is c.in-Quiet.run' c.args.slot.now next in
+    let is = next_is c.in-Quiet.run' c.args.caller c.args.number c.args.tick next in
     within_set n c.args.stretches.now.items (c.len-n.result - 1)
     (Quiet (record (c.in-Quiet.run') { more = c.in-Quiet.run'.more + 1 }))
     (record { number = omega (arith, is.1); tick = omega (arith, is.2) }) all

@@ -14,9 +14,9 @@ use Rattle.tas_model.specs.declared.entry.HostParams.{HostParams}
 use Rattle.tas_model.proofs.MovesLaws.{places_of}
 use Rattle.flow_state.proofs.Near.{near_of}
 use Rattle.flow_state.proofs.Acting.{Grown, kept_after}
-use Rattle.flow_state.proofs.record.FlowRecord.act.Goals as goal
-use Rattle.flow_state.proofs.record.FlowRecord.act.Goals.{After-add}
-use Rattle.flow_state.proofs.record.FlowRecord.act.Given
+use Rattle.flow_state.proofs.record.FlowRecord.act_any.Goals as goal
+use Rattle.flow_state.proofs.record.FlowRecord.act_any.Goals.{After-add}
+use Rattle.flow_state.proofs.record.FlowRecord.act_any.Given
 
 grown : (g : Given.Over) (c : After-add g)
     → Grown c.self.inside.parts c.answer.new.parts c.self.inside.arena.bytes c.answer.new.self.bytes
