@@ -66,6 +66,7 @@ answered id caller tick v w r after (Err (errors.Stale word)) own on use_ = absu
 answered id caller tick v w r after (Err (errors.Moved seen found)) own on use_ = absurd on
 answered id caller tick v w r after (Err (errors.Early p)) own on use_ = (r, after, own, on, use_)
 answered id caller tick v w r after (Err (errors.PortInUse port)) own on use_ = absurd on
+answered id caller tick v w r after (Err (errors.SlotInUse s)) own on use_ = absurd on
 answered id caller tick v w r after (Err errors.NoPort) own on use_ = absurd on
 answered id caller tick v w r after (Err errors.NoFlowSlot) own on use_ = absurd on
 
@@ -100,6 +101,7 @@ stays id caller tick v w (Err (errors.Stale word)) a = absurd a.3
 stays id caller tick v w (Err (errors.Moved seen found)) a = absurd a.3
 stays id caller tick v w (Err (errors.Early p)) a = used_stays id a.0 a.1 v w a.4
 stays id caller tick v w (Err (errors.PortInUse port)) a = absurd a.3
+stays id caller tick v w (Err (errors.SlotInUse s)) a = absurd a.3
 stays id caller tick v w (Err errors.NoPort) a = absurd a.3
 stays id caller tick v w (Err errors.NoFlowSlot) a = absurd a.3
 
@@ -140,5 +142,6 @@ tried_err id tick a b (errors.Stale word) t = absurd t.3.3
 tried_err id tick a b (errors.Moved seen found) t = absurd t.3.3
 tried_err id tick a b (errors.Early p) t = t
 tried_err id tick a b (errors.PortInUse port) t = t
+tried_err id tick a b (errors.SlotInUse s) t = absurd t.3.3
 tried_err id tick a b errors.NoPort t = t
 tried_err id tick a b errors.NoFlowSlot t = t

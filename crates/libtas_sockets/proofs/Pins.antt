@@ -1,12 +1,13 @@
 -- The pins of an application's pass, as its sockets come and go.
 use Rattle.std.specs.Prelude.{Bool, not, ◌||◌}
-use Rattle.std.proofs.Common.{◌≡◌, ◌≢◌, ℕ, zero, suc, ◌+◌, ◌≤◌, ◌<◌, ◌^◌, cond, eqb, eq-eqb, ne_eqb, List}
+use Rattle.std.proofs.Common.{◌≡◌, ◌≢◌, ℕ, zero, suc, ◌+◌, ◌≤◌, ◌<◌, cond, eqb, eq-eqb, ne_eqb, List}
 use Rattle.std.proofs.Common.{[], ◌∷◌, ◌++◌, ap, sym, ◌∙◌, refl, subst, arith, true, false, ◌⊎◌, inl, inr}
-use Rattle.std.specs.Prelude.{Option, Some, None, slice_get, remove, length, All, position}
+use Rattle.std.specs.Prelude.{Option, Some, None, slice_get, remove, length, All, position, is_some}
 use Rattle.std.specs.List.{list_any, position_or_len}
 use Rattle.std.proofs.lemmas.Bool.{lt-ltb, eqb-true}
-use Rattle.std.proofs.lemmas.List.{length-append}
 use Rattle.std.proofs.lemmas.List.Elements.{All-push}
+use Rattle.std.proofs.lemmas.List.Folds.{list_any_at}
+use Rattle.std.proofs.lemmas.List.Quantifiers.{position-Some}
 use mathlib.Core.Logic.{dite}
 use native.Mathlib.Decide.{ℕ_discrete}
 use lib.ListN.{get_elem?}
@@ -151,34 +152,51 @@ pins_less slots i v w l e a = record {
       (λ n. without_else i j v.pins n ∙ (a.all j ∙ sym (without_else i j l n)));
 }
 
+-- ----- how many sockets there are
+-- the pins on a slot, and the others
+parted : (i : ℕ) (l : List FlowId) → length l ≡ total (at_slot i) l + length (without i l)
+parted i [] = refl
+parted i (f ∷ fs) = by_test i f fs (eqb f.slot i) (parted i fs) where
+  by_test : (i : ℕ) (f : FlowId) (fs : List FlowId) (b : Bool)
+      → length fs ≡ total (at_slot i) fs + length (without i fs)
+      → suc (length fs) ≡ cond b 1 0 + total (at_slot i) fs + length (cond b (without i fs) (f ∷ without i fs))
+  by_test i f fs true e = omega (arith, e)
+  by_test i f fs false e = omega (arith, e)
+
+-- With one pin a slot, there are no more pins than slots.
+pub pins_fit : (slots : ℕ) (l : List FlowId) → ((i : ℕ) → total (at_slot i) l ≤ 1)
+    → ((k : ℕ) (f : FlowId) → slice_get l k ≡ Some f → f.slot < slots) → length l ≤ slots
+pins_fit zero [] once near = omega arith
+pins_fit zero (f ∷ fs) once near = absurd (let n = near 0 f refl in omega arith)
+pins_fit (suc n) l once near =
+    let rest : length (without n l) ≤ n = pins_fit n (without n l)
+    (λ j. dite (ℕ_discrete j n)
+    (λ h. subst (λ k. total (at_slot k) (without n l) ≤ 1) (sym h) (let z = without_here n l in omega arith))
+    (λ m. let z = without_else n j l m in let o = once j in omega arith))
+    (λ k f q. let r = in_without n l k f q in let b = near r.0 f r.1 in
+    let other : f.slot ≢ n = r.2 in omega arith) in
+    let p = parted n l in
+    let o = once n in
+    omega arith
+
 -- ----- between two calls
 pub sound_moved : (s n : Seen) (b : List Begun) (l : List FlowId) → n.table ≡ s.table → n.view.pins ≡ s.view.pins
     → n.view.held ≡ [] → IsSound s b l → IsSound n b l
 sound_moved s n b l t p h is = record {
   pins = subst (λ (x : TableId). ArePins x.slots n.view l) (sym t) (same_pins s.table.slots s.view n.view l p is.pins);
   idle = h;
-  few = is.few;
   slots = subst (λ (x : TableId). All (λ (q : Begun). q.id.slot < x.slots) b) (sym t) is.slots;
 }
 
 pub sound_more : (s n : Seen) (b : List Begun) (l : List FlowId) (f : FlowId) → n.table ≡ s.table
     → n.view.pins ≡ f ∷ s.view.pins → n.view.held ≡ [] → f.slot < s.table.slots → list_any (is_on f.slot) l ≡ false
-    → length l + 1 < 2 ^ 32 → IsSound s b l → IsSound n b (l ++ f ∷ [])
-sound_more s n b l f t p h near free few is = record {
+    → IsSound s b l → IsSound n b (l ++ f ∷ [])
+sound_more s n b l f t p h near free is = record {
   pins = subst (λ (x : TableId). ArePins x.slots n.view (l ++ f ∷ [])) (sym t)
       (pins_more s.table.slots f s.view n.view l p near free is.pins);
   idle = h;
-  few = let e = length-append l (f ∷ []) in omega arith;
   slots = subst (λ (x : TableId). All (λ (q : Begun). q.id.slot < x.slots) b) (sym t) is.slots;
 }
-
-pub shorter : (i : ℕ) (l : List FlowId) → length (without i l) ≤ length l
-shorter i [] = omega arith
-shorter i (f ∷ fs) = by_test i f fs (eqb f.slot i) (shorter i fs) where
-  by_test : (i : ℕ) (f : FlowId) (fs : List FlowId) (b : Bool) → length (without i fs) ≤ length fs
-      → length (cond b (without i fs) (f ∷ without i fs)) ≤ suc (length fs)
-  by_test i f fs true e = omega (arith, e)
-  by_test i f fs false e = omega (arith, e)
 
 pub sound_less : (s n : Seen) (b : List Begun) (l : List FlowId) (i : ℕ) → n.table ≡ s.table
     → n.view.pins ≡ without i s.view.pins → n.view.held ≡ [] → IsSound s b l → IsSound n b (without i l)
@@ -186,9 +204,12 @@ sound_less s n b l i t p h is = record {
   pins = subst (λ (x : TableId). ArePins x.slots n.view (without i l)) (sym t)
       (pins_less s.table.slots i s.view n.view l p is.pins);
   idle = h;
-  few = let e = shorter i l in let f = is.few in omega arith;
   slots = subst (λ (x : TableId). All (λ (q : Begun). q.id.slot < x.slots) b) (sym t) is.slots;
 }
+
+-- an application has no more sockets than the table has slots
+pub fits_slots : (s : Seen) (b : List Begun) (l : List FlowId) → IsSound s b l → length l ≤ s.table.slots
+fits_slots s b l is = pins_fit s.table.slots l is.pins.once (λ k f q. (is.pins.has k f q).1)
 
 -- ----- sockets
 -- the first pin on the slot is the socket's
@@ -243,6 +264,17 @@ place_none i l e = by_any (list_any (is_on i) l) refl where
   by_any : (b : Bool) → list_any (is_on i) l ≡ b → b ≡ false
   by_any true any = absurd (place_there i l any e)
   by_any false any = refl
+
+-- a place is found where a pin is on the slot
+pub is_placed : (i : ℕ) (l : List FlowId) → is_some (position (is_on i) l) ≡ list_any (is_on i) l
+is_placed i l = by_place (position (is_on i) l) refl where
+  nobody : FlowId
+  nobody = record { slot = 0; generation = 0 }
+
+  by_place : (p : Option ℕ) → position (is_on i) l ≡ p → is_some p ≡ list_any (is_on i) l
+  by_place None e = sym (place_none i l e)
+  by_place (Some k) e =
+      let h = position-Some (is_on i) l k nobody e in sym (list_any_at (is_on i) l k nobody h.0 h.1)
 
 pub slot_is : (i : ℕ) (l : List FlowId) → list_any (is_on i) l ≡ true → (flow_on l i).slot ≡ i
 slot_is i [] e = absurd (cc (e))
@@ -331,7 +363,7 @@ with_same o a n l v is e same rest =
 -- ----- begun flows
 pub sound_begun : (s : Seen) (b d : List Begun) (l : List FlowId) → All (λ (q : Begun). q.id.slot < s.table.slots) d
     → IsSound s b l → IsSound s d l
-sound_begun s b d l all is = record { pins = is.pins; idle = is.idle; few = is.few; slots = all }
+sound_begun s b d l all is = record { pins = is.pins; idle = is.idle; slots = all }
 
 -- a begun flow more
 pub begun_more : (s n : Seen) (b d : List Begun) (l : List FlowId) (x : Begun) → n.table ≡ s.table

@@ -113,6 +113,7 @@ has_received caller tick r after room left (Err (errors.Stale word)) none h i = 
 has_received caller tick r after room left (Err (errors.Moved seen found)) none h i = (h, i)
 has_received caller tick r after room left (Err (errors.Early p)) none h i = (h, i)
 has_received caller tick r after room left (Err (errors.PortInUse port)) none h i = (h, i)
+has_received caller tick r after room left (Err (errors.SlotInUse x)) none h i = (h, i)
 has_received caller tick r after room left (Err errors.NoPort) none h i = (h, i)
 has_received caller tick r after room left (Err errors.NoFlowSlot) none h i = (h, i)
 
@@ -240,6 +241,8 @@ read_made id caller tick v w r after room left (Err (errors.Early p)) own h u =
     read_entry id caller tick v w r after room left (Err (errors.Early p)) own h u
 read_made id caller tick v w r after room left (Err (errors.PortInUse port)) own h u =
     read_entry id caller tick v w r after room left (Err (errors.PortInUse port)) own h u
+read_made id caller tick v w r after room left (Err (errors.SlotInUse x)) own h u =
+    read_entry id caller tick v w r after room left (Err (errors.SlotInUse x)) own h u
 read_made id caller tick v w r after room left (Err errors.NoPort) own h u =
     read_entry id caller tick v w r after room left (Err errors.NoPort) own h u
 read_made id caller tick v w r after room left (Err errors.NoFlowSlot) own h u =

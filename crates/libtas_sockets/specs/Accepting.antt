@@ -17,7 +17,7 @@ use Rattle.flow_lock.specs.declared.view.View.{View}
 use Rattle.flow_lock.specs.declared.view.History.{History}
 use Rattle.app_reaper.specs.OneCall.{history, history_with, IsOwn, IsUse}
 use Rattle.slow_handshake.specs.Openings.{Openings, is_named}
-use Rattle.libtas_sockets.specs.Apps.{Application, socket_on, with_view, with_socket}
+use Rattle.libtas_sockets.specs.Apps.{Application, IsSocket, socket_on, with_view, with_socket}
 use Rattle.libtas_sockets.specs.declared.socket.Socket.{Socket}
 use Rattle.libtas_sockets.specs.declared.socket_error.SocketError.{SocketError}
 use Rattle.libtas_sockets.specs.declared.socket_error.SocketError.TheVariants as errors
@@ -72,6 +72,7 @@ IsAcceptance id tick a b (Err (errors.Stale x)) =
     IsRefused id a.pass.view b.pass.view (pins.Stale x) × (b ≡ with_view b.pass.view a)
 IsAcceptance id tick a b (Err (errors.Moved x y)) =
     IsRefused id a.pass.view b.pass.view (pins.Moved x y) × (b ≡ with_view b.pass.view a)
+IsAcceptance id tick a b (Err (errors.SlotInUse s)) = (s ≡ socket_on id) × IsSocket a s × (b ≡ a)
 IsAcceptance id tick a b (Err errors.OutOfMemory) = (b ≡ a) ⊎ IsTried id tick a b (Err errors.OutOfMemory)
 IsAcceptance id tick a b result = IsTried id tick a b result
 

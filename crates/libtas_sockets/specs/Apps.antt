@@ -1,5 +1,5 @@
 -- What contracts see of an application, and of its sockets.
-use Rattle.std.specs.Prelude.{◌≡◌, ℕ, ◌<◌, ◌^◌, cond, true, ◌==◌, List, [], ◌∷◌, ◌++◌, length, All}
+use Rattle.std.specs.Prelude.{◌≡◌, ℕ, ◌<◌, cond, true, ◌==◌, List, [], ◌∷◌, ◌++◌, All}
 use Rattle.std.specs.List.{list_any}
 use Rattle.tas_model.specs.declared.entry.FlowId.{FlowId}
 use Rattle.context_queue.specs.Notes.{Receiver}
@@ -53,5 +53,4 @@ without_socket s a =
 pub record IsSound (s : Seen) (begun : List Begun) (sockets : List FlowId) : Type 0 where
   pub pins : ArePins s.table.slots s.view sockets
   pub idle : s.view.held ≡ []
-  pub few : length sockets < 2 ^ 32
   pub slots : All (λ (b : Begun). b.id.slot < s.table.slots) begun

@@ -17,7 +17,7 @@ use Rattle.flow_lock.specs.declared.pass.PinRefused.TheVariants as pins
 use Rattle.flow_lock.specs.declared.view.History.{History}
 use Rattle.flow_lock.specs.declared.view.Mark.{Mark}
 use Rattle.slow_handshake.specs.Openings.{Openings, first_port, next_after}
-use Rattle.libtas_sockets.specs.Apps.{Application, socket_on, with_view, with_socket}
+use Rattle.libtas_sockets.specs.Apps.{Application, IsSocket, socket_on, with_view, with_socket}
 use Rattle.libtas_sockets.specs.declared.begun.Begun.{Begun}
 use Rattle.libtas_sockets.specs.declared.begun.Target.{Target}
 use Rattle.libtas_sockets.specs.declared.begun.Target.TheVariants.{To, Of}
@@ -61,6 +61,7 @@ IsTakenUp id a b (Err (errors.Stale x)) =
     IsRefused id a.pass.view b.pass.view (pins.Stale x) × (b ≡ with_view b.pass.view a)
 IsTakenUp id a b (Err (errors.Moved x y)) =
     IsRefused id a.pass.view b.pass.view (pins.Moved x y) × (b ≡ with_view b.pass.view a)
+IsTakenUp id a b (Err (errors.SlotInUse s)) = (s ≡ socket_on id) × IsSocket a s × (b ≡ a)
 IsTakenUp id a b (Err errors.OutOfMemory) = b ≡ a
 IsTakenUp id a b (Err e) = ⊥
 
@@ -96,9 +97,15 @@ IsJoined id tuple a b (Err (errors.Moved x y)) =
     × (b ≡ record (with_view b.pass.view a) { begun = a.begun ++ record { id = id; tuple = tuple } ∷ [] })
 IsJoined id tuple a b (Err e) = ⊥
 
--- A flow with this history was opened, and then pinned or not; or memory was wanting, and none was.
+-- the application has a socket on the slot that comes next
+abbrev pub IsOnNext : Socket → Application → Opener → Type 0
+IsOnNext s a o = (id : FlowId) × (next_in o.pass.view.marks ≡ Some id) × (s ≡ socket_on id) × IsSocket a s
+
+-- A flow with this history was opened, and then pinned or not; or memory was wanting, or the application has a socket
+-- there, and none was.
 abbrev pub IsOpening : History → (before after : Application) → (before after : Opener) → Result Socket SocketError
     → Type 0
+IsOpening h a b s n (Err (errors.SlotInUse x)) = IsOnNext x a s × (b ≡ a) × (n ≡ s)
 IsOpening h a b s n (Err errors.OutOfMemory) = (b ≡ a) × (n ≡ s)
 IsOpening h a b s n result = (id : FlowId) × IsOpened id h s n × IsJoined id h.tuple a b result
 

@@ -6,10 +6,11 @@ ghost use Rattle.flow_lock.specs.Steps.{MayAct};
 ghost use Rattle.app_reaper.specs.OneCall.{history};
 ghost use Rattle.slow_handshake.specs.Openings.{first_ready};
 ghost use Rattle.slow_handshake.specs.declared.openings.PassiveFlow.{PassiveFlow};
+ghost use Rattle.libtas_sockets.specs.Apps.{IsSocket, socket_on};
 ghost use Rattle.libtas_sockets.specs.Accepting.{IsAcceptance, after_accept, does_leave, IsAnsweredBy, IsAcceptedOn};
 
 use crate::app::App;
-use crate::pinning::{make_room, unpinned};
+use crate::pinning::{is_slot_in_use, make_room, unpinned};
 use crate::socket::Socket;
 use crate::socket_error::SocketError;
 use app_reaper::act_on;
@@ -19,8 +20,9 @@ use slow_handshake::SlowPath;
 use tas_model::Caller;
 
 impl App {
-    /// Accepts the flow of the port that was opened first. `NotYet` comes exactly where `ready` gives none, `Early`
-    /// exactly where its record is in SYN-SENT or SYN-RECEIVED, and `Closed` exactly where it is closed.
+    /// Accepts the flow of the port that was opened first. `NotYet` comes exactly where `ready` gives none, `SlotInUse`
+    /// exactly where the application has a socket on its slot, and all stays then. `Early` comes exactly where its
+    /// record is in SYN-SENT or SYN-RECEIVED, and `Closed` exactly where it is closed.
     pub fn accept(
         &mut self,
         t: &FlowTable<FlowRecord>,
@@ -32,13 +34,18 @@ impl App {
         requires slots { All (λ (f : PassiveFlow). f.id.slot < t.now.slots) slow.old.flows }
         ensures not_yet { result ≡ Err SocketError.NotYet ↔ first_ready slow.old port ≡ None }
         ensures none { IfNone (first_ready slow.old port) ((self.new ≡ self.old) × (slow.new ≡ slow.old)) }
+        ensures in_use { IfSome (first_ready slow.old port)
+            (λ id. result ≡ Err (SocketError.SlotInUse (socket_on id)) ↔ IsSocket self.old (socket_on id)) }
         ensures made { IfSome (first_ready slow.old port) (λ id. IsAcceptance id tick self.old self.new result) }
         ensures left { IfSome (first_ready slow.old port) (λ id. slow.new ≡ after_accept id result slow.old) }
     {
         let Some(id) = slow.ready(port) else {
             return Err(SocketError::NotYet);
         };
-        make_room(&mut self.sockets, id)?;
+        if is_slot_in_use(&self.sockets, id) {
+            return Err(SocketError::SlotInUse(Socket(id.slot)));
+        }
+        make_room(&mut self.sockets)?;
         let pin = match t.pin(&mut self.pass, id) {
             Ok(pin) => pin,
             Err(refused) => return Err(unpinned(refused)),

@@ -9,13 +9,14 @@ ghost use Rattle.flow_lock.specs.Answers.{next_in, is_open_in};
 ghost use Rattle.flow_lock.specs.Steps.{MayAct, opened};
 ghost use Rattle.slow_handshake.specs.Openings.{all_ports};
 ghost use Rattle.app_reaper.specs.OneCall.{history};
+ghost use Rattle.libtas_sockets.specs.Apps.{IsSocket, socket_on};
 ghost use Rattle.libtas_sockets.specs.Connecting.{fits, id_of, still_begun, begun_for, looked_up, IsTakenUp, opener};
 ghost use Rattle.libtas_sockets.specs.Connecting.{IsOpening, IsConnection, IsConnectionAs, after_connect};
 ghost use Rattle.libtas_sockets.specs.Connecting.{first_history};
 
 use crate::app::App;
 use crate::begun::{Begun, Target};
-use crate::pinning::{make_room, unpinned};
+use crate::pinning::{is_slot_in_use, make_room, unpinned};
 use crate::socket::Socket;
 use crate::socket_error::SocketError;
 use app_reaper::PinList;
@@ -27,9 +28,11 @@ use tas_num::Seq;
 
 impl App {
     /// Opens a connection to a port of a host, from the next port. Where an earlier connect to it opened a flow that
-    /// couldn't be pinned, that flow is pinned, and none is opened; `Stale` and `Moved` leave it begun. Else
-    /// `NoFlowSlot` comes exactly where every slot has a flow, and else `NoPort` where all ports were given. Memory may
-    /// be wanting once a port and a first number were given.
+    /// couldn't be pinned, that flow is pinned, and none is opened; `Stale` and `Moved` leave it begun, and so does
+    /// `SlotInUse`, which comes exactly where the application has a socket on its slot. Else `NoFlowSlot` comes exactly
+    /// where every slot has a flow, and else `NoPort` where all ports were given. Once a port and a first number were
+    /// given, memory may be wanting, or there is a socket on the slot that comes next (`SlotInUse`; by the table's rule
+    /// there is none, as a slot with a pin has a flow): nothing is opened then.
     pub fn connect(
         &mut self,
         t: &FlowTable<FlowRecord>,
@@ -46,6 +49,8 @@ impl App {
         requires ranges { InRange slow.old.params }
         ensures begun { IfSome (begun_for (Target.To raddr rport) sp.old self.old)
             (λ b. IsTakenUp b.id (looked_up (Target.To raddr rport) sp.old self.old) self.new result) }
+        ensures in_use { IfSome (begun_for (Target.To raddr rport) sp.old self.old)
+            (λ b. result ≡ Err (SocketError.SlotInUse (socket_on b.id)) ↔ IsSocket self.old (socket_on b.id)) }
         ensures unopened { OnSome (begun_for (Target.To raddr rport) sp.old self.old)
             (opener sp.new pins.new.list ≡ opener sp.old pins.old.list) }
         ensures unnumbered { OnSome (begun_for (Target.To raddr rport) sp.old self.old) (slow.new ≡ slow.old) }
@@ -96,6 +101,8 @@ impl App {
         requires ranges { InRange slow.old.params }
         ensures begun { IfSome (begun_for (Target.Of tuple) sp.old self.old)
             (λ b. IsTakenUp b.id (looked_up (Target.Of tuple) sp.old self.old) self.new result) }
+        ensures in_use { IfSome (begun_for (Target.Of tuple) sp.old self.old)
+            (λ b. result ≡ Err (SocketError.SlotInUse (socket_on b.id)) ↔ IsSocket self.old (socket_on b.id)) }
         ensures unopened { OnSome (begun_for (Target.Of tuple) sp.old self.old)
             (opener sp.new pins.new.list ≡ opener sp.old pins.old.list) }
         ensures slots { IfNone (begun_for (Target.Of tuple) sp.old self.old)
@@ -119,9 +126,13 @@ impl App {
     fn take_up(&mut self, t: &FlowTable<FlowRecord>, id: FlowId) -> Result<Socket, SocketError>
         requires pass { (self.old.pass.table ≡ t.now) × MayAct self.old.pass.view }
         requires slot { id.slot < t.now.slots }
-        ensures { IsTakenUp id self.old self.new result }
+        ensures made { IsTakenUp id self.old self.new result }
+        ensures in_use { result ≡ Err (SocketError.SlotInUse (socket_on id)) ↔ IsSocket self.old (socket_on id) }
     {
-        make_room(&mut self.sockets, id)?;
+        if is_slot_in_use(&self.sockets, id) {
+            return Err(SocketError::SlotInUse(Socket(id.slot)));
+        }
+        make_room(&mut self.sockets)?;
         match t.pin(&mut self.pass, id) {
             Ok(pin) => {
                 self.begun.retain(|flow| flow.id != id);
@@ -150,10 +161,14 @@ impl App {
         requires ranges { InRange params.now }
         requires next { next_in sp.old.view.marks ≡ Some id }
         requires slot { id.slot < t.now.slots }
-        ensures { IsOpening (first_history tuple params.now (callers.App self.old.number) tick iss) self.old self.new
-            (opener sp.old pins.old.list) (opener sp.new pins.new.list) result }
+        ensures in_use { result ≡ Err (SocketError.SlotInUse (socket_on id)) ↔ IsSocket self.old (socket_on id) }
+        ensures made { IsOpening (first_history tuple params.now (callers.App self.old.number) tick iss)
+            self.old self.new (opener sp.old pins.old.list) (opener sp.new pins.new.list) result }
     {
-        make_room(&mut self.sockets, id)?;
+        if is_slot_in_use(&self.sockets, id) {
+            return Err(SocketError::SlotInUse(Socket(id.slot)));
+        }
+        make_room(&mut self.sockets)?;
         if self.begun.reserve(1).is_err() || pins.reserve().is_err() {
             return Err(SocketError::OutOfMemory);
         }

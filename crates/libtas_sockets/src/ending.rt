@@ -29,6 +29,8 @@ impl App {
             ..
         } = self;
         let count = sockets.len();
+        // At most one socket is on a slot, so that 32 bits count them.
+        prove!(count <= t.slots() as usize);
         if !holding || count == 0 {
             return Ended {
                 app: number,

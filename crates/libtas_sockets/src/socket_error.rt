@@ -2,6 +2,7 @@
 ghost use Rattle.std.specs.Prelude.{◌≡◌};
 ghost use Rattle.libtas_sockets.specs.Answers.{refusal_in};
 
+use crate::socket::Socket;
 use flow_lock::Word;
 use flow_state::Answer;
 use tas_model::{Phase, Reason};
@@ -25,6 +26,8 @@ pub enum SocketError {
     Moved(Word, Word),
     /// The flow that was to be accepted is still in this phase, SYN-SENT or SYN-RECEIVED. No entry was made.
     Early(Phase),
+    /// The flow wasn't pinned: the application has this socket on its slot already. No entry was made.
+    SlotInUse(Socket),
     /// A listener has this port.
     PortInUse(u16),
     /// All ports for own connections were given.

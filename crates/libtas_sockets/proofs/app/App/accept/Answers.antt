@@ -1,4 +1,4 @@
-use Rattle.std.proofs.Common.{◌≡◌, ◌<◌, ap, sym, ◌∙◌, refl, subst, List, ◌∷◌, ◌++◌, [], false, length, ◌+◌, ◌^◌}
+use Rattle.std.proofs.Common.{◌≡◌, ◌<◌, ap, sym, ◌∙◌, refl, subst, List, ◌∷◌, ◌++◌, [], false}
 use Rattle.std.specs.Prelude.{Result, Ok, Err}
 use Rattle.std.specs.List.{list_any}
 use Rattle.atomic_table.specs.Seated.{TableId}
@@ -27,8 +27,7 @@ pin-requires-clause-unpinned c =
     let i = c.self.inside in
     let id = c.in-Some.id in
     let free : list_any (is_on id.slot) i.sockets.list ≡ false =
-    subst (λ (l : List FlowId). list_any (is_on id.slot) l ≡ false) c.make_room.ensures.list
-    c.in_ok-make_room.ensures.free in
+    sym c.is_slot_in_use.ensures ∙ c.if-is_slot_in_use.false in
     pinless i.pass i.begun.items i.sockets.list id.slot c.self.invariant free
 
 pub accept_pinned-accepted-requires-clause-slot : goal.accept_pinned-accepted-requires-clause-slot
@@ -51,8 +50,7 @@ invariant_of-self-in-Ok-accepted c =
     let is : f ≡ id = c.in-Ok.ensures.pinned.0 in
     let n = c.accept_pinned-accepted.new.pass in
     let free : list_any (is_on id.slot) i.sockets.list ≡ false =
-    subst (λ (l : List FlowId). list_any (is_on id.slot) l ≡ false) c.make_room.ensures.list
-    c.in_ok-make_room.ensures.free in
+    sym c.is_slot_in_use.ensures ∙ c.if-is_slot_in_use.false in
     let free_here : list_any (is_on f.slot) i.sockets.list ≡ false =
     subst (λ (g : FlowId). list_any (is_on g.slot) i.sockets.list ≡ false) (sym is) free in
     let table : i.pass.table ≡ c.args.t.now =
@@ -66,11 +64,9 @@ invariant_of-self-in-Ok-accepted c =
     c.accept_pinned-accepted.ensures.made c.self.invariant.idle in
     let list : c.put.new.self.list ≡ i.sockets.list ++ f ∷ [] =
     c.put.ensures.list ∙ ap (λ (l : List FlowId). l ++ f ∷ []) c.make_room.ensures.list in
-    let few = subst (λ (l : List FlowId). length l + 1 < 2 ^ 32) c.make_room.ensures.list
-    c.in_ok-make_room.ensures.few in
     subst (λ (l : List FlowId). IsSound n i.begun.items l) (sym list)
     (sound_more i.pass n i.begun.items i.sockets.list f (c.accept_pinned-accepted.ensures.table ∙ c.pin.ensures.table)
-    tried.0 tried.1 near free_here few c.self.invariant)
+    tried.0 tried.1 near free_here c.self.invariant)
 
 pub invariant_of-self-in-Err-accepted : goal.invariant_of-self-in-Err-accepted
 invariant_of-self-in-Err-accepted c =
@@ -80,8 +76,7 @@ invariant_of-self-in-Err-accepted c =
     let is : f ≡ id = c.in-Ok.ensures.pinned.0 in
     let n = c.accept_pinned-accepted.new.pass in
     let free : list_any (is_on id.slot) i.sockets.list ≡ false =
-    subst (λ (l : List FlowId). list_any (is_on id.slot) l ≡ false) c.make_room.ensures.list
-    c.in_ok-make_room.ensures.free in
+    sym c.is_slot_in_use.ensures ∙ c.if-is_slot_in_use.false in
     let free_here : list_any (is_on f.slot) i.sockets.list ≡ false =
     subst (λ (g : FlowId). list_any (is_on g.slot) i.sockets.list ≡ false) (sym is) free in
     let pinned = subst (λ (g : FlowId). IsPinned g i.pass.view c.pin.new.pass.view) (sym is) c.in-Ok.ensures.pinned.1 in

@@ -1,4 +1,4 @@
-use Rattle.std.proofs.Common.{◌≡◌, ◌+◌, ◌-◌, true, sym, refl, subst, arith, length, rules, inl}
+use Rattle.std.proofs.Common.{ap, ◌∙◌, ◌≤◌, ◌≡◌, ◌+◌, ◌-◌, true, sym, refl, subst, arith, length, rules, inl}
 use Rattle.std.proofs.Common.{inr}
 use Rattle.std.specs.Prelude.{Some, None}
 use Rattle.atomic_table.specs.Seated.{TableId}
@@ -9,7 +9,21 @@ use Rattle.app_reaper.specs.declared.ended.Ended.{Ended}
 use Rattle.libtas_sockets.specs.Apps.{Application}
 use Rattle.libtas_sockets.specs.Ending.{newest, IsEnding}
 use Rattle.libtas_sockets.proofs.Ends.{newest_is, ending_held, ended_held, ended_busy}
+use Rattle.libtas_sockets.proofs.Pins.{fits_slots}
 use Rattle.libtas_sockets.proofs.app.App.end.Goals as goal
+
+pub prove-unreachable-requires : goal.prove-unreachable-requires
+prove-unreachable-requires c =
+    let i = c.self.inside in
+    let table : i.pass.table ≡ c.args.t.now =
+    ap (λ (x : Application). x.pass.table) c.self.view_is ∙ c.requires.pass.0 in
+    let near : length i.sockets.list ≤ i.pass.table.slots = fits_slots i.pass i.begun.items i.sockets.list
+    c.self.invariant in
+    let slots : i.pass.table.slots ≡ c.args.t.now.slots = ap (λ (x : TableId). x.slots) table in
+    let more = c.if-prove.true in
+    let all = c.slots.ensures in
+    let count = c.len-count.ensures in
+    omega arith
 
 pub returns-in-Ok-clause-held : goal.returns-in-Ok-clause-held
 returns-in-Ok-clause-held c =

@@ -1,4 +1,4 @@
-use Rattle.std.proofs.Common.{◌≡◌, ◌<◌, ◌+◌, ◌^◌, ap, sym, ◌∙◌, subst, List, ◌∷◌, ◌++◌, [], false, length}
+use Rattle.std.proofs.Common.{◌≡◌, ◌<◌, ap, sym, ◌∙◌, subst, List, ◌∷◌, ◌++◌, [], false}
 use Rattle.std.specs.List.{list_any}
 use Rattle.atomic_table.specs.Seated.{TableId}
 use Rattle.tas_model.specs.declared.entry.FlowId.{FlowId}
@@ -14,8 +14,7 @@ pin-requires-clause-unpinned c =
     let i = c.self.inside in
     let id = c.args.id in
     let free : list_any (is_on id.slot) i.sockets.list ≡ false =
-    subst (λ (l : List FlowId). list_any (is_on id.slot) l ≡ false) c.make_room.ensures.list
-    c.in_ok-make_room.ensures.free in
+    sym c.is_slot_in_use.ensures ∙ c.if-is_slot_in_use.false in
     pinless i.pass i.begun.items i.sockets.list id.slot c.self.invariant free
 
 pub invariant_of-self-in-Ok-pin : goal.invariant_of-self-in-Ok-pin
@@ -23,10 +22,7 @@ invariant_of-self-in-Ok-pin c =
     let i = c.self.inside in
     let id = c.args.id in
     let free : list_any (is_on id.slot) i.sockets.list ≡ false =
-    subst (λ (l : List FlowId). list_any (is_on id.slot) l ≡ false) c.make_room.ensures.list
-    c.in_ok-make_room.ensures.free in
-    let few = subst (λ (l : List FlowId). length l + 1 < 2 ^ 32) c.make_room.ensures.list
-    c.in_ok-make_room.ensures.few in
+    sym c.is_slot_in_use.ensures ∙ c.if-is_slot_in_use.false in
     let table : i.pass.table ≡ c.args.t.now =
     ap (λ (x : Application). x.pass.table) c.self.view_is ∙ c.requires.pass.0 in
     let near : id.slot < i.pass.table.slots =
@@ -38,7 +34,7 @@ invariant_of-self-in-Ok-pin c =
     c.put-in-Ok-pin.ensures.list ∙ (ap (λ (l : List FlowId). l ++ c.in-Ok-pin.pin ∷ []) c.make_room.ensures.list
     ∙ ap (λ (g : FlowId). i.sockets.list ++ g ∷ []) p.0) in
     let sound = sound_more i.pass c.pin.new.pass i.begun.items i.sockets.list id c.pin.ensures.table
-    (ap (λ (x : View). x.pins) v) idle near free few c.self.invariant in
+    (ap (λ (x : View). x.pins) v) idle near free c.self.invariant in
     subst (λ (b : List Begun). IsSound c.pin.new.pass b c.put-in-Ok-pin.new.self.list) (sym c.reserve.ensures.items)
     (subst (λ (l : List FlowId). IsSound c.pin.new.pass i.begun.items l) (sym list) sound)
 

@@ -1,4 +1,4 @@
-use Rattle.std.proofs.Common.{◌≡◌, ◌<◌, ◌+◌, ◌^◌, ap, sym, ◌∙◌, refl, subst, List, ◌∷◌, ◌++◌, [], false, length, not}
+use Rattle.std.proofs.Common.{◌≡◌, ◌<◌, ap, sym, ◌∙◌, refl, subst, List, ◌∷◌, ◌++◌, [], false, not}
 use Rattle.std.specs.Prelude.{All, Ok}
 use Rattle.std.specs.List.{list_any}
 use Rattle.atomic_table.specs.Seated.{TableId}
@@ -20,8 +20,7 @@ pin-requires-clause-unpinned c =
     let i = c.self.inside in
     let id = c.args.id in
     let free : list_any (is_on id.slot) i.sockets.list ≡ false =
-    subst (λ (l : List FlowId). list_any (is_on id.slot) l ≡ false) c.make_room.ensures.list
-    c.in_ok-make_room.ensures.free in
+    sym c.is_slot_in_use.ensures ∙ c.if-is_slot_in_use.false in
     pinless i.pass i.begun.items i.sockets.list id.slot c.self.invariant free
 
 pub invariant_of-self-in-Ok : goal.invariant_of-self-in-Ok
@@ -29,10 +28,7 @@ invariant_of-self-in-Ok c =
     let i = c.self.inside in
     let id = c.args.id in
     let free : list_any (is_on id.slot) i.sockets.list ≡ false =
-    subst (λ (l : List FlowId). list_any (is_on id.slot) l ≡ false) c.make_room.ensures.list
-    c.in_ok-make_room.ensures.free in
-    let few = subst (λ (l : List FlowId). length l + 1 < 2 ^ 32) c.make_room.ensures.list
-    c.in_ok-make_room.ensures.few in
+    sym c.is_slot_in_use.ensures ∙ c.if-is_slot_in_use.false in
     let table : i.pass.table ≡ c.args.t.now =
     ap (λ (x : Application). x.pass.table) c.self.view_is ∙ c.requires.pass.0 in
     let near : id.slot < i.pass.table.slots =
@@ -44,7 +40,7 @@ invariant_of-self-in-Ok c =
     c.put.ensures.list ∙ (ap (λ (l : List FlowId). l ++ c.in-Ok.pin ∷ []) c.make_room.ensures.list
     ∙ ap (λ (g : FlowId). i.sockets.list ++ g ∷ []) p.0) in
     let sound = sound_more i.pass c.pin.new.pass i.begun.items i.sockets.list id c.pin.ensures.table
-    (ap (λ (x : View). x.pins) v) idle near free few c.self.invariant in
+    (ap (λ (x : View). x.pins) v) idle near free c.self.invariant in
     let left : c.retain.new.self.items ≡ begun_without id i.begun.items =
     filter_same _ (λ (b : Begun). not (same_flow b.id id)) _ (λ x b q k. search (rules, tests)) _ _
     c.retain.ensures.filtered in
@@ -55,8 +51,8 @@ invariant_of-self-in-Ok c =
     subst (λ (l : List FlowId). IsSound c.pin.new.pass c.retain.new.self.items l) (sym list)
     (sound_begun c.pin.new.pass i.begun.items c.retain.new.self.items (i.sockets.list ++ id ∷ []) there sound)
 
-pub returns-in-Ok : goal.returns-in-Ok
-returns-in-Ok c =
+pub returns-in-Ok-clause-made : goal.returns-in-Ok-clause-made
+returns-in-Ok-clause-made c =
     let i = c.self.inside in
     let id = c.args.id in
     let o : Application =
