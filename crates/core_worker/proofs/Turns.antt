@@ -155,12 +155,13 @@ pub record Kicking (c : Common) (tick : ℕ) (first now : Worker) : Type 0 where
   pub done : AreKicksDone c tick count first now
   pub core : now.core ≡ first.core
   pub frames : now.frames ≡ first.frames
+  pub senders : now.senders ≡ first.senders
   pub free : IsFree c now
   pub queue : HasQueue c now
 
 pub kicking_first : (c : Common) (tick : ℕ) (w : Worker) → IsFree c w → HasQueue c w → Kicking c tick w w
 kicking_first c tick w free queue =
-    record { count = 0; done = refl; core = refl; frames = refl; free = free; queue = queue }
+    record { count = 0; done = refl; core = refl; frames = refl; senders = refl; free = free; queue = queue }
 
 pub kicking_more : (c : Common) (tick : ℕ) (first m w : Worker) → Kicking c tick first m
     → IsKickDone c (IsAllSent m.core tick) m w → IsFree c w → HasQueue c w → Kicking c tick first w
@@ -169,6 +170,7 @@ kicking_more c tick first m w k d free queue = record {
   done = kicks_more c tick k.count first m w k.done (subst (λ n. IsKickDone c (IsAllSent n tick) m w) k.core d);
   core = ap (λ (x : Worker). x.core) d.after ∙ k.core;
   frames = ap (λ (x : Worker). x.frames) d.after ∙ k.frames;
+  senders = ap (λ (x : Worker). x.senders) d.after ∙ k.senders;
   free = free;
   queue = queue;
 }

@@ -1,5 +1,8 @@
 pub mod Frames
 pub mod Receiving
+pub mod News
+pub mod Posting
+pub mod Telling
 pub mod Workers
 pub mod Handing
 pub mod Handling

@@ -10,15 +10,21 @@ use Rattle.steering.specs.Tables as tables
 use Rattle.context_queue.specs.Notes.{Place, Receiver}
 use Rattle.core_worker.specs.declared.frames.Frame.{Frame}
 use Rattle.core_worker.specs.declared.frames.PassedFrame.{PassedFrame}
+use Rattle.core_worker.specs.declared.shared.AppQueue.{AppQueue}
+use Rattle.core_worker.specs.declared.senders.AppSender.{AppSender}
+use Rattle.core_worker.specs.Telling.{AreOwnSenders}
 
--- What the workers of a host share: the table of its flows, the steering, and each core's queue of kicks.
+-- What the workers of a host share: the table of its flows, the steering, each core's queue of kicks, and the queues of
+-- applications.
 pub record Common : Type 0 where
   pub table : TableId
   pub steering : tables.Place
   pub kicks : List Place
+  pub queues : List AppQueue
 
 -- The worker of a core: its pass and whether it looks at checksums, the published changes of the index that it has seen
--- and the lines that it wrote, the frames that were handed to it and those that it passed on, and the kicks taken.
+-- and the lines that it wrote, the frames that were handed to it and those that it passed on, the kicks taken, and what
+-- its senders posted to applications.
 pub record Worker : Type 0 where
   pub core : ℕ
   pub pass : Seen
@@ -29,21 +35,23 @@ pub record Worker : Type 0 where
   pub deferred : List PassedFrame
   pub exceptions : List PassedFrame
   pub kicks : Receiver
+  pub senders : List AppSender
 
 -- what handling a frame changes of a worker
 pub record Sight : Type 0 where
   pub pass : Seen
   pub known : List Change
   pub log : List LogLine
+  pub senders : List AppSender
 
-abbrev pub sight : Seen → (known : List Change) → (log : List LogLine) → Sight
-sight pass known log = record { pass = pass; known = known; log = log }
+abbrev pub sight : Seen → (known : List Change) → (log : List LogLine) → List AppSender → Sight
+sight pass known log senders = record { pass = pass; known = known; log = log; senders = senders }
 
 abbrev pub sight_of : Worker → Sight
-sight_of w = sight w.pass w.known w.log
+sight_of w = sight w.pass w.known w.log w.senders
 
 abbrev pub with_sight : Sight → Worker → Worker
-with_sight s w = record w { pass = s.pass; known = s.known; log = s.log }
+with_sight s w = record w { pass = s.pass; known = s.known; log = s.log; senders = s.senders }
 
 -- with other lines, or other lists
 abbrev pub with_log : List LogLine → Worker → Worker
@@ -65,6 +73,10 @@ with_pass pass w = record w { pass = pass }
 abbrev pub with_kicks : Receiver → Worker → Worker
 with_kicks kicks w = record w { kicks = kicks }
 
+-- with other senders
+abbrev pub with_senders : List AppSender → Worker → Worker
+with_senders senders w = record w { senders = senders }
+
 -- a worker to which nothing was handed yet
 abbrev pub new_worker : (core : ℕ) → Seen → (known : List Change) → Receiver → Worker
 new_worker core pass known kicks = record {
@@ -77,6 +89,7 @@ new_worker core pass known kicks = record {
   deferred = [];
   exceptions = [];
   kicks = kicks;
+  senders = [];
 }
 
 abbrev pub frame_of : FrameId → (packet : List ℕ) → Frame
@@ -89,3 +102,7 @@ IsFree c w = IsGuest c.table w.pass
 -- the worker takes kicks from its own core's queue
 abbrev pub HasQueue : Common → Worker → Type 0
 HasQueue c w = (place : Place) × (slice_get c.kicks w.core ≡ Some place) × (place.line ≡ w.kicks.line)
+
+-- each of its senders posts to its application's queue
+abbrev pub HasSenders : Common → Worker → Type 0
+HasSenders c w = AreOwnSenders c.queues w.senders

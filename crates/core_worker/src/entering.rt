@@ -1,12 +1,16 @@
 // A segment at a flow's record that was taken for it.
 ghost use Rattle.std.specs.Prelude.{◌≡◌, ℕ, IfOk, OnErr};
+ghost use Rattle.tas_model.specs.LegalHistory.{replay};
 ghost use Rattle.flow_lock.specs.Histories.{IsLonger};
 ghost use Rattle.app_reaper.specs.OneCall.{history};
 ghost use Rattle.flow_index.specs.Changes.{is_same};
 ghost use Rattle.fast_rx.specs.Exceptions.{exception};
 ghost use Rattle.core_worker.specs.Frames.{tuple_of as model_tuple, answer_at, history_by};
+ghost use Rattle.core_worker.specs.News.{progress_of as model_progress};
+ghost use Rattle.core_worker.specs.Telling.{news_in};
 
 use crate::frames::{Handled, Passed};
+use crate::news::{News, Progress};
 use app_reaper::act_on;
 use fast_rx::{FastRx, Why};
 use flow_state::{CallIn, FlowRecord};
@@ -49,9 +53,37 @@ fn why_not(phase: Phase, seg: &Segment<'_>) -> Option<Why>
     }
 }
 
+/// Receives the segment by the fast path, where it is of this flow and the fast path takes it, and tells what it
+/// brought. The error is want of memory.
+pub(crate) fn enter_for_news(
+    flow: &mut FlowRecord,
+    core: u32,
+    tick: u32,
+    frame: FrameId,
+    seg: &Segment<'_>,
+) -> Result<(Handled, News), AllocError>
+    ensures id { flow.new.id ≡ flow.old.id }
+    ensures longer { IsLonger (history flow.old) (history flow.new) }
+    ensures answer { IfOk result (λ x. x.0 ≡ answer_at flow.old seg.now) }
+    ensures grown { IfOk result (λ x. history flow.new ≡ history_by core tick frame seg.now flow.old x.0) }
+    ensures news { IfOk result (λ x. x.1 ≡ news_in (history flow.old) (history flow.new)) }
+    ensures full { OnErr result (history flow.new ≡ history flow.old) }
+{
+    let before = progress_of(flow);
+    let handled = enter(flow, core, tick, frame, seg)?;
+    Ok((handled, News::between(before, progress_of(flow))))
+}
+
+/// How far a flow is.
+fn progress_of(flow: &FlowRecord) -> Progress
+    ensures { result ≡ model_progress (replay flow.now.params flow.now.entries) }
+{
+    Progress::of(flow.parts())
+}
+
 /// Receives the segment by the fast path, where it is of this flow and the fast path takes it.
 /// The error is want of memory.
-pub(crate) fn enter(
+fn enter(
     flow: &mut FlowRecord,
     core: u32,
     tick: u32,

@@ -6,11 +6,13 @@ ghost use Rattle.segment_fields.specs.Refusals.{number_of};
 ghost use Rattle.core_worker.specs.declared.frames.Handled.TheVariants as answers;
 ghost use Rattle.core_worker.specs.Frames.{named_in};
 ghost use Rattle.core_worker.specs.Workers.{sight};
+ghost use Rattle.core_worker.specs.Telling.{AreOwnSenders};
 ghost use Rattle.core_worker.specs.Handling.{setting_on, refused_line, IsHandled, IsUnhandled};
 
 use crate::entering::tuple_of;
 use crate::frames::{Handled, Passed};
 use crate::receiving::receive;
+use crate::senders::AppSenders;
 use crate::shared::Shared;
 use flow_index::{Found, IndexReader};
 use flow_lock::Pass;
@@ -29,7 +31,7 @@ pub(crate) struct Duty {
     pub tick: u32,
 }
 
-/// Handles a frame with the worker's pass, its reader of the index and its log. The error is want of memory.
+/// Handles a frame with the worker's pass, its reader of the index, its log and its senders. The error is want of memory.
 pub(crate) fn handle<R: Wait>(
     rt: &R,
     shared: &Shared,
@@ -37,15 +39,18 @@ pub(crate) fn handle<R: Wait>(
     pass: &mut Pass<FlowRecord>,
     reader: &mut IndexReader,
     log: &mut HostLog,
+    senders: &mut AppSenders,
     frame: FrameId,
     packet: &[u8],
 ) -> Result<Handled, AllocError>
     requires free { IsGuest shared.now.table pass.old }
+    requires senders { AreOwnSenders shared.now.queues senders.old }
     ensures free { IsGuest shared.now.table pass.new }
+    ensures senders { AreOwnSenders shared.now.queues senders.new }
     ensures handled { IfOk result (IsHandled (setting_on shared.now duty) frame packet.now
-        (sight pass.old reader.old log.old) (sight pass.new reader.new log.new)) }
+        (sight pass.old reader.old log.old senders.old) (sight pass.new reader.new log.new senders.new)) }
     ensures full { OnErr result (IsUnhandled (setting_on shared.now duty) packet.now
-        (sight pass.old reader.old log.old) (sight pass.new reader.new log.new)) }
+        (sight pass.old reader.old log.old senders.old) (sight pass.new reader.new log.new senders.new)) }
 {
     let seg = match read(packet, duty.check_sums) {
         Ok(seg) => seg,
@@ -54,7 +59,7 @@ pub(crate) fn handle<R: Wait>(
     let Some(flow) = named_flow(rt, shared, reader, tuple_of(&seg)) else {
         return Ok(Handled::Passed(Passed::Absent));
     };
-    receive(&shared.table, pass, flow, duty.core, duty.tick, frame, &seg)
+    receive(rt, shared, pass, senders, flow, duty, frame, &seg)
 }
 
 /// Writes the line of a packet that breaks a rule of reading.

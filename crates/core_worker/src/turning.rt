@@ -2,7 +2,7 @@
 ghost use Rattle.std.specs.Prelude.{◌≡◌, ◌<◌, ◌++◌, [], length, nat_lt, OnOk, OnErr, IfNone, IfSome};
 ghost use Rattle.crossbeam_queue.specs.Fifo.{Held};
 ghost use Rattle.context_queue.specs.Notes.{HasTaken, HoldsRest};
-ghost use Rattle.core_worker.specs.Workers.{with_pass, with_kicks, IsFree, HasQueue};
+ghost use Rattle.core_worker.specs.Workers.{with_pass, with_kicks, IsFree, HasQueue, HasSenders};
 ghost use Rattle.core_worker.specs.Sending.{IsPartSent, IsAllSent};
 ghost use Rattle.core_worker.specs.Turns.{deferred_by, exceptions_by, IsFirstDone, AreFramesDone, IsFrameLeft};
 ghost use Rattle.core_worker.specs.Turns.{AreFramesLeft, kicked_in, IsKicked, AreAllKicksDone, AreKicksLeft, IsTurn};
@@ -36,8 +36,10 @@ impl CoreWorker {
     ) -> Result<(), AllocError>
         requires free { IsFree shared.now self.old }
         requires queue { HasQueue shared.now self.old }
+        requires senders { HasSenders shared.now self.old }
         ensures free { IsFree shared.now self.new }
         ensures queue { HasQueue shared.now self.new }
+        ensures senders { HasSenders shared.now self.new }
         ensures done { OnOk result (IsTurn shared.now tick self.old self.new) }
         ensures empty { OnOk result (self.new.frames ≡ []) }
         ensures kicks { OnOk result (Held 0 (HoldsRest self.new.kicks)) }
@@ -56,7 +58,9 @@ impl CoreWorker {
         gate: &G,
     ) -> Result<(), AllocError>
         requires free { IsFree shared.now self.old }
+        requires senders { HasSenders shared.now self.old }
         ensures free { IsFree shared.now self.new }
+        ensures senders { HasSenders shared.now self.new }
         ensures done { OnOk result (AreFramesDone shared.now tick self.old.frames self.old self.new) }
         ensures empty { OnOk result (self.new.frames ≡ []) }
         ensures left { OnErr result (AreFramesLeft shared.now tick self.old self.new) }
@@ -84,8 +88,10 @@ impl CoreWorker {
         gate: &G,
     ) -> Result<(), AllocError>
         requires free { IsFree shared.now self.old }
+        requires senders { HasSenders shared.now self.old }
         requires some { 0 < length self.old.frames }
         ensures free { IsFree shared.now self.new }
+        ensures senders { HasSenders shared.now self.new }
         ensures done { OnOk result (IsFirstDone shared.now tick self.old self.new) }
         ensures left { OnErr result (IsFrameLeft shared.now tick self.old self.new) }
         ensures same { (self.new.core ≡ self.old.core) × (self.new.kicks ≡ self.old.kicks) }
@@ -108,6 +114,7 @@ impl CoreWorker {
             &mut self.pass,
             &mut self.reader,
             &mut self.log,
+            &mut self.senders,
             first.id,
             first.packet.as_slice(),
         );
@@ -130,6 +137,7 @@ impl CoreWorker {
         ensures empty { OnOk result (Held 0 (HoldsRest self.new.kicks)) }
         ensures left { OnErr result (AreKicksLeft shared.now tick self.old self.new) }
         ensures frames { self.new.frames ≡ self.old.frames }
+        ensures senders { self.new.senders ≡ self.old.senders }
     {
         for _ in rt.forever() {
             let Some(note) = self.next_kick(rt, shared) else {

@@ -1,13 +1,14 @@
 ghost use Rattle.std.specs.Prelude.{◌≡◌, ◌<◌, ◌++◌, ◌∷◌, [], IfOk, OnOk, OnErr, IfNone, IfSome};
 ghost use Rattle.core_worker.specs.Workers.{sight_of, with_sight, with_frames, with_deferred, with_exceptions, IsFree};
-ghost use Rattle.core_worker.specs.Workers.{with_log, new_worker, frame_of};
+ghost use Rattle.core_worker.specs.Workers.{with_log, with_senders, new_worker, frame_of, HasSenders};
 ghost use Rattle.core_worker.specs.Handling.{IsHandled, IsUnhandled, setting_of};
 
 use crate::frames::{Frame, Handled, PassedFrame};
 use crate::handling::{Duty, handle};
 use crate::lists::{FrameList, PassedList};
+use crate::senders::AppSenders;
 use crate::shared::Shared;
-use context_queue::ReceiverPass;
+use context_queue::{ReceiverPass, SenderPass};
 use flow_index::IndexReader;
 use flow_lock::Pass;
 use flow_state::FlowRecord;
@@ -33,6 +34,7 @@ pub struct CoreWorker {
     pub(crate) deferred: PassedList,
     pub(crate) exceptions: PassedList,
     pub(crate) kicks: ReceiverPass,
+    pub(crate) senders: AppSenders,
 }
 
 impl Model for CoreWorker {
@@ -51,6 +53,7 @@ impl Model for CoreWorker {
       deferred = w.deferred.list;
       exceptions = w.exceptions.list;
       kicks = w.kicks;
+      senders = w.senders;
     } };
 
     ghost invariant = { λ w. w.point < 4294967295 };
@@ -81,7 +84,18 @@ impl CoreWorker {
             deferred: PassedList::new(alloc),
             exceptions: PassedList::new(alloc),
             kicks,
+            senders: AppSenders::new(alloc),
         }
+    }
+
+    /// Adds a sender of an application's queue. The error is want of memory, and then the sender is gone and all else as
+    /// it was.
+    pub fn add_sender(&mut self, app: u32, sender: SenderPass) -> Result<(), AllocError>
+        ensures ok { OnOk result (self.new
+            ≡ with_senders (self.old.senders ++ record { app = app; sender = sender } ∷ []) self.old) }
+        ensures err { OnErr result (self.new ≡ self.old) }
+    {
+        self.senders.add(app, sender)
     }
 
     /// Puts a frame behind those that the worker has to handle. The error is want of memory, and leaves all as it was.
@@ -92,7 +106,8 @@ impl CoreWorker {
         self.frames.push(Frame { id, packet })
     }
 
-    /// Handles one frame, and leaves no pin. The error is want of memory, and then the frame made no entry and no line.
+    /// Handles one frame, and leaves no pin. The application of the flow that it is entered in is told what it brought.
+    /// The error is want of memory, and then the frame made no entry, no line and no note.
     pub fn frame<R: Wait>(
         &mut self,
         rt: &R,
@@ -102,7 +117,9 @@ impl CoreWorker {
         packet: &Bytes,
     ) -> Result<Handled, AllocError>
         requires free { IsFree shared.now self.old }
+        requires senders { HasSenders shared.now self.old }
         ensures free { IsFree shared.now self.new }
+        ensures senders { HasSenders shared.now self.new }
         ensures handled { IfOk result (IsHandled (setting_of shared.now tick self.old) id packet.now
             (sight_of self.old) (sight_of self.new)) }
         ensures full { OnErr result (IsUnhandled (setting_of shared.now tick self.old) packet.now
@@ -121,6 +138,7 @@ impl CoreWorker {
             &mut self.pass,
             &mut self.reader,
             &mut self.log,
+            &mut self.senders,
             id,
             packet.as_slice(),
         )

@@ -10,7 +10,7 @@ returns-clause-done g c =
     let f = c.in-Some-take_first.frame in
     let h = c.in_ok-handled.handled in
     frame_done c.args.shared.now c.args.tick _ c.args.self.now c.in-Some.first.now f first.0 c.take_first.new.self h
-    (sight c.handle-handled.new.pass c.handle-handled.new.reader c.handle-handled.new.log)
+    (sight c.handle-handled.new.pass c.handle-handled.new.reader c.handle-handled.new.log c.handle-handled.new.senders)
     c.place.new.deferred.list c.place.new.exceptions.list c.as_slice.result.now c.self.view_is first.1
     c.in-Some-take_first.ensures.first c.as_slice.ensures c.in_ok-handled.ensures.handled
     (c.place.ensures.deferred ∙ ap (λ l. l ++ deferred_by f h) c.in_ok-reserve.ensures.list)

@@ -5,7 +5,11 @@ use Rattle.core_worker.proofs.Turns.{no_frame, err_of}
 use Rattle.core_worker.proofs.worker.CoreWorker.take_frames.Goals as goal
 
 pub loop-self-init : goal.loop-self-init
-loop-self-init g c = (handling_first c.args.shared.now c.args.tick c.args.self.now, c.requires.free)
+loop-self-init g c = (
+  handling_first c.args.shared.now c.args.tick c.args.self.now,
+  c.requires.free,
+  c.requires.senders,
+)
 
 pub loop-self-preserved : goal.loop-self-preserved
 loop-self-preserved g c =
@@ -14,6 +18,7 @@ loop-self-preserved g c =
     let w = c.take_frame.new.self in (
       handling_more c.args.shared.now c.args.tick c.args.self.now m w h.0 c.in_ok-take_frame.ensures.done,
       c.take_frame.ensures.free,
+      c.take_frame.ensures.senders,
     )
 
 pub returns-clause-done : goal.returns-clause-done
