@@ -22,7 +22,8 @@ use Rattle.core_worker.specs.declared.frames.Handled.TheVariants as handled
 
 -- ----- a packet that breaks a rule of reading
 pub refused_so : {E : Type 0} (at : Setting) (frame : FrameId) (packet : List ℕ) (r : Refused) (pass : Seen)
-    (known : List Change) (log after : List LogLine) (senders : List AppSender) (x : Result Handled E) → refusal at.check_sums packet ≡ Some r
+    (known : List Change) (log after : List LogLine) (senders : List AppSender) (x : Result Handled E)
+    → refusal at.check_sums packet ≡ Some r
     → IfOk x (λ h. h ≡ handled.Refused (number_of r)) → IfOk x (λ _. after ≡ log ++ refused_line at.tick frame r ∷ [])
     → IfOk x (IsHandled at frame packet (sight pass known log senders) (sight pass known after senders))
 refused_so at frame packet r pass known log after senders (Ok h) e answer line =

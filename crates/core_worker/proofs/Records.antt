@@ -98,7 +98,8 @@ received_at queues core tick frame seg id v p q w ss ts (handled.Passed (passed.
 
 pub received : {E : Type 0} (queues : List AppQueue) (core tick : ℕ) (frame : FrameId) (seg : Segment) (id : FlowId)
     (v p q w : View) (ss ts : List AppSender) (x : Result Handled E) → IsPinned id v p → w ≡ unpinned id q
-    → IfOk x (IsTried queues core tick frame seg id p q ss ts) → IfOk x (IsReceived queues core tick frame seg id v w ss ts)
+    → IfOk x (IsTried queues core tick frame seg id p q ss ts)
+    → IfOk x (IsReceived queues core tick frame seg id v w ss ts)
 received queues core tick frame seg id v p q w ss ts (Ok h) pin e t =
     received_at queues core tick frame seg id v p q w ss ts h pin e t
 received queues core tick frame seg id v p q w ss ts (Err x) pin e t = tt

@@ -12,7 +12,8 @@ use Rattle.tas_model.specs.declared.entry.FlowId.{FlowId}
 use Rattle.tas_model.specs.Endpoint.{Endpoint, send_room, is_closed}
 use Rattle.core_worker.specs.News.{news_of, notes_about}
 use Rattle.core_worker.specs.Posting.{ArePosted}
-use Rattle.core_worker.specs.Telling.{is_queue_of, queue_of, is_sender_for, IsOwnSender, AreOwnSenders, IsToldAt, IsTold}
+use Rattle.core_worker.specs.Telling.{is_queue_of, queue_of, is_sender_for, IsOwnSender, AreOwnSenders}
+use Rattle.core_worker.specs.Telling.{IsToldAt, IsTold}
 use Rattle.core_worker.specs.declared.shared.AppQueue.{AppQueue}
 use Rattle.core_worker.specs.declared.senders.AppSender.{AppSender}
 

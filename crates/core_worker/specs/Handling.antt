@@ -62,8 +62,8 @@ IsUnreceivedAt (Some id) s n = IsUnreceived id s.pass.view n.pass.view × (n.sen
 
 -- The packet spells this segment. The index was asked for its four-tuple, and then this was done by its answer. No line
 -- was written.
-pub record IsRead (at : Setting) (packet : List ℕ) (done : Segment → Option FlowId → Sight → Sight → Type 0) (s n : Sight)
-    : Type 0 where
+pub record IsRead (at : Setting) (packet : List ℕ) (done : Segment → Option FlowId → Sight → Sight → Type 0)
+    (s n : Sight) : Type 0 where
   pub seg : Segment
   pub text : IsText packet seg
   pub later : Begins s.known n.known

@@ -1,7 +1,6 @@
 -- Which notes tell an application what became of its flow, and who posts them.
 use Rattle.std.specs.Prelude.{◌≡◌, ℕ, ◌==◌, Bool, true, false, List, [], ◌∷◌, Option, Some, None, slice_get}
-use Rattle.std.specs.Prelude.{position}
-use Rattle.std.proofs.Math.ListN.{set}
+use Rattle.std.specs.Prelude.{position, slice_set}
 use Rattle.tas_model.specs.declared.entry.FlowId.{FlowId}
 use Rattle.tas_model.specs.LegalHistory.{replay}
 use Rattle.flow_state.specs.Application.{application_of}
@@ -44,7 +43,7 @@ IsToldAt (Some i) queues notes ss ts =
     × (slice_get ss i ≡ Some s)
     × (queue_of s.app queues ≡ Some place)
     × ArePosted place.room notes s.sender t
-    × (ts ≡ set ss i (record s { sender = t }))
+    × (ts ≡ slice_set ss i (record s { sender = t }))
 
 abbrev pub is_sender_for : ℕ → AppSender → Bool
 is_sender_for app s = s.app == app

@@ -31,7 +31,8 @@ pub(crate) struct Duty {
     pub tick: u32,
 }
 
-/// Handles a frame with the worker's pass, its reader of the index, its log and its senders. The error is want of memory.
+/// Handles a frame with the worker's pass, its reader of the index, its log and its senders. The error is want of
+/// memory.
 pub(crate) fn handle<R: Wait>(
     rt: &R,
     shared: &Shared,

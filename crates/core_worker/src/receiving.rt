@@ -19,8 +19,8 @@ use std::sync::Wait;
 use tas_model::{FlowId, FrameId};
 
 /// Receives a segment for a flow: pins it, takes its record, compares the four-tuple, calls the fast path, gives the
-/// record back, tells the flow's application what came of it, and gives the pin up. The error is want of memory, and then
-/// the record went back as it was and nothing was told.
+/// record back, tells the flow's application what came of it, and gives the pin up. The error is want of memory, and
+/// then the record went back as it was and nothing was told.
 pub(crate) fn receive<R: Wait>(
     rt: &R,
     shared: &Shared,

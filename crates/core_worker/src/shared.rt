@@ -66,8 +66,8 @@ impl Shared {
         }
     }
 
-    /// Adds the queue of an application, which has none yet. The error is want of memory, and then the queue is gone and
-    /// all else as it was.
+    /// Adds the queue of an application, which has none yet. The error is want of memory, and then the queue is gone
+    /// and all else as it was.
     pub fn add_queue(&mut self, app: u32, queue: ContextQueue) -> Result<(), AllocError>
         requires first { queue_of app self.old.queues ≡ None }
         ensures ok { OnOk result (self.new ≡ record self.old {

@@ -88,8 +88,8 @@ impl CoreWorker {
         }
     }
 
-    /// Adds a sender of an application's queue. The error is want of memory, and then the sender is gone and all else as
-    /// it was.
+    /// Adds a sender of an application's queue. The error is want of memory, and then the sender is gone and all else
+    /// as it was.
     pub fn add_sender(&mut self, app: u32, sender: SenderPass) -> Result<(), AllocError>
         ensures ok { OnOk result (self.new
             ≡ with_senders (self.old.senders ++ record { app = app; sender = sender } ∷ []) self.old) }

@@ -9,13 +9,14 @@ use Rattle.core_worker.proofs.handling.handle.Goals as goal
 pub returns-in-Err-clause-handled : goal.returns-in-Err-clause-handled
 returns-in-Err-clause-handled g c =
     refused_so (setting_on c.args.shared.now c.args.duty) c.args.frame c.args.packet.now c.in-Err.refused
-    c.args.pass.now c.args.reader.now c.args.log.now c.refuse.new.log c.args.senders.now c.refuse.result c.in-Err.ensures.refused
-    c.refuse.ensures.answer c.refuse.ensures.line
+    c.args.pass.now c.args.reader.now c.args.log.now c.refuse.new.log c.args.senders.now c.refuse.result
+    c.in-Err.ensures.refused c.refuse.ensures.answer c.refuse.ensures.line
 
 pub returns-in-Err-clause-full : goal.returns-in-Err-clause-full
 returns-in-Err-clause-full g c =
     refused_not (setting_on c.args.shared.now c.args.duty) c.args.packet.now c.in-Err.refused c.args.pass.now
-    c.args.reader.now c.args.log.now c.refuse.new.log c.args.senders.now c.refuse.result c.in-Err.ensures.refused c.refuse.ensures.full
+    c.args.reader.now c.args.log.now c.refuse.new.log c.args.senders.now c.refuse.result
+    c.in-Err.ensures.refused c.refuse.ensures.full
 
 pub returns-clause-handled : goal.returns-clause-handled
 returns-clause-handled g c =
@@ -30,7 +31,7 @@ returns-clause-handled g c =
       later = c.named_flow.ensures.later;
       named =
           named_so slots reader c.tuple_of.result (tuple_of c.in-Ok.seg) (Some c.in-Some.flow) c.named_flow.result
-              c.in-Some.is c.named_flow.ensures.named c.tuple_of.ensures;
+          c.in-Some.is c.named_flow.ensures.named c.tuple_of.ensures;
       table = c.receive.ensures.pass.0.0 ∙ sym c.requires.free.0.0;
       log = refl;
     })
@@ -49,7 +50,7 @@ returns-clause-full g c =
       later = c.named_flow.ensures.later;
       named =
           named_so slots reader c.tuple_of.result (tuple_of c.in-Ok.seg) (Some c.in-Some.flow) c.named_flow.result
-              c.in-Some.is c.named_flow.ensures.named c.tuple_of.ensures;
+          c.in-Some.is c.named_flow.ensures.named c.tuple_of.ensures;
       table = c.receive.ensures.pass.0.0 ∙ sym c.requires.free.0.0;
       log = refl;
     })
@@ -68,7 +69,7 @@ returns-in_default-clause-handled g c =
       later = c.named_flow.ensures.later;
       named =
           named_so slots reader c.tuple_of.result (tuple_of c.in-Ok.seg) None c.named_flow.result c.in_default.is
-              c.named_flow.ensures.named c.tuple_of.ensures;
+          c.named_flow.ensures.named c.tuple_of.ensures;
       table = refl;
       log = refl;
     })
