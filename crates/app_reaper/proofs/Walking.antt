@@ -1,5 +1,5 @@
 -- The reaper's walk over the pins.
-use Rattle.std.proofs.Common.{◌≡◌, ◌≢◌, ℕ, zero, suc, ◌+◌, ◌≤◌, cond, eqb, eq-eqb, ne_eqb, List}
+use Rattle.std.proofs.Common.{◌≡◌, ◌≢◌, ℕ, zero, suc, ◌≤◌, cond, eq-eqb, ne_eqb, List}
 use Rattle.std.proofs.Common.{[], ◌∷◌, ◌++◌, ap, sym, ◌∙◌, refl, subst, arith, append_assoc, append-nil}
 use Rattle.std.specs.Prelude.{Option, Some, None, Result, Ok, Err, IfErr, slice_get, remove, length}
 use mathlib.Core.Option as O

@@ -13,4 +13,4 @@ pub use filed_list::FiledList;
 pub use one_call::{CallFault, act_on, make_call, make_slow_call};
 pub use pin_list::PinList;
 pub use reaping::{ReapFault, reap};
-pub use sweeping::{Swept, sweep};
+pub use sweeping::{Swept, sweep, sweep_reserved};

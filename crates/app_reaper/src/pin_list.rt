@@ -1,4 +1,4 @@
-ghost use Rattle.std.specs.Prelude.{◌≡◌, ℕ, ◌<◌, ◌++◌, ◌∷◌, [], length, remove, slice_get, Some, OnOk, IsOk, vec_len};
+ghost use Rattle.std.specs.Prelude.{◌≡◌, ℕ, ◌+◌, ◌<◌, ◌++◌, ◌∷◌, [], length, remove, slice_get, Some, OnOk, IsOk, vec_len};
 ghost use Rattle.std.specs.Prelude.{vec_capacity, position};
 ghost use Rattle.app_reaper.specs.Lists.{is_on};
 
@@ -76,6 +76,7 @@ impl PinList {
         requires { i < length self.old.list }
         ensures pin { slice_get self.old.list i ≡ Some result }
         ensures rest { self.new.list ≡ remove self.old.list i }
+        ensures spare { self.new.spare ≡ self.old.spare + 1 }
     {
         self.pins.remove(i)
     }

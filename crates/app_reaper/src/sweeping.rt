@@ -38,12 +38,32 @@ pub fn sweep(
     ensures unfiled { OnErr result (filed.new.list ≡ filed.old.list) }
 {
     filed.reserve()?;
+    Ok(sweep_reserved(table, slow, pin, filed))
+}
+
+/// `sweep` where the filed list has room: it takes no memory.
+pub fn sweep_reserved(
+    table: &FlowTable<FlowRecord>,
+    slow: &mut SlowPass<FlowRecord>,
+    pin: Pin,
+    filed: &mut FiledList,
+) -> Swept
+    requires slot { pin.slot < table.now.slots }
+    requires slow { (slow.old.table ≡ table.now) × MayAct slow.old.view × (slow.old.view.held ≡ []) }
+    requires owner { IsOwner pin slow.old }
+    requires room { 0 < filed.old.spare }
+    ensures table { slow.new.table ≡ slow.old.table }
+    ensures pin { KeepsPin pin result }
+    ensures filed { IsFiling pin slow.old.view filed.old.list filed.new.list result }
+    ensures view { IsSweep pin slow.old.view slow.new.view result }
+    ensures doomed { StaysDoomed pin slow.new result }
+{
     table.doom(slow, &pin);
     match table.free(slow, pin) {
         Ok(flow) => {
             filed.put(flow);
-            Ok(Swept::Freed)
+            Swept::Freed
         }
-        Err((pinned, pin)) => Ok(Swept::Pinned(pinned.0, pin)),
+        Err((pinned, pin)) => Swept::Pinned(pinned.0, pin),
     }
 }

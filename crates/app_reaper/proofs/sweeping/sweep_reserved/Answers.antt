@@ -1,7 +1,7 @@
-use Rattle.std.proofs.Common.{[], ◌∷◌, ◌++◌, ap, ◌∙◌}
+use Rattle.std.proofs.Common.{ap}
 use Rattle.flow_lock.specs.Passes.{Seen}
 use Rattle.app_reaper.proofs.Dooming.{dooms_it, own_before, still_doomed}
-use Rattle.app_reaper.proofs.sweeping.sweep.Goals as goal
+use Rattle.app_reaper.proofs.sweeping.sweep_reserved.Goals as goal
 
 pub free-requires-clause-doomed : goal.free-requires-clause-doomed
 free-requires-clause-doomed c =
@@ -15,7 +15,7 @@ returns-in-Ok-clause-filed c =
     let v = c.args.slow.now.view in (
       c.in-Ok.flow,
       own_before c.args.pin v c.doom.new.slow.view c.in-Ok.flow view own.0 own.1 c.in-Ok.ensures.known,
-      c.put.ensures.list ∙ ap (λ l. l ++ c.in-Ok.flow ∷ []) c.reserve.ensures.list,
+      c.put.ensures.list,
     )
 
 pub returns-in-Err-clause-doomed : goal.returns-in-Err-clause-doomed
