@@ -1,0 +1,22 @@
+-- Time passes for one flow.
+use Rattle.std.proofs.Common.{◌≡◌, ℕ}
+use Rattle.std.specs.Prelude.{Result, Ok, Err, IfOk}
+use Rattle.tas_model.specs.declared.entry.FlowId.{FlowId}
+use Rattle.flow_state.specs.Flow.{Flow}
+use Rattle.flow_lock.specs.Answers.{IsTaken}
+use Rattle.flow_lock.specs.Steps.{gave}
+use Rattle.flow_lock.specs.declared.view.History.{History}
+use Rattle.flow_lock.specs.declared.view.View.{View}
+use Rattle.app_reaper.specs.declared.one_call.CallFault.{CallFault}
+use Rattle.app_reaper.specs.OneCall.{history, IsOwn}
+use Rattle.app_reaper.proofs.Calls.{used}
+use Rattle.flow_clock.specs.OneFlow.{HasPassed, IsTimed}
+use Rattle.flow_clock.specs.declared.timing.Timed.{Timed}
+
+-- the flow's own record was taken, and given back with the history that it has after the tick
+pub flow_timed : (tick : ℕ) (id : FlowId) (r : Flow) (after : History) (v u w : View) (x : Result Timed CallFault)
+    → IsOwn id v r → IsTaken id (history r) v u → w ≡ gave id after u → IfOk x (HasPassed tick (history r) after)
+    → IfOk x (IsTimed tick id v w)
+flow_timed tick id r after v u w (Ok a) own taken given passed =
+    (r, after, own, passed, used id r after v u w taken given)
+flow_timed tick id r after v u w (Err e) own taken given passed = tt

@@ -1,0 +1,38 @@
+-- What the slow path has of the flows of its host.
+use Rattle.std.specs.Prelude.{◌≡◌, ℕ, ◌+◌, ◌<◌, ◌≤◌, List, [], ◌∷◌, ◌++◌}
+use Rattle.tas_model.specs.declared.entry.FlowId.{FlowId}
+use Rattle.flow_state.specs.Flow.{Flow}
+use Rattle.flow_index.specs.declared.change.Change.{Change}
+use Rattle.atomic_table.specs.Seated.{TableId}
+use Rattle.flow_lock.specs.Callers.{IsOwner}
+use Rattle.flow_lock.specs.Orders.{total, at_slot}
+use Rattle.flow_lock.specs.Passes.{Seen}
+use Rattle.flow_lock.specs.Steps.{MayAct}
+use Rattle.flow_lock.specs.declared.view.View.{View}
+use Rattle.host_rounds.specs.Lists.{Each}
+
+-- The slow path's view and lists, as contracts see them.
+pub record Ledger : Type 0 where
+  pub view : View
+  pub pins : List FlowId  -- of flows that it hasn't found closed
+  pub doomed : List FlowId  -- of closed ones that others have pins of
+  pub filed : List Flow
+  pub changes : List Change  -- of the index, not published yet
+
+abbrev pub ledger : View → (pins doomed : List FlowId) → List Flow → List Change → Ledger
+ledger view pins doomed filed changes =
+    record { view = view; pins = pins; doomed = doomed; filed = filed; changes = changes }
+
+-- the slow path may act, and holds nothing
+abbrev pub IsReady : TableId → Seen → Type 0
+IsReady table s = (s.table ≡ table) × MayAct s.view × (s.view.held ≡ [])
+
+-- it has a pin of the flow, whose slot is live
+abbrev pub IsKept : (slots : ℕ) → Seen → FlowId → Type 0
+IsKept slots s f = IsOwner f s × (f.slot < slots)
+
+-- It has a pin of each of these flows, and no two stand in one slot.
+pub record AreKept (slots : ℕ) (s : Seen) (doomed pins : List FlowId) : Type 0 where
+  pub each_doomed : Each (IsKept slots s) doomed
+  pub each_pin : Each (IsKept slots s) pins
+  pub once : (i : ℕ) → total (at_slot i) doomed + total (at_slot i) pins ≤ 1

@@ -1,0 +1,4 @@
+pub mod Histories
+pub mod Ledgers
+pub mod OneFlow
+pub mod Walks

@@ -1,0 +1,103 @@
+-- What a tick does with all flows of the slow path.
+use Rattle.std.specs.Prelude.{◌≡◌, ℕ, true, false, List, [], ◌∷◌, ◌++◌, ◌⊎◌}
+use Rattle.tas_model.specs.declared.entry.FlowId.{FlowId}
+use Rattle.flow_state.specs.Flow.{Flow}
+use Rattle.flow_index.specs.declared.change.Change.TheVariants.{Remove}
+use Rattle.flow_lock.specs.declared.view.View.{View}
+use Rattle.flow_lock.specs.declared.word.Word.{Word}
+use Rattle.app_reaper.specs.OneCall.{history, IsOwn, IsUse, IsCallRefused}
+use Rattle.app_reaper.specs.Sweeping.{IsFiling, IsSweep}
+use Rattle.app_reaper.specs.declared.one_call.CallFault.TheVariants.{Busy, OutOfMemory}
+use Rattle.app_reaper.specs.declared.sweeping.Swept.{Swept}
+use Rattle.app_reaper.specs.declared.sweeping.Swept.TheVariants.{Freed, Pinned}
+use Rattle.flow_clock.specs.Histories.{is_over, timed_by}
+use Rattle.flow_clock.specs.Ledgers.{Ledger}
+
+-- ----- one flow
+-- a flow that others have pins of is among the doomed ones
+abbrev pub doomed_with : FlowId → Swept → List FlowId → List FlowId
+doomed_with f Freed doomed = doomed
+doomed_with f (Pinned n pin) doomed = doomed ++ f ∷ []
+
+-- A closed flow was freed and its record filed, or it is among the doomed ones.
+pub record IsSwept (f : FlowId) (v w : View) (filed filed' : List Flow) (doomed doomed' : List FlowId) : Type 0 where
+  pub swept : Swept
+  pub sweep : IsSweep f v w swept
+  pub filing : IsFiling f v filed filed' swept
+  pub waiting : doomed' ≡ doomed_with f swept doomed
+
+-- Another pass held its record, and nothing was done.
+pub record WasBusy (f : FlowId) (l m : Ledger) : Type 0 where
+  pub word : Word
+  pub busy : IsCallRefused f l.view m.view (Busy word)
+  pub rest : m ≡ record l { view = m.view; pins = l.pins ++ f ∷ [] }
+
+-- It wasn't closed, and its history grew by exactly its Tick, and its Control where that was due.
+pub record WasTimed (tick : ℕ) (f : FlowId) (l m : Ledger) : Type 0 where
+  pub flow : Flow
+  pub own : IsOwn f l.view flow
+  pub not_over : is_over (history flow) ≡ false
+  pub grown : IsUse f flow (timed_by tick (history flow)) l.view m.view
+  pub rest : m ≡ record l { view = m.view; pins = l.pins ++ f ∷ [] }
+
+-- It was closed: it left the index and the list, and was swept.
+pub record WasClosed (f : FlowId) (l m : Ledger) : Type 0 where
+  pub flow : Flow
+  pub found : View
+  pub own : IsOwn f l.view flow
+  pub over : is_over (history flow) ≡ true
+  pub kept : IsUse f flow (history flow) l.view found
+  pub swept : IsSwept f found m.view l.filed m.filed l.doomed m.doomed
+  pub left : m.changes ≡ l.changes ++ Remove flow.tuple ∷ []
+  pub gone : m.pins ≡ l.pins
+
+abbrev pub IsServed : (tick : ℕ) → FlowId → Ledger → Ledger → Type 0
+IsServed tick f l m = WasTimed tick f l m ⊎ WasClosed f l m ⊎ WasBusy f l m
+
+-- ----- all flows
+-- one after the other
+abbrev pub AreServed : (tick : ℕ) → List FlowId → Ledger → Ledger → Type 0
+AreServed tick [] l m = m ≡ l
+AreServed tick (f ∷ fs) l m = (n : Ledger) × IsServed tick f l n × AreServed tick fs n m
+
+-- A doomed flow was tried again.
+pub record WasSweptAgain (f : FlowId) (l m : Ledger) : Type 0 where
+  pub swept : IsSwept f l.view m.view l.filed m.filed l.doomed m.doomed
+  pub rest : m ≡ record l { view = m.view; filed = m.filed; doomed = m.doomed }
+
+abbrev pub AreSweptAgain : List FlowId → Ledger → Ledger → Type 0
+AreSweptAgain [] l m = m ≡ l
+AreSweptAgain (f ∷ fs) l m = (n : Ledger) × WasSweptAgain f l n × AreSweptAgain fs n m
+
+-- Memory was wanting at the first doomed flow that is left. Those that were tried stand behind those that weren't.
+pub record IsSweepStopped (l m : Ledger) : Type 0 where
+  pub done : List FlowId
+  pub left : List FlowId
+  pub all : l.doomed ≡ done ++ left
+  pub after : Ledger
+  pub swept : AreSweptAgain done (record l { doomed = [] }) after
+  pub rest : m ≡ record after { doomed = left ++ after.doomed }
+
+-- Memory was wanting at one flow, which stays as it was; those before it were served.
+pub record IsWalkStopped (tick : ℕ) (l m : Ledger) : Type 0 where
+  pub done : List FlowId
+  pub at : FlowId
+  pub left : List FlowId
+  pub all : l.pins ≡ done ++ at ∷ left
+  pub after : Ledger
+  pub served : AreServed tick done (record l { pins = [] }) after
+  pub refused : IsCallRefused at after.view m.view OutOfMemory
+  pub rest : m ≡ record after { view = m.view; pins = after.pins ++ at ∷ left }
+
+-- Each doomed flow was tried again, and then each other flow was served.
+abbrev pub IsTickDone : (tick : ℕ) → Ledger → Ledger → Type 0
+IsTickDone tick l m =
+    (n : Ledger)
+    × AreSweptAgain l.doomed (record l { doomed = [] }) n
+    × AreServed tick l.pins (record n { pins = [] }) m
+
+-- Memory was wanting. What was done stands, and each pin is in its list still.
+abbrev pub IsTickStopped : (tick : ℕ) → Ledger → Ledger → Type 0
+IsTickStopped tick l m =
+    IsSweepStopped l m
+    ⊎ ((n : Ledger) × AreSweptAgain l.doomed (record l { doomed = [] }) n × IsWalkStopped tick n m)

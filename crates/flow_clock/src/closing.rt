@@ -1,0 +1,69 @@
+//! Closed flows leave the index, and their slots are freed.
+ghost use Rattle.std.specs.Prelude.{◌≡◌, ◌<◌, ◌∷◌, ◌++◌, [], remove, length, slice_get, Some, OnOk, OnErr};
+ghost use Rattle.tas_model.specs.declared.entry.FlowId.{FlowId};
+ghost use Rattle.flow_index.specs.declared.change.Change.TheVariants.{Remove};
+ghost use Rattle.flow_lock.specs.Callers.{IsOwner};
+ghost use Rattle.flow_clock.specs.Ledgers.{IsReady, IsKept};
+ghost use Rattle.flow_clock.specs.Walks.{IsSwept};
+
+use app_reaper::{FiledList, PinList, Swept, sweep_reserved};
+use flow_index::IndexWriter;
+use flow_lock::{FlowTable, Pin, SlowPass};
+use flow_state::FlowRecord;
+use std::alloc::AllocError;
+use tas_model::FourTuple;
+
+/// Takes the four-tuple of a closed flow from the index, and its pin out of the list, and sweeps it: it is freed and
+/// filed, or its pin is put to the doomed ones. The error is want of memory, and leaves all as it was.
+pub fn close_at(
+    table: &FlowTable<FlowRecord>,
+    slow: &mut SlowPass<FlowRecord>,
+    pins: &mut PinList,
+    at: usize,
+    tuple: FourTuple,
+    doomed: &mut PinList,
+    filed: &mut FiledList,
+    index: &mut IndexWriter,
+) -> Result<(), AllocError>
+    requires place { at < length pins.old.list }
+    requires slow { IsReady table.now slow.old }
+    requires kept { (f : FlowId) → slice_get pins.old.list at ≡ Some f → IsKept table.now.slots slow.old f }
+    ensures table { slow.new.table ≡ slow.old.table }
+    ensures swept { (f : FlowId) → slice_get pins.old.list at ≡ Some f → OnOk result (IsSwept f slow.old.view
+        slow.new.view filed.old.list filed.new.list doomed.old.list doomed.new.list) }
+    ensures rest { OnOk result (pins.new.list ≡ remove pins.old.list at) }
+    ensures index { OnOk result (index.new.pending ≡ index.old.pending ++ Remove tuple ∷ []) }
+    ensures published { index.new.published ≡ index.old.published }
+    ensures slow { OnErr result (slow.new ≡ slow.old) }
+    ensures pins { OnErr result (pins.new.list ≡ pins.old.list) }
+    ensures doomed { OnErr result (doomed.new.list ≡ doomed.old.list) }
+    ensures filed { OnErr result (filed.new.list ≡ filed.old.list) }
+    ensures pending { OnErr result (index.new.pending ≡ index.old.pending) }
+{
+    filed.reserve()?;
+    doomed.reserve()?;
+    index.remove(tuple)?;
+    sweep_one(table, slow, pins.remove(at), doomed, filed);
+    Ok(())
+}
+
+/// Sweeps a closed flow, whose pin is put to the doomed ones where others have pins of it too.
+pub(crate) fn sweep_one(
+    table: &FlowTable<FlowRecord>,
+    slow: &mut SlowPass<FlowRecord>,
+    pin: Pin,
+    doomed: &mut PinList,
+    filed: &mut FiledList,
+)
+    requires slow { IsReady table.now slow.old }
+    requires kept { IsKept table.now.slots slow.old pin }
+    requires doomed { 0 < doomed.old.spare }
+    requires filed { 0 < filed.old.spare }
+    ensures table { slow.new.table ≡ slow.old.table }
+    ensures swept { IsSwept pin slow.old.view slow.new.view filed.old.list filed.new.list
+        doomed.old.list doomed.new.list }
+{
+    if let Swept::Pinned(_, pin) = sweep_reserved(table, slow, pin, filed) {
+        doomed.put(pin);
+    }
+}
