@@ -1,1 +1,4 @@
+pub mod Keeping
 pub mod Passing
+pub mod Serving
+pub mod Sweeping

@@ -1,5 +1,6 @@
 -- What a tick does with all flows of the slow path.
-use Rattle.std.specs.Prelude.{◌≡◌, ℕ, true, false, List, [], ◌∷◌, ◌++◌, ◌⊎◌}
+use Rattle.std.specs.Prelude.{◌≡◌, ℕ, suc, ◌+◌, Bool, true, false, List, [], ◌∷◌, ◌++◌, ◌⊎◌, take, drop, slice_get, Some}
+use Rattle.tas_model.specs.Segments.{one_if}
 use Rattle.tas_model.specs.declared.entry.FlowId.{FlowId}
 use Rattle.flow_state.specs.Flow.{Flow}
 use Rattle.flow_index.specs.declared.change.Change.TheVariants.{Remove}
@@ -53,6 +54,18 @@ pub record WasClosed (f : FlowId) (l m : Ledger) : Type 0 where
 
 abbrev pub IsServed : (tick : ℕ) → FlowId → Ledger → Ledger → Type 0
 IsServed tick f l m = WasTimed tick f l m ⊎ WasClosed f l m ⊎ WasBusy f l m
+
+-- The flow at that place of the list was served, and its pin is there still, or left the list.
+abbrev pub IsServedAt : (tick at : ℕ) → (before after : Ledger) → (stays : Bool) → Type 0
+IsServedAt tick at l m stays =
+    (f : FlowId)
+    × (slice_get l.pins at ≡ Some f)
+    × IsServed tick f (record l { pins = take at l.pins }) (record m { pins = take (at + one_if stays) m.pins })
+    × (drop (at + one_if stays) m.pins ≡ drop (suc at) l.pins)
+
+-- Memory was wanting at the flow at that place, and its record was given back as it was.
+abbrev pub IsRefusedAt : (at : ℕ) → (pins : List FlowId) → (before after : View) → Type 0
+IsRefusedAt at pins v w = (f : FlowId) × (slice_get pins at ≡ Some f) × IsCallRefused f v w OutOfMemory
 
 -- ----- all flows
 -- one after the other

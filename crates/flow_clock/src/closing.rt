@@ -1,9 +1,8 @@
 //! Closed flows leave the index, and their slots are freed.
-ghost use Rattle.std.specs.Prelude.{◌≡◌, ◌<◌, ◌∷◌, ◌++◌, [], remove, length, slice_get, Some, OnOk, OnErr};
+ghost use Rattle.std.specs.Prelude.{◌≡◌, ◌<◌, ◌∷◌, ◌++◌, [], List, remove, length, slice_get, Some, OnOk, OnErr};
 ghost use Rattle.tas_model.specs.declared.entry.FlowId.{FlowId};
 ghost use Rattle.flow_index.specs.declared.change.Change.TheVariants.{Remove};
-ghost use Rattle.flow_lock.specs.Callers.{IsOwner};
-ghost use Rattle.flow_clock.specs.Ledgers.{IsReady, IsKept};
+ghost use Rattle.flow_clock.specs.Ledgers.{IsReady, IsKept, AreKept};
 ghost use Rattle.flow_clock.specs.Walks.{IsSwept};
 
 use app_reaper::{FiledList, PinList, Swept, sweep_reserved};
@@ -27,14 +26,15 @@ pub fn close_at(
 ) -> Result<(), AllocError>
     requires place { at < length pins.old.list }
     requires slow { IsReady table.now slow.old }
-    requires kept { (f : FlowId) → slice_get pins.old.list at ≡ Some f → IsKept table.now.slots slow.old f }
-    ensures table { slow.new.table ≡ slow.old.table }
+    requires kept { AreKept table.now.slots slow.old doomed.old.list pins.old.list }
+    ensures slow { IsReady table.now slow.new }
+    ensures kept { AreKept table.now.slots slow.new doomed.new.list pins.new.list }
     ensures swept { (f : FlowId) → slice_get pins.old.list at ≡ Some f → OnOk result (IsSwept f slow.old.view
         slow.new.view filed.old.list filed.new.list doomed.old.list doomed.new.list) }
     ensures rest { OnOk result (pins.new.list ≡ remove pins.old.list at) }
     ensures index { OnOk result (index.new.pending ≡ index.old.pending ++ Remove tuple ∷ []) }
-    ensures published { index.new.published ≡ index.old.published }
-    ensures slow { OnErr result (slow.new ≡ slow.old) }
+    ensures published { (index.new.published ≡ index.old.published) × (index.new.left ≡ index.old.left) }
+    ensures unchanged { OnErr result (slow.new ≡ slow.old) }
     ensures pins { OnErr result (pins.new.list ≡ pins.old.list) }
     ensures doomed { OnErr result (doomed.new.list ≡ doomed.old.list) }
     ensures filed { OnErr result (filed.new.list ≡ filed.old.list) }
@@ -59,7 +59,9 @@ pub(crate) fn sweep_one(
     requires kept { IsKept table.now.slots slow.old pin }
     requires doomed { 0 < doomed.old.spare }
     requires filed { 0 < filed.old.spare }
-    ensures table { slow.new.table ≡ slow.old.table }
+    ensures slow { IsReady table.now slow.new }
+    ensures kept { (pins : List FlowId) → AreKept table.now.slots slow.old (pin ∷ doomed.old.list) pins
+        → AreKept table.now.slots slow.new doomed.new.list pins }
     ensures swept { IsSwept pin slow.old.view slow.new.view filed.old.list filed.new.list
         doomed.old.list doomed.new.list }
 {

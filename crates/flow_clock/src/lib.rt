@@ -3,6 +3,8 @@
 
 mod closing;
 mod timing;
+mod walking;
 
 pub use closing::close_at;
 pub use timing::{Timed, pass_time};
+pub use walking::tick_all;

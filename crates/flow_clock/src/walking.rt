@@ -1,0 +1,146 @@
+//! The walk over all flows of the slow path.
+ghost use Rattle.std.specs.Prelude.{◌≡◌, ◌<◌, [], List, length, IfOk, OnOk, OnErr};
+ghost use Rattle.tas_model.specs.declared.entry.FlowId.{FlowId};
+ghost use Rattle.flow_index.specs.declared.change.Change.{Change};
+ghost use Rattle.flow_clock.specs.Ledgers.{IsReady, AreKept, ledger};
+ghost use Rattle.flow_clock.specs.Walks.{IsServedAt, IsRefusedAt, AreServed, IsWalkStopped, AreSweptAgain};
+ghost use Rattle.flow_clock.specs.Walks.{IsSweepStopped, IsTickDone, IsTickStopped};
+
+use crate::closing::{close_at, sweep_one};
+use crate::timing::{Timed, pass_time};
+use app_reaper::{CallFault, FiledList, PinList};
+use flow_index::IndexWriter;
+use flow_lock::{FlowTable, SlowPass};
+use flow_state::FlowRecord;
+use std::alloc::AllocError;
+
+/// What the slow path does first in a tick. Each closed flow that others still had pins of is swept again. Then each
+/// flow of the list has its time: one Tick, and a Control where that is due; one that is closed leaves the index and
+/// the list instead, and is freed and filed, or is among the doomed ones where others have pins of it. A flow whose
+/// record another pass holds is passed over, which never comes alone.
+///
+/// The changes of the index are not published yet. The error is want of memory: what was done stands, and each pin that
+/// is left is in its list still.
+pub fn tick_all(
+    table: &FlowTable<FlowRecord>,
+    slow: &mut SlowPass<FlowRecord>,
+    pins: &mut PinList,
+    doomed: &mut PinList,
+    filed: &mut FiledList,
+    index: &mut IndexWriter,
+    tick: u32,
+) -> Result<(), AllocError>
+    requires slow { IsReady table.now slow.old }
+    requires kept { AreKept table.now.slots slow.old doomed.old.list pins.old.list }
+    ensures slow { IsReady table.now slow.new }
+    ensures kept { AreKept table.now.slots slow.new doomed.new.list pins.new.list }
+    ensures published { (index.new.published ≡ index.old.published) × (index.new.left ≡ index.old.left) }
+    ensures done { OnOk result (IsTickDone tick
+        (ledger slow.old.view pins.old.list doomed.old.list filed.old.list index.old.pending)
+        (ledger slow.new.view pins.new.list doomed.new.list filed.new.list index.new.pending)) }
+    ensures stopped { OnErr result (IsTickStopped tick
+        (ledger slow.old.view pins.old.list doomed.old.list filed.old.list index.old.pending)
+        (ledger slow.new.view pins.new.list doomed.new.list filed.new.list index.new.pending)) }
+{
+    sweep_again(table, slow, doomed, filed)?;
+    serve_all(table, slow, pins, doomed, filed, index, tick)
+}
+
+/// Tries each doomed flow again. The error is want of memory.
+fn sweep_again(
+    table: &FlowTable<FlowRecord>,
+    slow: &mut SlowPass<FlowRecord>,
+    doomed: &mut PinList,
+    filed: &mut FiledList,
+) -> Result<(), AllocError>
+    requires slow { IsReady table.now slow.old }
+    requires kept { AreKept table.now.slots slow.old doomed.old.list [] }
+    ensures slow { IsReady table.now slow.new }
+    ensures kept { (pins : List FlowId) → AreKept table.now.slots slow.old doomed.old.list pins
+        → AreKept table.now.slots slow.new doomed.new.list pins }
+    ensures done { (pins : List FlowId) (changes : List Change) → OnOk result (AreSweptAgain doomed.old.list
+        (ledger slow.old.view pins [] filed.old.list changes)
+        (ledger slow.new.view pins doomed.new.list filed.new.list changes)) }
+    ensures stopped { (pins : List FlowId) (changes : List Change) → OnErr result (IsSweepStopped
+        (ledger slow.old.view pins doomed.old.list filed.old.list changes)
+        (ledger slow.new.view pins doomed.new.list filed.new.list changes)) }
+{
+    let mut left = doomed.len();
+    while left > 0 {
+        filed.reserve()?;
+        let pin = doomed.remove(0);
+        sweep_one(table, slow, pin, doomed, filed);
+        left -= 1;
+    }
+    Ok(())
+}
+
+/// Serves each flow of the list. The error is want of memory.
+fn serve_all(
+    table: &FlowTable<FlowRecord>,
+    slow: &mut SlowPass<FlowRecord>,
+    pins: &mut PinList,
+    doomed: &mut PinList,
+    filed: &mut FiledList,
+    index: &mut IndexWriter,
+    tick: u32,
+) -> Result<(), AllocError>
+    requires slow { IsReady table.now slow.old }
+    requires kept { AreKept table.now.slots slow.old doomed.old.list pins.old.list }
+    ensures slow { IsReady table.now slow.new }
+    ensures kept { AreKept table.now.slots slow.new doomed.new.list pins.new.list }
+    ensures published { (index.new.published ≡ index.old.published) × (index.new.left ≡ index.old.left) }
+    ensures done { OnOk result (AreServed tick pins.old.list
+        (ledger slow.old.view [] doomed.old.list filed.old.list index.old.pending)
+        (ledger slow.new.view pins.new.list doomed.new.list filed.new.list index.new.pending)) }
+    ensures stopped { OnErr result (IsWalkStopped tick
+        (ledger slow.old.view pins.old.list doomed.old.list filed.old.list index.old.pending)
+        (ledger slow.new.view pins.new.list doomed.new.list filed.new.list index.new.pending)) }
+{
+    let mut at = 0;
+    while at < pins.len() {
+        if serve_at(table, slow, pins, at, doomed, filed, index, tick)? {
+            at += 1;
+        }
+    }
+    Ok(())
+}
+
+/// Serves the flow of the pin at a place, and says whether the pin is there still. The error is want of memory, and
+/// leaves the flow and the lists as they were.
+fn serve_at(
+    table: &FlowTable<FlowRecord>,
+    slow: &mut SlowPass<FlowRecord>,
+    pins: &mut PinList,
+    at: usize,
+    doomed: &mut PinList,
+    filed: &mut FiledList,
+    index: &mut IndexWriter,
+    tick: u32,
+) -> Result<bool, AllocError>
+    requires place { at < length pins.old.list }
+    requires slow { IsReady table.now slow.old }
+    requires kept { AreKept table.now.slots slow.old doomed.old.list pins.old.list }
+    ensures slow { IsReady table.now slow.new }
+    ensures kept { AreKept table.now.slots slow.new doomed.new.list pins.new.list }
+    ensures published { (index.new.published ≡ index.old.published) × (index.new.left ≡ index.old.left) }
+    ensures served { IfOk result (IsServedAt tick at
+        (ledger slow.old.view pins.old.list doomed.old.list filed.old.list index.old.pending)
+        (ledger slow.new.view pins.new.list doomed.new.list filed.new.list index.new.pending)) }
+    ensures refused { OnErr result (IsRefusedAt at pins.old.list slow.old.view slow.new.view) }
+    ensures pins { OnErr result (pins.new.list ≡ pins.old.list) }
+    ensures doomed { OnErr result (doomed.new.list ≡ doomed.old.list) }
+    ensures filed { OnErr result (filed.new.list ≡ filed.old.list) }
+    ensures pending { OnErr result (index.new.pending ≡ index.old.pending) }
+{
+    let timed = match pass_time(table, slow, pins.pin(at), tick) {
+        Ok(timed) => timed,
+        Err(CallFault::Busy(_)) => return Ok(true),
+        Err(CallFault::OutOfMemory) => return Err(AllocError),
+    };
+    let Timed::Closed(tuple) = timed else {
+        return Ok(true);
+    };
+    close_at(table, slow, pins, at, tuple, doomed, filed, index)?;
+    Ok(false)
+}
