@@ -1,23 +1,21 @@
 -- What the slow path may still do after each step, and that it has the pins of its lists still.
-use Rattle.std.proofs.Common.{◌≡◌, ◌≢◌, ℕ, zero, suc, ◌+◌, ◌<◌, ◌≤◌, true, false, List, [], ◌∷◌, ◌++◌, ap, sym, ◌∙◌, refl}
+use Rattle.std.proofs.Common.{◌≡◌, ◌≢◌, ℕ, zero, suc, ◌+◌, true, List, [], ◌∷◌, ◌++◌, ap, sym, ◌∙◌}
 use Rattle.std.proofs.Common.{arith, inl, inr, ⊎_elim, subst}
-use Rattle.std.specs.Prelude.{Option, Some, None, slice_get, slice_set, remove}
-use mathlib.Core.Option as O
+use Rattle.std.specs.Prelude.{Some, slice_get, remove}
 use lib.ListN.{get_elem?}
 use Rattle.atomic_table.proofs.Lists.{set_else}
 use Rattle.atomic_table.specs.Seated.{TableId}
 use Rattle.tas_model.specs.declared.entry.FlowId.{FlowId}
 use Rattle.flow_state.specs.Flow.{Flow}
 use Rattle.flow_lock.specs.Callers.{IsOwner}
-use Rattle.flow_lock.specs.Claims.{HasPin}
 use Rattle.flow_lock.specs.Orders.{total, at_slot}
 use Rattle.flow_lock.specs.Passes.{Seen}
-use Rattle.flow_lock.specs.Steps.{MayAct, noted, without}
+use Rattle.flow_lock.specs.Steps.{MayAct, noted}
 use Rattle.flow_lock.specs.declared.view.Deed.{Deed}
 use Rattle.flow_lock.specs.declared.view.History.{History}
 use Rattle.flow_lock.specs.declared.view.Mark.{Mark}
 use Rattle.flow_lock.specs.declared.view.View.{View}
-use Rattle.flow_lock.proofs.Calling.{still_turn}
+use Rattle.flow_lock.proofs.Calling.{still_turn, same_turn}
 use Rattle.flow_lock.proofs.Sums.{total-append}
 use Rattle.app_reaper.specs.OneCall.{IsUse, IsCallRefused}
 use Rattle.app_reaper.specs.Sweeping.{IsSweep, StaysDoomed}
@@ -27,57 +25,61 @@ use Rattle.app_reaper.specs.declared.sweeping.Swept.{Swept}
 use Rattle.app_reaper.specs.declared.sweeping.Swept.TheVariants.{Freed, Pinned}
 use Rattle.app_reaper.proofs.Walking.{kept, on_itself, same_pin, none_some}
 use Rattle.host_rounds.specs.Lists.{Each}
-use Rattle.flow_clock.specs.Ledgers.{IsReady, IsKept, AreKept}
+use Rattle.flow_clock.specs.Ledgers.{IsReady, KeepsRights, IsKept, AreKept}
 use Rattle.flow_clock.specs.Walks.{doomed_with}
 
 -- ----- the right to act
-pub may_still : (v w : View) (ds : List Deed) (won lost : List FlowId) → w.turns ≡ noted ds won lost v.turns
-    → w.baton ≡ v.baton → w.made ≡ v.made → MayAct v → MayAct w
-may_still v w ds won lost t b m (inl turn) = inl (still_turn v w ds won lost t turn)
-may_still v w ds won lost t b m (inr alone) = inr (b ∙ alone.0, t ∙ ap (noted ds won lost) alone.1, m ∙ alone.2)
+still_rights : (v w : View) (ds : List Deed) (won lost : List FlowId) → w.turns ≡ noted ds won lost v.turns
+    → w.baton ≡ v.baton → w.made ≡ v.made → (v.held ≡ [] → w.held ≡ []) → KeepsRights v w
+still_rights v w ds won lost t b m idle = record {
+  alone = λ is. (b ∙ is.0, t ∙ ap (noted ds won lost) is.1, m ∙ is.2);
+  turned = still_turn v w ds won lost t;
+  idle = idle;
+}
 
-pub may_too : (v w : View) → w.turns ≡ v.turns → w.baton ≡ v.baton → w.made ≡ v.made → MayAct v → MayAct w
-may_too v w t b m (inl turn) = inl (turn.0, turn.1, t ∙ turn.2)
-may_too v w t b m (inr alone) = inr (b ∙ alone.0, t ∙ alone.1, m ∙ alone.2)
+same_rights : (v w : View) → w.turns ≡ v.turns → w.baton ≡ v.baton → w.made ≡ v.made → w.held ≡ v.held
+    → KeepsRights v w
+same_rights v w t b m h = record {
+  alone = λ is. (b ∙ is.0, t ∙ is.1, m ∙ is.2);
+  turned = same_turn v w t;
+  idle = λ is. h ∙ is;
+}
 
--- a view that may act as another, and holds nothing where that one holds nothing
-abbrev pub Follows : View → View → Type 0
-Follows v w = (MayAct v → MayAct w) × (v.held ≡ [] → w.held ≡ [])
+pub no_step : (v : View) → KeepsRights v v
+no_step v = record { alone = λ is. is; turned = λ is. is; idle = λ is. is }
 
-pub after_use : (f : FlowId) (r : Flow) (h : History) (v w : View) → IsUse f r h v w → Follows v w
-after_use f r h v w u = (
-  may_still v w _ [] [] (ap (λ (x : View). x.turns) u.3) (ap (λ (x : View). x.baton) u.3)
-      (ap (λ (x : View). x.made) u.3),
-  λ e. ap (λ (x : View). x.held) u.3,
-)
+pub two_steps : (v u w : View) → KeepsRights v u → KeepsRights u w → KeepsRights v w
+two_steps v u w a b = record {
+  alone = λ is. b.alone (a.alone is);
+  turned = λ is. b.turned (a.turned is);
+  idle = λ is. b.idle (a.idle is);
+}
 
-pub after_refusal : (f : FlowId) (e : CallFault) (v w : View) → IsCallRefused f v w e → Follows v w
-after_refusal f (faults.Busy x) v w r = (
-  may_too v w (ap (λ (y : View). y.turns) r.0.1) (ap (λ (y : View). y.baton) r.0.1)
-      (ap (λ (y : View). y.made) r.0.1),
-  λ e. ap (λ (y : View). y.held) r.0.1 ∙ e,
-)
+pub after_use : (f : FlowId) (r : Flow) (h : History) (v w : View) → IsUse f r h v w → KeepsRights v w
+after_use f r h v w u = still_rights v w _ [] [] (ap (λ (x : View). x.turns) u.3) (ap (λ (x : View). x.baton) u.3)
+    (ap (λ (x : View). x.made) u.3) (λ e. ap (λ (x : View). x.held) u.3)
+
+pub after_refusal : (f : FlowId) (e : CallFault) (v w : View) → IsCallRefused f v w e → KeepsRights v w
+after_refusal f (faults.Busy x) v w r = same_rights v w (ap (λ (y : View). y.turns) r.0.1)
+    (ap (λ (y : View). y.baton) r.0.1) (ap (λ (y : View). y.made) r.0.1) (ap (λ (y : View). y.held) r.0.1)
 after_refusal f faults.OutOfMemory v w r = after_use f r.0 _ v w r.2
 
-pub after_sweep : (f : FlowId) (v w : View) (a : Swept) → IsSweep f v w a → Follows v w
-after_sweep f v w Freed s = (
-  may_still v w [] [] (f ∷ []) (ap (λ (x : View). x.turns) s.1) (ap (λ (x : View). x.baton) s.1)
-      (ap (λ (x : View). x.made) s.1),
-  λ e. ap (λ (x : View). x.held) s.1 ∙ e,
-)
+pub after_sweep : (f : FlowId) (v w : View) (a : Swept) → IsSweep f v w a → KeepsRights v w
+after_sweep f v w Freed s = still_rights v w [] [] (f ∷ []) (ap (λ (x : View). x.turns) s.1)
+    (ap (λ (x : View). x.baton) s.1) (ap (λ (x : View). x.made) s.1) (λ e. ap (λ (x : View). x.held) s.1 ∙ e)
 after_sweep f v w (Pinned n pin) s = ⊎_elim
-    (λ e. (
-      may_too v w (ap (λ (x : View). x.turns) e) (ap (λ (x : View). x.baton) e) (ap (λ (x : View). x.made) e),
-      λ h. ap (λ (x : View). x.held) e ∙ h,
-    ))
-    (λ y. (
-      may_too v w (ap (λ (x : View). x.turns) y.1) (ap (λ (x : View). x.baton) y.1) (ap (λ (x : View). x.made) y.1),
-      λ h. ap (λ (x : View). x.held) y.1 ∙ h,
-    ))
+    (λ e. same_rights v w (ap (λ (x : View). x.turns) e) (ap (λ (x : View). x.baton) e) (ap (λ (x : View). x.made) e)
+    (ap (λ (x : View). x.held) e))
+    (λ y. same_rights v w (ap (λ (x : View). x.turns) y.1) (ap (λ (x : View). x.baton) y.1)
+    (ap (λ (x : View). x.made) y.1) (ap (λ (x : View). x.held) y.1))
     s.3
 
-pub ready_still : (t : TableId) (s n : Seen) → n.table ≡ s.table → Follows s.view n.view → IsReady t s → IsReady t n
-ready_still t s n table follows is = (table ∙ is.0, follows.0 is.1, follows.1 is.2)
+may_still : (v w : View) → KeepsRights v w → MayAct v → MayAct w
+may_still v w is (inl turn) = inl (is.turned turn)
+may_still v w is (inr alone) = inr (is.alone alone)
+
+pub ready_still : (t : TableId) (s n : Seen) → n.table ≡ s.table → KeepsRights s.view n.view → IsReady t s → IsReady t n
+ready_still t s n table keeps is = (table ∙ is.0, may_still s.view n.view keeps is.1, keeps.idle is.2)
 
 -- ----- lists
 pub each_map : {X : Type 0} (P Q : X → Type 0) (l : List X) → ((x : X) → P x → Q x) → Each P l → Each Q l

@@ -1,7 +1,7 @@
 -- Flows are served one after the other.
-use Rattle.std.proofs.Common.{◌≡◌, ℕ, zero, suc, ◌+◌, ◌-◌, ◌<◌, ◌≤◌, true, false, List, [], ◌∷◌, ◌++◌, ap, sym, ◌∙◌, refl}
+use Rattle.std.proofs.Common.{◌≡◌, ℕ, zero, suc, ◌+◌, ◌<◌, ◌≤◌, true, false, List, [], ◌∷◌, ◌++◌, ap, sym, ◌∙◌, refl}
 use Rattle.std.proofs.Common.{arith, inl, inr, Bool, subst, length, append_assoc, append-nil}
-use Rattle.std.specs.Prelude.{Option, Some, None, Result, Ok, Err, OnOk, OnErr, slice_get, remove, take, drop}
+use Rattle.std.specs.Prelude.{Some, Result, Ok, Err, OnOk, OnErr, slice_get, remove, take, drop}
 use Rattle.std.proofs.lemmas.List.{drop_all, take_all, take-append-drop}
 use Rattle.atomic_table.specs.Seated.{TableId}
 use Rattle.tas_model.specs.Segments.{one_if}
@@ -16,17 +16,18 @@ use Rattle.flow_state.specs.Flow.{Flow}
 use Rattle.app_reaper.specs.OneCall.{IsUse, IsCallRefused}
 use Rattle.app_reaper.specs.Sweeping.{KeepsPin}
 use Rattle.app_reaper.specs.declared.one_call.CallFault.{CallFault}
-use Rattle.app_reaper.specs.declared.one_call.CallFault.TheVariants.{Busy, OutOfMemory}
+use Rattle.app_reaper.specs.declared.one_call.CallFault.TheVariants.{Busy}
 use Rattle.app_reaper.specs.declared.sweeping.Swept.{Swept}
 use Rattle.app_reaper.specs.declared.sweeping.Swept.TheVariants.{Freed, Pinned}
-use Rattle.app_reaper.proofs.Walking.{front, none_some, same_pin}
-use Rattle.flow_clock.specs.Ledgers.{Ledger, ledger, IsReady, AreKept}
+use Rattle.app_reaper.proofs.Walking.{none_some, same_pin}
+use Rattle.flow_clock.specs.Ledgers.{Ledger, ledger, IsReady, KeepsRights, AreKept}
 use Rattle.flow_clock.specs.OneFlow.{IsTimed}
 use Rattle.flow_clock.specs.declared.timing.Timed.{Timed}
 use Rattle.flow_clock.specs.declared.timing.Timed.TheVariants.{Closed, Ticked, Controlled}
-use Rattle.flow_clock.specs.Walks.{doomed_with, IsSwept, WasBusy, WasTimed, WasClosed, IsServed, IsServedAt, AreServed}
+use Rattle.flow_clock.specs.Walks.{doomed_with, IsSwept, IsServed, IsServedAt, AreServed}
 use Rattle.flow_clock.specs.Walks.{IsWalkStopped, IsRefusedAt, AreSweptAgain, IsTickDone}
-use Rattle.flow_clock.proofs.Keeping.{kept_after_use}
+use Rattle.flow_clock.proofs.Keeping.{no_step, two_steps, kept_after_use}
+use Rattle.flow_clock.proofs.Chains.{one_more}
 
 -- ----- places of a list
 pub take_more : (l : List FlowId) (i : ℕ) (f : FlowId) → slice_get l i ≡ Some f
@@ -133,11 +134,6 @@ pub kept_timed : (slots tick : ℕ) (f : FlowId) (a : Timed) (s n : Seen) (doome
 kept_timed slots tick f a s n doomed pins t is = kept_after_use slots f t.0 t.1 s n doomed pins t.4 is
 
 -- ----- all flows
-pub served_more : (tick : ℕ) (done : List FlowId) (f : FlowId) (l n m : Ledger) → AreServed tick done l n
-    → IsServed tick f n m → AreServed tick (done ++ f ∷ []) l m
-served_more tick [] f l n m e s = (m, subst (λ x. IsServed tick f x m) e s, refl)
-served_more tick (g ∷ gs) f l n m a s = (a.0, a.1, served_more tick gs f a.0 n m a.2 s)
-
 -- What holds between two flows: those in front of the place were served.
 pub record Serving (tick : ℕ) (t : TableId) (first : Ledger) (s : Seen) (pins doomed : List FlowId) (filed : List Flow)
     (changes : List Change) (at : ℕ) : Type 0 where
@@ -145,34 +141,36 @@ pub record Serving (tick : ℕ) (t : TableId) (first : Ledger) (s : Seen) (pins 
   pub all : first.pins ≡ done ++ drop at pins
   pub served : AreServed tick done (record first { pins = [] }) (ledger s.view (take at pins) doomed filed changes)
   pub ready : IsReady t s
+  pub rights : KeepsRights first.view s.view
   pub kept : AreKept t.slots s doomed pins
 
 pub serving_begins : (tick : ℕ) (t : TableId) (s : Seen) (pins doomed : List FlowId) (filed : List Flow)
     (changes : List Change) → IsReady t s → AreKept t.slots s doomed pins
     → Serving tick t (ledger s.view pins doomed filed changes) s pins doomed filed changes 0
 serving_begins tick t s pins doomed filed changes ready kept =
-    record { done = []; all = refl; served = refl; ready = ready; kept = kept }
+    record { done = []; all = refl; served = refl; ready = ready; rights = no_step s.view; kept = kept }
 
 pub serving_more : (tick : ℕ) (t : TableId) (first : Ledger) (s n : Seen) (pins pins' doomed doomed' : List FlowId)
     (filed filed' : List Flow) (changes changes' : List Change) (at at' : ℕ) (stays : Bool)
     → Serving tick t first s pins doomed filed changes at
     → IsServedAt tick at (ledger s.view pins doomed filed changes) (ledger n.view pins' doomed' filed' changes') stays
-    → at' ≡ at + one_if stays → IsReady t n → AreKept t.slots n doomed' pins'
+    → at' ≡ at + one_if stays → IsReady t n → KeepsRights s.view n.view → AreKept t.slots n doomed' pins'
     → Serving tick t first n pins' doomed' filed' changes' at'
-serving_more tick t first s n pins pins' doomed doomed' filed filed' changes changes' at at' stays is a e ready kept =
+serving_more tick t first s n pins pins' doomed doomed' filed filed' changes changes' at at' stays is a e ready rights kept =
     let left : drop at pins ≡ a.0 ∷ drop at' pins' =
     drop_more pins at a.0 a.1 ∙ ap (λ l. a.0 ∷ l) (sym a.3 ∙ ap (λ k. drop k pins') (sym e)) in
     let here : (ledger n.view (take (at + one_if stays) pins') doomed' filed' changes')
-        ≡ (ledger n.view (take at' pins') doomed' filed' changes') =
+    ≡ (ledger n.view (take at' pins') doomed' filed' changes') =
     ap (λ k. ledger n.view (take k pins') doomed' filed' changes') (sym e) in
-    let more = served_more tick is.done a.0 (record first { pins = [] })
-        (ledger s.view (take at pins) doomed filed changes)
-        (ledger n.view (take (at + one_if stays) pins') doomed' filed' changes') is.served a.2 in
+    let more = one_more (IsServed tick) is.done a.0 (record first { pins = [] })
+    (ledger s.view (take at pins) doomed filed changes)
+    (ledger n.view (take (at + one_if stays) pins') doomed' filed' changes') is.served a.2 in
     record {
       done = is.done ++ a.0 ∷ [];
       all = is.all ∙ (ap (λ l. is.done ++ l) left ∙ sym (append_assoc is.done (a.0 ∷ []) (drop at' pins')));
       served = subst (AreServed tick (is.done ++ a.0 ∷ []) (record first { pins = [] })) here more;
       ready = ready;
+      rights = two_steps first.view s.view n.view is.rights rights;
       kept = kept;
     }
 
@@ -184,7 +182,7 @@ serving_ends tick t first s pins doomed filed changes at is past =
     let all : first.pins ≡ is.done =
     is.all ∙ (ap (λ l. is.done ++ l) (drop_all at pins past) ∙ append-nil is.done) in
     let end = subst (λ l. AreServed tick is.done (record first { pins = [] }) (ledger s.view l doomed filed changes))
-        (take_all at pins past) is.served in
+    (take_all at pins past) is.served in
     subst (λ l. AreServed tick l (record first { pins = [] }) (ledger s.view pins doomed filed changes)) (sym all) end
 
 pub serving_stops : (tick : ℕ) (t : TableId) (first : Ledger) (s n : Seen) (pins pins' doomed doomed' : List FlowId)
@@ -195,7 +193,7 @@ pub serving_stops : (tick : ℕ) (t : TableId) (first : Ledger) (s n : Seen) (pi
 serving_stops tick t first s n pins pins' doomed doomed' filed filed' changes changes' at is r p d f c =
     let rest : pins' ≡ take at pins ++ r.0 ∷ drop (suc at) pins =
     p ∙ (sym (take-append-drop at pins)
-        ∙ ap (λ l. take at pins ++ l) (drop_more pins at r.0 r.1)) in
+    ∙ ap (λ l. take at pins ++ l) (drop_more pins at r.0 r.1)) in
     record {
       done = is.done;
       at = r.0;

@@ -10,13 +10,10 @@ use Rattle.flow_state.specs.Flow.{Flow}
 use Rattle.app_reaper.specs.declared.sweeping.Swept.{Swept}
 use Rattle.app_reaper.specs.declared.sweeping.Swept.TheVariants.{Freed, Pinned}
 use Rattle.app_reaper.proofs.Walking.{front, same_pin, no_pins}
-use Rattle.flow_clock.specs.Ledgers.{Ledger, ledger, IsReady, AreKept}
+use Rattle.flow_clock.specs.Ledgers.{ledger, IsReady, KeepsRights, AreKept}
+use Rattle.flow_clock.proofs.Chains.{one_more}
+use Rattle.flow_clock.proofs.Keeping.{no_step, two_steps}
 use Rattle.flow_clock.specs.Walks.{doomed_with, IsSwept, WasSweptAgain, AreSweptAgain, IsSweepStopped}
-
-pub swept_more : (done : List FlowId) (f : FlowId) (l n m : Ledger) → AreSweptAgain done l n → WasSweptAgain f n m
-    → AreSweptAgain (done ++ f ∷ []) l m
-swept_more [] f l n m e s = (m, subst (λ x. WasSweptAgain f x m) e s, refl)
-swept_more (g ∷ gs) f l n m a s = (a.0, a.1, swept_more gs f a.0 n m a.2 s)
 
 -- What holds between two doomed flows: `done` were tried, and those of them that others still have pins of stand behind
 -- those that are left.
@@ -31,6 +28,7 @@ pub record Sweeping (t : TableId) (s₀ : Seen) (doomed₀ : List FlowId) (filed
   pub swept : (pins : List FlowId) (changes : List Change)
       → AreSweptAgain done (ledger s₀.view pins [] filed₀ changes) (ledger s.view pins tried filed changes)
   pub ready : IsReady t s
+  pub rights : KeepsRights s₀.view s.view
   pub kept : (pins : List FlowId) → AreKept t.slots s₀ doomed₀ pins → AreKept t.slots s doomed pins
 
 pub sweeping_begins : (t : TableId) (s : Seen) (doomed : List FlowId) (filed : List Flow) → IsReady t s
@@ -44,6 +42,7 @@ sweeping_begins t s doomed filed ready = record {
   long = refl;
   swept = λ pins changes. refl;
   ready = ready;
+  rights = no_step s.view;
   kept = λ pins is. is;
 }
 
@@ -61,10 +60,11 @@ pub sweeping_more : (t : TableId) (s₀ : Seen) (doomed₀ : List FlowId) (filed
     (doomed rest doomed' : List FlowId) (filed filed' : List Flow) (count count' : ℕ) (f : FlowId)
     → Sweeping t s₀ doomed₀ filed₀ s doomed filed count → 0 < count → count ≡ count' + 1
     → slice_get doomed 0 ≡ Some f → rest ≡ remove doomed 0
-    → IsSwept f s.view n.view filed filed' rest doomed' → IsReady t n
+    → IsSwept f s.view n.view filed filed' rest doomed' → IsReady t n → KeepsRights s.view n.view
     → ((pins : List FlowId) → AreKept t.slots s (f ∷ rest) pins → AreKept t.slots n doomed' pins)
     → Sweeping t s₀ doomed₀ filed₀ n doomed' filed' count'
-sweeping_more t s₀ doomed₀ filed₀ s n doomed rest doomed' filed filed' count count' f is more less q gone w ready keeps =
+sweeping_more t s₀ doomed₀ filed₀ s n doomed rest doomed' filed filed' count count' f is more less q gone w ready rights
+    keeps =
     let here : slice_get (is.left ++ is.tried) 0 ≡ Some f = subst (λ l. slice_get l 0 ≡ Some f) is.now q in
     let first : is.left ≡ f ∷ drop 1 is.left = first_of is.left is.tried f count is.long more here in
     let behind : rest ≡ drop 1 is.left ++ is.tried =
@@ -81,12 +81,13 @@ sweeping_more t s₀ doomed₀ filed₀ s n doomed rest doomed' filed filed' cou
       now = w.waiting ∙ (ap (doomed_with f w.swept) behind ∙ doomed_behind f w.swept (drop 1 is.left) is.tried);
       long = long;
       swept = λ pins changes.
-          swept_more is.done f (ledger s₀.view pins [] filed₀ changes) (ledger s.view pins is.tried filed changes)
-              (ledger n.view pins tried filed' changes) (is.swept pins changes) (record {
-                swept = record { swept = w.swept; sweep = w.sweep; filing = w.filing; waiting = refl };
-                rest = refl;
-              });
+          one_more WasSweptAgain is.done f (ledger s₀.view pins [] filed₀ changes) (ledger s.view pins is.tried filed changes)
+          (ledger n.view pins tried filed' changes) (is.swept pins changes) (record {
+            swept = record { swept = w.swept; sweep = w.sweep; filing = w.filing; waiting = refl };
+            rest = refl;
+          });
       ready = ready;
+      rights = two_steps s₀.view s.view n.view is.rights rights;
       kept = λ pins k. keeps pins (subst (λ l. AreKept t.slots s l pins) all (is.kept pins k));
     }
 

@@ -7,6 +7,7 @@ use Rattle.tas_model.specs.ApplicationCalls.{Column, Running, column}
 use Rattle.tas_model.specs.Endpoint.{Endpoint, is_closed}
 use Rattle.tas_model.specs.LegalHistory.{replay, extended_by}
 use Rattle.flow_lock.specs.declared.view.History.{History}
+use Rattle.host_rounds.specs.Hosts.{Live}
 use Rattle.host_rounds.specs.Upkeep.{is_control_tick}
 
 -- the endpoint that a history leads to
@@ -43,3 +44,7 @@ controlled_where false t h = h
 -- with one Tick, and one Control at once behind it where it is due
 abbrev pub timed_by : (tick : ℕ) → History → History
 timed_by t h = controlled_where (is_control_due t h) t (with_tick t h)
+
+-- the history of a flow of a host in a run
+abbrev pub history_in : Live → History
+history_in l = record { tuple = l.flow.tuple; params = l.flow.params; entries = l.flow.entries }

@@ -1,5 +1,5 @@
 -- What the slow path has of the flows of its host.
-use Rattle.std.specs.Prelude.{◌≡◌, ℕ, ◌+◌, ◌<◌, ◌≤◌, List, [], ◌∷◌, ◌++◌}
+use Rattle.std.specs.Prelude.{◌≡◌, ℕ, ◌+◌, ◌<◌, ◌≤◌, List, []}
 use Rattle.tas_model.specs.declared.entry.FlowId.{FlowId}
 use Rattle.flow_state.specs.Flow.{Flow}
 use Rattle.flow_index.specs.declared.change.Change.{Change}
@@ -7,7 +7,7 @@ use Rattle.atomic_table.specs.Seated.{TableId}
 use Rattle.flow_lock.specs.Callers.{IsOwner}
 use Rattle.flow_lock.specs.Orders.{total, at_slot}
 use Rattle.flow_lock.specs.Passes.{Seen}
-use Rattle.flow_lock.specs.Steps.{MayAct}
+use Rattle.flow_lock.specs.Steps.{HasTurn, IsAlone, MayAct}
 use Rattle.flow_lock.specs.declared.view.View.{View}
 use Rattle.host_rounds.specs.Lists.{Each}
 
@@ -26,6 +26,13 @@ ledger view pins doomed filed changes =
 -- the slow path may act, and holds nothing
 abbrev pub IsReady : TableId → Seen → Type 0
 IsReady table s = (s.table ≡ table) × MayAct s.view × (s.view.held ≡ [])
+
+-- A view may do what another may: it is alone or has a turn where that one is or has, and holds nothing where that one
+-- holds nothing.
+pub record KeepsRights (v w : View) : Type 0 where
+  pub alone : IsAlone v → IsAlone w
+  pub turned : HasTurn v → HasTurn w
+  pub idle : v.held ≡ [] → w.held ≡ []
 
 -- it has a pin of the flow, whose slot is live
 abbrev pub IsKept : (slots : ℕ) → Seen → FlowId → Type 0

@@ -68,10 +68,17 @@ abbrev pub IsRefusedAt : (at : ℕ) → (pins : List FlowId) → (before after :
 IsRefusedAt at pins v w = (f : FlowId) × (slice_get pins at ≡ Some f) × IsCallRefused f v w OutOfMemory
 
 -- ----- all flows
--- one after the other
+-- This became of each of these flows, one after the other.
+abbrev pub OneByOne : (FlowId → Ledger → Ledger → Type 0) → List FlowId → Ledger → Ledger → Type 0
+OneByOne became [] l m = m ≡ l
+OneByOne became (f ∷ fs) l m = (n : Ledger) × became f l n × OneByOne became fs n m
+
 abbrev pub AreServed : (tick : ℕ) → List FlowId → Ledger → Ledger → Type 0
-AreServed tick [] l m = m ≡ l
-AreServed tick (f ∷ fs) l m = (n : Ledger) × IsServed tick f l n × AreServed tick fs n m
+AreServed tick fs l m = OneByOne (IsServed tick) fs l m
+
+-- Served alone: none was busy.
+abbrev pub AreServedAlone : (tick : ℕ) → List FlowId → Ledger → Ledger → Type 0
+AreServedAlone tick fs l m = OneByOne (λ f k n. WasTimed tick f k n ⊎ WasClosed f k n) fs l m
 
 -- A doomed flow was tried again.
 pub record WasSweptAgain (f : FlowId) (l m : Ledger) : Type 0 where
@@ -79,8 +86,7 @@ pub record WasSweptAgain (f : FlowId) (l m : Ledger) : Type 0 where
   pub rest : m ≡ record l { view = m.view; filed = m.filed; doomed = m.doomed }
 
 abbrev pub AreSweptAgain : List FlowId → Ledger → Ledger → Type 0
-AreSweptAgain [] l m = m ≡ l
-AreSweptAgain (f ∷ fs) l m = (n : Ledger) × WasSweptAgain f l n × AreSweptAgain fs n m
+AreSweptAgain fs l m = OneByOne WasSweptAgain fs l m
 
 -- Memory was wanting at the first doomed flow that is left. Those that were tried stand behind those that weren't.
 pub record IsSweepStopped (l m : Ledger) : Type 0 where

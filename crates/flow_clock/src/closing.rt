@@ -2,7 +2,7 @@
 ghost use Rattle.std.specs.Prelude.{◌≡◌, ◌<◌, ◌∷◌, ◌++◌, [], List, remove, length, slice_get, Some, OnOk, OnErr};
 ghost use Rattle.tas_model.specs.declared.entry.FlowId.{FlowId};
 ghost use Rattle.flow_index.specs.declared.change.Change.TheVariants.{Remove};
-ghost use Rattle.flow_clock.specs.Ledgers.{IsReady, IsKept, AreKept};
+ghost use Rattle.flow_clock.specs.Ledgers.{IsReady, KeepsRights, IsKept, AreKept};
 ghost use Rattle.flow_clock.specs.Walks.{IsSwept};
 
 use app_reaper::{FiledList, PinList, Swept, sweep_reserved};
@@ -28,6 +28,7 @@ pub fn close_at(
     requires slow { IsReady table.now slow.old }
     requires kept { AreKept table.now.slots slow.old doomed.old.list pins.old.list }
     ensures slow { IsReady table.now slow.new }
+    ensures rights { KeepsRights slow.old.view slow.new.view }
     ensures kept { AreKept table.now.slots slow.new doomed.new.list pins.new.list }
     ensures swept { (f : FlowId) → slice_get pins.old.list at ≡ Some f → OnOk result (IsSwept f slow.old.view
         slow.new.view filed.old.list filed.new.list doomed.old.list doomed.new.list) }
@@ -60,6 +61,7 @@ pub(crate) fn sweep_one(
     requires doomed { 0 < doomed.old.spare }
     requires filed { 0 < filed.old.spare }
     ensures slow { IsReady table.now slow.new }
+    ensures rights { KeepsRights slow.old.view slow.new.view }
     ensures kept { (pins : List FlowId) → AreKept table.now.slots slow.old (pin ∷ doomed.old.list) pins
         → AreKept table.now.slots slow.new doomed.new.list pins }
     ensures swept { IsSwept pin slow.old.view slow.new.view filed.old.list filed.new.list

@@ -2,7 +2,7 @@
 ghost use Rattle.std.specs.Prelude.{◌≡◌, ◌<◌, [], List, length, IfOk, OnOk, OnErr};
 ghost use Rattle.tas_model.specs.declared.entry.FlowId.{FlowId};
 ghost use Rattle.flow_index.specs.declared.change.Change.{Change};
-ghost use Rattle.flow_clock.specs.Ledgers.{IsReady, AreKept, ledger};
+ghost use Rattle.flow_clock.specs.Ledgers.{IsReady, KeepsRights, AreKept, ledger};
 ghost use Rattle.flow_clock.specs.Walks.{IsServedAt, IsRefusedAt, AreServed, IsWalkStopped, AreSweptAgain};
 ghost use Rattle.flow_clock.specs.Walks.{IsSweepStopped, IsTickDone, IsTickStopped};
 
@@ -33,6 +33,7 @@ pub fn tick_all(
     requires slow { IsReady table.now slow.old }
     requires kept { AreKept table.now.slots slow.old doomed.old.list pins.old.list }
     ensures slow { IsReady table.now slow.new }
+    ensures rights { KeepsRights slow.old.view slow.new.view }
     ensures kept { AreKept table.now.slots slow.new doomed.new.list pins.new.list }
     ensures published { (index.new.published ≡ index.old.published) × (index.new.left ≡ index.old.left) }
     ensures done { OnOk result (IsTickDone tick
@@ -56,6 +57,7 @@ fn sweep_again(
     requires slow { IsReady table.now slow.old }
     requires kept { AreKept table.now.slots slow.old doomed.old.list [] }
     ensures slow { IsReady table.now slow.new }
+    ensures rights { KeepsRights slow.old.view slow.new.view }
     ensures kept { (pins : List FlowId) → AreKept table.now.slots slow.old doomed.old.list pins
         → AreKept table.now.slots slow.new doomed.new.list pins }
     ensures done { (pins : List FlowId) (changes : List Change) → OnOk result (AreSweptAgain doomed.old.list
@@ -88,6 +90,7 @@ fn serve_all(
     requires slow { IsReady table.now slow.old }
     requires kept { AreKept table.now.slots slow.old doomed.old.list pins.old.list }
     ensures slow { IsReady table.now slow.new }
+    ensures rights { KeepsRights slow.old.view slow.new.view }
     ensures kept { AreKept table.now.slots slow.new doomed.new.list pins.new.list }
     ensures published { (index.new.published ≡ index.old.published) × (index.new.left ≡ index.old.left) }
     ensures done { OnOk result (AreServed tick pins.old.list
@@ -122,6 +125,7 @@ fn serve_at(
     requires slow { IsReady table.now slow.old }
     requires kept { AreKept table.now.slots slow.old doomed.old.list pins.old.list }
     ensures slow { IsReady table.now slow.new }
+    ensures rights { KeepsRights slow.old.view slow.new.view }
     ensures kept { AreKept table.now.slots slow.new doomed.new.list pins.new.list }
     ensures published { (index.new.published ≡ index.old.published) × (index.new.left ≡ index.old.left) }
     ensures served { IfOk result (IsServedAt tick at

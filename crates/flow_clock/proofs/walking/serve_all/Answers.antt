@@ -1,8 +1,8 @@
-use Rattle.std.proofs.Common.{◌≡◌, ◌≤◌, ◌+◌, ◌<◌, Bool, ap, sym, ◌∙◌, arith, length, drop}
-use Rattle.std.specs.Prelude.{OnErr, OnOk}
+use Rattle.std.proofs.Common.{◌≡◌, ◌≤◌, ◌+◌, Bool, ap, sym, ◌∙◌, arith, length}
 use Rattle.tas_model.specs.Segments.{one_if}
-use Rattle.flow_clock.specs.Ledgers.{Ledger, ledger}
-use Rattle.flow_clock.proofs.Serving.{serving_begins, serving_more, serving_stops, serving_ends, fewer_left, on_err_stopped}
+use Rattle.flow_clock.specs.Ledgers.{ledger}
+use Rattle.flow_clock.proofs.Keeping.{two_steps}
+use Rattle.flow_clock.proofs.Serving.{serving_more, serving_stops, serving_ends, fewer_left, on_err_stopped}
 use Rattle.flow_clock.proofs.walking.serve_all.Goals as goal
 
 pub returns-in_err-serve_at-clause-stopped : goal.returns-in_err-serve_at-clause-stopped
@@ -31,7 +31,7 @@ loop-at-preserved-then-branch c =
       serving = serving_more c.args.tick c.args.table.now _ l.slow n.slow l.pins.list n.pins.list l.doomed.list
           n.doomed.list l.filed.list n.filed.list l.index.pending n.index.pending l.at (l.at + 1)
           c.in_ok-serve_at.field-0 l.invariant.serving e.served
-          (ap (λ (b : Bool). l.at + one_if b) (sym c.if-branch.true)) e.slow e.kept;
+          (ap (λ (b : Bool). l.at + one_if b) (sym c.if-branch.true)) e.slow e.rights e.kept;
       published = (e.published.0 ∙ l.invariant.published.0, e.published.1 ∙ l.invariant.published.1);
     }
 
@@ -54,7 +54,7 @@ loop-at-preserved c =
       serving = serving_more c.args.tick c.args.table.now _ l.slow n.slow l.pins.list n.pins.list l.doomed.list
           n.doomed.list l.filed.list n.filed.list l.index.pending n.index.pending l.at l.at
           c.in_ok-serve_at.field-0 l.invariant.serving e.served
-          (same ∙ ap (λ (b : Bool). l.at + one_if b) (sym c.if-branch.false)) e.slow e.kept;
+          (same ∙ ap (λ (b : Bool). l.at + one_if b) (sym c.if-branch.false)) e.slow e.rights e.kept;
       published = (e.published.0 ∙ l.invariant.published.0, e.published.1 ∙ l.invariant.published.1);
     }
 
@@ -64,3 +64,8 @@ returns-clause-done c =
     let past : length l.pins.list ≤ l.at = let t = c.loop-at-test.false in let e = c.len.ensures in omega arith in
     serving_ends c.args.tick c.args.table.now _ l.slow l.pins.list l.doomed.list l.filed.list l.index.pending l.at
     l.invariant.serving past
+
+pub returns-in_err-serve_at-clause-rights : goal.returns-in_err-serve_at-clause-rights
+returns-in_err-serve_at-clause-rights c =
+    two_steps c.args.slow.now.view c.loop-at.slow.view c.serve_at.new.slow.view c.loop-at.invariant.serving.rights
+    c.in_err-serve_at.ensures.rights

@@ -1,4 +1,4 @@
-use Rattle.flow_clock.proofs.Keeping.{kept_after_refusal}
+use Rattle.flow_clock.proofs.Keeping.{after_use, kept_after_refusal}
 use Rattle.flow_clock.proofs.Serving.{busy_there, timed_there, closed_there, kept_timed}
 use Rattle.flow_clock.proofs.walking.serve_at.Goals as goal
 
@@ -42,3 +42,8 @@ returns-clause-served c =
     c.args.doomed.now.list c.close_at.new.doomed.list c.args.filed.now.list c.close_at.new.filed.list
     c.args.index.now.pending c.close_at.new.index.pending c.in-Closed.is c.pin.ensures c.in-Ok.ensures.timed e.rest
     (e.swept c.pin.result.now c.pin.ensures) e.index
+
+pub returns-in_default-clause-rights : goal.returns-in_default-clause-rights
+returns-in_default-clause-rights c =
+    let t = c.in-Ok.ensures.timed in
+    after_use c.pin.result.now t.0 t.1 c.args.slow.now.view c.pass_time.new.slow.view t.4

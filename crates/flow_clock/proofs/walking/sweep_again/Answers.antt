@@ -3,7 +3,7 @@ use Rattle.flow_state.specs.Flow.{Flow}
 use Rattle.flow_clock.specs.Ledgers.{IsKept}
 use Rattle.flow_clock.specs.Walks.{IsSwept}
 use Rattle.flow_clock.proofs.Keeping.{each_at}
-use Rattle.flow_clock.proofs.Sweeping.{Sweeping, sweeping_begins, sweeping_more, sweeping_ends, sweeping_stops}
+use Rattle.flow_clock.proofs.Sweeping.{Sweeping, sweeping_begins, sweeping_more, sweeping_stops}
 use Rattle.flow_clock.proofs.Serving.{on_err_stopped}
 use Rattle.flow_clock.proofs.walking.sweep_again.Goals as goal
 
@@ -40,4 +40,4 @@ loop-left-preserved c =
     sweeping_more c.args.table.now c.args.slow.now c.args.doomed.now.list c.args.filed.now.list l.slow n.slow
     l.doomed.list c.remove-pin.new.self.list n.doomed.list l.filed.list n.filed.list l.left (l.left - 1)
     c.remove-pin.result l.invariant more less c.remove-pin.ensures.pin c.remove-pin.ensures.rest w c.sweep_one.ensures.slow
-    c.sweep_one.ensures.kept
+    c.sweep_one.ensures.rights c.sweep_one.ensures.kept

@@ -1,6 +1,4 @@
-use Rattle.std.specs.Prelude.{OnOk}
 use Rattle.flow_clock.proofs.Serving.{on_ok_done}
-use Rattle.flow_clock.specs.Ledgers.{ledger}
 use Rattle.flow_clock.proofs.walking.tick_all.Goals as goal
 
 pub returns-clause-done : goal.returns-clause-done
