@@ -1,29 +1,32 @@
 -- What the slow path may still do after each step, and that it has the pins of its lists still.
-use Rattle.std.proofs.Common.{◌≡◌, ◌≢◌, ℕ, zero, suc, ◌+◌, true, List, [], ◌∷◌, ◌++◌, ap, sym, ◌∙◌}
-use Rattle.std.proofs.Common.{arith, inl, inr, ⊎_elim, subst}
+use mathlib.Core.Option as O
+use Rattle.std.proofs.Common.{Bool, refl, true≢false, ◌≡◌, ◌≢◌, ℕ, zero, suc, true, List, [], ◌∷◌, ◌++◌, ap, sym, ◌∙◌}
+use Rattle.std.proofs.Common.{◌+◌, ◌<◌, ◌≤◌, false, arith, inl, inr, ⊎_elim, subst}
 use Rattle.std.specs.Prelude.{Some, slice_get, remove}
 use lib.ListN.{get_elem?}
-use Rattle.atomic_table.proofs.Lists.{set_else}
+use mathlib.Core.Logic.{dite}
+use native.Mathlib.Decide.{ℕ_discrete}
+use Rattle.atomic_table.proofs.Lists.{set_here, set_else}
 use Rattle.atomic_table.specs.Seated.{TableId}
 use Rattle.tas_model.specs.declared.entry.FlowId.{FlowId}
 use Rattle.flow_state.specs.Flow.{Flow}
 use Rattle.flow_lock.specs.Callers.{IsOwner}
 use Rattle.flow_lock.specs.Orders.{total, at_slot}
 use Rattle.flow_lock.specs.Passes.{Seen}
-use Rattle.flow_lock.specs.Steps.{MayAct, noted}
+use Rattle.flow_lock.specs.Steps.{MayAct, mark, noted, opened}
 use Rattle.flow_lock.specs.declared.view.Deed.{Deed}
 use Rattle.flow_lock.specs.declared.view.History.{History}
 use Rattle.flow_lock.specs.declared.view.Mark.{Mark}
 use Rattle.flow_lock.specs.declared.view.View.{View}
 use Rattle.flow_lock.proofs.Calling.{still_turn, same_turn}
-use Rattle.flow_lock.proofs.Sums.{total-append}
+use Rattle.flow_lock.proofs.Sums.{at_below, total-append}
 use Rattle.app_reaper.specs.OneCall.{IsUse, IsCallRefused}
 use Rattle.app_reaper.specs.Sweeping.{IsSweep, StaysDoomed}
 use Rattle.app_reaper.specs.declared.one_call.CallFault.{CallFault}
 use Rattle.app_reaper.specs.declared.one_call.CallFault.TheVariants as faults
 use Rattle.app_reaper.specs.declared.sweeping.Swept.{Swept}
 use Rattle.app_reaper.specs.declared.sweeping.Swept.TheVariants.{Freed, Pinned}
-use Rattle.app_reaper.proofs.Walking.{kept, on_itself, same_pin, none_some}
+use Rattle.app_reaper.proofs.Walking.{kept, on_itself, on_other, same_pin, none_some}
 use Rattle.host_rounds.specs.Lists.{Each}
 use Rattle.flow_clock.specs.Ledgers.{IsReady, KeepsRights, IsKept, AreKept}
 use Rattle.flow_clock.specs.Walks.{doomed_with}
@@ -199,12 +202,15 @@ kept_after_sweep slots f s n a doomed pins w stays is = by_swept a w stays
     none_pinned : total (at_slot f.slot) pins ≡ 0
     none_pinned = let o = is.once f.slot in let h = here in omega arith
 
-    other : (b : Swept) → IsSweep f s.view n.view b → (g : FlowId) → g.slot ≢ f.slot → IsKept slots s g → IsKept slots n g
+    other : (b : Swept) → IsSweep f s.view n.view b → (g : FlowId) → g.slot ≢ f.slot → IsKept slots s g
+        → IsKept slots n g
     other b swept g ne k = (other_owner f g s n b swept ne k.0, k.1)
 
-    by_swept : (b : Swept) → IsSweep f s.view n.view b → StaysDoomed f n b → AreKept slots n (doomed_with f b doomed) pins
+    by_swept : (b : Swept) → IsSweep f s.view n.view b → StaysDoomed f n b
+        → AreKept slots n (doomed_with f b doomed) pins
     by_swept Freed swept stay = record {
-      each_doomed = each_else (IsKept slots s) (IsKept slots n) f.slot doomed none_doomed (other Freed swept) is.each_doomed.1;
+      each_doomed = each_else (IsKept slots s) (IsKept slots n) f.slot doomed none_doomed (other Freed swept)
+          is.each_doomed.1;
       each_pin = each_else (IsKept slots s) (IsKept slots n) f.slot pins none_pinned (other Freed swept) is.each_pin;
       once = λ j. let o = is.once j in omega arith;
     }
@@ -227,3 +233,58 @@ pub pulled_to : (slots : ℕ) (s : Seen) (doomed doomed' pins pins' : List FlowI
 pulled_to slots s doomed doomed' pins pins' i f q d p is =
     subst (λ (l : List FlowId). AreKept slots s (f ∷ l) pins') (sym d)
     (subst (AreKept slots s (f ∷ doomed)) (sym p) (pulled slots s doomed pins i f q is))
+
+-- ----- a flow that was opened
+-- each of these stands in another slot
+none_here : (P : FlowId → Type 0) (i : ℕ) (l : List FlowId) → ((g : FlowId) → P g → g.slot ≢ i) → Each P l
+    → total (at_slot i) l ≡ 0
+none_here P i [] else' e = refl
+none_here P i (x ∷ xs) else' e =
+    let here = on_other i x (else' x e.0) in
+    let rest = none_here P i xs else' e.1 in
+    omega arith
+
+abbrev live_of : O.Option Mark → Bool
+live_of O.none = false
+live_of (O.some m) = m.live
+
+opened_owner : (f g : FlowId) (h : History) (s n : Seen) → n.view ≡ opened f h s.view → g.slot ≢ f.slot → IsOwner g s
+    → IsOwner g n
+opened_owner f g h s n e ne is = (
+  (suc is.0.0, ap (λ (x : View). get_elem? x.pins (suc is.0.0)) e ∙ is.0.1),
+  (is.1.0, ap (λ (x : View). get_elem? x.marks g.slot) e ∙ (set_else s.view.marks f.slot g.slot _ ne ∙ is.1.1)),
+)
+
+-- The slow path opened a flow in a free slot, and puts its pin behind the others.
+pub kept_after_opening : (slots : ℕ) (f : FlowId) (h : History) (m : Mark) (s n : Seen) (doomed pins : List FlowId)
+    → n.view ≡ opened f h s.view → get_elem? s.view.marks f.slot ≡ O.some m → m.live ≡ false → f.slot < slots
+    → AreKept slots s doomed pins → AreKept slots n doomed (pins ++ f ∷ [])
+kept_after_opening slots f h m s n doomed pins e free dead near is =
+    let else' : (g : FlowId) → IsKept slots s g → g.slot ≢ f.slot = λ g k same.
+    true≢false (sym (ap live_of k.0.1.1) ∙ (ap (λ i. live_of (get_elem? s.view.marks i)) same
+    ∙ (ap live_of free ∙ dead))) in
+    let none_doomed = none_here (IsKept slots s) f.slot doomed else' is.each_doomed in
+    let none_pinned = none_here (IsKept slots s) f.slot pins else' is.each_pin in
+    let other : (g : FlowId) → IsKept slots s g → IsKept slots n g = λ g k.
+    (opened_owner f g h s n e (else' g k) k.0, k.1) in
+    let mine : IsKept slots n f = (
+      (
+        (0, ap (λ (x : View). get_elem? x.pins 0) e),
+        (
+          false,
+          ap (λ (x : View). get_elem? x.marks f.slot) e
+              ∙ set_here s.view.marks f.slot (mark f.generation true false) (at_below s.view.marks f.slot m free),
+        ),
+      ),
+      near,
+    ) in
+    record {
+      each_doomed = each_map (IsKept slots s) (IsKept slots n) doomed other is.each_doomed;
+      each_pin = each_more (IsKept slots n) pins f
+          (each_map (IsKept slots s) (IsKept slots n) pins other is.each_pin) mine;
+      once = λ i. dite (ℕ_discrete f.slot i)
+          (λ same. subst (λ k. total (at_slot k) doomed + total (at_slot k) (pins ++ f ∷ []) ≤ 1) same
+          (let a = total-append (at_slot f.slot) pins (f ∷ []) in let one = on_itself f in omega arith))
+          (λ ne. let a = total-append (at_slot i) pins (f ∷ []) in let none = on_other i f ne in let o = is.once i in
+          omega arith);
+    }

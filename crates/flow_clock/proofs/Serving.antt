@@ -100,10 +100,22 @@ pub timed_there : (tick at : ℕ) (f : FlowId) (v w : View) (pins doomed : List 
 timed_there tick at f v w pins doomed filed changes (Closed tuple) not q t = absurd (not tuple refl)
 timed_there tick at f v w pins doomed filed changes Ticked not q t =
     stays_there tick at f v w pins doomed filed changes q
-    (inl (record { flow = t.0; own = t.2; not_over = t.3.0; grown = subst (λ k. IsUse f t.0 k v w) t.3.2 t.4; rest = refl }))
+    (inl (record {
+      flow = t.0;
+      own = t.2;
+      not_over = t.3.0;
+      grown = subst (λ k. IsUse f t.0 k v w) t.3.2 t.4;
+      rest = refl;
+    }))
 timed_there tick at f v w pins doomed filed changes Controlled not q t =
     stays_there tick at f v w pins doomed filed changes q
-    (inl (record { flow = t.0; own = t.2; not_over = t.3.0; grown = subst (λ k. IsUse f t.0 k v w) t.3.2 t.4; rest = refl }))
+    (inl (record {
+      flow = t.0;
+      own = t.2;
+      not_over = t.3.0;
+      grown = subst (λ k. IsUse f t.0 k v w) t.3.2 t.4;
+      rest = refl;
+    }))
 
 -- it left the list
 pub closed_there : (tick at : ℕ) (f : FlowId) (tuple : FourTuple) (a : Timed) (v u w : View)
@@ -111,7 +123,8 @@ pub closed_there : (tick at : ℕ) (f : FlowId) (tuple : FourTuple) (a : Timed) 
     → a ≡ Closed tuple → slice_get pins at ≡ Some f → IsTimed tick f v u a → pins' ≡ remove pins at
     → IsSwept f u w filed filed' doomed doomed' → changes' ≡ changes ++ Remove tuple ∷ []
     → IsServedAt tick at (ledger v pins doomed filed changes) (ledger w pins' doomed' filed' changes') false
-closed_there tick at f tuple a v u w pins pins' doomed doomed' filed filed' changes changes' is q timed gone swept left =
+closed_there tick at f tuple a v u w pins pins' doomed doomed' filed filed' changes changes' is q timed gone swept
+    left =
     let t = subst (IsTimed tick f v u) is timed in
     let here : at + 0 ≡ at = omega arith in (
       f,
@@ -156,7 +169,8 @@ pub serving_more : (tick : ℕ) (t : TableId) (first : Ledger) (s n : Seen) (pin
     → IsServedAt tick at (ledger s.view pins doomed filed changes) (ledger n.view pins' doomed' filed' changes') stays
     → at' ≡ at + one_if stays → IsReady t n → KeepsRights s.view n.view → AreKept t.slots n doomed' pins'
     → Serving tick t first n pins' doomed' filed' changes' at'
-serving_more tick t first s n pins pins' doomed doomed' filed filed' changes changes' at at' stays is a e ready rights kept =
+serving_more tick t first s n pins pins' doomed doomed' filed filed' changes changes' at at' stays is a e ready rights
+    kept =
     let left : drop at pins ≡ a.0 ∷ drop at' pins' =
     drop_more pins at a.0 a.1 ∙ ap (λ l. a.0 ∷ l) (sym a.3 ∙ ap (λ k. drop k pins') (sym e)) in
     let here : (ledger n.view (take (at + one_if stays) pins') doomed' filed' changes')

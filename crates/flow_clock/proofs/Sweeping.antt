@@ -81,8 +81,9 @@ sweeping_more t s₀ doomed₀ filed₀ s n doomed rest doomed' filed filed' cou
       now = w.waiting ∙ (ap (doomed_with f w.swept) behind ∙ doomed_behind f w.swept (drop 1 is.left) is.tried);
       long = long;
       swept = λ pins changes.
-          one_more WasSweptAgain is.done f (ledger s₀.view pins [] filed₀ changes) (ledger s.view pins is.tried filed changes)
-          (ledger n.view pins tried filed' changes) (is.swept pins changes) (record {
+          one_more WasSweptAgain is.done f (ledger s₀.view pins [] filed₀ changes)
+          (ledger s.view pins is.tried filed changes) (ledger n.view pins tried filed' changes) (is.swept pins changes)
+          (record {
             swept = record { swept = w.swept; sweep = w.sweep; filing = w.filing; waiting = refl };
             rest = refl;
           });

@@ -39,5 +39,5 @@ loop-left-preserved c =
     c.remove-pin.new.self.list n.doomed.list) same c.sweep_one.ensures.swept in
     sweeping_more c.args.table.now c.args.slow.now c.args.doomed.now.list c.args.filed.now.list l.slow n.slow
     l.doomed.list c.remove-pin.new.self.list n.doomed.list l.filed.list n.filed.list l.left (l.left - 1)
-    c.remove-pin.result l.invariant more less c.remove-pin.ensures.pin c.remove-pin.ensures.rest w c.sweep_one.ensures.slow
-    c.sweep_one.ensures.rights c.sweep_one.ensures.kept
+    c.remove-pin.result l.invariant more less c.remove-pin.ensures.pin c.remove-pin.ensures.rest w
+    c.sweep_one.ensures.slow c.sweep_one.ensures.rights c.sweep_one.ensures.kept
