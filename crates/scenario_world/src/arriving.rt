@@ -11,11 +11,11 @@ use std::alloc::{AllocError, Global};
 use tas_model::FourTuple;
 
 /// The frames that come to a host, of those that are due. The error is want of memory.
-pub fn arrivals_at(
+pub fn arrivals_at<'a>(
     alloc: Global,
-    due: &DueList,
+    due: &'a DueList<'a>,
     host: usize,
-) -> Result<Vec<Arrival<'_>>, AllocError>
+) -> Result<Vec<Arrival<'a>>, AllocError>
     ensures { IfOk result (λ arrivals. map arrival_in arrivals.items
         ≡ map model_arrival (filter (λ (f : Sent). f.to == host) due.now)) }
 {

@@ -83,6 +83,7 @@ pub fn play_tick_on_cores<R: Threads + Wait + Sync, G: Gate>(
 {
     let due = due(alloc, &s.link, &p.sent, tick)?;
     play_hosts_on_cores(rt, alloc, s, tick, &due, &mut p.hosts, cores, gate)?;
+    drop(due);
     end_tick(alloc, s, tick, p)
 }
 
@@ -92,7 +93,7 @@ fn play_hosts_on_cores<R: Threads + Wait + Sync, G: Gate>(
     alloc: Global,
     s: &Scenario,
     tick: u32,
-    due: &DueList,
+    due: &DueList<'_>,
     hosts: &mut [ScenarioHost<'_>],
     cores: &mut [Cores],
     gate: &G,
@@ -124,7 +125,7 @@ fn play_host_on_cores<R: Threads + Wait + Sync, G: Gate>(
     alloc: Global,
     s: &Scenario,
     tick: u32,
-    due: &DueList,
+    due: &DueList<'_>,
     number: usize,
     host: &mut ScenarioHost<'_>,
     cores: &mut Cores,
@@ -137,6 +138,6 @@ fn play_host_on_cores<R: Threads + Wait + Sync, G: Gate>(
         (due_at s.now whole tick number host.old.scripts) host.old host.new) }
     ensures cores { cores.new ≡ cores.old }
 {
-    let arrivals = arrivals_at(alloc, due, number)?;
+    let arrivals = arrivals_at(alloc, &*due, number)?;
     host.play_on_cores(rt, tick, &arrivals, s, cores, gate)
 }

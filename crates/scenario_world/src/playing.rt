@@ -63,6 +63,7 @@ pub fn play_tick(
 {
     let due = due(alloc, &s.link, &p.sent, tick)?;
     play_hosts(alloc, s, tick, &due, &mut p.hosts)?;
+    drop(due);
     end_tick(alloc, s, tick, p)
 }
 
@@ -117,14 +118,14 @@ fn play_hosts(
     alloc: Global,
     s: &Scenario,
     tick: u32,
-    due: &DueList,
+    due: &DueList<'_>,
     hosts: &mut [ScenarioHost<'_>],
 ) -> Result<(), AllocError>
     ensures { (whole : World) → due.now ≡ frames.due s.now.link (sent_in whole) tick
         → OnOk result (hosts.new ≡ serial_sites s.now whole tick 0 hosts.old) }
 {
     for (number, host) in hosts.iter_mut().enumerate() {
-        let arrivals = arrivals_at(alloc, due, number)?;
+        let arrivals = arrivals_at(alloc, &*due, number)?;
         host.play(tick, &arrivals, s)?;
     }
     Ok(())
