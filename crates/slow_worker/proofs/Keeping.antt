@@ -1,0 +1,296 @@
+-- What holds of the slow path's pass, pins and flows between two calls stays so.
+use Rattle.std.proofs.Common.{◌≡◌, ◌≢◌, ℕ, zero, suc, ◌+◌, ◌<◌, ◌≤◌, Bool, true, false, List, [], ◌∷◌, ◌++◌, length, set}
+use Rattle.std.proofs.Common.{ap, sym, ◌∙◌, refl, subst, arith, ⊎_elim, inl, inr, ◌⊎◌, eqb, eq-eqb, cond, tests}
+use Rattle.std.specs.Prelude.{Option, Some, None, slice_get, slice_index_or, position, not, nat_lt}
+use Rattle.std.specs.List.{find, position_or_len}
+use Rattle.std.specs.Option.{option_map}
+use Rattle.std.proofs.lemmas.Bool.{eqb-true}
+use Rattle.std.proofs.lemmas.List.Sums.{fails_before_first}
+use Rattle.std.proofs.lemmas.List.Quantifiers.{position-Some}
+use Rattle.std.proofs.lemmas.Option.{slice_get_within, get_or_from_slice_get}
+use mathlib.Core.Option as O
+use mathlib.Core.Option.{some-injective}
+use mathlib.Core.Logic.{dite}
+use native.Mathlib.Decide.{ℕ_discrete}
+use lib.ListN.{get_elem?}
+use Rattle.atomic_table.specs.Seated.{TableId}
+use Rattle.atomic_table.proofs.Lists.{set_here, set_else}
+use Rattle.tas_model.specs.declared.entry.FlowId.{FlowId}
+use Rattle.flow_state.specs.Flow.{Flow}
+use Rattle.flow_lock.specs.Answers.{is_free, next_of, next_in}
+use Rattle.flow_lock.specs.Callers.{IsOwner}
+use Rattle.flow_lock.specs.Claims.{HasPin}
+use Rattle.flow_lock.specs.Orders.{total}
+use Rattle.flow_lock.specs.Passes.{Seen}
+use Rattle.flow_lock.specs.Steps.{HasTurn, IsAlone, MayAct, noted, mark, mark_at}
+use Rattle.flow_lock.specs.Words.{flag}
+use Rattle.flow_lock.specs.declared.view.Deed.{Deed}
+use Rattle.flow_lock.specs.declared.view.History.{History}
+use Rattle.flow_lock.specs.declared.view.Mark.{Mark}
+use Rattle.flow_lock.specs.declared.view.View.{View}
+use Rattle.flow_lock.specs.declared.word.Word.{Word}
+use Rattle.flow_lock.proofs.Calling.{still_turn, same_turn}
+use Rattle.flow_lock.proofs.Sums.{at_below, at_get, total-set, term_le}
+use Rattle.app_reaper.specs.Lists.{is_on}
+use Rattle.app_reaper.specs.OneCall.{IsUse, IsCallRefused}
+use Rattle.app_reaper.specs.declared.one_call.CallFault.{CallFault}
+use Rattle.app_reaper.specs.declared.one_call.CallFault.TheVariants.{Busy, OutOfMemory}
+use Rattle.app_reaper.proofs.Walking.{none_some, same_pin}
+use Rattle.tas_model.specs.declared.entry.FourTuple.{FourTuple}
+use Rattle.slow_worker.specs.Workers.{has_tuple, id_of, flow_with, free_slots, HasFew, HasItsPin, AreKept}
+use Rattle.slow_worker.specs.Opening.{with_open}
+use Rattle.slow_worker.specs.declared.known.KnownFlow.{KnownFlow}
+
+-- ----- acting
+-- who may act may act after a step
+pub still_may : (v w : View) (ds : List Deed) (won lost : List FlowId) → w.turns ≡ noted ds won lost v.turns
+    → w.baton ≡ v.baton → w.made ≡ v.made → MayAct v → MayAct w
+still_may v w ds won lost e baton made = ⊎_elim
+    (λ t. inl (still_turn v w ds won lost e t))
+    (λ a. inr (baton ∙ a.0, e ∙ ap (noted ds won lost) a.1, made ∙ a.2))
+
+same_may : (v w : View) → w.turns ≡ v.turns → w.baton ≡ v.baton → w.made ≡ v.made → MayAct v → MayAct w
+same_may v w e baton made = ⊎_elim (λ t. inl (same_turn v w e t)) (λ a. inr (baton ∙ a.0, e ∙ a.1, made ∙ a.2))
+
+-- ----- the next free slot
+free_dead : (m : Mark) → is_free m ≡ true → m.live ≡ false
+free_dead m e = by_live m.live e where
+  by_live : (b : Bool) → not b ≡ true → b ≡ false
+  by_live true h = absurd (cc (h))
+  by_live false h = refl
+
+slot_of : Option FlowId → ℕ
+slot_of None = 0
+slot_of (Some y) = y.slot
+
+-- its mark says so
+pub next_free : (ms : List Mark) (f : FlowId) → next_in ms ≡ Some f
+    → (m : Mark) × (get_elem? ms f.slot ≡ O.some m) × (m.live ≡ false)
+unfolding slot_of
+next_free ms f e = of_place (position is_free ms) refl e where
+  of_place : (p : Option ℕ) → position is_free ms ≡ p → next_of ms p ≡ Some f
+      → (m : Mark) × (get_elem? ms f.slot ≡ O.some m) × (m.live ≡ false)
+  of_place None is q = absurd (none_some f q)
+  of_place (Some i) is q =
+      let p = position-Some is_free ms i (mark 0 false false) is in
+      let at : i ≡ f.slot = ap slot_of q in (
+        mark_at ms i,
+        ap (get_elem? ms) (sym at) ∙ at_get ms i (mark 0 false false) p.0,
+        free_dead (mark_at ms i) p.1,
+      )
+
+-- a flow more may be opened where a slot is free
+pub one_few : (v : View) (f : FlowId) → next_in v.marks ≡ Some f → HasFew v → v.opened < 4294967295
+one_few v f next few =
+    let n = next_free v.marks f next in
+    let le : flag (is_free n.0) ≤ free_slots v.marks =
+    term_le (λ (m : Mark). flag (is_free m)) v.marks f.slot n.0 n.1 in
+    let one : flag (is_free n.0) ≡ 1 = ap (λ b. flag (not b)) n.2 in omega (arith, le, one, few)
+
+-- ----- lists
+in_front : {A : Type 0} (l : List A) (f g : A) (k : ℕ) → slice_get l k ≡ Some g → slice_get (l ++ f ∷ []) k ≡ Some g
+in_front {A} [] f g k e = absurd (none_here g e) where
+  none_here : (x : A) → ◌≡◌ {A = Option A} None (Some x) → ⊥
+  none_here x q = absurd (cc)
+in_front (x ∷ xs) f g zero e = e
+in_front (x ∷ xs) f g (suc k) e = in_front xs f g k e
+
+at_end : {A : Type 0} (l : List A) (f : A) → slice_get (l ++ f ∷ []) (length l) ≡ Some f
+at_end [] f = refl
+at_end (x ∷ xs) f = at_end xs f
+
+value_or : {A : Type 0} → A → Option A → A
+value_or d None = d
+value_or d (Some x) = x
+
+in_longer : {A : Type 0} (l : List A) (f g : A) (k : ℕ) → slice_get (l ++ f ∷ []) k ≡ Some g
+    → (slice_get l k ≡ Some g) ⊎ (f ≡ g)
+unfolding value_or
+in_longer [] f g zero e = inr (ap (value_or f) e)
+in_longer {A} [] f g (suc k) e = absurd (none_here g e) where
+  none_here : (x : A) → ◌≡◌ {A = Option A} None (Some x) → ⊥
+  none_here x q = absurd (cc)
+in_longer (x ∷ xs) f g zero e = inl e
+in_longer (x ∷ xs) f g (suc k) e = in_longer xs f g k e
+
+-- ----- the pin of a flow
+-- two owned flows of one slot are one
+pub same_owned : (s : Seen) (f g : FlowId) → IsOwner f s → IsOwner g s → f.slot ≡ g.slot → f ≡ g
+same_owned s f g (hf, (df, mf)) (hg, (dg, mg)) e =
+    let marks : mark f.generation true df ≡ mark g.generation true dg =
+    some-injective _ _ (sym mf ∙ (ap (get_elem? s.view.marks) e ∙ mg)) in
+    let generation : f.generation ≡ g.generation = ap (λ (m : Mark). m.generation) marks in
+    λ q. record { slot = e q; generation = generation q }
+
+pub place_of_pin : (t : TableId) (pass : Seen) (pins : List FlowId) (flows : List KnownFlow) (id p : FlowId) (k : ℕ)
+    → AreKept t pass pins flows → HasItsPin pins id → position (is_on id.slot) pins ≡ Some k
+    → slice_get pins k ≡ Some p → p ≡ id
+place_of_pin t pass pins flows id p k kept (j, at) place there =
+    let d = position-Some (is_on id.slot) pins k id place in
+    let on : p.slot ≡ id.slot = slot_at pins k p d.1 there in
+    same_owned pass p id (kept.owned k p there).0 (kept.owned j id at).0 on
+  where
+  slot_at : (l : List FlowId) (n : ℕ) (q : FlowId) → is_on id.slot (slice_index_or l n id) ≡ true
+      → slice_get l n ≡ Some q → q.slot ≡ id.slot
+  slot_at [] n q h e = absurd (none_some q e)
+  slot_at (x ∷ xs) zero q h e =
+      subst (λ (y : FlowId). y.slot ≡ id.slot) (same_pin x q e) (eqb-true x.slot id.slot h)
+  slot_at (x ∷ xs) (suc n) q h e = slot_at xs n q h e
+
+lower_or : (n m : ℕ) → cond {A = Option ℕ} (nat_lt n m) (Some n) None ≡ None → m ≤ n
+lower_or n m e = by_test (nat_lt n m) refl e where
+  none : (x : ℕ) → ◌≡◌ {A = Option ℕ} (Some x) None → ⊥
+  none x q = absurd (cc)
+
+  by_test : (b : Bool) → nat_lt n m ≡ b → cond {A = Option ℕ} b (Some n) None ≡ None → m ≤ n
+  by_test true h q = absurd (none n q)
+  by_test false h q = grind (arith, tests, h)
+
+-- the list has a pin on the slot of the flow
+pub has_place : (pins : List FlowId) (id : FlowId) → HasItsPin pins id → position (is_on id.slot) pins ≢ None
+has_place pins id (j, at) e =
+    let past : length pins ≤ position_or_len (is_on id.slot) pins = lower_or _ _ e in
+    let within : j < length pins = slice_get_within pins j id at in
+    let fails : is_on id.slot (slice_index_or pins j id) ≡ false =
+    fails_before_first (is_on id.slot) pins j id (omega (arith, past, within)) in
+    let there : slice_index_or pins j id ≡ id = get_or_from_slice_get pins j id id at in
+    let on : eqb id.slot id.slot ≡ false = subst (λ (x : FlowId). is_on id.slot x ≡ false) there fails in
+    absurd (cc (on, eq-eqb id.slot id.slot refl))
+
+-- ----- flows by their four-tuples
+-- the flow that is found has its pin
+pub found_pinned : (t : FourTuple) (id : FlowId) (flows : List KnownFlow) (pins : List FlowId)
+    → flow_with t flows ≡ Some id
+    → ((k : ℕ) (f : KnownFlow) → slice_get flows k ≡ Some f → HasItsPin pins f.id) → HasItsPin pins id
+found_pinned t id [] pins e known = absurd (none_some id e)
+found_pinned t id (f ∷ fs) pins e known =
+    by_test (has_tuple t f) e (found_pinned t id fs pins) where
+  by_test : (b : Bool) → option_map id_of (cond b (Some f) (find (has_tuple t) fs)) ≡ Some id
+      → (flow_with t fs ≡ Some id
+      → ((k : ℕ) (g : KnownFlow) → slice_get fs k ≡ Some g → HasItsPin pins g.id) → HasItsPin pins id)
+      → HasItsPin pins id
+  by_test true q rest = subst (λ (x : FlowId). HasItsPin pins x) (same_pin f.id id q) (known 0 f refl)
+  by_test false q rest = rest q (λ k g. known (suc k) g)
+
+-- ----- steps
+-- a step that leaves pins, marks and the number of openings
+pub kept_moved : (t : TableId) (s n : Seen) (pins : List FlowId) (flows : List KnownFlow) → n.table ≡ s.table
+    → MayAct n.view → n.view.held ≡ [] → n.view.pins ≡ s.view.pins → n.view.marks ≡ s.view.marks
+    → n.view.opened ≡ s.view.opened → AreKept t s pins flows → AreKept t n pins flows
+kept_moved t s n pins flows table act idle same_pins same_marks same_opened k = record {
+  table = table ∙ k.table;
+  act = act;
+  idle = idle;
+  owned = λ i f q. let o = k.owned i f q in (
+    (
+      (o.0.0.0, ap (λ l. get_elem? l o.0.0.0) same_pins ∙ o.0.0.1),
+      (o.0.1.0, ap (λ l. get_elem? l f.slot) same_marks ∙ o.0.1.1),
+    ),
+    o.1,
+  );
+  known = k.known;
+  few = subst (λ o. o + free_slots n.view.marks ≤ 4294967295) (sym same_opened)
+      (subst (λ (l : List Mark). s.view.opened + free_slots l ≤ 4294967295) (sym same_marks) k.few);
+}
+
+-- a record was taken and given back
+pub kept_used : (t : TableId) (id : FlowId) (r : Flow) (after : History) (s n : Seen) (pins : List FlowId)
+    (flows : List KnownFlow) → n.table ≡ s.table → IsUse id r after s.view n.view → AreKept t s pins flows
+    → AreKept t n pins flows
+kept_used t id r after s n pins flows table (x, busy, known, e) k =
+    let turns = ap (λ (v : View). v.turns) e in
+    let act : MayAct n.view =
+    still_may s.view n.view _ [] [] turns (ap (λ (v : View). v.baton) e) (ap (λ (v : View). v.made) e) k.act in
+    kept_moved t s n pins flows table act (ap (λ (v : View). v.held) e) (ap (λ (v : View). v.pins) e)
+    (ap (λ (v : View). v.marks) e) (ap (λ (v : View). v.opened) e) k
+
+pub kept_refused : (t : TableId) (id : FlowId) (fault : CallFault) (s n : Seen) (pins : List FlowId)
+    (flows : List KnownFlow) → n.table ≡ s.table → IsCallRefused id s.view n.view fault → AreKept t s pins flows
+    → AreKept t n pins flows
+kept_refused t id (Busy x) s n pins flows table (busy, not_alone) k =
+    let e = busy.1 in
+    let act : MayAct n.view =
+    same_may s.view n.view (ap (λ (v : View). v.turns) e) (ap (λ (v : View). v.baton) e) (ap (λ (v : View). v.made) e)
+    k.act in
+    kept_moved t s n pins flows table act (ap (λ (v : View). v.held) e ∙ k.idle) (ap (λ (v : View). v.pins) e)
+    (ap (λ (v : View). v.marks) e) (ap (λ (v : View). v.opened) e) k
+kept_refused t id OutOfMemory s n pins flows table (r, own, given) k =
+    kept_used t id r _ s n pins flows table given k
+
+-- the next flow was opened
+pub kept_opened : (t : TableId) (id : FlowId) (h : History) (s n : Seen) (pins : List FlowId)
+    (flows : List KnownFlow) (f : KnownFlow) → next_in s.view.marks ≡ Some id → id.slot < t.slots → f.id ≡ id
+    → n ≡ with_open id h s → AreKept t s pins flows → AreKept t n (pins ++ id ∷ []) (flows ++ f ∷ [])
+kept_opened t id h s n pins flows f next near named e k =
+    let free = next_free s.view.marks id next in
+    let v = ap (λ (x : Seen). x.view) e in
+    let below : id.slot < length s.view.marks = at_below s.view.marks id.slot free.0 free.1 in
+    record {
+      table = ap (λ (x : Seen). x.table) e ∙ k.table;
+      act = still_may s.view n.view _ (id ∷ []) [] (ap (λ (x : View). x.turns) v) (ap (λ (x : View). x.baton) v)
+          (ap (λ (x : View). x.made) v) k.act;
+      idle = ap (λ (x : View). x.held) v ∙ k.idle;
+      owned = λ i g q. ⊎_elim (λ old. old_owned free below v g (k.owned i g old))
+          (λ same. subst (λ (x : FlowId). IsOwner x n × (x.slot < t.slots)) same (new_owned below v, near))
+          (in_longer pins id g i q);
+      known = λ i g q. ⊎_elim (λ old. let p = k.known i g old in (p.0, in_front pins id g.id p.0 p.1))
+          (λ same. (length pins, at_end pins id ∙ ap Some (sym named ∙ ap (λ (x : KnownFlow). x.id) same)))
+          (in_longer flows f g i q);
+      few = few_left free v;
+    }
+  where
+  marks_after : n.view ≡ (with_open id h s).view → n.view.marks ≡ set s.view.marks id.slot (mark id.generation true false)
+  marks_after v = ap (λ (x : View). x.marks) v
+
+  old_owned : ((m : Mark) × (get_elem? s.view.marks id.slot ≡ O.some m) × (m.live ≡ false))
+      → id.slot < length s.view.marks → n.view ≡ (with_open id h s).view → (g : FlowId)
+      → IsOwner g s × (g.slot < t.slots) → IsOwner g n × (g.slot < t.slots)
+  old_owned free below v g ((pin, (doomed, at)), slot) =
+      let other : g.slot ≢ id.slot = λ same.
+      absurd (cc (ap (λ (m : Mark). m.live) (some-injective _ _ (sym at ∙ (ap (get_elem? s.view.marks) same ∙ free.1))),
+      free.2)) in
+      (
+        (
+          (suc pin.0, ap (λ (x : View). get_elem? x.pins (suc pin.0)) v ∙ pin.1),
+          (
+            doomed,
+            ap (λ l. get_elem? l g.slot) (marks_after v)
+                ∙ (set_else s.view.marks id.slot g.slot (mark id.generation true false) other ∙ at),
+          ),
+        ),
+        slot,
+      )
+
+  new_owned : id.slot < length s.view.marks → n.view ≡ (with_open id h s).view → IsOwner id n
+  new_owned below v = (
+    (0, ap (λ (x : View). get_elem? x.pins 0) v),
+    (
+      false,
+      ap (λ l. get_elem? l id.slot) (marks_after v)
+          ∙ set_here s.view.marks id.slot (mark id.generation true false) below,
+    ),
+  )
+
+  few_left : ((m : Mark) × (get_elem? s.view.marks id.slot ≡ O.some m) × (m.live ≡ false))
+      → n.view ≡ (with_open id h s).view → HasFew n.view
+  few_left free v =
+      let m : Mark = mark id.generation true false in
+      let count : free_slots (set s.view.marks id.slot m) + flag (is_free free.0) ≡ free_slots s.view.marks + 0 =
+      total-set (λ (x : Mark). flag (is_free x)) s.view.marks id.slot free.0 m free.1 in
+      let one : flag (is_free free.0) ≡ 1 = ap (λ b. flag (not b)) free.2 in
+      let opened : n.view.opened ≡ s.view.opened + 1 = ap (λ (x : View). x.opened) v in
+      let left : free_slots n.view.marks ≡ free_slots (set s.view.marks id.slot m) = ap free_slots (marks_after v) in
+      omega (arith, count, one, opened, left, k.few)
+
+-- the same, with what the calls answer
+pub opened_kept : (t : TableId) (id p : FlowId) (h : History) (s n : Seen) (pins pins' : List FlowId)
+    (flows flows' : List KnownFlow) (f : KnownFlow) → next_in s.view.marks ≡ Some id → id.slot < t.slots → f.id ≡ id
+    → p ≡ id → n ≡ with_open p h s → pins' ≡ pins ++ p ∷ [] → flows' ≡ flows ++ f ∷ [] → AreKept t s pins flows
+    → AreKept t n pins' flows'
+opened_kept t id p h s n pins pins' flows flows' f next near named is e more_pins more_flows k =
+    let opening : n ≡ with_open id h s = e ∙ ap (λ x. with_open x h s) is in
+    let after : AreKept t n (pins ++ id ∷ []) (flows ++ f ∷ []) =
+    kept_opened t id h s n pins flows f next near named opening k in
+    let with_pins : AreKept t n pins' (flows ++ f ∷ []) =
+    subst (λ l. AreKept t n l (flows ++ f ∷ [])) (sym (more_pins ∙ ap (λ x. pins ++ x ∷ []) is)) after in
+    subst (AreKept t n pins') (sym more_flows) with_pins

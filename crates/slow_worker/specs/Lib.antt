@@ -1,0 +1,4 @@
+pub mod Workers
+pub mod Entering
+pub mod Opening
+pub mod Serving

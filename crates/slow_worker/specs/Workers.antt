@@ -1,0 +1,96 @@
+-- What contracts see of the slow path's worker.
+use Rattle.std.specs.Prelude.{◌≡◌, ℕ, ◌+◌, ◌<◌, ◌≤◌, Bool, List, [], slice_get, Option, Some}
+use Rattle.std.specs.List.{find}
+use Rattle.std.specs.Option.{option_map}
+use Rattle.atomic_table.specs.Seated.{TableId}
+use Rattle.tas_model.specs.declared.entry.FlowId.{FlowId}
+use Rattle.tas_model.specs.declared.entry.FourTuple.{FourTuple}
+use Rattle.tas_model.specs.Valid.{InRange}
+use Rattle.host_rounds.specs.declared.log.LogLine.{LogLine}
+use Rattle.flow_state.specs.Flow.{Flow}
+use Rattle.flow_index.specs.Changes.{Writing, is_same}
+use Rattle.flow_lock.specs.Answers.{is_free}
+use Rattle.flow_lock.specs.Callers.{IsOwner}
+use Rattle.flow_lock.specs.Orders.{total}
+use Rattle.flow_lock.specs.Passes.{Seen}
+use Rattle.flow_lock.specs.Steps.{MayAct}
+use Rattle.flow_lock.specs.Words.{flag}
+use Rattle.flow_lock.specs.declared.view.Mark.{Mark}
+use Rattle.flow_lock.specs.declared.view.View.{View}
+use Rattle.slow_handshake.specs.Openings.{Openings}
+use Rattle.core_worker.specs.declared.frames.PassedFrame.{PassedFrame}
+use Rattle.slow_worker.specs.declared.known.KnownFlow.{KnownFlow}
+
+-- What handling a frame changes of the worker: the lists of openings, its pass, the slow path's pins, the flows by
+-- their four-tuples, the index that shows these to cores, and the lines that it wrote.
+pub record Sight : Type 0 where
+  pub path : Openings
+  pub pass : Seen
+  pub pins : List FlowId
+  pub flows : List KnownFlow
+  pub index : Writing
+  pub log : List LogLine
+
+-- The slow path's worker: besides, the records that were filed, whether it looks at checksums, and the frames that cores
+-- passed on: those that another pass stood in the way of, and the exceptions.
+pub record Worker : Type 0 where
+  pub path : Openings
+  pub pass : Seen
+  pub pins : List FlowId
+  pub filed : List Flow
+  pub log : List LogLine
+  pub check_sums : Bool
+  pub flows : List KnownFlow
+  pub index : Writing
+  pub deferred : List PassedFrame
+  pub exceptions : List PassedFrame
+
+abbrev pub sight_of : Worker → Sight
+sight_of w =
+    record { path = w.path; pass = w.pass; pins = w.pins; flows = w.flows; index = w.index; log = w.log }
+
+abbrev pub with_sight : Sight → Worker → Worker
+with_sight s w = record w {
+  path = s.path;
+  pass = s.pass;
+  pins = s.pins;
+  flows = s.flows;
+  index = s.index;
+  log = s.log;
+}
+
+-- ----- flows by their four-tuples
+abbrev pub has_tuple : FourTuple → KnownFlow → Bool
+has_tuple t f = is_same f.tuple t
+
+abbrev pub id_of : KnownFlow → FlowId
+id_of f = f.id
+
+-- the flow that has this four-tuple
+abbrev pub flow_with : FourTuple → List KnownFlow → Option FlowId
+flow_with t fs = option_map id_of (find (has_tuple t) fs)
+
+-- ----- what holds between two calls
+-- how many slots have no flow
+abbrev pub free_slots : List Mark → ℕ
+free_slots = total (λ m. flag (is_free m))
+
+-- so few flows were opened that each free slot may be opened once more
+abbrev pub HasFew : View → Type 0
+HasFew v = v.opened + free_slots v.marks ≤ 4294967295
+
+-- the pin of this flow is in the list
+abbrev pub HasItsPin : List FlowId → FlowId → Type 0
+HasItsPin pins id = (j : ℕ) × (slice_get pins j ≡ Some id)
+
+-- The pass is of this table, may act and holds no record; the pins are its own, and each flow has one.
+pub record AreKept (t : TableId) (pass : Seen) (pins : List FlowId) (flows : List KnownFlow) : Type 0 where
+  pub table : pass.table ≡ t
+  pub act : MayAct pass.view
+  pub idle : pass.view.held ≡ []
+  pub owned : (k : ℕ) (f : FlowId) → slice_get pins k ≡ Some f → IsOwner f pass × (f.slot < t.slots)
+  pub known : (k : ℕ) (f : KnownFlow) → slice_get flows k ≡ Some f → HasItsPin pins f.id
+  pub few : HasFew pass.view
+
+abbrev pub IsKept : TableId → Sight → Type 0
+IsKept t s = AreKept t s.pass s.pins s.flows × InRange s.path.params

@@ -1,0 +1,13 @@
+//! The worker of a host's slow path: frames that cores leave, on flows that cores and applications share.
+#![tactic(auto)]
+
+mod entering;
+mod known;
+mod meeting;
+mod opening;
+mod served;
+mod waiting;
+mod worker;
+
+pub use served::Served;
+pub use worker::SlowWorker;
