@@ -1,5 +1,5 @@
 // What a worker keeps: frames in their order.
-ghost use Rattle.std.specs.Prelude.{◌≡◌, ◌<◌, ◌++◌, ◌∷◌, [], List, OnOk, OnErr, IfNone, IfSome};
+ghost use Rattle.std.specs.Prelude.{◌≡◌, ◌<◌, ◌++◌, ◌∷◌, [], List, length, OnOk, OnErr, IfNone, IfSome};
 ghost use Rattle.core_worker.specs.declared.frames.Frame.{Frame};
 
 use crate::frames::{Frame, PassedFrame};
@@ -81,6 +81,13 @@ impl PassedList {
         PassedList {
             frames: VecDeque::new(alloc),
         }
+    }
+
+    /// How many frames there are.
+    pub(crate) fn len(&self) -> usize
+        ensures { result ≡ length self.now.list }
+    {
+        self.frames.len()
     }
 
     /// Makes room for one frame more. The error is want of memory.

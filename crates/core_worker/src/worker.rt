@@ -1,4 +1,4 @@
-ghost use Rattle.std.specs.Prelude.{◌≡◌, ◌<◌, ◌++◌, ◌∷◌, [], IfOk, OnOk, OnErr, IfNone, IfSome};
+ghost use Rattle.std.specs.Prelude.{◌≡◌, ◌<◌, ◌++◌, ◌∷◌, [], length, IfOk, OnOk, OnErr, IfNone, IfSome};
 ghost use Rattle.core_worker.specs.Workers.{sight_of, with_sight, with_frames, with_deferred, with_exceptions, IsFree};
 ghost use Rattle.core_worker.specs.Workers.{with_log, with_senders, new_worker, frame_of, HasSenders};
 ghost use Rattle.core_worker.specs.Handling.{IsHandled, IsUnhandled, setting_of};
@@ -157,6 +157,29 @@ impl CoreWorker {
         ensures rest { self.new ≡ with_log [] self.old }
     {
         std::mem::replace(&mut self.log, HostLog::new(alloc))
+    }
+
+    /// Moves the lines that the worker wrote behind those of a log. The error is want of memory, and leaves all as it
+    /// was.
+    pub fn move_log(&mut self, log: &mut HostLog) -> Result<(), AllocError>
+        ensures ok { OnOk result ((log.new ≡ log.old ++ self.old.log) × (self.new ≡ with_log [] self.old)) }
+        ensures err { OnErr result ((log.new ≡ log.old) × (self.new ≡ self.old)) }
+    {
+        log.append(&mut self.log)
+    }
+
+    /// How many frames there are that another pass stood in the way of.
+    pub fn deferred(&self) -> usize
+        ensures { result ≡ length self.now.deferred }
+    {
+        self.deferred.len()
+    }
+
+    /// How many frames there are that are left to the slow path for another reason.
+    pub fn exceptions(&self) -> usize
+        ensures { result ≡ length self.now.exceptions }
+    {
+        self.exceptions.len()
     }
 
     /// Takes the first frame out that another pass stood in the way of.

@@ -4,7 +4,6 @@ use Rattle.std.specs.Prelude.{Result, Ok, Err, IfOk, OnErr}
 use Rattle.segment_fields.specs.declared.segment.Segment.{Segment}
 use Rattle.tas_model.specs.declared.entry.FlowId.{FlowId}
 use Rattle.tas_model.specs.declared.entry.FrameId.{FrameId}
-use Rattle.tas_model.specs.declared.entry.HostParams.{HostParams}
 use Rattle.tas_model.specs.declared.entry.Phase.{Phase}
 use Rattle.tas_model.specs.declared.entry.Phase.TheVariants as phases
 use Rattle.tas_model.specs.Valid.{InRange}
@@ -16,8 +15,8 @@ use Rattle.flow_lock.specs.declared.view.View.{View}
 use Rattle.app_reaper.specs.OneCall.{history, IsOwn, IsUse, IsCallRefused}
 use Rattle.app_reaper.specs.declared.one_call.CallFault.TheVariants.{Busy, OutOfMemory}
 use Rattle.slow_handshake.specs.Openings.{Openings}
-use Rattle.slow_worker.specs.Workers.{Worker, sight_of, AreKept, IsKept}
-use Rattle.slow_worker.specs.Entering.{received, phase_of, told, IsOffered, IsEnteredAt, IsEntered, IsUnentered}
+use Rattle.slow_worker.specs.Workers.{Worker, sight_of, IsKept}
+use Rattle.slow_worker.specs.Entering.{received, phase_of, told, IsEnteredAt, IsEntered, IsUnentered}
 use Rattle.slow_worker.proofs.Keeping.{kept_used, kept_refused}
 use Rattle.slow_worker.specs.declared.served.Served.{Served}
 use Rattle.slow_worker.specs.declared.served.Served.TheVariants as served

@@ -10,8 +10,6 @@ use Rattle.std.proofs.lemmas.List.Quantifiers.{position-Some}
 use Rattle.std.proofs.lemmas.Option.{slice_get_within, get_or_from_slice_get}
 use mathlib.Core.Option as O
 use mathlib.Core.Option.{some-injective}
-use mathlib.Core.Logic.{dite}
-use native.Mathlib.Decide.{ℕ_discrete}
 use lib.ListN.{get_elem?}
 use Rattle.atomic_table.specs.Seated.{TableId}
 use Rattle.atomic_table.proofs.Lists.{set_here, set_else}
@@ -19,16 +17,13 @@ use Rattle.tas_model.specs.declared.entry.FlowId.{FlowId}
 use Rattle.flow_state.specs.Flow.{Flow}
 use Rattle.flow_lock.specs.Answers.{is_free, next_of, next_in}
 use Rattle.flow_lock.specs.Callers.{IsOwner}
-use Rattle.flow_lock.specs.Claims.{HasPin}
-use Rattle.flow_lock.specs.Orders.{total}
 use Rattle.flow_lock.specs.Passes.{Seen}
-use Rattle.flow_lock.specs.Steps.{HasTurn, IsAlone, MayAct, noted, mark, mark_at}
+use Rattle.flow_lock.specs.Steps.{MayAct, noted, mark, mark_at}
 use Rattle.flow_lock.specs.Words.{flag}
 use Rattle.flow_lock.specs.declared.view.Deed.{Deed}
 use Rattle.flow_lock.specs.declared.view.History.{History}
 use Rattle.flow_lock.specs.declared.view.Mark.{Mark}
 use Rattle.flow_lock.specs.declared.view.View.{View}
-use Rattle.flow_lock.specs.declared.word.Word.{Word}
 use Rattle.flow_lock.proofs.Calling.{still_turn, same_turn}
 use Rattle.flow_lock.proofs.Sums.{at_below, at_get, total-set, term_le}
 use Rattle.app_reaper.specs.Lists.{is_on}

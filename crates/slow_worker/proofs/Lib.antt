@@ -1,2 +1,4 @@
 pub mod Keeping
 pub mod Entries
+pub mod Moves
+pub mod Serving

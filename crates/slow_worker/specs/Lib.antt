@@ -2,3 +2,4 @@ pub mod Workers
 pub mod Entering
 pub mod Opening
 pub mod Serving
+pub mod Queues

@@ -1,5 +1,5 @@
 -- What contracts see of the slow path's worker.
-use Rattle.std.specs.Prelude.{◌≡◌, ℕ, ◌+◌, ◌<◌, ◌≤◌, Bool, List, [], slice_get, Option, Some}
+use Rattle.std.specs.Prelude.{◌≡◌, ℕ, ◌+◌, ◌<◌, ◌≤◌, Bool, List, [], ◌++◌, slice_get, Option, Some}
 use Rattle.std.specs.List.{find}
 use Rattle.std.specs.Option.{option_map}
 use Rattle.atomic_table.specs.Seated.{TableId}
@@ -17,6 +17,7 @@ use Rattle.flow_lock.specs.Steps.{MayAct}
 use Rattle.flow_lock.specs.Words.{flag}
 use Rattle.flow_lock.specs.declared.view.Mark.{Mark}
 use Rattle.flow_lock.specs.declared.view.View.{View}
+use Rattle.app_reaper.specs.Lists.{Roomy}
 use Rattle.slow_handshake.specs.Openings.{Openings}
 use Rattle.core_worker.specs.declared.frames.PassedFrame.{PassedFrame}
 use Rattle.slow_worker.specs.declared.known.KnownFlow.{KnownFlow}
@@ -42,8 +43,8 @@ pub record Worker : Type 0 where
   pub check_sums : Bool
   pub flows : List KnownFlow
   pub index : Writing
-  pub deferred : List PassedFrame
-  pub exceptions : List PassedFrame
+  pub deferred : Roomy PassedFrame
+  pub exceptions : Roomy PassedFrame
 
 abbrev pub sight_of : Worker → Sight
 sight_of w =
@@ -58,6 +59,10 @@ with_sight s w = record w {
   index = s.index;
   log = s.log;
 }
+
+-- the frames that wait: the exceptions, and then the deferred ones
+abbrev pub waiting : Worker → List PassedFrame
+waiting w = w.exceptions.list ++ w.deferred.list
 
 -- ----- flows by their four-tuples
 abbrev pub has_tuple : FourTuple → KnownFlow → Bool

@@ -3,8 +3,10 @@
 
 mod entering;
 mod known;
+mod collecting;
 mod meeting;
 mod opening;
+mod queues;
 mod served;
 mod waiting;
 mod worker;

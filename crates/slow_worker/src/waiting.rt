@@ -1,5 +1,5 @@
 // Frames that wait for the slow path.
-ghost use Rattle.std.specs.Prelude.{◌≡◌, ◌<◌, ◌≤◌, ◌++◌, ◌∷◌, [], length, OnOk, IfNone, IfSome};
+ghost use Rattle.std.specs.Prelude.{◌≡◌, ◌+◌, ◌<◌, ◌≤◌, ◌++◌, ◌∷◌, [], length, OnOk, IfNone, IfSome};
 
 use core_worker::PassedFrame;
 use std::alloc::{AllocError, Global};
@@ -30,5 +30,46 @@ impl WaitingFrames {
         WaitingFrames {
             frames: VecDeque::new(alloc),
         }
+    }
+
+    /// How many frames there are.
+    pub(crate) fn len(&self) -> usize
+        ensures { result ≡ length self.now.list }
+    {
+        self.frames.len()
+    }
+
+    /// Makes room for so many frames more. The error is want of memory.
+    pub(crate) fn reserve(&mut self, more: usize) -> Result<(), AllocError>
+        ensures room { OnOk result (more ≤ self.new.spare) }
+        ensures list { self.new.list ≡ self.old.list }
+    {
+        self.frames.reserve(more)
+    }
+
+    /// Appends a frame.
+    pub(crate) fn put(&mut self, frame: PassedFrame)
+        requires room { 0 < self.old.spare }
+        ensures list { self.new.list ≡ self.old.list ++ frame ∷ [] }
+        ensures room { self.new.spare + 1 ≡ self.old.spare }
+    {
+        self.frames.push_back_reserved(frame);
+    }
+
+    /// Puts a frame before all others.
+    pub(crate) fn put_back(&mut self, frame: PassedFrame)
+        requires room { 0 < self.old.spare }
+        ensures list { self.new.list ≡ frame ∷ self.old.list }
+    {
+        self.frames.push_front_reserved(frame);
+    }
+
+    /// Takes the first frame out. There is then room for one more.
+    pub(crate) fn take_first(&mut self) -> Option<PassedFrame>
+        ensures none { IfNone result (self.old.list ≡ []) }
+        ensures first { IfSome result (λ f. self.old.list ≡ f ∷ self.new.list) }
+        ensures room { IfSome result (λ _. 0 < self.new.spare) }
+    {
+        self.frames.pop_front()
     }
 }

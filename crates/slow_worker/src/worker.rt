@@ -55,8 +55,8 @@ impl Model for SlowWorker {
       check_sums = w.check_sums;
       flows = w.flows.list;
       index = w.index;
-      deferred = w.deferred.list;
-      exceptions = w.exceptions.list;
+      deferred = w.deferred;
+      exceptions = w.exceptions;
     } };
 }
 

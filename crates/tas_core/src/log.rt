@@ -38,6 +38,14 @@ impl HostLog {
         Ok(())
     }
 
+    /// Moves all lines of another log behind its own. The error is want of memory, and leaves both as they were.
+    pub fn append(&mut self, other: &mut HostLog) -> Result<(), AllocError>
+        ensures ok { OnOk result ((self.new ≡ self.old ++ other.old) × (other.new ≡ [])) }
+        ensures err { OnErr result ((self.new ≡ self.old) × (other.new ≡ other.old)) }
+    {
+        self.lines.append(&mut other.lines)
+    }
+
     /// How many lines it has.
     pub fn len(&self) -> usize
         ensures { result ≡ length self.now }

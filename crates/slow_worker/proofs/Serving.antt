@@ -1,0 +1,196 @@
+-- The frames that wait, one after the other.
+use Rattle.std.proofs.Common.{◌≡◌, ap, sym, ◌∙◌, refl, subst, ℕ, ◌+◌, ◌-◌, ◌<◌, ◌≤◌, List, [], ◌∷◌, ◌++◌}
+use Rattle.std.proofs.Common.{append_assoc, append-nil, inl, inr, length, arith}
+use Rattle.std.specs.Prelude.{Result, Ok, Err, OnErr}
+use Rattle.std.proofs.lemmas.List.{length-append}
+use Rattle.atomic_table.specs.Seated.{TableId}
+use Rattle.core_worker.specs.declared.frames.PassedFrame.{PassedFrame}
+use Rattle.slow_worker.specs.Workers.{Worker, Sight, sight_of, waiting, IsKept}
+use Rattle.slow_worker.specs.Serving.{Setting, setting_of, IsUnserved}
+use Rattle.slow_worker.specs.Queues.{kept_of, IsOneServed, AreServed, IsSame, IsAllServed, IsStopped, IsPartServed}
+use Rattle.slow_worker.specs.Queues.{IsFirstServed, IsFirstLeft}
+use Rattle.slow_worker.specs.declared.served.Served.{Served}
+
+-- ----- the first frame
+pub joined : {A : Type 0} (a b c d : List A) → a ≡ b → c ≡ d → a ++ c ≡ b ++ d
+joined a b c d e f = ap (λ l. l ++ c) e ∙ ap (λ l. b ++ l) f
+
+pub first_left : (tick : ℕ) (u v n : Worker) (f : PassedFrame) (rest : List PassedFrame) → u ≡ v
+    → waiting u ≡ f ∷ rest → IsUnserved (setting_of tick u) f.frame.packet (sight_of u) (sight_of n)
+    → waiting n ≡ waiting u → IsSame u n → IsFirstLeft tick v n
+first_left tick u v n f rest is first unserved still same =
+    subst (λ (w : Worker). IsFirstLeft tick w n) is
+    (record { stopped = inr (f, rest, first, unserved); still = still; same = same })
+
+pub first_served : (tick : ℕ) (u v n : Worker) (f : PassedFrame) (rest : List PassedFrame) (a : Served) → u ≡ v
+    → waiting u ≡ f ∷ rest → IsOneServed (setting_of tick u) f (sight_of u) (sight_of n) a
+    → waiting n ≡ rest ++ kept_of f a → length n.exceptions.list ≡ length u.exceptions.list - 1 → IsSame u n
+    → IsFirstServed tick v n
+first_served tick u v n f rest a is first served after fewer same =
+    subst (λ (w : Worker). IsFirstServed tick w n) is (record {
+      first = f;
+      rest = rest;
+      waits = first;
+      answer = a;
+      served = served;
+      after = after;
+      fewer = fewer;
+      same = same;
+    })
+
+-- ----- a loop that handles frames
+-- one frame more
+served_more : (at : Setting) (fs : List PassedFrame) (f : PassedFrame) (s m n : Sight) (kept : List PassedFrame)
+    (a : Served) → AreServed at fs s m kept → IsOneServed at f m n a
+    → AreServed at (fs ++ f ∷ []) s n (kept ++ kept_of f a)
+served_more at [] f s m n kept a (e, none) d = (
+  n,
+  a,
+  [],
+  subst (λ x. IsOneServed at f x n a) e d,
+  (refl, refl),
+  ap (λ l. l ++ kept_of f a) none ∙ sym (append-nil (kept_of f a)),
+)
+served_more at (g ∷ gs) f s m n kept a (x, b, more, one, rest, e) d = (
+  x,
+  b,
+  more ++ kept_of f a,
+  one,
+  served_more at gs f x m n more a rest d,
+  ap (λ l. l ++ kept_of f a) e ∙ append_assoc (kept_of g b) more (kept_of f a),
+)
+
+-- those handled, those that are left, and those that are kept
+pub record Loop (t : TableId) (tick : ℕ) (first now : Worker) (count : ℕ) : Type 0 where
+  pub done : List PassedFrame
+  pub left : List PassedFrame
+  pub kept : List PassedFrame
+  pub number : length left + count ≡ length (waiting first)
+  pub all : waiting first ≡ done ++ left
+  pub served : AreServed (setting_of tick first) done (sight_of first) (sight_of now) kept
+  pub still : waiting now ≡ left ++ kept
+  pub exceptions : length now.exceptions.list ≤ length left
+  pub same : IsSame first now
+  pub stays : IsKept t (sight_of now)
+
+pub loop_first : (t : TableId) (tick : ℕ) (w : Worker) → IsKept t (sight_of w) → Loop t tick w w 0
+loop_first t tick w stays = record {
+  done = [];
+  left = waiting w;
+  kept = [];
+  number = omega arith;
+  all = refl;
+  served = (refl, refl);
+  still = sym (append-nil (waiting w));
+  exceptions = let e = length-append w.exceptions.list w.deferred.list in omega (arith, e);
+  same = (refl, refl);
+  stays = stays;
+}
+
+-- one is left
+pub loop_waits : (t : TableId) (tick : ℕ) (first m : Worker) (count : ℕ) → Loop t tick first m count
+    → count < length (waiting first) → 0 < length (waiting m)
+loop_waits t tick first m count l near =
+    let e = ap length l.still in
+    let a = length-append l.left l.kept in
+    omega (arith, e, a, l.number, near)
+
+same_setting : (tick : ℕ) (first m : Worker) → m.check_sums ≡ first.check_sums
+    → setting_of tick m ≡ setting_of tick first
+same_setting tick first m e = ap (λ b. record { tick = tick; check_sums = b }) e
+
+head_or : PassedFrame → List PassedFrame → PassedFrame
+head_or d [] = d
+head_or d (f ∷ fs) = f
+
+tail_of : List PassedFrame → List PassedFrame
+tail_of [] = []
+tail_of (f ∷ fs) = fs
+
+pub loop_more : (t : TableId) (tick : ℕ) (first m n : Worker) (count : ℕ) → Loop t tick first m count
+    → count < length (waiting first) → IsFirstServed tick m n → IsKept t (sight_of n) → Loop t tick first n (count + 1)
+unfolding head_or tail_of
+loop_more t tick first m n count l near d stays = by_left l.left l.number l.all l.still l.exceptions where
+  at_one : IsOneServed (setting_of tick first) d.first (sight_of m) (sight_of n) d.answer
+  at_one = subst (λ at. IsOneServed at d.first (sight_of m) (sight_of n) d.answer)
+      (same_setting tick first m l.same.1) d.served
+
+  by_left : (left : List PassedFrame) → length left + count ≡ length (waiting first)
+      → waiting first ≡ l.done ++ left → waiting m ≡ left ++ l.kept → length m.exceptions.list ≤ length left
+      → Loop t tick first n (count + 1)
+  by_left [] number all still few = absurd (omega (arith, number, near))
+  by_left (g ∷ gs) number all still few =
+      let both : d.first ∷ d.rest ≡ g ∷ (gs ++ l.kept) = sym d.waits ∙ still in
+      let same_first : d.first ≡ g = ap (head_or g) both in
+      let rest : d.rest ≡ gs ++ l.kept = ap tail_of both in
+      let done : waiting first ≡ (l.done ++ d.first ∷ []) ++ gs =
+      all ∙ (ap (λ f. l.done ++ f ∷ gs) (sym same_first) ∙ sym (append_assoc l.done (d.first ∷ []) gs)) in
+      record {
+        done = l.done ++ d.first ∷ [];
+        left = gs;
+        kept = l.kept ++ kept_of d.first d.answer;
+        number = omega (arith, number);
+        all = done;
+        served = served_more (setting_of tick first) l.done d.first (sight_of first) (sight_of m) (sight_of n) l.kept
+            d.answer l.served at_one;
+        still = d.after ∙ (ap (λ x. x ++ kept_of d.first d.answer) rest
+            ∙ append_assoc gs l.kept (kept_of d.first d.answer));
+        exceptions = omega (arith, d.fewer, few);
+        same = (d.same.0 ∙ l.same.0, d.same.1 ∙ l.same.1);
+        stays = stays;
+      }
+
+pub none_of : {A : Type 0} (xs : List A) → length xs ≡ 0 → xs ≡ []
+none_of [] e = refl
+none_of (x ∷ xs) e = absurd (omega (arith, e))
+
+pub loop_ends : (t : TableId) (tick : ℕ) (first w : Worker) (count : ℕ) → Loop t tick first w count
+    → length (waiting first) ≤ count → IsAllServed tick first w
+loop_ends t tick first w count l past =
+    let left : l.left ≡ [] = none_of l.left (omega (arith, l.number, past)) in
+    let few : length w.exceptions.list ≡ 0 =
+    let z = ap length left in omega (arith, l.exceptions, z) in
+    let none : w.exceptions.list ≡ [] = none_of w.exceptions.list few in
+    let kept : w.deferred.list ≡ l.kept =
+    sym (ap (λ x. x ++ w.deferred.list) none) ∙ (l.still ∙ ap (λ x. x ++ l.kept) left) in
+    let done : waiting first ≡ l.done = l.all ∙ (ap (λ x. l.done ++ x) left ∙ append-nil l.done) in
+    record {
+      served = subst (λ fs. AreServed (setting_of tick first) fs (sight_of first) (sight_of w) w.deferred.list)
+          (sym done)
+          (subst (λ k. AreServed (setting_of tick first) l.done (sight_of first) (sight_of w) k) (sym kept) l.served);
+      none = none;
+      same = l.same;
+    }
+
+-- what stops before a list, or at its first frame
+longer_stop : (at : Setting) (left more : List PassedFrame) (s n : Sight) → 0 < length left
+    → IsStopped at (left ++ more) s n → IsStopped at left s n
+unfolding head_or
+longer_stop at left more s n some (inl e) = inl e
+longer_stop at [] more s n some (inr r) = absurd (omega (arith, some))
+longer_stop at (g ∷ gs) more s n some (inr (f, rest, first, un)) =
+    inr (g, gs, refl, subst (λ (x : PassedFrame). IsUnserved at x.frame.packet s n) (ap (head_or g) (sym first)) un)
+
+pub loop_stops : (t : TableId) (tick : ℕ) (first m w : Worker) (count : ℕ) → Loop t tick first m count
+    → count < length (waiting first) → IsFirstLeft tick m w → IsPartServed tick first w
+loop_stops t tick first m w count l near d =
+    let at : setting_of tick m ≡ setting_of tick first = same_setting tick first m l.same.1 in
+    let some : 0 < length l.left = omega (arith, l.number, near) in
+    let by_list : IsStopped (setting_of tick first) (l.left ++ l.kept) (sight_of m) (sight_of w) =
+    subst (λ fs. IsStopped (setting_of tick first) fs (sight_of m) (sight_of w)) l.still
+    (subst (λ x. IsStopped x (waiting m) (sight_of m) (sight_of w)) at d.stopped) in
+    record {
+      done = l.done;
+      left = l.left;
+      kept = l.kept;
+      all = l.all;
+      before = sight_of m;
+      served = l.served;
+      stopped = longer_stop (setting_of tick first) l.left l.kept (sight_of m) (sight_of w) some by_list;
+      still = d.still ∙ l.still;
+      same = (d.same.0 ∙ l.same.0, d.same.1 ∙ l.same.1);
+    }
+
+pub err_of : {A E : Type 0} (P : Type 0) → P → (x : Result A E) → OnErr x P
+err_of P p (Ok a) = tt
+err_of P p (Err e) = p
