@@ -66,3 +66,14 @@ pub record IsUnopened (seg : Segment) (id : FlowId) (s n : Sight) : Type 0 where
   pub path : (n.path ≡ s.path) ⊎ (n.path ≡ numbered s.path)
   pub indexed : IsTouched (tuple_of seg) id s.index n.index
   pub after : n ≡ record s { path = n.path; index = n.index }
+
+-- ----- a flow that an application opened
+-- The flow stands in the list and in the index.
+pub record IsKnown (t : FourTuple) (id : FlowId) (s n : Sight) : Type 0 where
+  pub indexed : IsIndexed t id s.index n.index
+  pub after : n ≡ record s { flows = s.flows ++ record { tuple = t; id = id } ∷ []; index = n.index }
+
+-- memory was wanting
+pub record IsUnknown (t : FourTuple) (id : FlowId) (s n : Sight) : Type 0 where
+  pub indexed : IsTouched t id s.index n.index
+  pub after : n ≡ record s { index = n.index }

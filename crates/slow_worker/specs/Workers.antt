@@ -60,6 +60,10 @@ with_sight s w = record w {
   log = s.log;
 }
 
+-- a worker that knows no flow
+abbrev pub first_sight : Openings → Seen → Writing → Sight
+first_sight path pass index = record { path = path; pass = pass; pins = []; flows = []; index = index; log = [] }
+
 -- the frames that wait: the exceptions, and then the deferred ones
 abbrev pub waiting : Worker → List PassedFrame
 waiting w = w.exceptions.list ++ w.deferred.list

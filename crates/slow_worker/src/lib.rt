@@ -12,4 +12,4 @@ mod waiting;
 mod worker;
 
 pub use served::Served;
-pub use worker::SlowWorker;
+pub use worker::{SlowRemains, SlowWorker};

@@ -22,7 +22,7 @@ use tas_model::{FlowId, FourTuple, FrameId};
 
 /// Shows readers of the index that the four-tuple is the flow's. The error is want of memory, and then the change may
 /// be pending.
-fn show<R: Wait>(
+pub(crate) fn show<R: Wait>(
     rt: &R,
     index: &mut IndexWriter,
     tuple: FourTuple,

@@ -1,13 +1,15 @@
-ghost use Rattle.std.specs.Prelude.{◌≡◌, ◌++◌, ◌∷◌, [], IfOk, OnOk, OnErr};
-ghost use Rattle.slow_worker.specs.Workers.{sight_of, with_sight, IsKept};
+ghost use Rattle.std.specs.Prelude.{◌≡◌, ◌<◌, ◌+◌, true, [], IfOk, IsOk, OnOk, OnErr};
+ghost use Rattle.slow_worker.specs.Workers.{sight_of, with_sight, waiting, first_sight, IsKept};
+ghost use Rattle.slow_worker.specs.Opening.{IsKnown, IsUnknown};
 ghost use Rattle.slow_worker.specs.Serving.{setting_of, with_line, IsServed, IsUnserved};
 
 use crate::known::KnownFlows;
+use crate::opening::show;
 use crate::served::Served;
 use crate::waiting::WaitingFrames;
 use app_reaper::{FiledList, PinList};
 use core_worker::{Shared, tuple_of};
-use flow_index::IndexWriter;
+use flow_index::{IndexReader, IndexWriter};
 use flow_lock::SlowPass;
 use flow_state::FlowRecord;
 use segment_fields::read;
@@ -16,7 +18,7 @@ use std::alloc::{AllocError, Global};
 use std::marker::Model;
 use std::sync::Wait;
 use tas_core::{HostLog, LogEvent, LogLine};
-use tas_model::{Bytes, FrameId};
+use tas_model::{Bytes, FlowId, FourTuple, FrameId};
 
 /// The worker of a host's slow path. It takes the frames that cores passed on.
 ///
@@ -60,7 +62,96 @@ impl Model for SlowWorker {
     } };
 }
 
+/// What a slow path's worker leaves behind.
+#[derive(Drop)]
+pub struct SlowRemains {
+    pub path: SlowPath,
+    pub pass: SlowPass<FlowRecord>,
+    pub pins: PinList,
+    pub filed: FiledList,
+    pub log: HostLog,
+}
+
 impl SlowWorker {
+    /// The worker of a host's slow path, which knows no flow. It takes no memory.
+    pub fn new(alloc: Global, path: SlowPath, pass: SlowPass<FlowRecord>, index: IndexWriter) -> SlowWorker
+        ensures sight { sight_of result ≡ first_sight path pass index }
+        ensures filed { result.filed ≡ [] }
+        ensures waiting { waiting result ≡ [] }
+        ensures check_sums { result.check_sums ≡ true }
+    {
+        SlowWorker {
+            path,
+            pass,
+            pins: PinList::new(alloc),
+            filed: FiledList::new(alloc),
+            log: HostLog::new(alloc),
+            check_sums: true,
+            alloc,
+            flows: KnownFlows::new(alloc),
+            index,
+            deferred: WaitingFrames::new(alloc),
+            exceptions: WaitingFrames::new(alloc),
+        }
+    }
+
+    /// A further reader of the index, for a core; its writer was made for more readers than were made before.
+    pub fn reader<R: Wait>(&mut self, rt: &R) -> Result<IndexReader, AllocError>
+        requires left { 0 < self.old.index.left }
+        ensures made { IsOk result }
+        ensures new { IfOk result (λ reader. reader ≡ []) }
+        ensures kept { (self.new.index.published ≡ self.old.index.published)
+            × (self.new.index.pending ≡ self.old.index.pending) × (self.new.index.left + 1 ≡ self.old.index.left) }
+        ensures rest { self.new ≡ record self.old { index = self.new.index } }
+    {
+        self.index.reader(rt)
+    }
+
+    /// A flow that an application opened receives the segments of its four-tuple from now on. The error is want of
+    /// memory; then it doesn't, but the index may show it.
+    pub fn know<R: Wait>(&mut self, rt: &R, tuple: FourTuple, id: FlowId) -> Result<(), AllocError>
+        ensures known { OnOk result (IsKnown tuple id (sight_of self.old) (sight_of self.new)) }
+        ensures unknown { OnErr result (IsUnknown tuple id (sight_of self.old) (sight_of self.new)) }
+        ensures rest { self.new ≡ with_sight (sight_of self.new) self.old }
+    {
+        self.flows.reserve()?;
+        show(rt, &mut self.index, tuple, id)?;
+        self.flows.put(tuple, id);
+        Ok(())
+    }
+
+    /// Ends the worker, which no frame waits for. It waits for the readers of the index that read.
+    pub fn end<R: Wait>(self, rt: &R) -> SlowRemains
+        requires none { waiting self ≡ [] }
+        ensures path { result.path ≡ self.path }
+        ensures pass { result.pass ≡ self.pass }
+        ensures pins { result.pins.list ≡ self.pins }
+        ensures filed { result.filed.list ≡ self.filed }
+        ensures log { result.log ≡ self.log }
+    {
+        let SlowWorker {
+            path,
+            pass,
+            pins,
+            filed,
+            log,
+            check_sums: _,
+            alloc: _,
+            flows: _,
+            index,
+            deferred: _,
+            exceptions: _,
+        } = self;
+        index.end(rt);
+        SlowRemains {
+            path,
+            pass,
+            pins,
+            filed,
+            log,
+        }
+    }
+
     /// Handles one frame: its packet is read, and the segment is received by the flow that has its four-tuple, or meets
     /// a listener, or is a stray. The error is want of memory, and then the frame made no entry, no flow and no line.
     pub fn frame<R: Wait>(
