@@ -11,11 +11,13 @@ use flow_state::Parts;
 use std::sync::Wait;
 use tas_model::FlowId;
 
-/// The kinds of notes to applications.
+/// The kind of a note that there is more to read.
 const READABLE: u8 = 1;
 
+/// The kind of a note that there is more room to send.
 const WRITABLE: u8 = 2;
 
+/// The kind of a note that the flow is closed.
 const CLOSED: u8 = 3;
 
 /// How far a flow is, as far as its application can see.
