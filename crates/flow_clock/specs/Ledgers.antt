@@ -7,7 +7,7 @@ use Rattle.atomic_table.specs.Seated.{TableId}
 use Rattle.flow_lock.specs.Callers.{IsOwner}
 use Rattle.flow_lock.specs.Orders.{total, at_slot}
 use Rattle.flow_lock.specs.Passes.{Seen}
-use Rattle.flow_lock.specs.Steps.{HasTurn, IsAlone, MayAct}
+use Rattle.flow_lock.specs.Steps.{HasAll, HasTurn, IsAlone, MayAct}
 use Rattle.flow_lock.specs.declared.view.View.{View}
 use Rattle.host_rounds.specs.Lists.{Each}
 
@@ -27,12 +27,15 @@ ledger view pins doomed filed changes =
 abbrev pub IsReady : TableId → Seen → Type 0
 IsReady table s = (s.table ≡ table) × MayAct s.view × (s.view.held ≡ [])
 
--- A view may do what another may: it is alone or has a turn where that one is or has, and holds nothing where that one
--- holds nothing.
+-- A view may do what another may: it is alone, has a turn, has all turns and holds nothing where that one is, has and
+-- does so; and it has the baton, and stands for as many passes, as that one.
 pub record KeepsRights (v w : View) : Type 0 where
   pub alone : IsAlone v → IsAlone w
   pub turned : HasTurn v → HasTurn w
+  pub all : HasAll v → HasAll w
   pub idle : v.held ≡ [] → w.held ≡ []
+  pub baton : w.baton ≡ v.baton
+  pub parts : w.parts ≡ v.parts
 
 -- it has a pin of the flow, whose slot is live
 abbrev pub IsKept : (slots : ℕ) → Seen → FlowId → Type 0
