@@ -64,14 +64,12 @@ kept_at : (t : TableId) (tick : ℕ) (frame : FrameId) (seg : Segment) (id : Flo
     (path : Openings) (a : Served) → pass.table ≡ w.pass.table
     → IsEnteredAt tick frame seg id w.path path w.pass.view pass.view a → IsKept t (sight_of w)
     → IsKept t (record (sight_of w) { path = path; pass = pass })
-kept_at t tick frame seg id w pass path (served.Entered f) table (is, p, o, k) kept = (
-  kept_used t id o.flow _ w.pass pass w.pins w.flows table o.given kept.0,
-  subst InRange (sym (ap (λ (x : Openings). x.params) k ∙ told_params p id w.path)) kept.1,
-)
-kept_at t tick frame seg id w pass path (served.Busy x) table (refused, k) kept = (
-  kept_refused t id (Busy x) w.pass pass w.pins w.flows table refused kept.0,
-  subst (λ (o : Openings). InRange o.params) (sym k) kept.1,
-)
+kept_at t tick frame seg id w pass path (served.Entered f) table (is, p, o, k) ((kept, ranges), few) =
+    let after = kept_used t id o.flow _ w.pass pass w.doomed w.pins w.flows table o.given kept few in
+    ((after.0, subst InRange (sym (ap (λ (x : Openings). x.params) k ∙ told_params p id w.path)) ranges), after.1)
+kept_at t tick frame seg id w pass path (served.Busy x) table (refused, k) ((kept, ranges), few) =
+    let after = kept_refused t id (Busy x) w.pass pass w.doomed w.pins w.flows table refused kept few in
+    ((after.0, subst (λ (o : Openings). InRange o.params) (sym k) ranges), after.1)
 kept_at t tick frame seg id w pass path (served.Opened f) table e kept = absurd e
 kept_at t tick frame seg id w pass path (served.Dropped b) table e kept = absurd e
 kept_at t tick frame seg id w pass path served.Stray table e kept = absurd e
@@ -84,10 +82,9 @@ pub kept_so : {E : Type 0} (t : TableId) (tick : ℕ) (frame : FrameId) (seg : S
     → IsKept t (record (sight_of w) { path = path; pass = pass })
 kept_so t tick frame seg id w pass path (Ok a) table entered refused untold kept =
     kept_at t tick frame seg id w pass path a table entered kept
-kept_so t tick frame seg id w pass path (Err e) table entered refused untold kept = (
-  kept_refused t id OutOfMemory w.pass pass w.pins w.flows table refused kept.0,
-  subst (λ (o : Openings). InRange o.params) (sym untold) kept.1,
-)
+kept_so t tick frame seg id w pass path (Err e) table entered refused untold ((kept, ranges), few) =
+    let after = kept_refused t id OutOfMemory w.pass pass w.doomed w.pins w.flows table refused kept few in
+    ((after.0, subst (λ (o : Openings). InRange o.params) (sym untold) ranges), after.1)
 
 pub entered_so : {E : Type 0} (tick : ℕ) (frame : FrameId) (seg : Segment) (id p : FlowId) (u w : Worker)
     (pass : Seen) (path : Openings) (x : Result Served E) → u ≡ w → p ≡ id → pass.table ≡ u.pass.table

@@ -17,6 +17,7 @@ use Rattle.tas_model.specs.declared.entry.FlowId.{FlowId}
 use Rattle.flow_state.specs.Flow.{Flow}
 use Rattle.flow_lock.specs.Answers.{is_free, next_of, next_in}
 use Rattle.flow_lock.specs.Callers.{IsOwner}
+use Rattle.flow_lock.specs.Claims.{HasPin}
 use Rattle.flow_lock.specs.Passes.{Seen}
 use Rattle.flow_lock.specs.Steps.{MayAct, noted, mark, mark_at}
 use Rattle.flow_lock.specs.Words.{flag}
@@ -24,7 +25,10 @@ use Rattle.flow_lock.specs.declared.view.Deed.{Deed}
 use Rattle.flow_lock.specs.declared.view.History.{History}
 use Rattle.flow_lock.specs.declared.view.Mark.{Mark}
 use Rattle.flow_lock.specs.declared.view.View.{View}
-use Rattle.flow_lock.proofs.Calling.{still_turn, same_turn}
+use Rattle.flow_clock.specs.Ledgers as clock
+use Rattle.flow_clock.proofs.Keeping.{each_at, ready_still, after_use, after_refusal, kept_after_use}
+use Rattle.flow_clock.proofs.Keeping.{kept_after_refusal, kept_after_opening}
+use Rattle.flow_lock.proofs.Calling.{still_turn}
 use Rattle.flow_lock.proofs.Sums.{at_below, at_get, total-set, term_le}
 use Rattle.app_reaper.specs.Lists.{is_on}
 use Rattle.app_reaper.specs.OneCall.{IsUse, IsCallRefused}
@@ -43,9 +47,6 @@ pub still_may : (v w : View) (ds : List Deed) (won lost : List FlowId) → w.tur
 still_may v w ds won lost e baton made = ⊎_elim
     (λ t. inl (still_turn v w ds won lost e t))
     (λ a. inr (baton ∙ a.0, e ∙ ap (noted ds won lost) a.1, made ∙ a.2))
-
-same_may : (v w : View) → w.turns ≡ v.turns → w.baton ≡ v.baton → w.made ≡ v.made → MayAct v → MayAct w
-same_may v w e baton made = ⊎_elim (λ t. inl (same_turn v w e t)) (λ a. inr (baton ∙ a.0, e ∙ a.1, made ∙ a.2))
 
 -- ----- the next free slot
 free_dead : (m : Mark) → is_free m ≡ true → m.live ≡ false
@@ -117,13 +118,15 @@ same_owned s f g (hf, (df, mf)) (hg, (dg, mg)) e =
     let generation : f.generation ≡ g.generation = ap (λ (m : Mark). m.generation) marks in
     λ q. record { slot = e q; generation = generation q }
 
-pub place_of_pin : (t : TableId) (pass : Seen) (pins : List FlowId) (flows : List KnownFlow) (id p : FlowId) (k : ℕ)
-    → AreKept t pass pins flows → HasItsPin pins id → position (is_on id.slot) pins ≡ Some k
+pub place_of_pin : (t : TableId) (pass : Seen) (doomed pins : List FlowId) (flows : List KnownFlow) (id p : FlowId) (k : ℕ)
+    → AreKept t pass doomed pins flows → HasItsPin pins id → position (is_on id.slot) pins ≡ Some k
     → slice_get pins k ≡ Some p → p ≡ id
-place_of_pin t pass pins flows id p k kept (j, at) place there =
+place_of_pin t pass doomed pins flows id p k kept (j, at) place there =
     let d = position-Some (is_on id.slot) pins k id place in
     let on : p.slot ≡ id.slot = slot_at pins k p d.1 there in
-    same_owned pass p id (kept.owned k p there).0 (kept.owned j id at).0 on
+    let each : (i : ℕ) (f : FlowId) → slice_get pins i ≡ Some f → IsOwner f pass =
+    λ i f q. (each_at (clock.IsKept t.slots pass) pins i f kept.owned.each_pin q).0 in
+    same_owned pass p id (each k p there) (each j id at) on
   where
   slot_at : (l : List FlowId) (n : ℕ) (q : FlowId) → is_on id.slot (slice_index_or l n id) ≡ true
       → slice_get l n ≡ Some q → q.slot ≡ id.slot
@@ -167,125 +170,91 @@ found_pinned t id (f ∷ fs) pins e known =
   by_test true q rest = subst (λ (x : FlowId). HasItsPin pins x) (same_pin f.id id q) (known 0 f refl)
   by_test false q rest = rest q (λ k g. known (suc k) g)
 
+-- what a call by a pin in the list asks for
+pub pin_ready : (t : TableId) (pass : Seen) (doomed pins : List FlowId) (flows : List KnownFlow) (p : FlowId) (k : ℕ)
+    → AreKept t pass doomed pins flows → slice_get pins k ≡ Some p
+    → (p.slot < t.slots) × ((pass.table ≡ t) × HasPin pass.view p × MayAct pass.view) × (pass.view.held ≡ [])
+pin_ready t pass doomed pins flows p k kept at =
+    let own = each_at (clock.IsKept t.slots pass) pins k p kept.owned.each_pin at in
+    (own.1, (kept.ready.0, own.0.0, kept.ready.1), kept.ready.2)
+
 -- ----- steps
--- a step that leaves pins, marks and the number of openings
-pub kept_moved : (t : TableId) (s n : Seen) (pins : List FlowId) (flows : List KnownFlow) → n.table ≡ s.table
-    → MayAct n.view → n.view.held ≡ [] → n.view.pins ≡ s.view.pins → n.view.marks ≡ s.view.marks
-    → n.view.opened ≡ s.view.opened → AreKept t s pins flows → AreKept t n pins flows
-kept_moved t s n pins flows table act idle same_pins same_marks same_opened k = record {
-  table = table ∙ k.table;
-  act = act;
-  idle = idle;
-  owned = λ i f q. let o = k.owned i f q in (
-    (
-      (o.0.0.0, ap (λ l. get_elem? l o.0.0.0) same_pins ∙ o.0.0.1),
-      (o.0.1.0, ap (λ l. get_elem? l f.slot) same_marks ∙ o.0.1.1),
-    ),
-    o.1,
-  );
-  known = k.known;
-  few = subst (λ o. o + free_slots n.view.marks ≤ 4294967295) (sym same_opened)
-      (subst (λ (l : List Mark). s.view.opened + free_slots l ≤ 4294967295) (sym same_marks) k.few);
-}
+few_moved : (v w : View) → w.marks ≡ v.marks → w.opened ≡ v.opened → HasFew v → HasFew w
+few_moved v w marks opened few =
+    subst (λ o. o + free_slots w.marks ≤ 4294967295) (sym opened)
+    (subst (λ (l : List Mark). v.opened + free_slots l ≤ 4294967295) (sym marks) few)
 
 -- a record was taken and given back
-pub kept_used : (t : TableId) (id : FlowId) (r : Flow) (after : History) (s n : Seen) (pins : List FlowId)
-    (flows : List KnownFlow) → n.table ≡ s.table → IsUse id r after s.view n.view → AreKept t s pins flows
-    → AreKept t n pins flows
-kept_used t id r after s n pins flows table (x, busy, known, e) k =
-    let turns = ap (λ (v : View). v.turns) e in
-    let act : MayAct n.view =
-    still_may s.view n.view _ [] [] turns (ap (λ (v : View). v.baton) e) (ap (λ (v : View). v.made) e) k.act in
-    kept_moved t s n pins flows table act (ap (λ (v : View). v.held) e) (ap (λ (v : View). v.pins) e)
-    (ap (λ (v : View). v.marks) e) (ap (λ (v : View). v.opened) e) k
+pub kept_used : (t : TableId) (id : FlowId) (r : Flow) (after : History) (s n : Seen) (doomed pins : List FlowId)
+    (flows : List KnownFlow) → n.table ≡ s.table → IsUse id r after s.view n.view → AreKept t s doomed pins flows
+    → HasFew s.view → AreKept t n doomed pins flows × HasFew n.view
+kept_used t id r after s n doomed pins flows table u k few = (
+  record {
+    ready = ready_still t s n table (after_use id r after s.view n.view u) k.ready;
+    owned = kept_after_use t.slots id r after s n doomed pins u k.owned;
+    known = k.known;
+  },
+  few_moved s.view n.view (ap (λ (v : View). v.marks) u.3) (ap (λ (v : View). v.opened) u.3) few,
+)
 
-pub kept_refused : (t : TableId) (id : FlowId) (fault : CallFault) (s n : Seen) (pins : List FlowId)
-    (flows : List KnownFlow) → n.table ≡ s.table → IsCallRefused id s.view n.view fault → AreKept t s pins flows
-    → AreKept t n pins flows
-kept_refused t id (Busy x) s n pins flows table (busy, not_alone) k =
-    let e = busy.1 in
-    let act : MayAct n.view =
-    same_may s.view n.view (ap (λ (v : View). v.turns) e) (ap (λ (v : View). v.baton) e) (ap (λ (v : View). v.made) e)
-    k.act in
-    kept_moved t s n pins flows table act (ap (λ (v : View). v.held) e ∙ k.idle) (ap (λ (v : View). v.pins) e)
-    (ap (λ (v : View). v.marks) e) (ap (λ (v : View). v.opened) e) k
-kept_refused t id OutOfMemory s n pins flows table (r, own, given) k =
-    kept_used t id r _ s n pins flows table given k
+pub kept_refused : (t : TableId) (id : FlowId) (fault : CallFault) (s n : Seen) (doomed pins : List FlowId)
+    (flows : List KnownFlow) → n.table ≡ s.table → IsCallRefused id s.view n.view fault
+    → AreKept t s doomed pins flows → HasFew s.view → AreKept t n doomed pins flows × HasFew n.view
+kept_refused t id (Busy x) s n doomed pins flows table r k few = (
+  record {
+    ready = ready_still t s n table (after_refusal id (Busy x) s.view n.view r) k.ready;
+    owned = kept_after_refusal t.slots id (Busy x) s n doomed pins r k.owned;
+    known = k.known;
+  },
+  few_moved s.view n.view (ap (λ (v : View). v.marks) r.0.1) (ap (λ (v : View). v.opened) r.0.1) few,
+)
+kept_refused t id OutOfMemory s n doomed pins flows table (r, own, given) k few =
+    kept_used t id r _ s n doomed pins flows table given k few
 
 -- the next flow was opened
-pub kept_opened : (t : TableId) (id : FlowId) (h : History) (s n : Seen) (pins : List FlowId)
+kept_opened : (t : TableId) (id : FlowId) (h : History) (s n : Seen) (doomed pins : List FlowId)
     (flows : List KnownFlow) (f : KnownFlow) → next_in s.view.marks ≡ Some id → id.slot < t.slots → f.id ≡ id
-    → n ≡ with_open id h s → AreKept t s pins flows → AreKept t n (pins ++ id ∷ []) (flows ++ f ∷ [])
-kept_opened t id h s n pins flows f next near named e k =
+    → n ≡ with_open id h s → AreKept t s doomed pins flows
+    → AreKept t n doomed (pins ++ id ∷ []) (flows ++ f ∷ [])
+kept_opened t id h s n doomed pins flows f next near named e k =
     let free = next_free s.view.marks id next in
     let v = ap (λ (x : Seen). x.view) e in
-    let below : id.slot < length s.view.marks = at_below s.view.marks id.slot free.0 free.1 in
     record {
-      table = ap (λ (x : Seen). x.table) e ∙ k.table;
-      act = still_may s.view n.view _ (id ∷ []) [] (ap (λ (x : View). x.turns) v) (ap (λ (x : View). x.baton) v)
-          (ap (λ (x : View). x.made) v) k.act;
-      idle = ap (λ (x : View). x.held) v ∙ k.idle;
-      owned = λ i g q. ⊎_elim (λ old. old_owned free below v g (k.owned i g old))
-          (λ same. subst (λ (x : FlowId). IsOwner x n × (x.slot < t.slots)) same (new_owned below v, near))
-          (in_longer pins id g i q);
+      ready = (
+        ap (λ (x : Seen). x.table) e ∙ k.ready.0,
+        still_may s.view n.view _ (id ∷ []) [] (ap (λ (x : View). x.turns) v) (ap (λ (x : View). x.baton) v)
+            (ap (λ (x : View). x.made) v) k.ready.1,
+        ap (λ (x : View). x.held) v ∙ k.ready.2,
+      );
+      owned = kept_after_opening t.slots id h free.0 s n doomed pins v free.1 free.2 near k.owned;
       known = λ i g q. ⊎_elim (λ old. let p = k.known i g old in (p.0, in_front pins id g.id p.0 p.1))
           (λ same. (length pins, at_end pins id ∙ ap Some (sym named ∙ ap (λ (x : KnownFlow). x.id) same)))
           (in_longer flows f g i q);
-      few = few_left free v;
     }
-  where
-  marks_after : n.view ≡ (with_open id h s).view → n.view.marks ≡ set s.view.marks id.slot (mark id.generation true false)
-  marks_after v = ap (λ (x : View). x.marks) v
 
-  old_owned : ((m : Mark) × (get_elem? s.view.marks id.slot ≡ O.some m) × (m.live ≡ false))
-      → id.slot < length s.view.marks → n.view ≡ (with_open id h s).view → (g : FlowId)
-      → IsOwner g s × (g.slot < t.slots) → IsOwner g n × (g.slot < t.slots)
-  old_owned free below v g ((pin, (doomed, at)), slot) =
-      let other : g.slot ≢ id.slot = λ same.
-      absurd (cc (ap (λ (m : Mark). m.live) (some-injective _ _ (sym at ∙ (ap (get_elem? s.view.marks) same ∙ free.1))),
-      free.2)) in
-      (
-        (
-          (suc pin.0, ap (λ (x : View). get_elem? x.pins (suc pin.0)) v ∙ pin.1),
-          (
-            doomed,
-            ap (λ l. get_elem? l g.slot) (marks_after v)
-                ∙ (set_else s.view.marks id.slot g.slot (mark id.generation true false) other ∙ at),
-          ),
-        ),
-        slot,
-      )
-
-  new_owned : id.slot < length s.view.marks → n.view ≡ (with_open id h s).view → IsOwner id n
-  new_owned below v = (
-    (0, ap (λ (x : View). get_elem? x.pins 0) v),
-    (
-      false,
-      ap (λ l. get_elem? l id.slot) (marks_after v)
-          ∙ set_here s.view.marks id.slot (mark id.generation true false) below,
-    ),
-  )
-
-  few_left : ((m : Mark) × (get_elem? s.view.marks id.slot ≡ O.some m) × (m.live ≡ false))
-      → n.view ≡ (with_open id h s).view → HasFew n.view
-  few_left free v =
-      let m : Mark = mark id.generation true false in
-      let count : free_slots (set s.view.marks id.slot m) + flag (is_free free.0) ≡ free_slots s.view.marks + 0 =
-      total-set (λ (x : Mark). flag (is_free x)) s.view.marks id.slot free.0 m free.1 in
-      let one : flag (is_free free.0) ≡ 1 = ap (λ b. flag (not b)) free.2 in
-      let opened : n.view.opened ≡ s.view.opened + 1 = ap (λ (x : View). x.opened) v in
-      let left : free_slots n.view.marks ≡ free_slots (set s.view.marks id.slot m) = ap free_slots (marks_after v) in
-      omega (arith, count, one, opened, left, k.few)
+few_left : (id : FlowId) (h : History) (s n : Seen) → next_in s.view.marks ≡ Some id → n ≡ with_open id h s
+    → HasFew s.view → HasFew n.view
+few_left id h s n next e few =
+    let free = next_free s.view.marks id next in
+    let v = ap (λ (x : Seen). x.view) e in
+    let m : Mark = mark id.generation true false in
+    let after : n.view.marks ≡ set s.view.marks id.slot m = ap (λ (x : View). x.marks) v in
+    let count : free_slots (set s.view.marks id.slot m) + flag (is_free free.0) ≡ free_slots s.view.marks + 0 =
+    total-set (λ (x : Mark). flag (is_free x)) s.view.marks id.slot free.0 m free.1 in
+    let one : flag (is_free free.0) ≡ 1 = ap (λ b. flag (not b)) free.2 in
+    let opened : n.view.opened ≡ s.view.opened + 1 = ap (λ (x : View). x.opened) v in
+    let left : free_slots n.view.marks ≡ free_slots (set s.view.marks id.slot m) = ap free_slots after in
+    omega (arith, count, one, opened, left, few)
 
 -- the same, with what the calls answer
-pub opened_kept : (t : TableId) (id p : FlowId) (h : History) (s n : Seen) (pins pins' : List FlowId)
+pub opened_kept : (t : TableId) (id p : FlowId) (h : History) (s n : Seen) (doomed pins pins' : List FlowId)
     (flows flows' : List KnownFlow) (f : KnownFlow) → next_in s.view.marks ≡ Some id → id.slot < t.slots → f.id ≡ id
-    → p ≡ id → n ≡ with_open p h s → pins' ≡ pins ++ p ∷ [] → flows' ≡ flows ++ f ∷ [] → AreKept t s pins flows
-    → AreKept t n pins' flows'
-opened_kept t id p h s n pins pins' flows flows' f next near named is e more_pins more_flows k =
+    → p ≡ id → n ≡ with_open p h s → pins' ≡ pins ++ p ∷ [] → flows' ≡ flows ++ f ∷ []
+    → AreKept t s doomed pins flows → HasFew s.view → AreKept t n doomed pins' flows' × HasFew n.view
+opened_kept t id p h s n doomed pins pins' flows flows' f next near named is e more_pins more_flows k few =
     let opening : n ≡ with_open id h s = e ∙ ap (λ x. with_open x h s) is in
-    let after : AreKept t n (pins ++ id ∷ []) (flows ++ f ∷ []) =
-    kept_opened t id h s n pins flows f next near named opening k in
-    let with_pins : AreKept t n pins' (flows ++ f ∷ []) =
-    subst (λ l. AreKept t n l (flows ++ f ∷ [])) (sym (more_pins ∙ ap (λ x. pins ++ x ∷ []) is)) after in
-    subst (AreKept t n pins') (sym more_flows) with_pins
+    let after : AreKept t n doomed (pins ++ id ∷ []) (flows ++ f ∷ []) =
+    kept_opened t id h s n doomed pins flows f next near named opening k in
+    let with_pins : AreKept t n doomed pins' (flows ++ f ∷ []) =
+    subst (λ l. AreKept t n doomed l (flows ++ f ∷ [])) (sym (more_pins ∙ ap (λ x. pins ++ x ∷ []) is)) after in
+    (subst (AreKept t n doomed pins') (sym more_flows) with_pins, few_left id h s n next opening few)

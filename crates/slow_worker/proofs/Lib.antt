@@ -2,3 +2,4 @@ pub mod Keeping
 pub mod Entries
 pub mod Moves
 pub mod Serving
+pub mod Ticks

@@ -83,7 +83,7 @@ loop_first t tick w stays = record {
   served = (refl, refl);
   still = sym (append-nil (waiting w));
   exceptions = let e = length-append w.exceptions.list w.deferred.list in omega (arith, e);
-  same = (refl, refl);
+  same = (refl, refl, refl);
   stays = stays;
 }
 
@@ -136,7 +136,7 @@ loop_more t tick first m n count l near d stays = by_left l.left l.number l.all 
         still = d.after ∙ (ap (λ x. x ++ kept_of d.first d.answer) rest
             ∙ append_assoc gs l.kept (kept_of d.first d.answer));
         exceptions = omega (arith, d.fewer, few);
-        same = (d.same.0 ∙ l.same.0, d.same.1 ∙ l.same.1);
+        same = (d.same.0 ∙ l.same.0, d.same.1 ∙ l.same.1, d.same.2 ∙ l.same.2);
         stays = stays;
       }
 
@@ -188,7 +188,7 @@ loop_stops t tick first m w count l near d =
       served = l.served;
       stopped = longer_stop (setting_of tick first) l.left l.kept (sight_of m) (sight_of w) some by_list;
       still = d.still ∙ l.still;
-      same = (d.same.0 ∙ l.same.0, d.same.1 ∙ l.same.1);
+      same = (d.same.0 ∙ l.same.0, d.same.1 ∙ l.same.1, d.same.2 ∙ l.same.2);
     }
 
 pub err_of : {A E : Type 0} (P : Type 0) → P → (x : Result A E) → OnErr x P

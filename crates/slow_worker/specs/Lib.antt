@@ -3,3 +3,4 @@ pub mod Entering
 pub mod Opening
 pub mod Serving
 pub mod Queues
+pub mod Turns

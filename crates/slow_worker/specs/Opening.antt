@@ -50,6 +50,7 @@ pub record IsOpened (tick : ℕ) (frame : FrameId) (seg : Segment) (id : FlowId)
     path = with_opened id seg.dport s.path;
     pass = with_open id (first_history tick frame seg s.path) s.pass;
     pins = s.pins ++ id ∷ [];
+    doomed = s.doomed;
     flows = s.flows ++ record { tuple = tuple_of seg; id = id } ∷ [];
     index = n.index;
     log = s.log;

@@ -43,7 +43,7 @@ AreServed at (f ∷ fs) s n kept =
 
 -- what no frame changes
 abbrev pub IsSame : Worker → Worker → Type 0
-IsSame v w = (w.filed ≡ v.filed) × (w.check_sums ≡ v.check_sums)
+IsSame v w = (w.filed ≡ v.filed) × (w.check_sums ≡ v.check_sums) × (w.ticked ≡ v.ticked)
 
 -- All frames that waited were handled. Those that wait on are the deferred ones now.
 pub record IsAllServed (tick : ℕ) (v w : Worker) : Type 0 where

@@ -10,34 +10,36 @@ use Rattle.host_rounds.specs.declared.log.LogLine.{LogLine}
 use Rattle.flow_state.specs.Flow.{Flow}
 use Rattle.flow_index.specs.Changes.{Writing, is_same}
 use Rattle.flow_lock.specs.Answers.{is_free}
-use Rattle.flow_lock.specs.Callers.{IsOwner}
 use Rattle.flow_lock.specs.Orders.{total}
 use Rattle.flow_lock.specs.Passes.{Seen}
-use Rattle.flow_lock.specs.Steps.{MayAct}
 use Rattle.flow_lock.specs.Words.{flag}
 use Rattle.flow_lock.specs.declared.view.Mark.{Mark}
 use Rattle.flow_lock.specs.declared.view.View.{View}
 use Rattle.app_reaper.specs.Lists.{Roomy}
+use Rattle.flow_clock.specs.Ledgers as clock
 use Rattle.slow_handshake.specs.Openings.{Openings}
 use Rattle.core_worker.specs.declared.frames.PassedFrame.{PassedFrame}
 use Rattle.slow_worker.specs.declared.known.KnownFlow.{KnownFlow}
 
--- What handling a frame changes of the worker: the lists of openings, its pass, the slow path's pins, the flows by
--- their four-tuples, the index that shows these to cores, and the lines that it wrote.
+-- What handling a frame looks at or changes of the worker: the lists of openings, its pass, the slow path's pins of open
+-- flows and of closed ones that others have pins of, the flows by their four-tuples, the index that shows these to
+-- cores, and the lines that it wrote.
 pub record Sight : Type 0 where
   pub path : Openings
   pub pass : Seen
   pub pins : List FlowId
+  pub doomed : List FlowId
   pub flows : List KnownFlow
   pub index : Writing
   pub log : List LogLine
 
 -- The slow path's worker: besides, the records that were filed, whether it looks at checksums, and the frames that cores
--- passed on: those that another pass stood in the way of, and the exceptions.
+-- passed on: those that another pass stood in the way of, and the exceptions; and the tick whose time has passed.
 pub record Worker : Type 0 where
   pub path : Openings
   pub pass : Seen
   pub pins : List FlowId
+  pub doomed : List FlowId
   pub filed : List Flow
   pub log : List LogLine
   pub check_sums : Bool
@@ -45,16 +47,25 @@ pub record Worker : Type 0 where
   pub index : Writing
   pub deferred : Roomy PassedFrame
   pub exceptions : Roomy PassedFrame
+  pub ticked : Option ℕ
 
 abbrev pub sight_of : Worker → Sight
-sight_of w =
-    record { path = w.path; pass = w.pass; pins = w.pins; flows = w.flows; index = w.index; log = w.log }
+sight_of w = record {
+  path = w.path;
+  pass = w.pass;
+  pins = w.pins;
+  doomed = w.doomed;
+  flows = w.flows;
+  index = w.index;
+  log = w.log;
+}
 
 abbrev pub with_sight : Sight → Worker → Worker
 with_sight s w = record w {
   path = s.path;
   pass = s.pass;
   pins = s.pins;
+  doomed = s.doomed;
   flows = s.flows;
   index = s.index;
   log = s.log;
@@ -62,7 +73,15 @@ with_sight s w = record w {
 
 -- a worker that knows no flow
 abbrev pub first_sight : Openings → Seen → Writing → Sight
-first_sight path pass index = record { path = path; pass = pass; pins = []; flows = []; index = index; log = [] }
+first_sight path pass index = record {
+  path = path;
+  pass = pass;
+  pins = [];
+  doomed = [];
+  flows = [];
+  index = index;
+  log = [];
+}
 
 -- the frames that wait: the exceptions, and then the deferred ones
 abbrev pub waiting : Worker → List PassedFrame
@@ -92,14 +111,15 @@ HasFew v = v.opened + free_slots v.marks ≤ 4294967295
 abbrev pub HasItsPin : List FlowId → FlowId → Type 0
 HasItsPin pins id = (j : ℕ) × (slice_get pins j ≡ Some id)
 
--- The pass is of this table, may act and holds no record; the pins are its own, and each flow has one.
-pub record AreKept (t : TableId) (pass : Seen) (pins : List FlowId) (flows : List KnownFlow) : Type 0 where
-  pub table : pass.table ≡ t
-  pub act : MayAct pass.view
-  pub idle : pass.view.held ≡ []
-  pub owned : (k : ℕ) (f : FlowId) → slice_get pins k ≡ Some f → IsOwner f pass × (f.slot < t.slots)
+-- The pass is of this table, may act and holds no record; the pins of both lists are its own, and each flow has one.
+pub record AreKept (t : TableId) (pass : Seen) (doomed pins : List FlowId) (flows : List KnownFlow) : Type 0 where
+  pub ready : clock.IsReady t pass
+  pub owned : clock.AreKept t.slots pass doomed pins
   pub known : (k : ℕ) (f : KnownFlow) → slice_get flows k ≡ Some f → HasItsPin pins f.id
-  pub few : HasFew pass.view
 
+abbrev pub IsSound : TableId → Sight → Type 0
+IsSound t s = AreKept t s.pass s.doomed s.pins s.flows × InRange s.path.params
+
+-- and few flows were opened
 abbrev pub IsKept : TableId → Sight → Type 0
-IsKept t s = AreKept t s.pass s.pins s.flows × InRange s.path.params
+IsKept t s = IsSound t s × HasFew s.pass.view

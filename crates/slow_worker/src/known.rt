@@ -2,7 +2,9 @@
 ghost use Rattle.std.specs.Prelude.{◌≡◌, ◌<◌, ◌++◌, ◌∷◌, [], OnOk, vec_len, vec_capacity};
 ghost use Rattle.flow_index.specs.Changes.{is_same};
 ghost use Rattle.slow_worker.specs.Workers.{has_tuple, flow_with};
+ghost use Rattle.slow_worker.specs.Turns.{is_pinned, still_known};
 
+use app_reaper::PinList;
 use std::alloc::{AllocError, Global};
 use std::marker::Model;
 use tas_model::{FlowId, FourTuple};
@@ -75,5 +77,22 @@ impl KnownFlows {
         ensures list { self.new.list ≡ self.old.list ++ record { tuple = tuple; id = id } ∷ [] }
     {
         self.flows.push_reserved(KnownFlow { tuple, id });
+    }
+
+    /// Leaves out each flow whose pin isn't in the list.
+    pub(crate) fn keep(&mut self, pins: &PinList)
+        ensures list { self.new.list ≡ still_known pins.now.list self.old.list }
+    {
+        self.flows.retain(|flow| has_pin(pins, flow.id));
+    }
+}
+
+/// Whether the list has the flow's pin, as the first one on its slot.
+fn has_pin(pins: &PinList, id: FlowId) -> bool
+    ensures { result ≡ is_pinned pins.now.list id }
+{
+    match pins.place_of(id.slot) {
+        Some(at) => pins.pin(at).id() == id,
+        None => false,
     }
 }

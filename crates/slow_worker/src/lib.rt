@@ -8,6 +8,7 @@ mod meeting;
 mod opening;
 mod queues;
 mod served;
+mod turning;
 mod waiting;
 mod worker;
 

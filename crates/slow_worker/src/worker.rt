@@ -1,4 +1,4 @@
-ghost use Rattle.std.specs.Prelude.{◌≡◌, ◌<◌, ◌+◌, true, [], IfOk, IsOk, OnOk, OnErr};
+ghost use Rattle.std.specs.Prelude.{◌≡◌, ◌<◌, ◌+◌, true, None, [], IfOk, IsOk, OnOk, OnErr};
 ghost use Rattle.slow_worker.specs.Workers.{sight_of, with_sight, waiting, first_sight, IsKept};
 ghost use Rattle.slow_worker.specs.Opening.{IsKnown, IsUnknown};
 ghost use Rattle.slow_worker.specs.Serving.{setting_of, with_line, IsServed, IsUnserved};
@@ -37,10 +37,14 @@ pub struct SlowWorker {
     /// Whether it looks at the checksums of packets.
     pub check_sums: bool,
     pub(crate) alloc: Global,
+    /// The slow path's pins of closed flows that other passes have pins of.
+    pub(crate) doomed: PinList,
     pub(crate) flows: KnownFlows,
     pub(crate) index: IndexWriter,
     pub(crate) deferred: WaitingFrames,
     pub(crate) exceptions: WaitingFrames,
+    /// The last tick whose time has passed for the flows.
+    pub(crate) ticked: Option<u32>,
 }
 
 impl Model for SlowWorker {
@@ -52,6 +56,7 @@ impl Model for SlowWorker {
       path = w.path;
       pass = w.pass;
       pins = w.pins.list;
+      doomed = w.doomed.list;
       filed = w.filed.list;
       log = w.log;
       check_sums = w.check_sums;
@@ -59,6 +64,7 @@ impl Model for SlowWorker {
       index = w.index;
       deferred = w.deferred;
       exceptions = w.exceptions;
+      ticked = w.ticked;
     } };
 }
 
@@ -68,6 +74,7 @@ pub struct SlowRemains {
     pub path: SlowPath,
     pub pass: SlowPass<FlowRecord>,
     pub pins: PinList,
+    pub doomed: PinList,
     pub filed: FiledList,
     pub log: HostLog,
 }
@@ -79,6 +86,7 @@ impl SlowWorker {
         ensures filed { result.filed ≡ [] }
         ensures waiting { waiting result ≡ [] }
         ensures check_sums { result.check_sums ≡ true }
+        ensures ticked { result.ticked ≡ None }
     {
         SlowWorker {
             path,
@@ -88,10 +96,12 @@ impl SlowWorker {
             log: HostLog::new(alloc),
             check_sums: true,
             alloc,
+            doomed: PinList::new(alloc),
             flows: KnownFlows::new(alloc),
             index,
             deferred: WaitingFrames::new(alloc),
             exceptions: WaitingFrames::new(alloc),
+            ticked: None,
         }
     }
 
@@ -126,6 +136,7 @@ impl SlowWorker {
         ensures path { result.path ≡ self.path }
         ensures pass { result.pass ≡ self.pass }
         ensures pins { result.pins.list ≡ self.pins }
+        ensures doomed { result.doomed.list ≡ self.doomed }
         ensures filed { result.filed.list ≡ self.filed }
         ensures log { result.log ≡ self.log }
     {
@@ -137,16 +148,19 @@ impl SlowWorker {
             log,
             check_sums: _,
             alloc: _,
+            doomed,
             flows: _,
             index,
             deferred: _,
             exceptions: _,
+            ticked: _,
         } = self;
         index.end(rt);
         SlowRemains {
             path,
             pass,
             pins,
+            doomed,
             filed,
             log,
         }

@@ -23,7 +23,7 @@ returns-clause-entered c =
     let kept = subst (λ (w : Worker). IsKept c.args.table.now (sight_of w)) (sym c.self.view_is) c.requires.kept in
     let pinned = subst (λ (w : Worker). HasItsPin w.pins c.args.id) (sym c.self.view_is) c.requires.pinned in
     let named : c.pin-pin.result.now ≡ c.args.id =
-    place_of_pin c.args.table.now _ _ _ c.args.id c.pin-pin.result.now c.in-Some.at kept.0 pinned
+    place_of_pin c.args.table.now _ _ _ _ c.args.id c.pin-pin.result.now c.in-Some.at kept.0.0 pinned
     (sym c.place_of.ensures ∙ c.in-Some.is) c.pin-pin.ensures in
     entered_so c.args.tick c.args.frame c.args.seg.now c.args.id c.pin-pin.result.now _ c.args.self.now
     c.offer.new.pass c.offer.new.path c.offer.result c.self.view_is named c.offer.ensures.table
@@ -34,7 +34,7 @@ returns-clause-unentered c =
     let kept = subst (λ (w : Worker). IsKept c.args.table.now (sight_of w)) (sym c.self.view_is) c.requires.kept in
     let pinned = subst (λ (w : Worker). HasItsPin w.pins c.args.id) (sym c.self.view_is) c.requires.pinned in
     let named : c.pin-pin.result.now ≡ c.args.id =
-    place_of_pin c.args.table.now _ _ _ c.args.id c.pin-pin.result.now c.in-Some.at kept.0 pinned
+    place_of_pin c.args.table.now _ _ _ _ c.args.id c.pin-pin.result.now c.in-Some.at kept.0.0 pinned
     (sym c.place_of.ensures ∙ c.in-Some.is) c.pin-pin.ensures in
     unentered_so c.args.id c.pin-pin.result.now _ c.args.self.now c.offer.new.pass c.offer.new.path c.offer.result
     c.self.view_is named c.offer.ensures.table c.offer.ensures.refused c.offer.ensures.untold

@@ -12,7 +12,7 @@ pub open_next-requires-clause-few : goal.open_next-requires-clause-few
 open_next-requires-clause-few g c =
     let kept = subst (λ (w : Worker). IsKept c.args.table.now (sight_of w)) (sym c.self.view_is) c.requires.kept in
     let next = subst (λ (w : Worker). next_in w.pass.view.marks ≡ Some c.args.id) (sym c.self.view_is) c.requires.next in
-    one_few c.self.inside.pass.view c.args.id next kept.0.few
+    one_few c.self.inside.pass.view c.args.id next kept.1
 
 pub returns-clause-kept : goal.returns-clause-kept
 returns-clause-kept g c =
@@ -20,15 +20,14 @@ returns-clause-kept g c =
     let next = subst (λ (w : Worker). next_in w.pass.view.marks ≡ Some c.args.id) (sym c.self.view_is) c.requires.next in
     let named = c.open_next.ensures.pin ∙ c.in_ok-flow.ensures.id in
     let params = ap (λ (o : Openings). o.params) c.in_ok-opened.ensures.ok
-    ∙ ap (λ (o : Openings). o.params) c.next_iss-iss.ensures.next in (
-      opened_kept c.args.table.now c.args.id c.in_ok-flow.flow.id (history c.in_ok-flow.flow) c.self.inside.pass
-          c.open_next.new.pass c.self.inside.pins.list c.put.new.self.list c.self.inside.flows.list
-          c.put-2.new.self.list (record { tuple = c.tuple_of-tuple.result; id = c.args.id }) next c.requires.slot (λ i. c.args.id)
-          c.in_ok-flow.ensures.id c.open_next.ensures.opened
-          (c.put.ensures.list ∙ (ap (λ l. l ++ c.open_next.result ∷ []) c.reserve.ensures.list
-          ∙ ap (λ x. c.self.inside.pins.list ++ x ∷ []) c.open_next.ensures.pin))
-          (c.put-2.ensures.list ∙ ap (λ l. l ++ (record { tuple = c.tuple_of-tuple.result; id = c.args.id }) ∷ [])
-          c.reserve-2.ensures.list)
-          kept.0,
-      subst InRange (sym params) kept.1,
-    )
+    ∙ ap (λ (o : Openings). o.params) c.next_iss-iss.ensures.next in
+    let after = opened_kept c.args.table.now c.args.id c.in_ok-flow.flow.id (history c.in_ok-flow.flow)
+    c.self.inside.pass c.open_next.new.pass c.self.inside.doomed.list c.self.inside.pins.list c.put.new.self.list
+    c.self.inside.flows.list c.put-2.new.self.list (record { tuple = c.tuple_of-tuple.result; id = c.args.id }) next
+    c.requires.slot (λ i. c.args.id) c.in_ok-flow.ensures.id c.open_next.ensures.opened
+    (c.put.ensures.list ∙ (ap (λ l. l ++ c.open_next.result ∷ []) c.reserve.ensures.list
+    ∙ ap (λ x. c.self.inside.pins.list ++ x ∷ []) c.open_next.ensures.pin))
+    (c.put-2.ensures.list ∙ ap (λ l. l ++ (record { tuple = c.tuple_of-tuple.result; id = c.args.id }) ∷ [])
+    c.reserve-2.ensures.list)
+    kept.0.0 kept.1 in
+    ((after.0, subst InRange (sym params) kept.0.1), after.1)

@@ -22,4 +22,4 @@ returns-in-Err-clause-left g c =
     (subst (λ (s : Sight). IsUnserved (setting_of c.args.tick u) f.frame.packet (sight_of u) s)
     (ap sight_of (sym c.self-in-Err.view_is)) c.in-Err.ensures.unserved)
     (joined _ _ _ _ exceptions deferred)
-    (ap (λ (w : Worker). w.filed) rest, ap (λ (w : Worker). w.check_sums) rest)
+    (ap (λ (w : Worker). w.filed) rest, ap (λ (w : Worker). w.check_sums) rest, ap (λ (w : Worker). w.ticked) rest)

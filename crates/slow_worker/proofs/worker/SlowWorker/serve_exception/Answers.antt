@@ -22,7 +22,7 @@ returns-in-Err-clause-left g c =
     (subst (λ (s : Sight). IsUnserved (setting_of c.args.tick u) f.frame.packet (sight_of u) s)
     (ap sight_of (sym c.self-in-Err.view_is)) c.in-Err.ensures.unserved)
     (joined _ _ _ _ exceptions deferred ∙ sym first)
-    (ap (λ (w : Worker). w.filed) rest, ap (λ (w : Worker). w.check_sums) rest)
+    (ap (λ (w : Worker). w.filed) rest, ap (λ (w : Worker). w.check_sums) rest, ap (λ (w : Worker). w.ticked) rest)
 
 pub returns-in-Ok-clause-served : goal.returns-in-Ok-clause-served
 returns-in-Ok-clause-served g c =
@@ -49,4 +49,5 @@ returns-in-Ok-clause-served g c =
     (
       ap (λ (w : Worker). w.filed) last ∙ ap (λ (w : Worker). w.filed) rest,
       ap (λ (w : Worker). w.check_sums) last ∙ ap (λ (w : Worker). w.check_sums) rest,
+      ap (λ (w : Worker). w.ticked) last ∙ ap (λ (w : Worker). w.ticked) rest,
     )

@@ -1,0 +1,81 @@
+-- A turn of the slow path's worker: the first of a tick passes time, and each later one handles the frames that wait.
+use Rattle.std.specs.Prelude.{◌≡◌, ℕ, ◌==◌, Bool, true, false, List, [], ◌++◌, Option, Some, None, position, slice_get, ◌⊎◌}
+use Rattle.std.specs.List.{filter}
+use Rattle.tas_model.specs.declared.entry.FlowId.{FlowId}
+use Rattle.flow_index.specs.Changes.{AnswerAlike}
+use Rattle.flow_index.specs.declared.change.Change.{Change}
+use Rattle.flow_lock.specs.Orders.{same_flow}
+use Rattle.app_reaper.specs.Lists.{is_on}
+use Rattle.flow_clock.specs.Ledgers.{Ledger, ledger}
+use Rattle.flow_clock.specs.Walks.{IsTickDone, IsTickStopped}
+use Rattle.slow_worker.specs.Workers.{Worker}
+use Rattle.slow_worker.specs.Queues.{IsAllServed, IsPartServed}
+use Rattle.slow_worker.specs.declared.known.KnownFlow.{KnownFlow}
+
+-- ----- flows whose pin is still there
+abbrev pub pin_at : List FlowId → Option ℕ → Option FlowId
+pin_at pins None = None
+pin_at pins (Some k) = slice_get pins k
+
+abbrev pub is_its : FlowId → Option FlowId → Bool
+is_its id None = false
+is_its id (Some p) = same_flow p id
+
+-- the first pin on the flow's slot is its own
+abbrev pub is_pinned : List FlowId → FlowId → Bool
+is_pinned pins id = is_its id (pin_at pins (position (is_on id.slot) pins))
+
+abbrev pub still_known : (pins : List FlowId) → List KnownFlow → List KnownFlow
+still_known pins = filter (λ f. is_pinned pins f.id)
+
+-- ----- time
+-- the slow path's view and lists, with these changes of the index that aren't published yet
+abbrev pub ledger_of : Worker → List Change → Ledger
+ledger_of w changes = ledger w.pass.view w.pins w.doomed w.filed changes
+
+-- what the time of a tick leaves as it was
+abbrev pub with_time : Worker → Worker → Worker
+with_time w v = record v {
+  pass = w.pass;
+  pins = w.pins;
+  doomed = w.doomed;
+  filed = w.filed;
+  flows = w.flows;
+  index = w.index;
+  ticked = w.ticked;
+}
+
+-- Each flow had its time or was closed, in order; those closed are known no more, and the index shows it.
+pub record IsTimePassed (tick : ℕ) (v w : Worker) : Type 0 where
+  pub changes : List Change
+  pub done : IsTickDone tick (ledger_of v v.index.pending) (ledger_of w changes)
+  pub shown : AnswerAlike w.index.published (v.index.published ++ changes)
+  pub pending : w.index.pending ≡ []
+  pub flows : w.flows ≡ still_known w.pins v.flows
+  pub ticked : w.ticked ≡ Some tick
+  pub rest : w ≡ with_time w v
+
+-- Memory was wanting at a flow, or to publish the changes. What was done stands.
+pub record IsTimeStopped (tick : ℕ) (v w : Worker) : Type 0 where
+  pub stopped : (IsTickStopped tick (ledger_of v v.index.pending) (ledger_of w w.index.pending) × (w.ticked ≡ v.ticked))
+      ⊎ (IsTickDone tick (ledger_of v v.index.pending) (ledger_of w w.index.pending) × (w.ticked ≡ Some tick))
+  pub published : w.index.published ≡ v.index.published
+  pub flows : w.flows ≡ still_known w.pins v.flows
+  pub rest : w ≡ with_time w v
+
+-- ----- turns
+abbrev pub is_tick : (tick : ℕ) → Option ℕ → Bool
+is_tick tick None = false
+is_tick tick (Some t) = t == tick
+
+-- the time of this tick has passed
+abbrev pub has_passed : (tick : ℕ) → Worker → Bool
+has_passed tick w = is_tick tick w.ticked
+
+abbrev pub IsTurn : (later : Bool) → (tick : ℕ) → Worker → Worker → Type 0
+IsTurn false tick v w = IsTimePassed tick v w
+IsTurn true tick v w = IsAllServed tick v w
+
+abbrev pub IsTurnStopped : (later : Bool) → (tick : ℕ) → Worker → Worker → Type 0
+IsTurnStopped false tick v w = IsTimeStopped tick v w
+IsTurnStopped true tick v w = IsPartServed tick v w
