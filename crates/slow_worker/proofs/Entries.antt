@@ -92,7 +92,8 @@ pub entered_so : {E : Type 0} (tick : ℕ) (frame : FrameId) (seg : Segment) (id
     → IfOk x (IsEntered tick frame seg id (sight_of w) (record (sight_of u) { path = path; pass = pass }))
 entered_so tick frame seg id p u w pass path (Err e) is named table entered = tt
 entered_so tick frame seg id p u w pass path (Ok a) is named table entered =
-    subst (λ (y : Worker). IsEntered tick frame seg id (sight_of y) (record (sight_of u) { path = path; pass = pass }) a)
+    subst (λ (y : Worker).
+    IsEntered tick frame seg id (sight_of y) (record (sight_of u) { path = path; pass = pass }) a)
     is
     (record {
       entered = subst (λ f. IsEnteredAt tick frame seg f u.path path u.pass.view pass.view a) named entered;

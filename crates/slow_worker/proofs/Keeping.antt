@@ -1,5 +1,6 @@
 -- What holds of the slow path's pass, pins and flows between two calls stays so.
-use Rattle.std.proofs.Common.{◌≡◌, ◌≢◌, ℕ, zero, suc, ◌+◌, ◌<◌, ◌≤◌, Bool, true, false, List, [], ◌∷◌, ◌++◌, length, set}
+use Rattle.std.proofs.Common.{◌≡◌, ◌≢◌, ℕ, zero, suc, ◌+◌, ◌<◌, ◌≤◌, Bool, true, false, List, [], ◌∷◌, ◌++◌}
+use Rattle.std.proofs.Common.{length, set}
 use Rattle.std.proofs.Common.{ap, sym, ◌∙◌, refl, subst, arith, ⊎_elim, inl, inr, ◌⊎◌, eqb, eq-eqb, cond, tests}
 use Rattle.std.specs.Prelude.{Option, Some, None, slice_get, slice_index_or, position, not, nat_lt}
 use Rattle.std.specs.List.{find, position_or_len}
@@ -12,7 +13,6 @@ use mathlib.Core.Option as O
 use mathlib.Core.Option.{some-injective}
 use lib.ListN.{get_elem?}
 use Rattle.atomic_table.specs.Seated.{TableId}
-use Rattle.atomic_table.proofs.Lists.{set_here, set_else}
 use Rattle.tas_model.specs.declared.entry.FlowId.{FlowId}
 use Rattle.flow_state.specs.Flow.{Flow}
 use Rattle.flow_lock.specs.Answers.{is_free, next_of, next_in}
@@ -29,7 +29,7 @@ use Rattle.flow_clock.specs.Ledgers as clock
 use Rattle.flow_clock.proofs.Keeping.{each_at, ready_still, after_use, after_refusal, kept_after_use}
 use Rattle.flow_clock.proofs.Keeping.{kept_after_refusal, kept_after_opening}
 use Rattle.flow_lock.proofs.Calling.{still_turn}
-use Rattle.flow_lock.proofs.Sums.{at_below, at_get, total-set, term_le}
+use Rattle.flow_lock.proofs.Sums.{at_get, total-set, term_le}
 use Rattle.app_reaper.specs.Lists.{is_on}
 use Rattle.app_reaper.specs.OneCall.{IsUse, IsCallRefused}
 use Rattle.app_reaper.specs.declared.one_call.CallFault.{CallFault}
@@ -118,7 +118,8 @@ same_owned s f g (hf, (df, mf)) (hg, (dg, mg)) e =
     let generation : f.generation ≡ g.generation = ap (λ (m : Mark). m.generation) marks in
     λ q. record { slot = e q; generation = generation q }
 
-pub place_of_pin : (t : TableId) (pass : Seen) (doomed pins : List FlowId) (flows : List KnownFlow) (id p : FlowId) (k : ℕ)
+pub place_of_pin : (t : TableId) (pass : Seen) (doomed pins : List FlowId) (flows : List KnownFlow) (id p : FlowId)
+    (k : ℕ)
     → AreKept t pass doomed pins flows → HasItsPin pins id → position (is_on id.slot) pins ≡ Some k
     → slice_get pins k ≡ Some p → p ≡ id
 place_of_pin t pass doomed pins flows id p k kept (j, at) place there =
@@ -128,12 +129,12 @@ place_of_pin t pass doomed pins flows id p k kept (j, at) place there =
     λ i f q. (each_at (clock.IsKept t.slots pass) pins i f kept.owned.each_pin q).0 in
     same_owned pass p id (each k p there) (each j id at) on
   where
-  slot_at : (l : List FlowId) (n : ℕ) (q : FlowId) → is_on id.slot (slice_index_or l n id) ≡ true
-      → slice_get l n ≡ Some q → q.slot ≡ id.slot
-  slot_at [] n q h e = absurd (none_some q e)
-  slot_at (x ∷ xs) zero q h e =
-      subst (λ (y : FlowId). y.slot ≡ id.slot) (same_pin x q e) (eqb-true x.slot id.slot h)
-  slot_at (x ∷ xs) (suc n) q h e = slot_at xs n q h e
+    slot_at : (l : List FlowId) (n : ℕ) (q : FlowId) → is_on id.slot (slice_index_or l n id) ≡ true
+        → slice_get l n ≡ Some q → q.slot ≡ id.slot
+    slot_at [] n q h e = absurd (none_some q e)
+    slot_at (x ∷ xs) zero q h e =
+        subst (λ (y : FlowId). y.slot ≡ id.slot) (same_pin x q e) (eqb-true x.slot id.slot h)
+    slot_at (x ∷ xs) (suc n) q h e = slot_at xs n q h e
 
 lower_or : (n m : ℕ) → cond {A = Option ℕ} (nat_lt n m) (Some n) None ≡ None → m ≤ n
 lower_or n m e = by_test (nat_lt n m) refl e where
@@ -163,12 +164,12 @@ pub found_pinned : (t : FourTuple) (id : FlowId) (flows : List KnownFlow) (pins 
 found_pinned t id [] pins e known = absurd (none_some id e)
 found_pinned t id (f ∷ fs) pins e known =
     by_test (has_tuple t f) e (found_pinned t id fs pins) where
-  by_test : (b : Bool) → option_map id_of (cond b (Some f) (find (has_tuple t) fs)) ≡ Some id
-      → (flow_with t fs ≡ Some id
-      → ((k : ℕ) (g : KnownFlow) → slice_get fs k ≡ Some g → HasItsPin pins g.id) → HasItsPin pins id)
-      → HasItsPin pins id
-  by_test true q rest = subst (λ (x : FlowId). HasItsPin pins x) (same_pin f.id id q) (known 0 f refl)
-  by_test false q rest = rest q (λ k g. known (suc k) g)
+      by_test : (b : Bool) → option_map id_of (cond b (Some f) (find (has_tuple t) fs)) ≡ Some id
+          → (flow_with t fs ≡ Some id
+          → ((k : ℕ) (g : KnownFlow) → slice_get fs k ≡ Some g → HasItsPin pins g.id) → HasItsPin pins id)
+          → HasItsPin pins id
+      by_test true q rest = subst (λ (x : FlowId). HasItsPin pins x) (same_pin f.id id q) (known 0 f refl)
+      by_test false q rest = rest q (λ k g. known (suc k) g)
 
 -- what a call by a pin in the list asks for
 pub pin_ready : (t : TableId) (pass : Seen) (doomed pins : List FlowId) (flows : List KnownFlow) (p : FlowId) (k : ℕ)

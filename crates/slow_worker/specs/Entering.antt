@@ -28,7 +28,8 @@ received tick frame seg r = history_with r Slow tick (Rx frame seg)
 abbrev pub phase_of : History → Phase
 phase_of h = phase (replay h.params h.entries)
 
--- The lists of openings are told where the flow then stands: past SYN-RECEIVED it may be accepted, and closed it leaves.
+-- The lists of openings are told where the flow then stands: past SYN-RECEIVED it may be accepted, and closed it
+-- leaves.
 abbrev pub told : Phase → FlowId → Openings → Openings
 told phases.SynSent id o = o
 told phases.SynReceived id o = o
@@ -52,7 +53,8 @@ IsEnteredAt tick frame seg id o k v w (served.Busy x) = IsCallRefused id v w (Bu
 IsEnteredAt tick frame seg id o k v w a = ⊥
 
 -- The flow received the segment, or not, with this answer. All else stays.
-pub record IsEntered (tick : ℕ) (frame : FrameId) (seg : Segment) (id : FlowId) (s n : Sight) (a : Served) : Type 0 where
+pub record IsEntered (tick : ℕ) (frame : FrameId) (seg : Segment) (id : FlowId) (s n : Sight) (a : Served)
+    : Type 0 where
   pub entered : IsEnteredAt tick frame seg id s.path n.path s.pass.view n.pass.view a
   pub table : n.pass.table ≡ s.pass.table
   pub after : n ≡ record s { path = n.path; pass = n.pass }

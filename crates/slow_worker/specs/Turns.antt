@@ -1,5 +1,6 @@
 -- A turn of the slow path's worker: the first of a tick passes time, and each later one handles the frames that wait.
-use Rattle.std.specs.Prelude.{◌≡◌, ℕ, ◌==◌, Bool, true, false, List, [], ◌++◌, Option, Some, None, position, slice_get, ◌⊎◌}
+use Rattle.std.specs.Prelude.{◌≡◌, ℕ, ◌==◌, Bool, true, false, List, [], ◌++◌, ◌⊎◌, Option, Some, None}
+use Rattle.std.specs.Prelude.{position, slice_get}
 use Rattle.std.specs.List.{filter}
 use Rattle.tas_model.specs.declared.entry.FlowId.{FlowId}
 use Rattle.flow_index.specs.Changes.{AnswerAlike}

@@ -1,5 +1,5 @@
 -- What contracts see of the slow path's worker.
-use Rattle.std.specs.Prelude.{◌≡◌, ℕ, ◌+◌, ◌<◌, ◌≤◌, Bool, List, [], ◌++◌, slice_get, Option, Some}
+use Rattle.std.specs.Prelude.{◌≡◌, ℕ, ◌+◌, ◌≤◌, Bool, List, [], ◌++◌, slice_get, Option, Some}
 use Rattle.std.specs.List.{find}
 use Rattle.std.specs.Option.{option_map}
 use Rattle.atomic_table.specs.Seated.{TableId}
@@ -21,8 +21,8 @@ use Rattle.slow_handshake.specs.Openings.{Openings}
 use Rattle.core_worker.specs.declared.frames.PassedFrame.{PassedFrame}
 use Rattle.slow_worker.specs.declared.known.KnownFlow.{KnownFlow}
 
--- What handling a frame looks at or changes of the worker: the lists of openings, its pass, the slow path's pins of open
--- flows and of closed ones that others have pins of, the flows by their four-tuples, the index that shows these to
+-- What handling a frame looks at or changes of the worker: the lists of openings, its pass, the slow path's pins of
+-- open flows and of closed ones that others have pins of, the flows by their four-tuples, the index that shows these to
 -- cores, and the lines that it wrote.
 pub record Sight : Type 0 where
   pub path : Openings
@@ -33,8 +33,8 @@ pub record Sight : Type 0 where
   pub index : Writing
   pub log : List LogLine
 
--- The slow path's worker: besides, the records that were filed, whether it looks at checksums, and the frames that cores
--- passed on: those that another pass stood in the way of, and the exceptions; and the tick whose time has passed.
+-- The slow path's worker: besides, the records that were filed, whether it looks at checksums, the frames that cores
+-- passed on (those that another pass stood in the way of, and the exceptions), and the tick whose time has passed.
 pub record Worker : Type 0 where
   pub path : Openings
   pub pass : Seen

@@ -1,9 +1,9 @@
 //! The worker of a host's slow path: frames that cores leave, on flows that cores and applications share.
 #![tactic(auto)]
 
+mod collecting;
 mod entering;
 mod known;
-mod collecting;
 mod meeting;
 mod opening;
 mod queues;

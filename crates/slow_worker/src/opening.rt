@@ -36,7 +36,11 @@ pub(crate) fn show<R: Wait>(
 }
 
 /// Opens the next flow for the record, and answers the slow path's pin.
-fn open_next(table: &FlowTable<FlowRecord>, pass: &mut SlowPass<FlowRecord>, flow: FlowRecord) -> Pin
+fn open_next(
+    table: &FlowTable<FlowRecord>,
+    pass: &mut SlowPass<FlowRecord>,
+    flow: FlowRecord,
+) -> Pin
     requires pass { (pass.old.table ≡ table.now) × MayAct pass.old.view }
     requires few { pass.old.view.opened < 4294967295 }
     requires next { next_in pass.old.view.marks ≡ Some flow.id }

@@ -48,7 +48,12 @@ impl SlowWorker {
     }
 
     /// Handles the first exception.
-    fn serve_exception<R: Wait>(&mut self, rt: &R, shared: &Shared, tick: u32) -> Result<(), AllocError>
+    fn serve_exception<R: Wait>(
+        &mut self,
+        rt: &R,
+        shared: &Shared,
+        tick: u32,
+    ) -> Result<(), AllocError>
         requires kept { IsKept shared.now.table (sight_of self.old) }
         requires some { 0 < length self.old.exceptions.list }
         ensures kept { IsKept shared.now.table (sight_of self.new) }
@@ -73,7 +78,12 @@ impl SlowWorker {
     }
 
     /// Handles the first deferred frame.
-    fn serve_deferred<R: Wait>(&mut self, rt: &R, shared: &Shared, tick: u32) -> Result<(), AllocError>
+    fn serve_deferred<R: Wait>(
+        &mut self,
+        rt: &R,
+        shared: &Shared,
+        tick: u32,
+    ) -> Result<(), AllocError>
         requires kept { IsKept shared.now.table (sight_of self.old) }
         requires none { length self.old.exceptions.list ≡ 0 }
         requires some { 0 < length self.old.deferred.list }

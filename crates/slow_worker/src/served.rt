@@ -10,9 +10,7 @@ pub enum Served {
     Opened(FlowId),
     /// It was a SYN for a listener, and was dropped: for a full backlog where `backlog` is true, and else for want of a
     /// slot. A line of the log says so.
-    Dropped {
-        backlog: bool,
-    },
+    Dropped { backlog: bool },
     /// It is of no flow and opened none. A line of the log has its answer.
     Stray,
     /// Its packet breaks the rule of reading with this number, from 1 to 9, and a line of the log says so.

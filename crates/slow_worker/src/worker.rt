@@ -81,7 +81,12 @@ pub struct SlowRemains {
 
 impl SlowWorker {
     /// The worker of a host's slow path, which knows no flow. It takes no memory.
-    pub fn new(alloc: Global, path: SlowPath, pass: SlowPass<FlowRecord>, index: IndexWriter) -> SlowWorker
+    pub fn new(
+        alloc: Global,
+        path: SlowPath,
+        pass: SlowPass<FlowRecord>,
+        index: IndexWriter,
+    ) -> SlowWorker
         ensures sight { sight_of result ≡ first_sight path pass index }
         ensures filed { result.filed ≡ [] }
         ensures waiting { waiting result ≡ [] }

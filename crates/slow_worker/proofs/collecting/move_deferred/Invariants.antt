@@ -5,7 +5,8 @@ use Rattle.slow_worker.proofs.collecting.move_deferred.Given as goal
 
 abbrev pub invariant-loop-core : goal.invariant-loop-core
 invariant-loop-core l =
-    Moving l.fn.frames l.frames l.fn.core.deferred l.core.deferred × (l.core ≡ with_deferred l.core.deferred l.fn.core)
+    Moving l.fn.frames l.frames l.fn.core.deferred l.core.deferred
+    × (l.core ≡ with_deferred l.core.deferred l.fn.core)
 
 abbrev pub decreases-loop-core : goal.decreases-loop-core
 decreases-loop-core l = length l.core.deferred

@@ -11,13 +11,15 @@ use Rattle.slow_worker.proofs.worker.SlowWorker.open.Goals as goal
 pub open_next-requires-clause-few : goal.open_next-requires-clause-few
 open_next-requires-clause-few g c =
     let kept = subst (λ (w : Worker). IsKept c.args.table.now (sight_of w)) (sym c.self.view_is) c.requires.kept in
-    let next = subst (λ (w : Worker). next_in w.pass.view.marks ≡ Some c.args.id) (sym c.self.view_is) c.requires.next in
+    let next = subst (λ (w : Worker). next_in w.pass.view.marks ≡ Some c.args.id) (sym c.self.view_is) c.requires.next
+    in
     one_few c.self.inside.pass.view c.args.id next kept.1
 
 pub returns-clause-kept : goal.returns-clause-kept
 returns-clause-kept g c =
     let kept = subst (λ (w : Worker). IsKept c.args.table.now (sight_of w)) (sym c.self.view_is) c.requires.kept in
-    let next = subst (λ (w : Worker). next_in w.pass.view.marks ≡ Some c.args.id) (sym c.self.view_is) c.requires.next in
+    let next = subst (λ (w : Worker). next_in w.pass.view.marks ≡ Some c.args.id) (sym c.self.view_is) c.requires.next
+    in
     let named = c.open_next.ensures.pin ∙ c.in_ok-flow.ensures.id in
     let params = ap (λ (o : Openings). o.params) c.in_ok-opened.ensures.ok
     ∙ ap (λ (o : Openings). o.params) c.next_iss-iss.ensures.next in

@@ -1,4 +1,4 @@
-use Rattle.std.proofs.Common.{ap, sym, ◌∙◌, subst}
+use Rattle.std.proofs.Common.{ap, sym, subst}
 use Rattle.tas_model.specs.Valid.{InRange}
 use Rattle.core_worker.specs.Workers.{Common}
 use Rattle.slow_worker.specs.Workers.{Worker}

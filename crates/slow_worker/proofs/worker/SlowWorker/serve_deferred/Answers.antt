@@ -12,7 +12,8 @@ returns-in-Err-clause-left g c =
     let m : Worker = the_view c.self-in-Err.inside in
     let n : Worker = record m { deferred = c.put_back.new.self } in
     let rest = c.self-in-Err.view_is ∙ c.in-Err.ensures.rest in
-    let none = none_of u.exceptions.list (ap (λ (w : Worker). length w.exceptions.list) c.self.view_is ∙ c.requires.none) in
+    let long = ap (λ (w : Worker). length w.exceptions.list) c.self.view_is in
+    let none = none_of u.exceptions.list (long ∙ c.requires.none) in
     let first = joined _ _ _ _ none c.in-Some.ensures.first in
     let exceptions : n.exceptions.list ≡ u.exceptions.list = ap (λ (w : Worker). w.exceptions.list) rest in
     let deferred : n.deferred.list ≡ u.deferred.list =

@@ -45,8 +45,7 @@ returns-in-Ok-clause-served g c =
     c.self.view_is first
     (subst (λ (s : Sight). IsOneServed (setting_of c.args.tick u) f (sight_of u) s c.in-Ok.served)
     (ap sight_of (sym last)) c.in-Ok.ensures.served)
-    (joined _ _ _ _ exceptions deferred ∙ sym (append_assoc c.take_first.new.self.list u.deferred.list _)) fewer
-    (
+    (joined _ _ _ _ exceptions deferred ∙ sym (append_assoc c.take_first.new.self.list u.deferred.list _)) fewer (
       ap (λ (w : Worker). w.filed) last ∙ ap (λ (w : Worker). w.filed) rest,
       ap (λ (w : Worker). w.check_sums) last ∙ ap (λ (w : Worker). w.check_sums) rest,
       ap (λ (w : Worker). w.ticked) last ∙ ap (λ (w : Worker). w.ticked) rest,
