@@ -110,7 +110,8 @@ fn add_quiet(stretches: &mut Vec<Stretch>, caller: Caller, number: u64, tick: u3
         ≡ entries_of arena stretches.old.items ++ quiet_tick caller number tick ∷ [] }
     ensures within { (n : ℕ) → AllWithin n stretches.old.items → AllWithin n stretches.new.items }
     ensures few { (arena : List ℕ) → last_tick 0 (entries_of arena stretches.old.items) ≤ tick
-        → vec_len stretches.old + last_tick 0 (entries_of arena stretches.old.items) + 1 ≤ vec_len stretches.new + tick }
+        → vec_len stretches.old + last_tick 0 (entries_of arena stretches.old.items) + 1 ≤ vec_len stretches.new
+        + tick }
     ensures len { vec_len stretches.new ≤ vec_len stretches.old + 1 }
     ensures capacity { vec_capacity stretches.old ≤ vec_capacity stretches.new }
 {
