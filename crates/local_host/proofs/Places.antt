@@ -8,6 +8,8 @@ use Rattle.std.proofs.lemmas.List.Quantifiers.{position-Some}
 use Rattle.host_rounds.specs.Lists.{change_first, change_at}
 use Rattle.host_rounds.specs.Hosts.{Live, free_from, is_in_slot}
 use Rattle.host_rounds.proofs.Loops.{changed_at}
+use Rattle.local_host.specs.Index.{AreMarked}
+use Rattle.local_host.specs.Marks.{IsLowest}
 
 pub ok_by : {T E : Type 0} {P Q : Type 0} (r : Result T E) → (P → Q) → OnOk r P → OnOk r Q
 ok_by (Ok x) f p = f p
@@ -80,3 +82,29 @@ pub no_slots : (slots slot : ℕ) (flows : List Live) → slots ≤ slot → fre
 no_slots slots slot flows past = ap (λ (n : ℕ). free_from n slot flows) (none_left slots slot past) where
   none_left : (a b : ℕ) → a ≤ b → a - b ≡ 0
   none_left a b h = omega arith
+
+-- all slots below one are taken
+pub slots_taken : (slots slot : ℕ) (flows : List Live) → slot ≤ slots
+    → ((k : ℕ) → k < slot → list_any (is_in_slot k) flows ≡ true)
+    → free_from (slots - slot) slot flows ≡ free_from slots 0 flows
+slots_taken slots zero flows within taken =
+    let all : slots - 0 ≡ slots = omega arith in
+    ap (λ (n : ℕ). free_from n 0 flows) all
+slots_taken slots (suc k) flows within taken =
+    let next : suc k ≡ k + 1 = omega arith in
+    ap (λ (n : ℕ). free_from (slots - n) n flows) next
+    ∙ (sym (slot_taken slots k flows (omega arith) (taken k (omega arith)))
+    ∙ slots_taken slots k flows (omega arith) (λ j low. taken j (omega arith)))
+
+-- the lowest one that is not marked
+pub lowest_is : (marks : List Bool) (flows : List Live) (slots lowest : ℕ) → IsLowest marks lowest
+    → AreMarked marks flows → lowest < slots → Some lowest ≡ free_from slots 0 flows
+lowest_is marks flows slots lowest is marked within =
+    sym (slot_free slots lowest flows within (sym (marked lowest) ∙ is.free))
+    ∙ slots_taken slots lowest flows (omega arith) (λ k low. sym (marked k) ∙ is.below k low)
+
+pub none_is : (marks : List Bool) (flows : List Live) (slots lowest : ℕ) → IsLowest marks lowest
+    → AreMarked marks flows → slots ≤ lowest → None ≡ free_from slots 0 flows
+none_is marks flows slots lowest is marked past =
+    sym (no_slots slots slots flows (omega arith))
+    ∙ slots_taken slots slots flows (omega arith) (λ k low. sym (marked k) ∙ is.below k (omega arith))

@@ -89,5 +89,5 @@ pub record IsKnown (known : FourTuple → Option Openings) (slots : ℕ → Opti
   pub taken : AreMarked marks flows
 
 abbrev pub IsSound : Table → Type 0
-IsSound t = IsKnown (get equal_tuple t.openings) (get nat_eq t.generations) t.standing.items t.given t.taken.items
+IsSound t = IsKnown (get equal_tuple t.openings) (get nat_eq t.generations) t.standing.items t.given t.taken
     t.flows.items

@@ -27,6 +27,7 @@ use crate::arrival::{Arrival, Packet, Taking};
 use crate::cores::take_on_cores;
 use crate::live::{Holder, LiveFlow};
 use crate::script::Shown;
+use crate::slot_marks::SlotMarks;
 use flow_state::{Answer, CallIn, FlowRecord};
 use segment_fields::Segment;
 use std::alloc::{AllocError, Global};
@@ -63,8 +64,8 @@ struct Table {
     generations: HashMap<u32, usize>,
     /// How many flows have ports that connects are given.
     given: usize,
-    /// Whether a flow's record stands in a slot. None stands in those past the last mark.
-    taken: Vec<bool>,
+    /// In which slots records of flows stand.
+    taken: SlotMarks,
 }
 
 /// The flows of a host, in the order of their opening, filed ones among them. A flow is found by its four-tuple without
@@ -99,7 +100,7 @@ impl Flows {
                 openings: HashMap::new(alloc),
                 generations: HashMap::new(alloc),
                 given: 0,
-                taken: Vec::new(alloc),
+                taken: SlotMarks::new(alloc),
             },
         }
     }
@@ -199,7 +200,7 @@ impl Flows {
         if self.len() >= MOST_FLOWS {
             return None;
         }
-        first_free(&self.table.taken, slots)
+        self.table.taken.first_free(slots)
     }
 
     /// The next generation of a slot: one more than there were flows in it.
@@ -231,11 +232,9 @@ impl Flows {
     {
         sweep_all(&mut self.table.flows, &self.table.standing);
         drop_filed(&mut self.table.standing, &self.table.flows);
-        mark_anew(
-            &mut self.table.taken,
-            &self.table.flows,
-            &self.table.standing,
-        );
+        self.table
+            .taken
+            .mark_anew(&self.table.flows, &self.table.standing);
     }
 
     /// One tick passes for each flow that is not closed. The error is want of memory.
@@ -399,7 +398,7 @@ impl Table {
         note_opening(&mut self.openings, tuple, now)?;
         let slot = flow.id().slot;
         note_slot(&mut self.generations, slot)?;
-        take_slot(&mut self.taken, slot)?;
+        self.taken.take(slot)?;
         self.given = self.given + count_given(tuple.lport);
         self.standing.push(self.flows.len())?;
         self.flows.push(flow)?;
@@ -530,86 +529,6 @@ fn is_over_at(flows: &[LiveFlow], place: usize) -> bool
 {
     match flows.get(place) {
         Some(flow) => flow.is_over(),
-        None => false,
-    }
-}
-
-/// A flow's record stands in the slot. The error is want of memory.
-fn take_slot(taken: &mut Vec<bool>, slot: u32) -> Result<(), AllocError>
-    ensures { OnOk result ((q : ℕ) → get_or taken.new.items q false
-        ≡ (get_or taken.old.items q false || slot == q)) }
-{
-    reach(taken, slot as usize + 1)?;
-    taken[slot as usize] = true;
-    Ok(())
-}
-
-/// There are marks for so many slots at least; no slot is taken by that. The error is want of memory.
-fn reach(taken: &mut Vec<bool>, slots: usize) -> Result<(), AllocError>
-    ensures len { OnOk result (slots ≤ length taken.new.items) }
-    ensures same { OnOk result ((q : ℕ) → get_or taken.new.items q false ≡ get_or taken.old.items q false) }
-{
-    if taken.len() < slots {
-        taken.resize(slots, false)?;
-    }
-    Ok(())
-}
-
-/// Marks the slots, of those that there are marks for, that a flow's record stands in.
-fn mark_anew(taken: &mut [bool], flows: &[LiveFlow], standing: &[usize])
-    requires { standing.now ≡ standing_places flows.now }
-    ensures len { length taken.new ≡ length taken.old }
-    ensures taken { (slot : ℕ) → slot < length taken.old
-        → get_or taken.new slot false ≡ list_any (is_in_slot slot) flows.now }
-{
-    taken.fill(false);
-    for place in standing {
-        mark_at(taken, flows, *place);
-    }
-}
-
-/// The slot of the record of the flow at this place is taken.
-fn mark_at(taken: &mut [bool], flows: &[LiveFlow], place: usize)
-    ensures len { length taken.new ≡ length taken.old }
-    ensures taken { (slot : ℕ) → slot < length taken.old
-        → get_or taken.new slot false ≡ (get_or taken.old slot false || passes_at (is_in_slot slot) flows.now place) }
-{
-    match flows.get(place) {
-        Some(flow) => mark(taken, flow),
-        None => {}
-    }
-}
-
-/// The slot of the flow's record is taken.
-fn mark(taken: &mut [bool], flow: &LiveFlow)
-    ensures len { length taken.new ≡ length taken.old }
-    ensures taken { (slot : ℕ) → slot < length taken.old
-        → get_or taken.new slot false ≡ (get_or taken.old slot false || is_in_slot slot flow.now) }
-{
-    let slot = flow.id().slot;
-    if flow.is_in_slot(slot) && (slot as usize) < taken.len() {
-        taken[slot as usize] = true;
-    }
-}
-
-/// The lowest slot that is not taken.
-fn first_free(taken: &[bool], slots: u32) -> Option<u32>
-    ensures { (flows : List Live) → AreMarked taken.now flows → result ≡ free_from slots 0 flows }
-{
-    for slot in 0..slots {
-        if !is_taken(taken, slot) {
-            return Some(slot);
-        }
-    }
-    None
-}
-
-/// Whether the slot is marked. None past the last mark is.
-fn is_taken(taken: &[bool], slot: u32) -> bool
-    ensures { result ≡ get_or taken.now slot false }
-{
-    match taken.get(slot as usize) {
-        Some(taken) => *taken,
         None => false,
     }
 }

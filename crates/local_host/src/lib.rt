@@ -16,6 +16,7 @@ mod pending;
 mod reading;
 mod replay;
 mod script;
+mod slot_marks;
 mod steer;
 
 pub use arrival::{Arrival, Packet};

@@ -4,7 +4,7 @@ use Rattle.std.proofs.lemmas.List.{take_all}
 use Rattle.host_rounds.specs.Hosts.{is_in_slot}
 use Rattle.local_host.specs.Index.{passes_at}
 use Rattle.local_host.proofs.Standing.{any_standing, filed_in_no_slot}
-use Rattle.local_host.proofs.flows.mark_anew.Goals as goal
+use Rattle.local_host.proofs.slot_marks.mark_anew.Goals as goal
 
 pub returns-clause-taken : goal.returns-clause-taken
 returns-clause-taken c = λ slot low.

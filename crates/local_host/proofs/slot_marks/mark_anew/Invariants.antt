@@ -2,7 +2,7 @@ use Rattle.std.proofs.Common.{◌≡◌, ℕ, ◌<◌, false, get_or, take, leng
 use Rattle.std.specs.List.{list_any}
 use Rattle.host_rounds.specs.Hosts.{is_in_slot}
 use Rattle.local_host.specs.Index.{passes_at}
-use Rattle.local_host.proofs.flows.mark_anew.Given as goal
+use Rattle.local_host.proofs.slot_marks.mark_anew.Given as goal
 
 abbrev pub invariant-loop-place : goal.invariant-loop-place
 invariant-loop-place l = record {

@@ -2,7 +2,7 @@ use Rattle.std.proofs.Common.{◌<◌, ◌≤◌, ◌||◌, Bool, false, get_or,
 use Rattle.host_rounds.specs.Hosts.{is_in_slot}
 use Rattle.local_host.proofs.Slots.{or_none}
 use Rattle.local_host.proofs.Standing.{passes_get, passes_past}
-use Rattle.local_host.proofs.flows.mark_at.Goals as goal
+use Rattle.local_host.proofs.slot_marks.mark_at.Goals as goal
 
 pub returns-in-Some-clause-taken : goal.returns-in-Some-clause-taken
 returns-in-Some-clause-taken c = λ slot low.
