@@ -11,7 +11,7 @@ use Rattle.flow_state.specs.declared.call.Answer.{Answer}
 use Rattle.flow_state.specs.declared.call.CallIn.TheVariants as ins
 use Rattle.flow_state.specs.declared.parts.Parts.{Parts}
 use Rattle.flow_state.specs.Stands.{Stands}
-use Rattle.fast_tx.specs.Going.{left_in}
+use Rattle.fast_tx.specs.Going.{left_in, next_out_of}
 use Rattle.fast_tx.specs.Piece.{IsEmission}
 use Rattle.fast_tx.proofs.Told.{serves_is}
 use Rattle.host_rounds.specs.Logs.{Flow}
@@ -77,3 +77,8 @@ emission_last t l f p o fits legal stands serves made none =
     ap (λ (g : Flow). record l { flow = g })
     (made ∙ ap (λ (b : Bool). cond b (called l.flow (Core 0) t calls.Emit []) l.flow) none)
     ∙ sym (all_is_sent t l stays)
+
+-- what is told of the next segment is there where that is
+pub told_where : (g : Option Going) → is_some (next_out_of g) ≡ is_some g
+told_where None = refl
+told_where (Some g) = refl

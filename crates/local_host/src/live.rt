@@ -1,7 +1,8 @@
 ghost use Rattle.std.specs.Prelude.{◌≡◌, ℕ, ◌∷◌, [], ◌==◌, ◌||◌, ◌&&◌, ◌<◌, ◌≤◌, ◌^◌, ◌++◌, not, true, false, length};
-ghost use Rattle.std.specs.Prelude.{take, if◌then◌else◌, OnOk, IfOk};
+ghost use Rattle.std.specs.Prelude.{take, if◌then◌else◌, is_some, OnOk, IfOk};
 ghost use Rattle.tas_model.specs.declared.entry.Call.TheVariants as calls;
 ghost use Rattle.tas_model.specs.declared.entry.Caller.TheVariants.{Slow, Core, App};
+ghost use Rattle.tas_model.specs.NextSegment.{going};
 ghost use Rattle.tas_model.specs.Valid.{InRange};
 ghost use Rattle.flow_state.specs.Calls.{seg_of, answer_of, call_of, offer_of, IsSmall};
 ghost use Rattle.flow_state.specs.App.{column_of, IsAppCall};
@@ -23,7 +24,7 @@ use crate::calls::{make, taken};
 use crate::reading::{first_number, is_closed, is_control_tick, sent_count, stage_of};
 use capture_items::is_same_tuple;
 use fast_rx::FastRx;
-use fast_tx::FastTx;
+use fast_tx::{FastTx, next_out};
 use flow_state::{Answer, AppCalls, CallIn, FlowRecord, Stage};
 use segment_fields::Segment;
 use slow_handshake::SlowRx;
@@ -412,8 +413,18 @@ impl LiveFlow {
     pub fn send_all(&mut self, tick: u32) -> Result<(), AllocError>
         ensures { OnOk result (self.new ≡ quieted tick self.old) }
     {
+        if !self.may_send() {
+            return Ok(());
+        }
         while self.emit(tick)? {}
         Ok(())
+    }
+
+    /// Whether a segment may go. Most flows have none in most ticks, and a look at their parts tells.
+    fn may_send(&self) -> bool
+        ensures { result ≡ is_some (going (endpoint self.now)) }
+    {
+        next_out(self.history.parts()).is_some()
     }
 
     /// Sends the next segment by core 0, where one may go, and says whether. The error is want of memory.
