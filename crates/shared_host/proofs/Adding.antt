@@ -1,0 +1,106 @@
+-- One core more: what holds of the cores that were added holds with it too. For `add_core`.
+use Rattle.std.proofs.Common.{◌≡◌, ℕ, suc, ◌+◌, List, [], ◌∷◌, ◌++◌, length, Some, slice_get, refl, sym, ap, ◌∙◌}
+use Rattle.std.proofs.Common.{subst, arith}
+use Rattle.atomic_table.specs.Seated.{TableId}
+use Rattle.context_queue.specs.Notes.{Place, Receiver}
+use Rattle.flow_index.specs.declared.change.Change.{Change}
+use Rattle.flow_lock.specs.Callers.{IsGuest}
+use Rattle.flow_lock.specs.Passes.{Seen, right, new_turn}
+use Rattle.flow_lock.specs.declared.view.View.{View}
+use Rattle.core_worker.specs.Workers.{Common, Worker, new_worker, IsFree, HasQueue, HasSenders}
+use Rattle.host_rounds.specs.Lists.{Each}
+use Rattle.host_rounds.proofs.Lists.{length_push}
+use Rattle.shared_host.specs.Cores.{AreCores, AreNumbered, HasRoom, IsNew, IsGuestOf, TakesFrom}
+use Rattle.shared_host.proofs.Lists.{each_map, each_more, still_there, last_there}
+
+-- a pass that was split off is a guest
+pub split_guest : (t : TableId) (v : View) (s : Seen) → s.table ≡ t → s.view ≡ right v → IsGuest t s
+split_guest t v s table view =
+    subst (λ (w : View). IsGuest t (record { table = s.table; view = w })) (sym view)
+    ((table, (new_turn v.made, [], refl), refl, refl), refl, refl)
+
+numbered_more : (first : ℕ) (ws : List Worker) (w : Worker) → AreNumbered first ws → w.core ≡ first + length ws
+    → AreNumbered first (ws ++ w ∷ [])
+numbered_more first [] w numbered is =
+    let none : first + 0 ≡ first = omega arith in
+    (is ∙ none, tt)
+numbered_more first (x ∷ ws) w numbered is =
+    let next : first + suc (length ws) ≡ suc first + length ws = omega arith in
+    (numbered.0, numbered_more (suc first) ws w numbered.1 (is ∙ next))
+
+pub one_core : (t : TableId) (n : ℕ) (ks more : List Place) (ws grown : List Worker) (q : Place) (w : Worker)
+    (pass : Seen) (v : View) (known : List Change) (kicks : Receiver)
+    → AreCores t n ks ws → HasRoom q → w ≡ new_worker n pass known kicks → known ≡ []
+    → (pass.table ≡ t) × (pass.view ≡ right v) → kicks.line ≡ q.line
+    → more ≡ ks ++ q ∷ [] → grown ≡ ws ++ w ∷ [] → AreCores t (n + 1) more grown
+one_core t n ks more ws grown q w pass v known kicks are room is none split of is-more is-grown =
+    subst (λ (xs : List Place). AreCores t (n + 1) xs grown) (sym is-more)
+    (subst (λ (ys : List Worker). AreCores t (n + 1) (ks ++ q ∷ []) ys) (sym is-grown) grew)
+  where
+    made : w ≡ new_worker n pass [] kicks
+    made = is ∙ ap (λ (cs : List Change). new_worker n pass cs kicks) none
+
+    new : w ≡ new_worker n w.pass [] w.kicks
+    new = subst (λ (x : Worker). x ≡ new_worker n x.pass [] x.kicks) (sym made) refl
+
+    guest : IsGuest t w.pass
+    guest = subst (λ (x : Worker). IsGuest t x.pass) (sym made) (split_guest t v pass split.0 split.1)
+
+    line : w.kicks.line ≡ q.line
+    line = ap (λ (x : Worker). x.kicks.line) made ∙ of
+
+    core : w.core ≡ n
+    core = ap (λ (x : Worker). x.core) new
+
+    at_end : w.core ≡ length ks
+    at_end = core ∙ sym are.queues
+
+    numbered : w.core ≡ 0 + length ws
+    numbered =
+        let none : length ws ≡ 0 + length ws = omega arith in
+        core ∙ (sym are.workers ∙ none)
+
+    grew : AreCores t (n + 1) (ks ++ q ∷ []) (ws ++ w ∷ [])
+    grew = record {
+      queues = sym (length_push n ks q (sym are.queues));
+      workers = sym (length_push n ws w (sym are.workers));
+      rooms = each_more HasRoom ks q are.rooms room;
+      numbers = numbered_more 0 ws w are.numbers numbered;
+      new = each_more IsNew ws w are.new (subst (λ (k : ℕ). w ≡ new_worker k w.pass [] w.kicks) (sym core) new);
+      free = each_more (IsGuestOf t) ws w are.free guest;
+      own = each_more (TakesFrom (ks ++ q ∷ [])) ws w
+          (each_map (TakesFrom ks) (TakesFrom (ks ++ q ∷ [])) ws
+          (λ v own. (own.0, still_there ks q own.0 v.core own.1, own.2)) are.own)
+          (q, subst (λ (k : ℕ). slice_get (ks ++ q ∷ []) k ≡ Some q) (sym at_end) (last_there ks q), sym line);
+    }
+
+-- none at first
+none_yet : (t : TableId) → AreCores t 0 [] []
+none_yet t = record {
+  queues = refl;
+  workers = refl;
+  rooms = tt;
+  numbers = tt;
+  new = tt;
+  free = tt;
+  own = tt;
+}
+
+pub no_cores : (t : TableId) (ks : List Place) (ws : List Worker) → ks ≡ [] → ws ≡ [] → AreCores t 0 ks ws
+no_cores t ks ws no-queue no-worker =
+    subst (λ (xs : List Place). AreCores t 0 xs ws) (sym no-queue)
+    (subst (λ (ys : List Worker). AreCores t 0 [] ys) (sym no-worker) (none_yet t))
+
+-- ----- what their turns ask
+pub each_free : (c d : Common) (ws : List Worker) → d ≡ c → Each (IsGuestOf c.table) ws → Each (IsFree d) ws
+each_free c d ws is free =
+    subst (λ (x : Common). Each (IsFree x) ws) (sym is) (each_map (IsGuestOf c.table) (IsFree c) ws (λ w f. f) free)
+
+pub each_own : (c d : Common) (ws : List Worker) → d ≡ c → Each (TakesFrom c.kicks) ws → Each (HasQueue d) ws
+each_own c d ws is own =
+    subst (λ (x : Common). Each (HasQueue x) ws) (sym is)
+    (each_map (TakesFrom c.kicks) (HasQueue c) ws (λ w o. o) own)
+
+pub each_silent : (d : Common) (ws : List Worker) → Each IsNew ws → Each (HasSenders d) ws
+each_silent d ws new =
+    each_map IsNew (HasSenders d) ws (λ w is. subst (λ (x : Worker). HasSenders d x) (sym is) tt) new

@@ -1,0 +1,4 @@
+pub mod Lists
+pub mod Adding
+pub mod SlowPaths
+pub mod Giving

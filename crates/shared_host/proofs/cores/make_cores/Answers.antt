@@ -1,0 +1,17 @@
+use Rattle.shared_host.proofs.Adding.{no_cores}
+use Rattle.shared_host.proofs.SlowPaths.{all_left, core_added}
+use Rattle.shared_host.proofs.cores.make_cores.Goals as goal
+
+pub loop-core-init : goal.loop-core-init
+loop-core-init g c = record {
+  slow = all_left c.args.slow.now.path.params c.args.table.now c.args.cores c.args.slow.now c.requires.slow;
+  made = no_cores c.args.table.now c.new.result.items c.new-2.result.items c.new.ensures.items c.new-2.ensures.items;
+}
+
+pub loop-core-preserved : goal.loop-core-preserved
+loop-core-preserved g c = record {
+  slow = core_added c.args.slow.now.path.params c.args.table.now c.loop-core.core c.args.cores c.loop-core.slow
+      c.add_core.new.slow c.loop-core.invariant.slow c.in_ok-add_core.ensures.pass c.in_ok-add_core.ensures.reader
+      c.in_ok-add_core.ensures.index c.add_core.ensures.rest;
+  made = c.in_ok-add_core.ensures.cores;
+}

@@ -1,0 +1,41 @@
+-- The cores of a host that was just put together.
+use Rattle.std.specs.Prelude.{◌≡◌, ℕ, suc, List, [], ◌∷◌, length, Some, slice_get, ⊤}
+use Rattle.atomic_table.specs.Seated.{TableId}
+use Rattle.context_queue.specs.Notes.{Place}
+use Rattle.flow_lock.specs.Callers.{IsGuest}
+use Rattle.host_rounds.specs.Lists.{Each}
+use Rattle.core_worker.specs.Workers.{Worker, new_worker}
+
+-- how many notes each queue of a host holds
+abbrev pub queue_room : ℕ
+queue_room = 1024
+
+abbrev pub HasRoom : Place → Type 0
+HasRoom q = q.room ≡ queue_room
+
+-- the workers have the numbers of their cores one after the other
+abbrev pub AreNumbered : (first : ℕ) → List Worker → Type 0
+AreNumbered first [] = ⊤
+AreNumbered first (w ∷ ws) = (w.core ≡ first) × AreNumbered (suc first) ws
+
+-- The worker looks at checksums. It has no frames and no lines, knows no flow, and tells no application.
+abbrev pub IsNew : Worker → Type 0
+IsNew w = w ≡ new_worker w.core w.pass [] w.kicks
+
+-- ----- while cores are added
+abbrev pub IsGuestOf : TableId → Worker → Type 0
+IsGuestOf t w = IsGuest t w.pass
+
+-- it takes kicks from the queue of its core
+abbrev pub TakesFrom : List Place → Worker → Type 0
+TakesFrom kicks w = (place : Place) × (slice_get kicks w.core ≡ Some place) × (place.line ≡ w.kicks.line)
+
+-- So many cores of this table, each with its queue of kicks and its worker.
+pub record AreCores (t : TableId) (count : ℕ) (kicks : List Place) (ws : List Worker) : Type 0 where
+  pub queues : length kicks ≡ count
+  pub workers : length ws ≡ count
+  pub rooms : Each HasRoom kicks
+  pub numbers : AreNumbered 0 ws
+  pub new : Each IsNew ws
+  pub free : Each (IsGuestOf t) ws
+  pub own : Each (TakesFrom kicks) ws

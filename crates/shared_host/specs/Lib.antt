@@ -1,0 +1,3 @@
+pub mod Cores
+pub mod SlowPaths
+pub mod Applications
