@@ -98,13 +98,13 @@ pub kept_at_first : (params : HostParams) (t : TableId) (n r : ℕ) (w : Worker)
     → InRange params → t.slots ≡ params.slots → IsKept t (sight_of w)
 kept_at_first params t n r w is range slots =
     subst (λ (s : Sight). IsKept t s) (sym is.sight) (
-      record {
-        table = refl;
-        act = inl (new_turn 0, [], refl);
-        idle = refl;
-        owned = λ k f there. absurd (none_some f there);
-        known = λ k f there. absurd (none_some f there);
-        few = omega (arith, all_free t.slots, slots, range.slots.1);
-      },
-      range,
+      (
+        record {
+          ready = (refl, inl (new_turn 0, [], refl), refl);
+          owned = record { each_doomed = tt; each_pin = tt; once = λ i. omega arith };
+          known = λ k f there. absurd (none_some f there);
+        },
+        range,
+      ),
+      omega (arith, all_free t.slots, slots, range.slots.1),
     )
