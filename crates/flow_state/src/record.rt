@@ -269,44 +269,9 @@ impl FlowRecord {
         ensures tuple { self.new.tuple ≡ self.old.tuple }
         ensures params { self.new.params ≡ self.old.params }
     {
-        match call {
-            CallIn::Tick => self.act_tick(caller, tick, engine),
-            _ => self.act_any(caller, tick, call, engine),
+        if let CallIn::Tick = call {
+            return self.act_tick(caller, tick, engine);
         }
-    }
-
-    /// The same, for any call.
-    fn act_any<E: Engine>(
-        &mut self,
-        caller: Caller,
-        tick: u32,
-        call: &CallIn<'_>,
-        engine: &E,
-    ) -> Result<Option<Answer>, AllocError>
-        requires small { IsSmall call.now }
-        requires timely { IsTimely self.old.parts.phase call.now }
-        ensures exact { IfOk result
-            (λ r. IfSome r (λ a. self.new.entries ≡ extended_by self.old.params self.old.entries caller tick
-            (call_of call.now) (offer_of call.now))) }
-        ensures answer { IfOk result
-            (λ r. IfSome r
-            (λ a. a ≡ answer_of (reply_to self.old.params self.old.entries tick (call_of call.now)
-            (offer_of call.now)))) }
-        ensures unmade { IfOk result (λ r. IfNone r (self.new.entries ≡ self.old.entries)) }
-        ensures unmade_parts { IfOk result (λ r. IfNone r (self.new.parts ≡ self.old.parts)) }
-        ensures err { OnErr result (self.new.entries ≡ self.old.entries) }
-        ensures err_parts { OnErr result (self.new.parts ≡ self.old.parts) }
-        ensures serves { IfOk result (λ r. IsSome r ↔ E.serves engine.now self.old.parts call.now) }
-        ensures spare { 1 ≤ self.old.spare_entries → cost_of self.old.parts.smss call.now ≤ self.old.spare_bytes
-            → IsOk result }
-        ensures spent_entries { self.old.spare_entries ≤ self.new.spare_entries + 1 }
-        ensures spent_bytes { self.old.spare_bytes ≤ self.new.spare_bytes + cost_of self.old.parts.smss call.now }
-        ensures legal { Legal self.new.params self.new.entries }
-        ensures stands { Stands self.new.parts (replay self.new.params self.new.entries) }
-        ensures id { self.new.id ≡ self.old.id }
-        ensures tuple { self.new.tuple ≡ self.old.tuple }
-        ensures params { self.new.params ≡ self.old.params }
-    {
         let tick = tick.max(self.last);
         let number = number_of(&self.counts, caller);
         self.stretches.reserve(1)?;
@@ -326,7 +291,7 @@ impl FlowRecord {
         Ok(Some(answer))
     }
 
-    /// The same, for a Tick. It has no bytes, and most are quiet: these lengthen the last run.
+    /// `act` of a Tick. It has no bytes, and most are quiet: these lengthen the last run.
     fn act_tick<E: Engine>(
         &mut self,
         caller: Caller,

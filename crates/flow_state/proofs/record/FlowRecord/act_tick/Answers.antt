@@ -1,4 +1,4 @@
-use Rattle.std.proofs.Common.{◌≡◌, ◌≤◌, ◌+◌, ◌∙◌, [], cond, ℕ, List, length, ap, sym, subst, arith, take, take_all}
+use Rattle.std.proofs.Common.{◌≡◌, ◌+◌, ◌∙◌, [], cond, ℕ, List, length, ap, sym, subst, arith, take, take_all}
 use Rattle.std.proofs.Common.{refl}
 use Rattle.tas_model.specs.declared.entry.Call.TheVariants as calls
 use Rattle.tas_model.specs.declared.entry.Caller.{Caller}

@@ -1,4 +1,4 @@
-use Rattle.std.proofs.Common.{◌≡◌, ◌+◌, ◌++◌, ◌∷◌, [], ◌∙◌, cond, List, length, ap, sym, subst, arith}
+use Rattle.std.proofs.Common.{◌≡◌, ◌+◌, ◌++◌, ◌∷◌, [], ◌∙◌, cond, List, length, ap, sym, subst, arith, rules}
 use Rattle.std.specs.Option.{option_or}
 use Rattle.tas_model.specs.LegalHistory.{extended_by, replay, last_tick, same_caller}
 use Rattle.flow_state.specs.Flow.{Flow, reply_to}
@@ -14,9 +14,9 @@ use Rattle.tas_model.specs.declared.entry.HostParams.{HostParams}
 use Rattle.tas_model.proofs.MovesLaws.{places_of}
 use Rattle.flow_state.proofs.Near.{near_of}
 use Rattle.flow_state.proofs.Acting.{Grown, kept_after}
-use Rattle.flow_state.proofs.record.FlowRecord.act_any.Goals as goal
-use Rattle.flow_state.proofs.record.FlowRecord.act_any.Goals.{After-add}
-use Rattle.flow_state.proofs.record.FlowRecord.act_any.Given
+use Rattle.flow_state.proofs.record.FlowRecord.act.Goals as goal
+use Rattle.flow_state.proofs.record.FlowRecord.act.Goals.{After-add}
+use Rattle.flow_state.proofs.record.FlowRecord.act.Given
 
 grown : (g : Given.Over) (c : After-add g)
     → Grown c.self.inside.parts c.answer.new.parts c.self.inside.arena.bytes c.answer.new.self.bytes
@@ -78,14 +78,30 @@ pub returns-in_err-reserve-3-clause-stands : goal.returns-in_err-reserve-3-claus
 returns-in_err-reserve-3-clause-stands g c =
     rw (c.in_err-reserve-3.ensures.bytes, c.in_ok-reserve.ensures.items) c.self.invariant.stands
 
-pub returns-in_default-clause-stands : goal.returns-in_default-clause-stands
-returns-in_default-clause-stands g c =
-    rw (
-      c.in_default.ensures.unmade,
-      c.in_default.ensures.unmade_bytes,
-      c.reserve-3.ensures.bytes,
-      c.in_ok-reserve.ensures.items,
-    ) c.self.invariant.stands
+pub returns-in_default-answer : goal.returns-in_default-answer
+returns-in_default-answer g c =
+    record {
+      exact = tt;
+      answer = tt;
+      unmade = search rules;
+      unmade_parts = search rules;
+      err = tt;
+      err_parts = tt;
+      serves = search rules;
+      spare = search rules;
+      spent_entries = search rules;
+      spent_bytes = search rules;
+      legal = search rules;
+      stands = rw (
+        c.in_default-answer.ensures.unmade,
+        c.in_default-answer.ensures.unmade_bytes,
+        c.reserve-3.ensures.bytes,
+        c.in_ok-reserve.ensures.items,
+      ) c.self.invariant.stands;
+      id = search rules;
+      tuple = search rules;
+      params = search rules;
+    }
 
 pub answer-requires-clause-near : goal.answer-requires-clause-near
 answer-requires-clause-near g c =
