@@ -111,6 +111,6 @@ placed_ahead n base l at r p cells new w past within wrote is =
     subst (λ (v : Window). on_cells n base l r new ≡ record v { ahead = overlaid (at - length v.bytes) p v.ahead }) is
     (ap (on_cells n base l r) wrote ∙ same_window n base r _ _ _ _ (take-overlaid l at p cells past within) ahead)
 
-pub length-in_order : (n base l : ℕ) (r : Bool) (cells : List ℕ) (w : Window) → l ≤ length cells → on_cells n base l r cells ≡ w
-    → length w.bytes ≡ l
+pub length-in_order : (n base l : ℕ) (r : Bool) (cells : List ℕ) (w : Window) → l ≤ length cells
+    → on_cells n base l r cells ≡ w → length w.bytes ≡ l
 length-in_order n base l r cells w h is = ap (λ (v : Window). length v.bytes) (sym is) ∙ length-take-le l cells h

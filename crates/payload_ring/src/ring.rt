@@ -1,12 +1,14 @@
-ghost use Rattle.std.specs.Prelude.{◌≡◌, ℕ, ◌+◌, ◌-◌, ◌^◌, ◌<◌, ◌≤◌, ◌++◌, [], true, length, take, drop, replicate, IfOk};
-ghost use Rattle.payload_ring.specs.Window.{Window, IsWindow, end_of, cells_of, room_of, overlaid, with_cells, released};
+ghost use Rattle.std.specs.Prelude.{◌≡◌, ℕ, ◌+◌, ◌-◌, ◌^◌, ◌<◌, ◌≤◌, ◌++◌, [], true, length, take, drop, replicate};
+ghost use Rattle.std.specs.Prelude.{IfOk};
+ghost use Rattle.payload_ring.specs.Window.{Window, IsWindow, end_of, cells_of, room_of, overlaid, with_cells};
+ghost use Rattle.payload_ring.specs.Window.{released};
 
 use crate::cells::{Cells, index_of};
 use std::alloc::{AllocError, Global};
 use std::marker::Model;
 
-/// A window of fixed size on a stream of bytes, in memory that is taken once, and can be given back where no byte stands
-/// in order.
+/// A window of fixed size on a stream of bytes, in memory that is taken once, and can be given back where no byte
+/// stands in order.
 ///
 /// A place is the number of a byte in the stream. The bytes from `base` to below `end` stand in order; those ahead of
 /// them, up to below `base + size`, can be placed before the ones between have come. So it serves as a flow's send

@@ -9,7 +9,8 @@ returns c =
     let was = c.self.inside in
     let cells = turned was.start was.cells.cells in
     let within : was.len ≤ length cells = omega (arith, length-turned was.start was.cells.cells, c.self.invariant) in
-    let in_order : length c.args.self.now.bytes ≡ was.len = length-in_order _ _ was.len _ cells _ within c.self.view_is in
+    let in_order : length c.args.self.now.bytes ≡ was.len =
+    length-in_order _ _ was.len _ cells _ within c.self.view_is in
     let fits : c.args.n ≤ was.len = omega (arith, in_order, c.requires) in
     let start : was.start < length was.cells.cells = omega (arith, c.self.invariant) in
     let turn : turned c.index_of-self-inside.result was.cells.cells ≡ _ =
