@@ -25,17 +25,17 @@ pub end_is : (p : Parts) (e : Endpoint) → e.rx.read ≤ length e.rx.got → St
 end_is p e read s = omega (arith, s.rx.base, ap (length {A = ℕ}) s.rx.bytes, length-drop e.rx.read e.rx.got)
 
 pub received : (p : Parts) (e : Endpoint) (w : Window) (kept : Option (ℕ × ℕ)) (got : List ℕ) (island : Option Island)
-    → Stands p e → e.rx.ended ≡ false → e.rx.read ≤ length got → Holds w e.params.ring e.rx.read (drop e.rx.read got)
-    → IsIsland kept w.ahead (length got) island
+    → Stands p e → e.rx.ended ≡ false → e.rx.read ≤ length got → w.ready ≡ p.rx.ready
+    → Holds w e.params.ring e.rx.read (drop e.rx.read got) → IsIsland kept w.ahead (length got) island
     → Stands (record p { rx = w; island = kept; rcv = seq_at p.irs.0 (end_of w + 1) })
     (record e { rx = record (e.rx) { got = got; island = island } })
-received p e w kept got island s going read holds is =
+received p e w kept got island s going read ready holds is =
     let kept_bytes : length w.bytes ≡ length got - e.rx.read =
     omega (arith, ap (length {A = ℕ}) holds.bytes, length-drop e.rx.read got) in
     let none : cond {A = ℕ} e.rx.ended 1 0 ≡ 0 = ap (λ (t : Bool). cond {A = ℕ} t 1 0) going in
     let end : end_of w + 1 ≡ 1 + length got + cond e.rx.ended 1 0 = omega (arith, holds.base) in
     stands_received p e w kept _ got e.rx.read island s
-    (ap (λ (n : ℕ). seq_at n (end_of w + 1)) (peer_is p.irs e.peer s.irs) ∙ ap (seq_at (peer_first e)) end) holds is
+    (ap (λ (n : ℕ). seq_at n (end_of w + 1)) (peer_is p.irs e.peer s.irs) ∙ ap (seq_at (peer_first e)) end) ready holds is
 
 -- ----- bytes in order
 -- the window with a part in order, and with the next cells behind it
@@ -133,7 +133,7 @@ without_island p e part v going s is =
     let one : Stands (grown_parts p part 0)
     (record e { rx = record (e.rx) { got = e.rx.got ++ part; island = None } }) =
     received p e (grown_window p.rx part 0) (rest p.island (length part)) (e.rx.got
-    ++ part) None s going (omega (arith, v.read, length-append e.rx.got part))
+    ++ part) None s going (omega (arith, v.read, length-append e.rx.got part)) refl
     (plain_holds p e part v.read s) left in
     subst (λ (m : ℕ). Stands (grown_parts p part m) (record e { rx = record (e.rx) { got = e.rx.got ++ part } }))
     (sym more)
@@ -154,7 +154,7 @@ before_island p e part i v going s is far =
     let one : Stands (grown_parts p part 0)
     (record e { rx = record (e.rx) { got = e.rx.got ++ part; island = Some i } }) =
     received p e (grown_window p.rx part 0) (rest p.island (length part)) (e.rx.got
-    ++ part) (Some i) s going (omega (arith, v.read, length-append e.rx.got part)) (plain_holds p e part v.read s)
+    ++ part) (Some i) s going (omega (arith, v.read, length-append e.rx.got part)) refl (plain_holds p e part v.read s)
     (island_moves p.island p.rx.ahead part e.rx.got i far kept) in
     subst (λ (m : ℕ). Stands (grown_parts p part m) (record e { rx = record (e.rx) { got = e.rx.got ++ part } }))
     (sym more)
@@ -198,7 +198,7 @@ reaches_island p e part i v going s is near =
       v.read,
       length-append (e.rx.got ++ part) (drop (length (e.rx.got ++ part) - i.at) i.bytes),
       length-append e.rx.got part,
-    ))
+    )) refl
     (grown_holds p.rx e.params.ring e.rx.read e.rx.got part (drop (length (e.rx.got ++ part) - i.at) i.bytes)
     (d + length i.bytes - k) v.read s.rx bytes) left)
 

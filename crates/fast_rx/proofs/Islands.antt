@@ -20,7 +20,7 @@ apart : (p : Parts) (e : Endpoint) (ahead : List ℕ) (kept : Option (ℕ × ℕ
     → Stands (record p { rx = record (p.rx) { ahead = ahead }; island = kept })
     (record e { rx = record (e.rx) { island = island } })
 apart p e ahead kept island s is =
-    stands_received p e (record (p.rx) { ahead = ahead }) kept p.rcv e.rx.got e.rx.read island s s.rcv
+    stands_received p e (record (p.rx) { ahead = ahead }) kept p.rcv e.rx.got e.rx.read island s s.rcv refl
     (record { size = s.rx.size; base = s.rx.base; bytes = s.rx.bytes }) is
 
 -- the first x, where there are so many

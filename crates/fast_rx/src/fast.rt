@@ -3,7 +3,7 @@ ghost use Rattle.tas_model.specs.Endpoint.{Endpoint};
 ghost use Rattle.tas_model.specs.OneStream.{IsSynchronized};
 ghost use Rattle.tas_model.specs.Receive.{rx};
 ghost use Rattle.tas_model.specs.Valid.{Valid};
-ghost use Rattle.flow_state.specs.Stands.{Stands, IsNear};
+ghost use Rattle.flow_state.specs.Stands.{Stands, IsNear, HasRings};
 ghost use Rattle.flow_state.specs.Calls.{seg_of, answer_len};
 ghost use Rattle.flow_state.specs.Made.{IsOutcome};
 ghost use Rattle.fast_rx.specs.Exceptions.{is_control as model_control, is_common as model_common};
@@ -77,6 +77,7 @@ fn exception(phase: Phase, seg: &Segment<'_>) -> Option<Why>
 /// `Exception`: nothing changed. No memory is taken.
 pub fn fast_rx(parts: &mut Parts, seg: &Segment<'_>, tick: u32) -> FastAnswer
     requires near { IsNear parts.old }
+    requires rings { HasRings parts.old }
     ensures why { why_of result ≡ model_exception parts.old.phase seg.now }
     ensures done { OnDone result (λ answer. (out : List ℕ) (e : Endpoint) → Valid e → Stands parts.old e
         → IsOutcome parts.new answer out (rx e tick (seg_of seg.now))) }

@@ -1,4 +1,4 @@
-ghost use Rattle.std.specs.Prelude.{◌≡◌, ℕ, ◌+◌, ◌-◌, ◌^◌, ◌<◌, ◌≤◌, Some, false, length, max, min};
+ghost use Rattle.std.specs.Prelude.{◌≡◌, ℕ, ◌+◌, ◌-◌, ◌^◌, ◌<◌, ◌≤◌, Some, true, false, length, max, min};
 ghost use Rattle.payload_ring.specs.Window.{end_of, room_of};
 ghost use Rattle.tas_model.specs.Endpoint.{Endpoint, Island};
 ghost use Rattle.tas_model.specs.Reassembly.{with_data, with_part, grown, kept_apart, trimmed as model_trimmed};
@@ -25,6 +25,7 @@ fn trimmed(next: u128, window: u16, q: u128, payload: &[u8]) -> &[u8]
 /// Receives the bytes of a payload, whose first one has the place `q`, that lie in the window, where the peer's FIN was
 /// not taken (RFC 9293, section 3.10.7.4, seventh). Those in order are received, and one stretch past a gap is kept.
 pub fn take_data(parts: &mut Parts, q: u128, window: u16, payload: &[u8])
+    requires ready { parts.old.rx.ready ≡ true }
     requires room { window ≤ room_of parts.old.rx }
     requires near { end_of parts.old.rx + 2 < 2 ^ 126 }
     ensures stands { (e : Endpoint) → ValidReceiving e.params.ring e.rx → e.rx.ended ≡ false → Stands parts.old e
@@ -71,6 +72,7 @@ fn rest(island: Option<(u32, u32)>, count: u32) -> Option<(u32, u32)>
 
 /// Receives bytes in order, and those past the gap that they close.
 fn grow(parts: &mut Parts, part: &[u8])
+    requires ready { parts.old.rx.ready ≡ true }
     requires room { length part.now ≤ room_of parts.old.rx }
     requires near { end_of parts.old.rx + 2 < 2 ^ 126 }
     ensures stands { (e : Endpoint) → ValidReceiving e.params.ring e.rx → e.rx.ended ≡ false → Stands parts.old e
@@ -89,6 +91,7 @@ fn grow(parts: &mut Parts, part: &[u8])
 
 /// Keeps bytes past a gap, where they are the first or meet those that are kept.
 fn keep_apart(parts: &mut Parts, at: u128, part: &[u8])
+    requires ready { parts.old.rx.ready ≡ true }
     requires past { end_of parts.old.rx < at }
     requires within { at + length part.now ≤ parts.old.rx.base + parts.old.rx.size }
     ensures stands { (e : Endpoint) → ValidReceiving e.params.ring e.rx → 0 < length part.now → Stands parts.old e
@@ -110,6 +113,7 @@ fn keep_apart(parts: &mut Parts, at: u128, part: &[u8])
 /// Joins bytes to those that are kept, `len` bytes from `first` past the end on, where they overlap or touch. Bytes
 /// that are held already stay.
 fn join(parts: &mut Parts, first: u32, len: u32, at: u128, part: &[u8])
+    requires ready { parts.old.rx.ready ≡ true }
     requires past { end_of parts.old.rx < at }
     requires within { at + length part.now ≤ parts.old.rx.base + parts.old.rx.size }
     ensures stands { (e : Endpoint) (i : Island) → ValidReceiving e.params.ring e.rx → e.rx.island ≡ Some i

@@ -1,4 +1,4 @@
-ghost use Rattle.std.specs.Prelude.{◌≡◌, ℕ, List, ◌+◌, ◌-◌, ◌^◌, ◌<◌, ◌≤◌, ◌==◌, ◌&&◌, Some, nat_le, false, length};
+ghost use Rattle.std.specs.Prelude.{◌≡◌, ℕ, List, ◌+◌, ◌-◌, ◌^◌, ◌<◌, ◌≤◌, ◌==◌, ◌&&◌, Some, nat_le, true, false, length};
 ghost use Rattle.std.specs.Prelude.{min, if◌then◌else◌};
 ghost use Rattle.payload_ring.specs.Window.{end_of, room_of};
 ghost use Rattle.tas_model.specs.declared.entry.Reason.TheVariants as reasons;
@@ -9,7 +9,7 @@ ghost use Rattle.tas_model.specs.Receive.{rx, by_verdict, taken, bare_ack as mod
 ghost use Rattle.tas_model.specs.Receive.{place_of_ack, BareAck, with_fin, is_fin_wait_2, is_heard as model_heard};
 ghost use Rattle.tas_model.specs.Receive.{after_data as model_after_data};
 ghost use Rattle.tas_model.specs.Valid.{Valid, ValidReceiving};
-ghost use Rattle.flow_state.specs.Stands.{Stands, IsNear};
+ghost use Rattle.flow_state.specs.Stands.{Stands, IsNear, HasRings};
 ghost use Rattle.flow_state.specs.Calls.{seg_of, reply_of, answer_len};
 ghost use Rattle.flow_state.specs.Made.{IsOutcome};
 ghost use Rattle.fast_rx.specs.Judgements.{verdict_of, IsPlaced};
@@ -100,6 +100,7 @@ fn follows(fin: bool, at: u128, limit: u128, next: u128) -> bool
 /// Takes the payload, whose first byte has the place `q`, and the FIN behind it. `ended` tells whether the peer's FIN
 /// was taken before, and `window` what is advertised.
 fn take_rest(parts: &mut Parts, seg: &Segment<'_>, q: u128, window: u16, ended: bool, tick: u32)
+    requires ready { parts.old.rx.ready ≡ true }
     requires room { window ≤ room_of parts.old.rx }
     requires near { end_of parts.old.rx + 2 < 2 ^ 126 }
     requires far { q < 2 ^ 127 }
@@ -128,6 +129,7 @@ fn is_heard(seg: &Segment<'_>) -> bool
 
 /// Takes a segment whose acknowledgement of the place `a` is good.
 fn take_good(parts: &mut Parts, seg: &Segment<'_>, a: u128, q: u128, tick: u32) -> Answer
+    requires ready { parts.old.rx.ready ≡ true }
     requires near { IsNear parts.old }
     requires far { q < 2 ^ 127 }
     ensures made { (out : List ℕ) (e : Endpoint) → Valid e → Stands parts.old e → a ≡ place_of_ack e (seg_of seg.now)
@@ -148,6 +150,7 @@ fn take_good(parts: &mut Parts, seg: &Segment<'_>, a: u128, q: u128, tick: u32) 
 
 /// Takes a segment whose first number has the place `q`.
 fn take(parts: &mut Parts, seg: &Segment<'_>, q: u128, tick: u32) -> Answer
+    requires ready { parts.old.rx.ready ≡ true }
     requires near { IsNear parts.old }
     requires far { q < 2 ^ 127 }
     ensures made { (out : List ℕ) (e : Endpoint) → Valid e → Stands parts.old e
@@ -211,6 +214,7 @@ fn reset(parts: &mut Parts)
 
 /// Does what is to become of a segment.
 fn receive_as(parts: &mut Parts, hearing: Hearing, seg: &Segment<'_>, tick: u32) -> Answer
+    requires ready { parts.old.rx.ready ≡ true }
     requires near { IsNear parts.old }
     requires placed { IsPlaced hearing }
     ensures made { (out : List ℕ) (e : Endpoint) → Valid e → Stands parts.old e
@@ -239,6 +243,7 @@ fn receive_as(parts: &mut Parts, hearing: Hearing, seg: &Segment<'_>, tick: u32)
 pub fn receive(parts: &mut Parts, seg: &Segment<'_>, tick: u32) -> Answer
     requires later { IsSynchronized parts.old.phase }
     requires near { IsNear parts.old }
+    requires rings { HasRings parts.old }
     ensures made { (out : List ℕ) (e : Endpoint) → Valid e → Stands parts.old e
         → IsOutcome parts.new result out (rx e tick (seg_of seg.now)) }
     ensures len { answer_len result ≡ 0 }

@@ -6,5 +6,6 @@ pub mod Memory
 pub mod Sending
 pub mod Receiving
 pub mod Near
+pub mod Ready
 pub mod Looking
 pub mod Acting

@@ -8,7 +8,7 @@ use Rattle.tas_model.specs.Endpoint.{Endpoint, Island}
 use Rattle.tas_model.specs.Segments.{ack_of}
 use Rattle.tas_model.specs.ApplicationCalls.{after_recv}
 use Rattle.flow_state.specs.declared.parts.Parts.{Parts}
-use Rattle.flow_state.specs.Stands.{Stands, IsIsland}
+use Rattle.flow_state.specs.Stands.{Stands, IsIsland, AreReady}
 
 -- what stands ahead stands there still when cells come behind it
 ahead_kept : (ahead more bytes : List ℕ) (d : ℕ) → take (length bytes) (drop d ahead) ≡ bytes
@@ -30,11 +30,13 @@ island_kept kept ahead more end (Some i) is = (is.0, ahead_kept ahead more i.byt
 -- the parts with another window, island and next number that is expected
 pub stands_received : (p : Parts) (e : Endpoint) (w : Window) (kept : Option (ℕ × ℕ)) (rcv : Seq) (got : List ℕ)
     (read : ℕ) (island : Option Island)
-    → Stands p e → rcv ≡ ack_of (record e { rx = record (e.rx) { got = got } })
+    → Stands p e → rcv ≡ ack_of (record e { rx = record (e.rx) { got = got } }) → w.ready ≡ p.rx.ready
     → Holds w e.params.ring read (drop read got) → IsIsland kept w.ahead (length got) island
     → Stands (record p { rx = w; island = kept; rcv = rcv })
     (record e { rx = record (e.rx) { got = got; read = read; island = island } })
-stands_received p e w kept rcv got read island s next holds is = search (s, next, holds, is)
+stands_received p e w kept rcv got read island s next ready holds is =
+    let rings : AreReady p.reason p.tx.ready w.ready = subst (AreReady p.reason p.tx.ready) (sym ready) s.rings in
+    search (s, next, rings, holds, is)
 
 -- the parts after a Recv
 pub stands_recv : (p : Parts) (e : Endpoint) (n : ℕ) (w : Window) → Stands p e
@@ -42,6 +44,7 @@ pub stands_recv : (p : Parts) (e : Endpoint) (n : ℕ) (w : Window) → Stands p
     → Stands (record p { rx = w }) (after_recv e n)
 stands_recv p e n w s is =
     stands_received p e w p.island p.rcv e.rx.got (e.rx.read + n) e.rx.island s s.rcv
+    (ap (λ (x : Window). x.ready) is)
     (record {
       size = ap (λ (x : Window). x.size) is ∙ s.rx.size;
       base = ap (λ (x : Window). x.base) is ∙ ap (λ (b : ℕ). b + n) s.rx.base;

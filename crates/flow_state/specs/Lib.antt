@@ -1,5 +1,6 @@
 pub mod Calls
 pub mod Stands
+pub mod Released
 pub mod Slots
 pub mod Stretches
 pub mod Made

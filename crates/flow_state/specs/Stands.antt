@@ -1,10 +1,12 @@
 -- Which endpoint the compact record stands for: one equation a field.
-use Rattle.std.specs.Prelude.{◌≡◌, ℕ, ◌+◌, ◌-◌, ◌^◌, ◌<◌, List, true, false, length, take, drop, min, Option, Some}
-use Rattle.std.specs.Prelude.{None}
+use Rattle.std.specs.Prelude.{◌≡◌, ℕ, ◌+◌, ◌-◌, ◌^◌, ◌<◌, Bool, List, true, false, length, take, drop, min, Option}
+use Rattle.std.specs.Prelude.{Some, None, ⊤}
 use Rattle.payload_ring.specs.Window.{Holds}
 use Rattle.tas_num.specs.declared.seq.Seq.{Seq}
 use Rattle.tas_model.specs.Endpoint.{Endpoint, Sending, Island, phase}
 use Rattle.tas_model.specs.Segments.{seq_of, ack_of}
+use Rattle.tas_model.specs.OneStream.{IsSynchronized}
+use Rattle.tas_model.specs.declared.entry.Reason.{Reason}
 use Rattle.flow_state.specs.declared.parts.Parts.{Parts}
 
 -- how many bytes of the stream are acknowledged
@@ -23,6 +25,11 @@ IsIsland kept ahead end None = kept ≡ None
 IsIsland kept ahead end (Some i) = (kept ≡ Some (i.at - end, length i.bytes))
     × (take (length i.bytes) (drop (i.at - end) ahead) ≡ i.bytes)
 
+-- both rings have their memory, where there is no reason to be closed
+abbrev pub AreReady : Option Reason → (tx rx : Bool) → Type 0
+AreReady (Some why) tx rx = ⊤
+AreReady None tx rx = (tx ≡ true) × (rx ≡ true)
+
 -- The parts stand for the endpoint. Numbers are kept modulo 2^32; of the stream that is sent the bytes from the first
 -- one not acknowledged on are kept, of the one received those from the first unread one on.
 pub record Stands (p : Parts) (e : Endpoint) : Type 0 where
@@ -37,6 +44,7 @@ pub record Stands (p : Parts) (e : Endpoint) : Type 0 where
   pub rcv : p.rcv ≡ ack_of e
   pub tx : Holds p.tx e.params.ring (acked_bytes e.tx) (drop (acked_bytes e.tx) e.tx.out)  -- whatever stands ahead
   pub rx : Holds p.rx e.params.ring e.rx.read (drop e.rx.read e.rx.got)
+  pub rings : AreReady p.reason p.tx.ready p.rx.ready
   pub island : IsIsland p.island p.rx.ahead (length e.rx.got) e.rx.island
   pub window : p.window ≡ e.tx.window
   pub wl1 : p.wl1 ≡ e.tx.wl1
@@ -58,6 +66,12 @@ pub record Stands (p : Parts) (e : Endpoint) : Type 0 where
   pub entered : p.entered ≡ e.entered
   -- not kept, but told: an end that was taken before the own one came first
   pub order : e.rx.ended ≡ true → e.tx.shut ≡ false → e.rx.ended_first ≡ true
+
+-- The rings have their memory where bytes may be put into them: unless there is a reason to be closed, and where
+-- segments are taken.
+pub record HasRings (p : Parts) : Type 0 where
+  pub going : AreReady p.reason p.tx.ready p.rx.ready
+  pub taking : IsSynchronized p.phase → p.rx.ready ≡ true
 
 -- every place of the parts is below 2^126, the last ones those of the two FINs
 pub record IsNear (p : Parts) : Type 0 where

@@ -1,10 +1,10 @@
-ghost use Rattle.std.specs.Prelude.{◌≡◌, ℕ, List, ◌+◌, ◌-◌, ◌^◌, ◌<◌, ◌≤◌, ◌++◌, false, length, take, min};
+ghost use Rattle.std.specs.Prelude.{◌≡◌, ℕ, List, ◌+◌, ◌-◌, ◌^◌, ◌<◌, ◌≤◌, ◌++◌, true, false, length, take, min};
 ghost use Rattle.payload_ring.specs.Window.{room_of};
 ghost use Rattle.tas_model.specs.declared.entry.Reply.TheVariants as replies;
 ghost use Rattle.tas_model.specs.Endpoint.{Endpoint, send_room};
 ghost use Rattle.tas_model.specs.ApplicationCalls.{column, Running, send_in};
 ghost use Rattle.tas_model.specs.Valid.{Valid};
-ghost use Rattle.flow_state.specs.Stands.{Stands, IsNear};
+ghost use Rattle.flow_state.specs.Stands.{Stands, IsNear, HasRings};
 ghost use Rattle.flow_state.specs.Calls.{answer_len};
 ghost use Rattle.flow_state.specs.Made.{IsOutcome, IsStep};
 
@@ -17,6 +17,7 @@ pub fn send(parts: &mut Parts, bytes: &[u8], out: &mut [u8]) -> Answer
     requires room { min (length bytes.now) (room_of parts.old.tx) ≤ length out.old }
     requires small { length bytes.now < 2 ^ 32 }
     requires near { IsNear parts.old }
+    requires rings { HasRings parts.old }
     ensures made { (e : Endpoint) → Valid e → Stands parts.old e
         → IsStep parts.new result out.new (send_in (column e) e (length bytes.now) (take (send_room e) bytes.now)) }
     ensures len { answer_len result ≤ min (length bytes.now) (room_of parts.old.tx) }
@@ -35,6 +36,7 @@ fn send_open(parts: &mut Parts, bytes: &[u8], out: &mut [u8]) -> Answer
     requires room { min (length bytes.now) (room_of parts.old.tx) ≤ length out.old }
     requires small { length bytes.now < 2 ^ 32 }
     requires near { IsNear parts.old }
+    requires ready { parts.old.tx.ready ≡ true }
     ensures made { (e : Endpoint) → Valid e → Stands parts.old e → column e ≡ Running
         → IsStep parts.new result out.new (send_in Running e (length bytes.now) (take (send_room e) bytes.now)) }
     ensures len { answer_len result ≤ min (length bytes.now) (room_of parts.old.tx) }
@@ -57,6 +59,7 @@ fn take_bytes(parts: &mut Parts, piece: &[u8], out: &mut [u8]) -> Answer
     requires fits { length piece.now ≤ parts.old.tx.size - length parts.old.tx.bytes }
     requires small { length piece.now < 2 ^ 32 }
     requires near { IsNear parts.old }
+    requires ready { parts.old.tx.ready ≡ true }
     ensures made { (e : Endpoint) → Valid e → Stands parts.old e → e.tx.shut ≡ false
         → IsOutcome parts.new result out.new
         (record {

@@ -3,7 +3,7 @@ ghost use Rattle.std.specs.Prelude.{vec_capacity, IfOk, IfSome, IfNone, IsSome, 
 ghost use Rattle.flow_state.specs.Calls.{call_of, reply_of, payload_of, answer_len, need_of, IsSmall, IsTimely};
 ghost use Rattle.flow_state.specs.Made.{IsMadeAt};
 ghost use Rattle.flow_state.specs.Slots.{entry_of, IsWithin, IsBare};
-ghost use Rattle.flow_state.specs.Stands.{IsNear};
+ghost use Rattle.flow_state.specs.Stands.{IsNear, HasRings};
 
 use crate::call::{Answer, CallIn};
 use crate::engine::{Engine, need};
@@ -84,6 +84,14 @@ impl Arena {
         self.bytes.reserve(more.saturating_sub(room))
     }
 
+    /// Gives the room back.
+    pub fn trim(&mut self)
+        ensures { self.new.bytes ≡ self.old.bytes }
+    {
+        self.bytes.truncate(self.used);
+        self.bytes.shrink_to_fit();
+    }
+
     /// Makes the call by the engine, and keeps the bytes of its entry. Where the engine does not answer the call,
     /// nothing changes.
     pub fn answer<E: Engine>(
@@ -98,6 +106,7 @@ impl Arena {
         requires small { IsSmall call.now }
         requires timely { IsTimely parts.old.phase call.now }
         requires near { IsNear parts.old }
+        requires rings { HasRings parts.old }
         requires room { need_of parts.old call.now ≤ self.old.spare }
         ensures made { IfSome result
             (λ r. IsMadeAt parts.old parts.new self.new.bytes caller number tick call.now r.0 r.1) }
@@ -150,6 +159,7 @@ fn answer_behind<E: Engine>(
     requires small { IsSmall call.now }
     requires timely { IsTimely parts.old.phase call.now }
     requires near { IsNear parts.old }
+    requires rings { HasRings parts.old }
     requires within { used ≤ vec_len bytes.old }
     requires room { used + need_of parts.old call.now ≤ vec_capacity bytes.old }
     ensures made { IfSome result (λ r. IsMadeAt parts.old parts.new (take r.2 bytes.new.items) stamp.caller stamp.number

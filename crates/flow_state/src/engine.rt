@@ -1,7 +1,7 @@
 ghost use Rattle.std.specs.Prelude.{◌≡◌, ℕ, ◌+◌, ◌-◌, ◌^◌, ◌<◌, ◌≤◌, ◌↔◌, length, IfSome, IfNone, IsSome};
 ghost use Rattle.tas_model.specs.Endpoint.{Endpoint};
 ghost use Rattle.tas_model.specs.Valid.{Valid};
-ghost use Rattle.flow_state.specs.Stands.{Stands, IsNear};
+ghost use Rattle.flow_state.specs.Stands.{Stands, IsNear, HasRings};
 ghost use Rattle.flow_state.specs.Calls.{answer_len, reply_room, need_of, cost_of, IsSmall, IsTimely};
 ghost use Rattle.flow_state.specs.Made.{Makes};
 
@@ -54,6 +54,7 @@ pub trait Engine {
         requires small { IsSmall call.now }
         requires timely { IsTimely parts.old.phase call.now }
         requires near { IsNear parts.old }
+        requires rings { HasRings parts.old }
         ensures made { IfSome result (λ answer. (e : Endpoint) → Valid e → Stands parts.old e
             → Makes e tick call.now parts.new out.new answer) }
         ensures bytes { IfSome result (λ answer. answer_len answer ≤ reply_room parts.old call.now) }

@@ -14,6 +14,7 @@ mod open;
 mod parts;
 mod reading;
 mod record;
+mod releasing;
 mod sharing;
 mod slot;
 mod stage;

@@ -1,14 +1,15 @@
 ghost use Rattle.std.specs.Prelude.{◌≡◌, ℕ, ◌+◌, ◌-◌, ◌^◌, ◌<◌, ◌≤◌, ◌++◌, ◌∷◌, ◌↔◌, [], List, length, take, slice_get};
 ghost use Rattle.std.specs.Prelude.{Some, replicate, max, vec_len, vec_capacity, flat_map, IfOk, IfSome, IfNone};
-ghost use Rattle.std.specs.Prelude.{IsSome, OnErr, OnOk, IsOk};
+ghost use Rattle.std.specs.Prelude.{IsSome, OnErr, OnOk, IsOk, None};
 ghost use Rattle.tas_model.specs.declared.entry.Call.TheVariants as calls;
 ghost use Rattle.tas_model.specs.Endpoint.{phase};
 ghost use Rattle.tas_model.specs.LegalHistory.{Legal, replay, extended_by};
 ghost use Rattle.tas_model.specs.Valid.{InRange};
-ghost use Rattle.flow_state.specs.Stands.{Stands, IsNear};
+ghost use Rattle.flow_state.specs.Stands.{Stands, IsNear, HasRings};
 ghost use Rattle.flow_state.specs.Calls.{call_of, offer_of, answer_of, reply_bytes, payload_of, seg_of, cost_of};
 ghost use Rattle.flow_state.specs.Calls.{IsSmall, IsTimely};
 ghost use Rattle.flow_state.specs.Flow.{Flow, reply_to, last_reply, first_passive, first_connect};
+ghost use Rattle.flow_state.specs.Released.{released_parts};
 ghost use Rattle.flow_state.specs.Application.{application_of};
 ghost use Rattle.flow_state.specs.Stretches.{entries_of, entries_in, StretchWithin};
 ghost use Rattle.flow_state.specs.declared.call.CallIn.TheVariants as ins;
@@ -160,6 +161,27 @@ impl FlowRecord {
         self.arena.reserve(bytes)
     }
 
+    /// Gives back the memory that a closed flow has no use for: of each ring that holds no byte, and what no entry needs.
+    /// Where the flow isn't closed nothing changes.
+    pub fn release(&mut self)
+        ensures closed { IsSome self.old.parts.reason → self.new.parts ≡ released_parts self.old.parts }
+        ensures open { self.old.parts.reason ≡ None → self.new ≡ self.old }
+        ensures legal { Legal self.new.params self.new.entries }
+        ensures stands { Stands self.new.parts (replay self.new.params self.new.entries) }
+        ensures id { self.new.id ≡ self.old.id }
+        ensures tuple { self.new.tuple ≡ self.old.tuple }
+        ensures params { self.new.params ≡ self.old.params }
+        ensures entries { self.new.entries ≡ self.old.entries }
+    {
+        if self.parts.reason.is_none() {
+            return;
+        }
+        self.parts.release();
+        self.stretches.shrink_to_fit();
+        self.counts.shrink_to_fit();
+        self.arena.trim();
+    }
+
     /// Which flow it is.
     pub fn id(&self) -> FlowId
         ensures { result ≡ self.now.id }
@@ -229,6 +251,7 @@ impl FlowRecord {
         ensures stands { Stands self.now.parts (replay self.now.params self.now.entries) }
         ensures phase { self.now.parts.phase ≡ phase (replay self.now.params self.now.entries) }
         ensures near { IsNear self.now.parts }
+        ensures rings { HasRings self.now.parts }
         ensures tuple { self.now.parts.tuple ≡ self.now.tuple }
         ensures params { self.now.parts.params ≡ self.now.params }
     {

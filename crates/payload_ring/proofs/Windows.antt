@@ -1,5 +1,5 @@
 -- The calls of a ring, seen on the cells in order of their places.
-use Rattle.std.proofs.Common.{◌≡◌, ℕ, ◌+◌, ◌-◌, ◌≤◌, List, ◌++◌, length, take, drop, sym, subst, ap, ◌∙◌, arith}
+use Rattle.std.proofs.Common.{◌≡◌, ℕ, ◌+◌, ◌-◌, ◌≤◌, Bool, List, ◌++◌, length, take, drop, sym, subst, ap, ◌∙◌, arith}
 use Rattle.std.proofs.Common.{append_assoc, length-append, length-drop}
 use Rattle.std.proofs.lemmas.List.{take-append-le, drop-append-le, take_at, drop_at, drop-drop, take-append-drop}
 use Rattle.std.proofs.lemmas.List.{drop-take, take-take, length-take, length-take-le}
@@ -45,47 +45,46 @@ drop-overlaid n at p cells h k =
     ap (drop n) written ∙ drop_at (take n cells) _ n front
 
 -- the window on these cells, of which the first l stand in order
-abbrev pub on_cells : (n base l : ℕ) (cells : List ℕ) → Window
-on_cells n base l cells = record { size = n; base = base; bytes = take l cells; ahead = drop l cells }
+abbrev pub on_cells : (n base l : ℕ) (r : Bool) (cells : List ℕ) → Window
+on_cells n base l r cells = record { size = n; base = base; bytes = take l cells; ahead = drop l cells; ready = r }
 
-abbrev the_window : (n base : ℕ) (bytes ahead : List ℕ) → Window
-the_window n base bytes ahead = record { size = n; base = base; bytes = bytes; ahead = ahead }
+abbrev the_window : (n base : ℕ) (r : Bool) (bytes ahead : List ℕ) → Window
+the_window n base r bytes ahead = record { size = n; base = base; bytes = bytes; ahead = ahead; ready = r }
 
-same_window : (n base : ℕ) (a b c d : List ℕ) → a ≡ c → b ≡ d
-    → ◌≡◌ {A = Window} (record { size = n; base = base; bytes = a; ahead = b })
-    (record { size = n; base = base; bytes = c; ahead = d })
-same_window n base a b c d e f =
-    ap (λ (x : List ℕ). the_window n base x b) e ∙ ap (the_window n base c) f
+same_window : (n base : ℕ) (r : Bool) (a b c d : List ℕ) → a ≡ c → b ≡ d
+    → the_window n base r a b ≡ the_window n base r c d
+same_window n base r a b c d e f =
+    ap (λ (x : List ℕ). the_window n base r x b) e ∙ ap (the_window n base r c) f
 
-pub advanced : (n base l k : ℕ) (cells : List ℕ) (w : Window) → on_cells n base l cells ≡ w
-    → on_cells n base (l + k) cells ≡ record w { bytes = w.bytes ++ take k w.ahead; ahead = drop k w.ahead }
-advanced n base l k cells w is =
-    subst (λ (v : Window). on_cells n base (l + k) cells ≡ record v {
+pub advanced : (n base l k : ℕ) (r : Bool) (cells : List ℕ) (w : Window) → on_cells n base l r cells ≡ w
+    → on_cells n base (l + k) r cells ≡ record w { bytes = w.bytes ++ take k w.ahead; ahead = drop k w.ahead }
+advanced n base l k r cells w is =
+    subst (λ (v : Window). on_cells n base (l + k) r cells ≡ record v {
       bytes = v.bytes ++ take k v.ahead;
       ahead = drop k v.ahead;
     }) is
-    (same_window n base _ _ _ _ (take-add l k cells) (sym (drop-drop k l cells)))
+    (same_window n base r _ _ _ _ (take-add l k cells) (sym (drop-drop k l cells)))
 
-pub appended : (n base l : ℕ) (p cells new : List ℕ) (w : Window) → l + length p ≤ length cells
-    → new ≡ overlaid l p cells → on_cells n base l cells ≡ w
-    → on_cells n base (l + length p) new ≡ record w { bytes = w.bytes ++ p; ahead = drop (length p) w.ahead }
-appended n base l p cells new w fits wrote is =
-    subst (λ (v : Window). on_cells n base (l + length p) new ≡ record v {
+pub appended : (n base l : ℕ) (r : Bool) (p cells new : List ℕ) (w : Window) → l + length p ≤ length cells
+    → new ≡ overlaid l p cells → on_cells n base l r cells ≡ w
+    → on_cells n base (l + length p) r new ≡ record w { bytes = w.bytes ++ p; ahead = drop (length p) w.ahead }
+appended n base l r p cells new w fits wrote is =
+    subst (λ (v : Window). on_cells n base (l + length p) r new ≡ record v {
       bytes = v.bytes ++ p;
       ahead = drop (length p) v.ahead;
     }) is
-    (ap (on_cells n base (l + length p)) wrote
-    ∙ same_window n base _ _ _ _ (taken-overlaid l p cells fits) (dropped-overlaid l p cells fits))
+    (ap (on_cells n base (l + length p) r) wrote
+    ∙ same_window n base r _ _ _ _ (taken-overlaid l p cells fits) (dropped-overlaid l p cells fits))
 
-pub dropped : (n base l k : ℕ) (cells new : List ℕ) (w : Window) → k ≤ l → l ≤ length cells
-    → new ≡ drop k cells ++ take k cells → on_cells n base l cells ≡ w
-    → on_cells n (base + k) (l - k) new ≡ record w {
+pub dropped : (n base l k : ℕ) (r : Bool) (cells new : List ℕ) (w : Window) → k ≤ l → l ≤ length cells
+    → new ≡ drop k cells ++ take k cells → on_cells n base l r cells ≡ w
+    → on_cells n (base + k) (l - k) r new ≡ record w {
       base = w.base + k;
       bytes = drop k w.bytes;
       ahead = w.ahead
           ++ take k w.bytes;
     }
-dropped n base l k cells new w fits within turned is =
+dropped n base l k r cells new w fits within turned is =
     let inside : l - k ≤ length (drop k cells) = omega (arith, length-drop k cells) in
     let sum : k + (l - k) ≡ l = omega arith in
     let bytes : take (l - k) (drop k cells ++ take k cells) ≡ drop k (take l cells) =
@@ -95,23 +94,23 @@ dropped n base l k cells new w fits within turned is =
     drop-append-le (l - k) (drop k cells) (take k cells) inside
     ∙ (ap (λ (x : List ℕ). x ++ take k cells) (drop-drop (l - k) k cells ∙ ap (λ (j : ℕ). drop j cells) sum)
     ∙ ap (λ (x : List ℕ). drop l cells ++ x) (sym (take-take k l cells fits))) in
-    subst (λ (v : Window). on_cells n (base + k) (l - k) new ≡ record v {
+    subst (λ (v : Window). on_cells n (base + k) (l - k) r new ≡ record v {
       base = v.base + k;
       bytes = drop k v.bytes;
       ahead = v.ahead ++ take k v.bytes;
     }) is
-    (ap (on_cells n (base + k) (l - k)) turned ∙ same_window n (base + k) _ _ _ _ bytes ahead)
+    (ap (on_cells n (base + k) (l - k) r) turned ∙ same_window n (base + k) r _ _ _ _ bytes ahead)
 
-pub placed_ahead : (n base l at : ℕ) (p cells new : List ℕ) (w : Window) → l ≤ at → at ≤ length cells
-    → new ≡ overlaid at p cells → on_cells n base l cells ≡ w
-    → on_cells n base l new ≡ record w { ahead = overlaid (at - length w.bytes) p w.ahead }
-placed_ahead n base l at p cells new w past within wrote is =
+pub placed_ahead : (n base l at : ℕ) (r : Bool) (p cells new : List ℕ) (w : Window) → l ≤ at → at ≤ length cells
+    → new ≡ overlaid at p cells → on_cells n base l r cells ≡ w
+    → on_cells n base l r new ≡ record w { ahead = overlaid (at - length w.bytes) p w.ahead }
+placed_ahead n base l at r p cells new w past within wrote is =
     let front : length (take l cells) ≡ l = length-take-le l cells (omega arith) in
     let ahead : drop l (overlaid at p cells) ≡ overlaid (at - length (take l cells)) p (drop l cells) =
     drop-overlaid l at p cells past within ∙ ap (λ (j : ℕ). overlaid (at - j) p (drop l cells)) (sym front) in
-    subst (λ (v : Window). on_cells n base l new ≡ record v { ahead = overlaid (at - length v.bytes) p v.ahead }) is
-    (ap (on_cells n base l) wrote ∙ same_window n base _ _ _ _ (take-overlaid l at p cells past within) ahead)
+    subst (λ (v : Window). on_cells n base l r new ≡ record v { ahead = overlaid (at - length v.bytes) p v.ahead }) is
+    (ap (on_cells n base l r) wrote ∙ same_window n base r _ _ _ _ (take-overlaid l at p cells past within) ahead)
 
-pub length-in_order : (n base l : ℕ) (cells : List ℕ) (w : Window) → l ≤ length cells → on_cells n base l cells ≡ w
-    → length w.bytes ≡ l
-length-in_order n base l cells w h is = ap (λ (v : Window). length v.bytes) (sym is) ∙ length-take-le l cells h
+pub length-in_order : (n base l : ℕ) (r : Bool) (cells : List ℕ) (w : Window) → l ≤ length cells
+    → on_cells n base l r cells ≡ w → length w.bytes ≡ l
+length-in_order n base l r cells w h is = ap (λ (v : Window). length v.bytes) (sym is) ∙ length-take-le l cells h

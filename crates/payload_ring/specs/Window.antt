@@ -1,12 +1,13 @@
 -- What a ring holds of a stream of bytes: a window of fixed size on it, of whose cells each has one byte at any time. A
 -- place is the number of a byte in the stream.
-use Rattle.std.specs.Prelude.{◌≡◌, ℕ, ◌+◌, ◌-◌, ◌^◌, ◌<◌, ◌≤◌, List, ◌++◌, length, take, drop}
+use Rattle.std.specs.Prelude.{◌≡◌, ℕ, ◌+◌, ◌-◌, ◌^◌, ◌<◌, ◌≤◌, Bool, false, List, ◌++◌, length, take, drop, replicate}
 
 pub record Window : Type 0 where
   pub size : ℕ  -- how many bytes it has room for
   pub base : ℕ  -- the place of the first byte that is kept
   pub bytes : List ℕ  -- what stands in order, from base on
   pub ahead : List ℕ  -- what the cells past those bytes hold, up to below base + size: whatever was put there last
+  pub ready : Bool  -- its memory is there, so that bytes may be put
 
 -- the place past the last byte in order
 abbrev pub end_of : Window → ℕ
@@ -27,6 +28,10 @@ overlaid at piece cells = take at cells ++ (piece ++ drop (at + length piece) ce
 -- the window with its cells changed, and with as many of them in order as before
 abbrev pub with_cells : List ℕ → Window → Window
 with_cells cells w = record w { bytes = take (length w.bytes) cells; ahead = drop (length w.bytes) cells }
+
+-- the window whose memory is given back
+abbrev pub released : Window → Window
+released w = record w { ahead = replicate w.size 0; ready = false }
 
 -- true of what every ring holds
 pub record IsWindow (w : Window) : Type 0 where

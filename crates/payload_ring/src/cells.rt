@@ -1,5 +1,5 @@
 ghost use Rattle.std.specs.Prelude.{◌≡◌, ℕ, ◌+◌, ◌-◌, ◌^◌, ◌<◌, ◌≤◌, ◌++◌, length, take, drop, replicate, vec_len};
-ghost use Rattle.std.specs.Prelude.{vec_capacity, IfOk};
+ghost use Rattle.std.specs.Prelude.{vec_capacity, true, false, IfOk};
 ghost use Rattle.payload_ring.specs.Window.{overlaid};
 ghost use Rattle.payload_ring.specs.Turned.{turned};
 
@@ -9,50 +9,68 @@ use std::marker::Model;
 
 /// Cells of a byte each, seen as their list. They are zero at first.
 ///
-/// Their memory is taken once. A cell is written to only once it is used, or one behind it: memory that is never
-/// touched costs a machine nothing.
+/// Their memory is taken once, and can be given back. A cell is written to only once it is used, or one behind it:
+/// memory that is never touched costs a machine nothing.
 #[derive(Drop)]
 pub struct Cells {
     /// The first cells. Those behind them are zero.
     bytes: Vec<u8>,
-    size: usize,
+    size: u32,
+    /// There is memory for all of them.
+    ready: bool,
 }
 
 impl Model for Cells {
-    ghost use Rattle.std.specs.Prelude.{List, ℕ, ◌++◌, ◌-◌, ◌≤◌, replicate, vec_len, vec_capacity};
+    ghost use Rattle.std.specs.Prelude.{◌≡◌, ◌++◌, ◌-◌, ◌≤◌, true, replicate, vec_len, vec_capacity};
+    ghost use Rattle.payload_ring.specs.Turned.{Store};
 
-    ghost Value = { List ℕ };
+    ghost Value = { Store };
 
-    ghost view = { λ c. c.bytes.items ++ replicate (c.size - vec_len c.bytes) 0 };
+    ghost view = { λ c. record {
+      cells = c.bytes.items ++ replicate (c.size - vec_len c.bytes) 0;
+      ready = c.ready;
+    } };
 
-    ghost invariant = { λ c. (vec_len c.bytes ≤ c.size) × (c.size ≤ vec_capacity c.bytes) };
+    ghost invariant = { λ c. (vec_len c.bytes ≤ c.size) × (c.ready ≡ true → c.size ≤ vec_capacity c.bytes) };
 }
 
 impl Cells {
     /// So many cells. The error is want of memory.
-    pub fn new(alloc: Global, size: usize) -> Result<Cells, AllocError>
-        ensures { IfOk result (λ cells. cells ≡ replicate size 0) }
+    pub fn new(alloc: Global, size: u32) -> Result<Cells, AllocError>
+        ensures { IfOk result (λ c. c ≡ record { cells = replicate size 0; ready = true }) }
     {
         Ok(Cells {
-            bytes: Vec::with_capacity(alloc, size)?,
+            bytes: Vec::with_capacity(alloc, size as usize)?,
             size,
+            ready: true,
         })
+    }
+
+    /// Makes all cells zero and gives their memory back.
+    pub fn release(&mut self)
+        ensures { self.new ≡ record { cells = replicate (length self.old.cells) 0; ready = false } }
+    {
+        self.bytes.clear();
+        self.bytes.shrink_to_fit();
+        self.ready = false;
     }
 
     /// How many cells there are.
     pub fn len(&self) -> usize
-        ensures { result ≡ length self.now }
+        ensures { result ≡ length self.now.cells }
     {
-        self.size
+        self.size as usize
     }
 
     /// Writes a piece over the cells at the offset `at` from the cell `start` on, round the end.
     pub fn put_round(&mut self, start: usize, at: usize, piece: &[u8])
-        requires start { start < length self.old }
-        requires fits { at + length piece.now ≤ length self.old }
-        requires small { length self.old < 2 ^ 32 }
-        ensures cells { turned start self.new ≡ overlaid at piece.now (turned start self.old) }
-        ensures len { length self.new ≡ length self.old }
+        requires ready { self.old.ready ≡ true }
+        requires start { start < length self.old.cells }
+        requires fits { at + length piece.now ≤ length self.old.cells }
+        requires small { length self.old.cells < 2 ^ 32 }
+        ensures cells { turned start self.new.cells ≡ overlaid at piece.now (turned start self.old.cells) }
+        ensures len { length self.new.cells ≡ length self.old.cells }
+        ensures ready { self.new.ready ≡ self.old.ready }
     {
         let index = index_of(self.len(), start, at);
         let (front, back) = piece.split_at(piece.len().min(self.len() - index));
@@ -62,10 +80,10 @@ impl Cells {
 
     /// Reads the cells at the offset `at` from the cell `start` on, round the end.
     pub fn copy_round(&self, start: usize, at: usize, out: &mut [u8])
-        requires start { start < length self.now }
-        requires fits { at + length out.old ≤ length self.now }
-        requires small { length self.now < 2 ^ 32 }
-        ensures { out.new ≡ take (length out.old) (drop at (turned start self.now)) }
+        requires start { start < length self.now.cells }
+        requires fits { at + length out.old ≤ length self.now.cells }
+        requires small { length self.now.cells < 2 ^ 32 }
+        ensures { out.new ≡ take (length out.old) (drop at (turned start self.now.cells)) }
     {
         let index = index_of(self.len(), start, at);
         let count = out.len().min(self.len() - index);
@@ -76,10 +94,12 @@ impl Cells {
 
     /// Writes a piece over the cells from the index `at` on.
     fn put(&mut self, at: usize, piece: &[u8])
-        requires fits { at + length piece.now ≤ length self.old }
-        requires small { length self.old < 2 ^ 32 }
-        ensures cells { self.new ≡ overlaid at piece.now self.old }
-        ensures len { length self.new ≡ length self.old }
+        requires ready { self.old.ready ≡ true }
+        requires fits { at + length piece.now ≤ length self.old.cells }
+        requires small { length self.old.cells < 2 ^ 32 }
+        ensures cells { self.new.cells ≡ overlaid at piece.now self.old.cells }
+        ensures len { length self.new.cells ≡ length self.old.cells }
+        ensures ready { self.new.ready ≡ self.old.ready }
     {
         let end = at + piece.len();
         fill_with_zeros(&mut self.bytes, end);
@@ -88,8 +108,8 @@ impl Cells {
 
     /// Reads the cells from the index `at` on.
     fn copy(&self, at: usize, out: &mut [u8])
-        requires { at + length out.old ≤ length self.now }
-        ensures { out.new ≡ take (length out.old) (drop at self.now) }
+        requires { at + length out.old ≤ length self.now.cells }
+        ensures { out.new ≡ take (length out.old) (drop at self.now.cells) }
     {
         let written = &self.bytes[at.min(self.bytes.len())..];
         copy_front(written, out);

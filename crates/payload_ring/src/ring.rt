@@ -1,11 +1,14 @@
-ghost use Rattle.std.specs.Prelude.{◌≡◌, ℕ, ◌+◌, ◌-◌, ◌^◌, ◌<◌, ◌≤◌, ◌++◌, [], length, take, drop, replicate, IfOk};
+ghost use Rattle.std.specs.Prelude.{◌≡◌, ℕ, ◌+◌, ◌-◌, ◌^◌, ◌<◌, ◌≤◌, ◌++◌, [], true, length, take, drop, replicate};
+ghost use Rattle.std.specs.Prelude.{IfOk};
 ghost use Rattle.payload_ring.specs.Window.{Window, IsWindow, end_of, cells_of, room_of, overlaid, with_cells};
+ghost use Rattle.payload_ring.specs.Window.{released};
 
 use crate::cells::{Cells, index_of};
 use std::alloc::{AllocError, Global};
 use std::marker::Model;
 
-/// A window of fixed size on a stream of bytes, in memory that is taken once.
+/// A window of fixed size on a stream of bytes, in memory that is taken once, and can be given back where no byte
+/// stands in order.
 ///
 /// A place is the number of a byte in the stream. The bytes from `base` to below `end` stand in order; those ahead of
 /// them, up to below `base + size`, can be placed before the ones between have come. So it serves as a flow's send
@@ -29,14 +32,15 @@ impl Model for Ring {
     ghost Value = { Window };
 
     ghost view = { λ r. record {
-      size = length r.cells;
+      size = length r.cells.cells;
       base = r.base;
-      bytes = take r.len (turned r.start r.cells);
-      ahead = drop r.len (turned r.start r.cells);
+      bytes = take r.len (turned r.start r.cells.cells);
+      ahead = drop r.len (turned r.start r.cells.cells);
+      ready = r.cells.ready;
     } };
 
-    ghost invariant = { λ r. (r.start < length r.cells) × (r.len ≤ length r.cells) × (length r.cells ≤ 1048576)
-        × (r.base + r.len < 2 ^ 127) };
+    ghost invariant = { λ r. (r.start < length r.cells.cells) × (r.len ≤ length r.cells.cells)
+        × (length r.cells.cells ≤ 1048576) × (r.base + r.len < 2 ^ 127) };
 }
 
 impl Ring {
@@ -49,11 +53,12 @@ impl Ring {
           base = 0;
           bytes = [];
           ahead = replicate size 0;
+          ready = true;
         }) }
         ensures window { IfOk result (λ ring. IsWindow ring) }
     {
         Ok(Ring {
-            cells: Cells::new(alloc, size as usize)?,
+            cells: Cells::new(alloc, size)?,
             start: 0,
             base: 0,
             len: 0,
@@ -100,8 +105,19 @@ impl Ring {
         self.cells.len() as u32 - self.len
     }
 
+    /// Gives the memory back, where no byte stands in order. What stands ahead is lost, and no more bytes can be put.
+    pub fn release(&mut self)
+        requires empty { self.old.bytes ≡ [] }
+        ensures { self.new ≡ released self.old }
+    {
+        self.cells.release();
+        self.start = 0;
+        self.len = 0;
+    }
+
     /// Puts bytes at the places from `pos` on, over what stands there. The end stays.
     pub fn put_at(&mut self, pos: u128, bytes: &[u8])
+        requires ready { self.old.ready ≡ true }
         requires from { self.old.base ≤ pos }
         requires below { pos + length bytes.now ≤ self.old.base + self.old.size }
         ensures cells { self.new ≡ with_cells (overlaid (pos - self.old.base) bytes.now (cells_of self.old)) self.old }
@@ -114,6 +130,7 @@ impl Ring {
 
     /// Puts bytes behind those in order.
     pub fn append(&mut self, bytes: &[u8])
+        requires ready { self.old.ready ≡ true }
         requires room { length bytes.now ≤ room_of self.old }
         requires far { end_of self.old + length bytes.now < 2 ^ 127 }
         ensures { self.new ≡ record self.old {

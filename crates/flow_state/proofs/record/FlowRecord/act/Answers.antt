@@ -13,6 +13,7 @@ use Rattle.tas_model.specs.declared.entry.Entry.{Entry}
 use Rattle.tas_model.specs.declared.entry.HostParams.{HostParams}
 use Rattle.tas_model.proofs.MovesLaws.{places_of}
 use Rattle.flow_state.proofs.Near.{near_of}
+use Rattle.flow_state.proofs.Ready.{rings_of}
 use Rattle.flow_state.proofs.Acting.{Grown, kept_after}
 use Rattle.flow_state.proofs.record.FlowRecord.act.Goals as goal
 use Rattle.flow_state.proofs.record.FlowRecord.act.Goals.{After-add}
@@ -117,3 +118,6 @@ answer-requires-clause-near g c =
       c.self.inside.stretches.ok,
       c.self.inside.stretches.small,
     ))
+
+pub answer-requires-clause-rings : goal.answer-requires-clause-rings
+answer-requires-clause-rings g c = rings_of c.self.inside.parts _ c.self.invariant.stands

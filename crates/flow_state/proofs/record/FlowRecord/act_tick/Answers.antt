@@ -15,6 +15,7 @@ use Rattle.flow_state.specs.Calls.{answer_of, answer_len, reply_of}
 use Rattle.flow_state.specs.Counts.{counted_for}
 use Rattle.flow_state.specs.Stretches.{entries_of, Added, tick_entry}
 use Rattle.flow_state.proofs.Near.{near_of}
+use Rattle.flow_state.proofs.Ready.{rings_of}
 use Rattle.flow_state.proofs.Owning.{kept_by_tick}
 use Rattle.flow_state.proofs.Sending.{same_reply}
 use Rattle.flow_state.proofs.Acting.{Grown, kept_after}
@@ -92,3 +93,6 @@ run-requires-clause-near g c =
       c.self.inside.stretches.ok,
       c.self.inside.stretches.small,
     ))
+
+pub run-requires-clause-rings : goal.run-requires-clause-rings
+run-requires-clause-rings g c = rings_of c.self.inside.parts _ c.self.invariant.stands

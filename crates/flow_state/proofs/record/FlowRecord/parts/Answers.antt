@@ -5,8 +5,9 @@ use Rattle.tas_model.specs.LegalHistory.{replay}
 use Rattle.tas_model.proofs.MovesLaws.{places_of}
 use Rattle.flow_state.specs.Flow.{Flow}
 use Rattle.flow_state.specs.Stretches.{entries_of}
-use Rattle.flow_state.specs.Stands.{IsNear}
+use Rattle.flow_state.specs.Stands.{IsNear, HasRings}
 use Rattle.flow_state.proofs.Near.{near_of}
+use Rattle.flow_state.proofs.Ready.{rings_of}
 use Rattle.flow_state.proofs.record.FlowRecord.parts.Goals as goal
 
 pub returns-clause-near : goal.returns-clause-near
@@ -25,3 +26,8 @@ returns-clause-near c =
       c.self.inside.stretches.small,
     )) in
     subst (λ (f : Flow). IsNear f.parts) c.self.view_is near
+
+pub returns-clause-rings : goal.returns-clause-rings
+returns-clause-rings c =
+    subst (λ (f : Flow). HasRings f.parts) c.self.view_is
+    (rings_of c.self.inside.parts (replay _ _) c.self.invariant.stands)

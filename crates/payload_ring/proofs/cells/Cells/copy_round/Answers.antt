@@ -7,7 +7,7 @@ returns c =
     let i : ℕ = c.index_of-index.result in
     let m : ℕ = c.min-count.result in
     let n : ℕ = length c.args.out.now in
-    let cells : List ℕ = c.args.self.now in
+    let cells : List ℕ = c.args.self.now.cells in
     let front : c.copy.new.out ≡ take m (drop i cells) = c.copy.ensures
     ∙ ap (λ (k : ℕ). take k (drop i cells)) c.split_at_mut-front.ensures.front_len in
     let back : c.copy-2.new.out ≡ take (n - m) cells = c.copy-2.ensures

@@ -2,6 +2,7 @@ use Rattle.std.proofs.Common.{◌≡◌, ◌∙◌, ℕ, ◌+◌, ◌-◌, ◌�
 use Rattle.std.proofs.Common.{length-append}
 use Rattle.std.proofs.lemmas.List.{length-replicate}
 use Rattle.payload_ring.specs.Window.{overlaid}
+use Rattle.payload_ring.specs.Turned.{Store}
 use Rattle.payload_ring.proofs.Zeros.{put_over}
 use Rattle.payload_ring.proofs.cells.Cells.put.Goals as goal
 
@@ -15,7 +16,8 @@ returns-clause-cells c =
     let k : ℕ = at + length p - n in
     let all : ℕ = c.self.inside.size - n in
     let m : ℕ = c.self.inside.size - vec_len c.write_over.new.bytes in
-    let whole : length (b ++ replicate all 0) ≡ length c.args.self.now = ap length c.self.view_is in
+    let whole : length (b ++ replicate all 0) ≡ length c.args.self.now.cells =
+    ap (λ (s : Store). length s.cells) c.self.view_is in
     let room : at + length p ≤ n + all = omega (
       arith,
       whole,
@@ -40,4 +42,4 @@ returns-clause-cells c =
       c.self.invariant,
     ) in
     put_over b f c.write_over.new.bytes.items p at k m all c.fill_with_zeros.ensures.items sum
-    (omega (arith, grown)) c.write_over.ensures.items ∙ ap (overlaid at p) c.self.view_is
+    (omega (arith, grown)) c.write_over.ensures.items ∙ ap (λ (s : Store). overlaid at p s.cells) c.self.view_is
