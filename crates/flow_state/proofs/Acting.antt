@@ -165,7 +165,8 @@ pub opens_record : (p : Parts) (params : HostParams) (arena : List ℕ) (stretch
     (counts : List CallerCount) (app : Option ℕ) (s : Slot) (x : Entry)
     → x.tick < 2 ^ 32 → InRange params → p.params ≡ params → stretches ≡ One s ∷ [] → entry_of arena s ≡ x
     → IsWithin (length arena) s → IsFirst x
-    → counts ≡ record { caller = x.caller; made = 1 } ∷ [] → Stands p (opened params x.call)
+    → ((other : Caller) → counted_for other counts ≡ cond (same_caller x.caller other) 1 0)
+    → Stands p (opened params x.call)
     → app ≡ got_by x.caller x.call x.reply → IsRecord p arena stretches counts app 1 x.tick
 opens_record p params arena stretches counts app s x low fits same one is within first counted stands got =
     let entries : entries_of arena stretches ≡ x ∷ [] = ap (entries_of arena) one ∙ ap (λ (y : Entry). y ∷ []) is in
@@ -179,9 +180,7 @@ opens_record p params arena stretches counts app s x low fits same one is within
       legal = there.0;
       stands = there.1;
       within = subst (AllWithin (length arena)) (sym one) (within, tt);
-      counts = subst (λ (cs : List CallerCount). AreCounts cs (entries_of arena stretches)) (sym counted)
-          (subst (AreCounts (record { caller = x.caller; made = 1 } ∷ [])) (sym entries)
-          (counts_first x.caller x refl));
+      counts = subst (AreCounts counts) (sym entries) (counts_first counts x counted);
       application = got ∙ sym (ap application_of entries ∙ application_push [] x);
       made = sym (ap (length {A = Entry}) entries);
       last = sym (ap (last_tick 0) entries);

@@ -133,9 +133,10 @@ pub counts_push : (before after : List CallerCount) (h : List Entry) (x : Entry)
 counts_push before after h x are more other = more other
     ∙ (ap (λ (n : ℕ). n + cond (same_caller x.caller other) 1 0) (are other) ∙ sym (number_push other h x))
 
-pub counts_first : (caller : Caller) (x : Entry) → x.caller ≡ caller
-    → AreCounts (record { caller = caller; made = 1 } ∷ []) (x ∷ [])
-counts_first caller x is other = rw is (zero_plus (cond (same_caller caller other) 1 0))
+pub counts_first : (counts : List CallerCount) (x : Entry)
+    → ((other : Caller) → counted_for other counts ≡ cond (same_caller x.caller other) 1 0)
+    → AreCounts counts (x ∷ [])
+counts_first counts x counted other = counted other ∙ zero_plus (cond (same_caller x.caller other) 1 0)
   where
     zero_plus : (n : ℕ) → n ≡ 0 + n
     zero_plus n = omega arith

@@ -13,10 +13,10 @@ flow_of r = record {
   params = r.parts.params;
   entries = entries_of r.arena.bytes r.stretches.items;
   parts = r.parts;
-  spare_entries = min (vec_capacity r.stretches - vec_len r.stretches) (vec_capacity r.counts - vec_len r.counts);
+  spare_entries = min (vec_capacity r.stretches - vec_len r.stretches) r.counts.spare;
   spare_bytes = r.arena.spare;
 }
 
 -- what it keeps true
 abbrev pub IsKept : Inside → Type 0
-IsKept r = IsRecord r.parts r.arena.bytes r.stretches.items r.counts.items r.application r.made r.last
+IsKept r = IsRecord r.parts r.arena.bytes r.stretches.items r.counts.counts r.application r.made r.last

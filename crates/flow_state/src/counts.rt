@@ -1,8 +1,11 @@
 ghost use Rattle.std.specs.Prelude.{◌≡◌, ℕ, ◌+◌, ◌-◌, ◌^◌, ◌<◌, ◌≤◌, if◌then◌else◌, vec_len, vec_capacity, position};
+ghost use Rattle.std.specs.Prelude.{IfOk, IsOk, OnOk};
 ghost use Rattle.tas_model.specs.declared.entry.Caller.{Caller};
 ghost use Rattle.tas_model.specs.LegalHistory.{same_caller};
 ghost use Rattle.flow_state.specs.Counts.{counted_for, is_for};
 
+use std::alloc::{AllocError, Global};
+use std::marker::Model;
 use tas_model::Caller;
 
 /// How many of a flow's entries a caller has made.
@@ -33,8 +36,8 @@ fn place_of(counts: &[CallerCount], caller: Caller) -> Option<usize>
         .position(|count| is_same(count.caller, caller))
 }
 
-/// How many entries the caller has made.
-pub fn number_of(counts: &[CallerCount], caller: Caller) -> u64
+/// How many entries the caller has made, by these counts.
+fn number_in(counts: &[CallerCount], caller: Caller) -> u64
     ensures { result ≡ counted_for caller counts.now }
 {
     match place_of(counts, caller) {
@@ -43,8 +46,8 @@ pub fn number_of(counts: &[CallerCount], caller: Caller) -> u64
     }
 }
 
-/// Counts one entry more of the caller.
-pub fn count_one(counts: &mut Vec<CallerCount>, caller: Caller)
+/// Counts one entry more of the caller among these.
+fn count_in(counts: &mut Vec<CallerCount>, caller: Caller)
     requires small { counted_for caller counts.old.items < 2 ^ 64 - 1 }
     requires room { vec_len counts.old < vec_capacity counts.old }
     ensures counted { (other : Caller)
@@ -59,5 +62,82 @@ pub fn count_one(counts: &mut Vec<CallerCount>, caller: Caller)
             Ok(()) => {}
             Err(_) => unreachable!(),
         },
+    }
+}
+
+/// How many of a flow's entries each caller has made. The slow path makes one in each tick: its count stands in place,
+/// so that a quiet tick looks for no other memory.
+#[derive(Drop)]
+pub struct CallerCounts {
+    slow: u64,
+    others: Vec<CallerCount>,
+}
+
+impl Model for CallerCounts {
+    ghost use Rattle.std.specs.Prelude.{◌-◌, vec_len, vec_capacity};
+    ghost use Rattle.flow_state.specs.Counts.{Counted, with_slow};
+
+    ghost Value = { Counted };
+
+    ghost view = { λ c. record {
+      counts = with_slow c.slow c.others.items;
+      spare = vec_capacity c.others - vec_len c.others;
+    } };
+}
+
+impl CallerCounts {
+    /// The counts of one entry. The error is want of memory.
+    pub fn of_first(alloc: Global, caller: Caller) -> Result<CallerCounts, AllocError>
+        ensures { IfOk result (λ c. (other : Caller)
+            → counted_for other c.counts ≡ (if same_caller caller other then 1 else 0)) }
+    {
+        let mut others = Vec::new(alloc);
+        if let Caller::Slow = caller {
+            return Ok(CallerCounts { slow: 1, others });
+        }
+        others.push(CallerCount { caller, made: 1 })?;
+        Ok(CallerCounts { slow: 0, others })
+    }
+
+    /// Makes room for the counts of so many callers more. The error is want of memory, and leaves all as it was.
+    pub fn reserve(&mut self, more: usize) -> Result<(), AllocError>
+        ensures counts { self.new.counts ≡ self.old.counts }
+        ensures room { OnOk result (more ≤ self.new.spare) }
+        ensures longer { self.old.spare ≤ self.new.spare }
+        ensures spare { more ≤ self.old.spare → IsOk result }
+    {
+        self.others.reserve(more)
+    }
+
+    /// Gives back the room that no count needs.
+    pub fn trim(&mut self)
+        ensures { self.new.counts ≡ self.old.counts }
+    {
+        self.others.shrink_to_fit();
+    }
+
+    /// How many entries the caller has made.
+    pub fn number_of(&self, caller: Caller) -> u64
+        ensures { result ≡ counted_for caller self.now.counts }
+    {
+        match caller {
+            Caller::Slow => self.slow,
+            _ => number_in(&self.others, caller),
+        }
+    }
+
+    /// Counts one entry more of the caller.
+    pub fn count_one(&mut self, caller: Caller)
+        requires small { counted_for caller self.old.counts < 2 ^ 64 - 1 }
+        requires room { 0 < self.old.spare }
+        ensures counted { (other : Caller)
+            → counted_for other self.new.counts ≡ counted_for other self.old.counts + (if same_caller caller other then
+            1 else 0) }
+        ensures spent { self.old.spare ≤ self.new.spare + 1 }
+    {
+        match caller {
+            Caller::Slow => self.slow += 1,
+            _ => count_in(&mut self.others, caller),
+        }
     }
 }

@@ -19,7 +19,7 @@ ghost use Rattle.flow_state.specs.Views.{seen_entry};
 use crate::application::got_by;
 use crate::arena::Arena;
 use crate::call::{Answer, CallIn};
-use crate::counts::{CallerCount, count_one, number_of};
+use crate::counts::CallerCounts;
 use crate::engine::{Engine, need};
 use crate::open::{connect_parts, passive_parts};
 use crate::parts::Parts;
@@ -43,7 +43,7 @@ pub struct FlowRecord {
     parts: Parts,
     stretches: Vec<Stretch>,
     arena: Arena,
-    counts: Vec<CallerCount>,
+    counts: CallerCounts,
     /// The application that the flow is of.
     application: Option<u32>,
     /// How many entries there are.
@@ -96,11 +96,7 @@ impl FlowRecord {
         let arena = Arena::copy(alloc, seg.payload)?;
         let mut stretches = Vec::new(alloc);
         stretches.push(Stretch::One(passive_slot(iss, frame, seg, tick)))?;
-        let mut counts = Vec::new(alloc);
-        counts.push(CallerCount {
-            caller: Caller::Slow,
-            made: 1,
-        })?;
+        let counts = CallerCounts::of_first(alloc, Caller::Slow)?;
         Ok(FlowRecord {
             id,
             parts,
@@ -132,8 +128,7 @@ impl FlowRecord {
         let parts = connect_parts(alloc, tuple, params, iss)?;
         let mut stretches = Vec::new(alloc);
         stretches.push(Stretch::One(connect_slot(caller, iss, tick)))?;
-        let mut counts = Vec::new(alloc);
-        counts.push(CallerCount { caller, made: 1 })?;
+        let counts = CallerCounts::of_first(alloc, caller)?;
         Ok(FlowRecord {
             id,
             parts,
@@ -178,7 +173,7 @@ impl FlowRecord {
         }
         self.parts.release();
         self.stretches.shrink_to_fit();
-        self.counts.shrink_to_fit();
+        self.counts.trim();
         self.arena.trim();
     }
 
@@ -296,7 +291,7 @@ impl FlowRecord {
             return self.act_tick(caller, tick, engine);
         }
         let tick = tick.max(self.last);
-        let number = number_of(&self.counts, caller);
+        let number = self.counts.number_of(caller);
         self.stretches.reserve(1)?;
         self.counts.reserve(1)?;
         self.arena.reserve(need(&self.parts, call))?;
@@ -309,7 +304,7 @@ impl FlowRecord {
         self.made += 1;
         self.last = tick;
         self.application = self.application.or(got_by(caller, call, &answer));
-        count_one(&mut self.counts, caller);
+        self.counts.count_one(caller);
         add(&mut self.stretches, &slot);
         Ok(Some(answer))
     }
@@ -345,7 +340,7 @@ impl FlowRecord {
         ensures params { self.new.params ≡ self.old.params }
     {
         let tick = tick.max(self.last);
-        let number = number_of(&self.counts, caller);
+        let number = self.counts.number_of(caller);
         self.stretches.reserve(1)?;
         self.counts.reserve(1)?;
         let Some(answer) = engine.run(&mut self.parts, tick, &CallIn::Tick, &mut []) else {
@@ -353,7 +348,7 @@ impl FlowRecord {
         };
         self.made += 1;
         self.last = tick;
-        count_one(&mut self.counts, caller);
+        self.counts.count_one(caller);
         add_tick(&mut self.stretches, caller, number, tick, &answer);
         Ok(Some(answer))
     }

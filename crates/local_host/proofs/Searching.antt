@@ -1,5 +1,5 @@
 -- Searches among the flows that stand find what searches among all flows would: a filed flow passes none of the tests.
-use Rattle.std.proofs.Common.{◌≡◌, ℕ, suc, ◌+◌, ◌&&◌, ◌==◌, not, count_by, Bool, true, false, cond, List, []}
+use Rattle.std.proofs.Common.{◌≡◌, ℕ, suc, ◌+◌, ◌&&◌, ◌||◌, ◌==◌, not, count_by, Bool, true, false, cond, List, []}
 use Rattle.std.proofs.Common.{◌∷◌, length, map, position, Option, Some, None, is_some, refl, sym, ap}
 use Rattle.std.proofs.Common.{◌∙◌, true≢false, arith, tests}
 use Rattle.std.proofs.Common.{nat_lt}
@@ -12,11 +12,20 @@ use Rattle.tas_model.specs.ApplicationCalls.{Running, column_by}
 use Rattle.tas_model.specs.declared.entry.Reason.{Reason}
 use Rattle.tas_model.specs.Endpoint.{Endpoint}
 use Rattle.host_rounds.specs.Lists.{Each}
-use Rattle.host_rounds.specs.Hosts.{Live, endpoint, is_over, is_running, is_ready, waits_at, is_waiting_by}
-use Rattle.local_host.specs.Index.{passes_at, with_first, standing_places, IsAtRest, AreAtRest}
-use Rattle.local_host.proofs.Standing.{filter_next}
+use Rattle.host_rounds.specs.Hosts.{Live, endpoint, is_over, is_held, is_running, is_ready, waits_at, is_waiting_by}
+use Rattle.host_rounds.specs.Upkeep.{swept}
+use Rattle.local_host.specs.Index.{passes_at, with_first, standing_places, IsAtRest, AreAtRest, is_settled}
+use Rattle.local_host.proofs.Standing.{filter_next, swept_rests}
 
 -- ----- the first of all
+and_one : (a b : Bool) → (a && b) ≡ true → a ≡ true
+and_one true b is = refl
+and_one false b is = is
+
+and_other : (a b : Bool) → (a && b) ≡ true → b ≡ true
+and_other true b is = is
+and_other false b is = absurd (true≢false (sym is))
+
 lower : (n m : ℕ) → nat_lt (1 + n) (suc m) ≡ nat_lt n m
 lower n m = grind (arith, tests)
 
@@ -89,6 +98,40 @@ all_standing test always (l ∷ ls) at = by_filed l.filed refl
           ≡ list_all test (l ∷ ls)
       by_filed true is rest = rest ∙ ap (λ (b : Bool). b && list_all test ls) (sym (always l (at.0 is)))
       by_filed false is rest = ap (λ (b : Bool). test l && b) rest
+
+-- ----- what a sweep leaves as it is
+settled_by : (l : Live) (over indexed filed held : Bool) → is_over l ≡ over → l.indexed ≡ indexed → l.filed ≡ filed
+    → is_held l ≡ held → not (over && (indexed || not (filed || held))) ≡ true → swept l ≡ l
+settled_by l false indexed filed held o i f h is = rw o refl
+settled_by l true true filed held o i f h is = absurd (true≢false (sym is))
+settled_by l true false true held o i f h is = rw (o, i, f) refl
+settled_by l true false false true o i f h is = rw (o, i, f, h) refl
+settled_by l true false false false o i f h is = absurd (true≢false (sym is))
+
+settled_is : (l : Live) → is_settled l ≡ true → swept l ≡ l
+settled_is l is = settled_by l (is_over l) l.indexed l.filed (is_held l) refl refl refl refl is
+
+both_settled : (l : Live) (ls : List Live) (rest : Bool) → (rest ≡ true → map swept ls ≡ ls)
+    → (is_settled l && rest) ≡ true → map swept (l ∷ ls) ≡ l ∷ ls
+both_settled l ls rest others is =
+    ap (λ (m : Live). m ∷ map swept ls) (settled_is l (and_one (is_settled l) rest is))
+    ∙ ap (λ (ms : List Live). l ∷ ms) (others (and_other (is_settled l) rest is))
+
+pub all_settled : (ls : List Live) → AreAtRest ls → list_all (passes_at is_settled ls) (standing_places ls) ≡ true
+    → map swept ls ≡ ls
+all_settled [] at is = refl
+all_settled (l ∷ ls) at is = by_filed l.filed refl is
+    (λ rest. all_settled ls at.1
+    (sym (list_all-map (passes_at is_settled (l ∷ ls)) (λ (place : ℕ). suc place) (standing_places ls)) ∙ rest)) where
+      by_filed : (b : Bool) → l.filed ≡ b
+          → list_all (passes_at is_settled (l ∷ ls))
+          (with_first (not b) (map (λ (place : ℕ). suc place) (standing_places ls))) ≡ true
+          → (list_all (passes_at is_settled (l ∷ ls)) (map (λ (place : ℕ). suc place) (standing_places ls)) ≡ true
+          → map swept ls ≡ ls)
+          → map swept (l ∷ ls) ≡ l ∷ ls
+      by_filed true is all rest = ap (λ (m : Live). m ∷ map swept ls) (swept_rests l is (at.0 is))
+          ∙ ap (λ (ms : List Live). l ∷ ms) (rest all)
+      by_filed false is all rest = both_settled l ls _ rest all
 
 -- ----- how many pass
 count_next : (test : ℕ → Bool) (ps : List ℕ) → length (filter test (map (λ (place : ℕ). suc place) ps))

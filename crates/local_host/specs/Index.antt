@@ -1,10 +1,11 @@
 -- What the host keeps of its flows beside themselves, so that no search walks over all of them.
-use Rattle.std.specs.Prelude.{◌≡◌, ℕ, nat_eq, zero, suc, ◌<◌, ◌==◌, Bool, true, false, not, List, [], ◌∷◌, length, map}
+use Rattle.std.specs.Prelude.{◌≡◌, ℕ, nat_eq, zero, suc, ◌<◌, ◌==◌, Bool, true, false, not, ◌&&◌, ◌||◌, List, []}
+use Rattle.std.specs.Prelude.{◌∷◌, length, map}
 use Rattle.std.specs.Prelude.{count_by, get_or, nat_le, Option, Some, None, ⊤}
 use Rattle.std.specs.List.{list_any}
 use Rattle.std.specs.HashMap.{get}
 use Rattle.tas_model.specs.declared.entry.FourTuple.{FourTuple}
-use Rattle.host_rounds.specs.Hosts.{Live, is_indexed_as, is_in_slot, is_over, opened_as, first_port}
+use Rattle.host_rounds.specs.Hosts.{Live, is_indexed_as, is_in_slot, is_over, is_held, opened_as, first_port}
 use Rattle.capture_items.specs.Numbers.{equal_tuple}
 use Rattle.local_host.specs.declared.flows.Openings.{Openings}
 use Rattle.local_host.specs.declared.flows.Table.{Table}
@@ -59,6 +60,10 @@ pub record IsAtRest (l : Live) : Type 0 where
 abbrev pub AreAtRest : List Live → Type 0
 AreAtRest [] = ⊤
 AreAtRest (l ∷ ls) = (l.filed ≡ true → IsAtRest l) × AreAtRest ls
+
+-- A sweep leaves it as it is: it runs, or is out of the index and filed or held.
+abbrev pub is_settled : Live → Bool
+is_settled l = not (is_over l && (l.indexed || not (l.filed || is_held l)))
 
 -- ----- slots
 abbrev pub number_of : Option ℕ → ℕ

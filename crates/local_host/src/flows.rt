@@ -18,7 +18,7 @@ ghost use Rattle.local_host.specs.Handing.{AreDistinct, TookFrames, place_in};
 ghost use Rattle.tas_runs.specs.Records.{Content, is_remote};
 ghost use Rattle.tas_runs.specs.LocalScript.{resets_here};
 ghost use Rattle.local_host.specs.Index.{IsSound, AreAtRest, is_standing, standing_places, passes_at, number_of};
-ghost use Rattle.local_host.specs.Index.{given_in, AreMarked};
+ghost use Rattle.local_host.specs.Index.{given_in, AreMarked, is_settled};
 ghost use Rattle.local_host.specs.Ports.{MayAsk};
 ghost use Rattle.local_host.specs.Script.{asked_all, asked_live};
 ghost use Rattle.local_host.specs.Live.{flow_in, holder_in, IsLegal};
@@ -226,10 +226,13 @@ impl Flows {
         self.table.settle(done)
     }
 
-    /// Closed flows leave the index, and their slots where no application holds them.
+    /// Closed flows leave the index, and their slots where no application holds them. In most ticks none does.
     pub fn sweep(&mut self)
         ensures { self.new ≡ map swept self.old }
     {
+        if are_settled(&self.table.flows, &self.table.standing) {
+            return;
+        }
         sweep_all(&mut self.table.flows, &self.table.standing);
         drop_filed(&mut self.table.standing, &self.table.flows);
         self.table
@@ -529,6 +532,24 @@ fn is_over_at(flows: &[LiveFlow], place: usize) -> bool
 {
     match flows.get(place) {
         Some(flow) => flow.is_over(),
+        None => false,
+    }
+}
+
+/// Whether a sweep leaves all flows as they are.
+fn are_settled(flows: &[LiveFlow], standing: &[usize]) -> bool
+    requires places { standing.now ≡ standing_places flows.now }
+    requires rest { AreAtRest flows.now }
+    ensures { result ≡ true → map swept flows.now ≡ flows.now }
+{
+    standing.iter().all(|place| is_settled_at(flows, *place))
+}
+
+fn is_settled_at(flows: &[LiveFlow], place: usize) -> bool
+    ensures { result ≡ passes_at is_settled flows.now place }
+{
+    match flows.get(place) {
+        Some(flow) => flow.is_settled(),
         None => false,
     }
 }

@@ -14,7 +14,7 @@ ghost use Rattle.host_rounds.specs.Deliveries.{received, is_fast};
 ghost use Rattle.host_rounds.specs.Upkeep.{swept, timed, controlled, quieted};
 ghost use Rattle.local_host.specs.Arriving.{arrival_in, taking_in};
 ghost use Rattle.local_host.specs.Lanes.{is_taken, worked_frame};
-ghost use Rattle.local_host.specs.Index.{is_standing};
+ghost use Rattle.local_host.specs.Index.{is_standing, is_settled};
 ghost use Rattle.local_host.specs.declared.live.Holder.TheVariants as Holder;
 ghost use Rattle.local_host.specs.Live.{flow_in, holder_in, IsLegal, opened_live, IsNext};
 ghost use Rattle.local_host.specs.Ports.{MayAsk};
@@ -225,6 +225,16 @@ impl LiveFlow {
         ensures near { result < 2 ^ 127 }
     {
         sent_count(&self.history)
+    }
+
+    /// Whether a sweep leaves it as it is.
+    pub fn is_settled(&self) -> bool
+        ensures { result ≡ is_settled self.now }
+    {
+        if !self.is_over() {
+            return true;
+        }
+        !self.indexed && (self.filed || self.is_held())
     }
 
     /// Where it is closed it leaves the index, and its slot too where no application holds it.

@@ -21,20 +21,20 @@ use Rattle.flow_state.proofs.record.FlowRecord.act.Given
 
 grown : (g : Given.Over) (c : After-add g)
     → Grown c.self.inside.parts c.answer.new.parts c.self.inside.arena.bytes c.answer.new.self.bytes
-    c.self.inside.stretches.items c.add.new.stretches.items c.count_one.new.counts.items
+    c.self.inside.stretches.items c.add.new.stretches.items c.count_one.new.self.counts
     c.or-self-inside.result (c.self.inside.made + 1) c.max-tick.result c.args.caller c.args.tick c.args.call.now
     c.in-Some.answer
 grown g c =
     let same : c.reserve.new.self.items ≡ c.self.inside.stretches.items = c.in_ok-reserve.ensures.items in
     let sizes : length c.add.new.stretches.items ≡ c.add.new.stretches.len = sym c.add.new.stretches.ok.0 in
     kept_after c.self.inside.parts c.answer.new.parts c.self.inside.arena.bytes c.answer.new.self.bytes
-    c.self.inside.stretches.items c.add.new.stretches.items c.in-Some.slot c.self.inside.counts.items
-    c.count_one.new.counts.items c.self.inside.application c.or-self-inside.result
+    c.self.inside.stretches.items c.add.new.stretches.items c.in-Some.slot c.self.inside.counts.counts
+    c.count_one.new.self.counts c.self.inside.application c.or-self-inside.result
     c.self.inside.made c.self.inside.last c.args.caller c.args.tick c.number_of-number.result c.max-tick.result
     c.args.call.now c.in-Some.answer
     c.self.invariant c.answer.ensures.params (cc (c.answer.ensures.kept, c.reserve-3.ensures.bytes))
     (omega (arith, c.answer.ensures.longer, ap length c.reserve-3.ensures.bytes))
-    (c.number_of-number.ensures ∙ ap (counted_for c.args.caller) c.deref.ensures.value)
+    c.number_of-number.ensures
     (grind arith)
     (omega (arith, c.self.invariant.low, c.max-tick.ensures, c.ranges.tick.fits))
     (record {
@@ -50,7 +50,7 @@ grown g c =
     })
     (λ (other : Caller). c.count_one.ensures.counted other
     ∙ ap (λ (cs : List CallerCount). counted_for other cs + cond (same_caller c.args.caller other) 1 0)
-    c.reserve-2.ensures.items)
+    c.reserve-2.ensures.counts)
     (λ out. c.or-self-inside.ensures ∙ ap (option_or c.self.inside.application) (c.got_by.ensures out))
     c.in-Some.ensures.made
 

@@ -25,7 +25,7 @@ use Rattle.flow_state.proofs.record.FlowRecord.act_tick.Given
 
 grown : (g : Given.Over) (c : After-add_tick g)
     → Grown c.self.inside.parts c.run.new.parts c.self.inside.arena.bytes c.self.inside.arena.bytes
-    c.self.inside.stretches.items c.add_tick.new.stretches.items c.count_one.new.counts.items
+    c.self.inside.stretches.items c.add_tick.new.stretches.items c.count_one.new.self.counts
     c.self.inside.application (c.self.inside.made + 1) c.max-tick.result c.args.caller c.args.tick ins.Tick
     c.in-Some.answer
 grown g c =
@@ -37,17 +37,17 @@ grown g c =
     let reply : reply_of c.in-Some.answer [] ≡ reply_of c.in-Some.answer out =
     same_reply c.in-Some.answer [] out (subst (λ (n : ℕ). take n [] ≡ take n out) (sym bare) refl) in
     kept_after c.self.inside.parts c.run.new.parts arena arena c.self.inside.stretches.items
-    c.add_tick.new.stretches.items s c.self.inside.counts.items c.count_one.new.counts.items
+    c.add_tick.new.stretches.items s c.self.inside.counts.counts c.count_one.new.self.counts
     c.self.inside.application c.self.inside.application c.self.inside.made c.self.inside.last c.args.caller c.args.tick
     c.number_of-number.result c.max-tick.result ins.Tick c.in-Some.answer
     c.self.invariant c.run.ensures.params (take_all (length arena) arena (omega arith)) (omega arith)
-    (c.number_of-number.ensures ∙ ap (counted_for c.args.caller) c.deref.ensures.value)
+    c.number_of-number.ensures
     (grind arith)
     (omega (arith, c.self.invariant.low, c.max-tick.ensures, c.ranges.tick.fits))
     (subst (λ (ss : List Stretch). Added ss c.add_tick.new.stretches.items s) same c.add_tick.ensures.added.2)
     (λ (other : Caller). c.count_one.ensures.counted other
     ∙ ap (λ (cs : List CallerCount). counted_for other cs + cond (same_caller c.args.caller other) 1 0)
-    c.in_ok-reserve-2.ensures.items)
+    c.in_ok-reserve-2.ensures.counts)
     (λ answered. kept_by_tick c.self.inside.application c.args.caller (reply_of c.in-Some.answer answered)) (
       out,
       record {

@@ -7,10 +7,10 @@ use Rattle.flow_state.proofs.record.FlowRecord.release.Goals as goal
 pub invariant_of-self : goal.invariant_of-self
 invariant_of-self c =
     let closed : is_some c.self.inside.parts.reason ≡ true = search rules in
-    kept_released c.self.inside.parts c.release.new.self c.self.inside.arena.bytes c.trim.new.self.bytes
-    c.self.inside.stretches.items c.shrink_to_fit.new.self.items c.self.inside.counts.items
-    c.shrink_to_fit-2.new.self.items c.self.inside.application c.self.inside.made c.self.inside.last c.self.invariant
-    closed c.release.ensures c.trim.ensures c.shrink_to_fit.ensures.items c.shrink_to_fit-2.ensures.items
+    kept_released c.self.inside.parts c.release.new.self c.self.inside.arena.bytes c.trim-2.new.self.bytes
+    c.self.inside.stretches.items c.shrink_to_fit.new.self.items c.self.inside.counts.counts
+    c.trim.new.self.counts c.self.inside.application c.self.inside.made c.self.inside.last c.self.invariant
+    closed c.release.ensures c.trim-2.ensures c.shrink_to_fit.ensures.items c.trim.ensures
 
 pub returns-clause-stands : goal.returns-clause-stands
 returns-clause-stands c = (invariant_of-self c).stands

@@ -4,7 +4,7 @@ use Rattle.tas_model.specs.declared.entry.Caller.TheVariants.{Slow}
 use Rattle.flow_state.specs.declared.counts.CallerCount.{CallerCount}
 use Rattle.flow_state.specs.Counts.{is_for}
 use Rattle.flow_state.proofs.Counting.{counted_at, counted_none, none_found}
-use Rattle.flow_state.proofs.counts.number_of.Goals as goal
+use Rattle.flow_state.proofs.counts.number_in.Goals as goal
 
 pub returns-in-Some : goal.returns-in-Some
 returns-in-Some c =

@@ -3,7 +3,7 @@ use Rattle.std.proofs.lemmas.List.Quantifiers.{position-Some}
 use Rattle.flow_state.specs.declared.counts.CallerCount.{CallerCount}
 use Rattle.flow_state.specs.Counts.{is_for, counted_for}
 use Rattle.flow_state.proofs.Counting.{counted_at, counted_set, counted_push, none_found}
-use Rattle.flow_state.proofs.counts.count_one.Goals as goal
+use Rattle.flow_state.proofs.counts.count_in.Goals as goal
 
 pub overflow_add-index_mut : goal.overflow_add-index_mut
 overflow_add-index_mut c =
