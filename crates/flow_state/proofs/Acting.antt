@@ -2,6 +2,8 @@
 use Rattle.std.proofs.Common.{◌≡◌, ℕ, ◌+◌, ◌^◌, ◌<◌, ◌≤◌, cond, List, [], ◌∷◌, ◌++◌, length, take, drop, max, Option}
 use Rattle.std.proofs.Common.{Some, None, refl, sym, ◌∙◌, ap, subst, arith, take-append-drop, length-append}
 use Rattle.std.specs.Option.{option_or}
+use Rattle.std.proofs.Common.{append-nil}
+use Rattle.std.proofs.lemmas.List.Concat.{flat_map-append}
 use Rattle.tas_model.specs.declared.entry.HostParams.{HostParams}
 use Rattle.tas_model.specs.declared.entry.Entry.{Entry}
 use Rattle.tas_model.specs.declared.entry.Caller.{Caller}
@@ -9,6 +11,9 @@ use Rattle.tas_model.specs.declared.entry.Reply.{Reply}
 use Rattle.tas_model.specs.declared.entry.Reply.TheVariants as replies
 use Rattle.tas_model.specs.Endpoint.{Endpoint}
 use Rattle.tas_model.specs.Segments.{Outcome}
+use Rattle.tas_model.specs.declared.entry.Seg.{Seg}
+use Rattle.tas_model.specs.Outputs as outputs
+use Rattle.tas_model.specs.Outputs.{segments_in}
 use Rattle.tas_model.specs.Valid.{InRange}
 use Rattle.tas_model.specs.LegalHistory.{Legal, shown, opened, extended_by, reply_or, MayFollow, Gives, IsFirst, replay}
 use Rattle.tas_model.specs.LegalHistory.{step, state_or, moved, last_tick, next_number, same_caller}
@@ -19,7 +24,8 @@ use Rattle.flow_state.specs.declared.call.CallIn.{CallIn}
 use Rattle.flow_state.specs.declared.call.Answer.{Answer}
 use Rattle.flow_state.specs.declared.slot.Slot.{Slot}
 use Rattle.flow_state.specs.declared.counts.CallerCount.{CallerCount}
-use Rattle.flow_state.specs.Calls.{call_of, offer_of, reply_of, answer_of}
+use Rattle.flow_state.specs.declared.call.Answer.TheVariants as answers
+use Rattle.flow_state.specs.Calls.{call_of, offer_of, reply_of, answer_of, segment_count}
 use Rattle.flow_state.specs.Counts.{counted_for, AreCounts}
 use Rattle.flow_state.specs.Application.{got_by, application_of}
 use Rattle.flow_state.specs.Flow.{next_entry, reply_to}
@@ -101,28 +107,75 @@ entries_push old new before after s x front within is added =
     added.entries new ∙ (ap (λ (es : List Entry). es ++ entry_of new s ∷ []) kept
     ∙ ap (λ (y : Entry). entries_of old before ++ y ∷ []) is)
 
+-- ----- segments
+segments_are : (a : Answer) (out : List ℕ) → length (segments_in (reply_of a out)) ≡ segment_count a
+segments_are answers.Ok out = refl
+segments_are answers.Nothing out = refl
+segments_are (answers.Sent head len) out = refl
+segments_are (answers.Took len) out = refl
+segments_are (answers.Got len None) out = refl
+segments_are (answers.Got len (Some head)) out = refl
+segments_are answers.End out = refl
+segments_are answers.NotYet out = refl
+segments_are answers.NotOpen out = refl
+segments_are answers.Shut out = refl
+segments_are (answers.Closed reason) out = refl
+segments_are answers.Quiet out = refl
+segments_are answers.Resend out = refl
+segments_are answers.Probe out = refl
+segments_are answers.Expired out = refl
+segments_are answers.TimedOut out = refl
+segments_are (answers.Window cwnd ssthresh) out = refl
+
+segments_few : (a : Answer) → segment_count a ≤ 1
+segments_few answers.Ok = omega arith
+segments_few answers.Nothing = omega arith
+segments_few (answers.Sent head len) = omega arith
+segments_few (answers.Took len) = omega arith
+segments_few (answers.Got len None) = omega arith
+segments_few (answers.Got len (Some head)) = omega arith
+segments_few answers.End = omega arith
+segments_few answers.NotYet = omega arith
+segments_few answers.NotOpen = omega arith
+segments_few answers.Shut = omega arith
+segments_few (answers.Closed reason) = omega arith
+segments_few answers.Quiet = omega arith
+segments_few answers.Resend = omega arith
+segments_few answers.Probe = omega arith
+segments_few answers.Expired = omega arith
+segments_few answers.TimedOut = omega arith
+segments_few (answers.Window cwnd ssthresh) = omega arith
+
+sent_push : (h : List Entry) (x : Entry)
+    → length (outputs.sent (h ++ x ∷ [])) ≡ length (outputs.sent h) + length (segments_in x.reply)
+sent_push h x =
+    ap length (flat_map-append (λ (y : Entry). segments_in y.reply) h (x ∷ []))
+    ∙ (length-append (outputs.sent h) (segments_in x.reply ++ [])
+    ∙ ap (λ (segs : List Seg). length (outputs.sent h) + length segs) (append-nil (segments_in x.reply)))
+
 -- what one more entry leaves
 pub record Grown (before after : Parts) (old new : List ℕ) (stretches stretches' : List Stretch)
-    (counts : List CallerCount) (app : Option ℕ) (made last : ℕ) (caller : Caller) (tick : ℕ) (call : CallIn)
+    (counts : List CallerCount) (app : Option ℕ) (made last segments : ℕ) (caller : Caller) (tick : ℕ) (call : CallIn)
     (a : Answer) : Type 0 where
-  pub kept : IsRecord after new stretches' counts app made last
+  pub kept : IsRecord after new stretches' counts app made last segments
   pub exact : entries_of new stretches' ≡ extended_by before.params (entries_of old stretches) caller tick
       (call_of call) (offer_of call)
   pub answer : a ≡ answer_of (reply_to before.params (entries_of old stretches) tick (call_of call) (offer_of call))
 
 -- all that the record keeps true, after one more entry
 pub kept_after : (before after : Parts) (old new : List ℕ) (stretches stretches' : List Stretch) (s : Slot)
-    (counts counts' : List CallerCount) (app app' : Option ℕ) (made last : ℕ) (caller : Caller) (tick number t : ℕ)
-    (call : CallIn) (answer : Answer)
-    → IsRecord before old stretches counts app made last → after.params ≡ before.params → take (length old) new ≡ old
+    (counts counts' : List CallerCount) (app app' : Option ℕ) (made last segments segments' : ℕ) (caller : Caller)
+    (tick number t : ℕ) (call : CallIn) (answer : Answer)
+    → IsRecord before old stretches counts app made last segments → after.params ≡ before.params → take (length old) new ≡ old
     → length old ≤ length new
     → number ≡ counted_for caller counts → t ≡ max tick last → t < 2 ^ 32 → Added stretches stretches' s
     → ((other : Caller) → counted_for other counts' ≡ counted_for other counts + cond (same_caller caller other) 1 0)
     → ((out : List ℕ) → app' ≡ option_or app (got_by caller (call_of call) (reply_of answer out)))
+    → segments' ≡ segments + segment_count answer
     → IsMadeAt before after new caller number t call answer s
-    → Grown before after old new stretches stretches' counts' app' (made + 1) t caller tick call answer
-kept_after before after old new stretches stretches' s counts counts' app app' made last caller tick number t call
-    answer is same front longer n-is t-at low added more got done =
+    → Grown before after old new stretches stretches' counts' app' (made + 1) t segments' caller tick call answer
+kept_after before after old new stretches stretches' s counts counts' app app' made last segments segments' caller tick
+    number t call answer is same front longer n-is t-at low added more got counted done =
     let h : List Entry = entries_of old stretches in
     let n-is' : number ≡ next_number caller h = n-is ∙ is.counts caller in
     let t-is : t ≡ max tick (last_tick 0 h) = t-at ∙ ap (max tick) is.last in
@@ -155,6 +208,15 @@ kept_after before after old new stretches stretches' s counts counts' app app' m
         last = t-is ∙ sym (ap (last_tick 0) grown ∙ last_push 0 h x);
         few = omega (arith, few, at, is.few, is.last);
         low = low;
+        sent = omega (
+          arith,
+          ap (λ (es : List Entry). length (outputs.sent es)) grown,
+          sent_push h x,
+          is.sent,
+          counted,
+          segments_are answer done.0,
+        );
+        several = omega (arith, is.several, counted, segments_few answer);
       };
       exact = grown ∙ all.exact;
       answer = all.answer;
@@ -167,7 +229,7 @@ pub opens_record : (p : Parts) (params : HostParams) (arena : List ℕ) (stretch
     → IsWithin (length arena) s → IsFirst x
     → ((other : Caller) → counted_for other counts ≡ cond (same_caller x.caller other) 1 0)
     → Stands p (opened params x.call)
-    → app ≡ got_by x.caller x.call x.reply → IsRecord p arena stretches counts app 1 x.tick
+    → app ≡ got_by x.caller x.call x.reply → IsRecord p arena stretches counts app 1 x.tick 0
 opens_record p params arena stretches counts app s x low fits same one is within first counted stands got =
     let entries : entries_of arena stretches ≡ x ∷ [] = ap (entries_of arena) one ∙ ap (λ (y : Entry). y ∷ []) is in
     let P : HostParams → List Entry → Type 0 = λ q es. Legal q es × Stands p (replay q es) in
@@ -186,4 +248,7 @@ opens_record p params arena stretches counts app s x low fits same one is within
       last = sym (ap (last_tick 0) entries);
       few = omega (arith, ap (length {A = Stretch}) one);
       low = low;
+      sent = sym (ap (λ (es : List Entry). length (outputs.sent es)) entries
+          ∙ ap (λ (r : Reply). length (segments_in r ++ [])) first.reply);
+      several = omega arith;
     }

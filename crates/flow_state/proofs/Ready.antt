@@ -59,14 +59,14 @@ stands_released p e closed s =
 
 -- all that the record keeps true, once its memory is given back
 pub kept_released : (p q : Parts) (arena arena' : List ℕ) (stretches stretches' : List Stretch)
-    (counts counts' : List CallerCount) (app : Option ℕ) (n t : ℕ) → IsRecord p arena stretches counts app n t
+    (counts counts' : List CallerCount) (app : Option ℕ) (n t k : ℕ) → IsRecord p arena stretches counts app n t k
     → is_some p.reason ≡ true → q ≡ released_parts p → arena' ≡ arena → stretches' ≡ stretches → counts' ≡ counts
-    → IsRecord q arena' stretches' counts' app n t
-kept_released p q arena arena' stretches stretches' counts counts' app n t is closed parts bytes same table =
-    subst (λ (x : Parts). IsRecord x arena' stretches' counts' app n t) (sym parts)
-    (subst (λ (x : List ℕ). IsRecord (released_parts p) x stretches' counts' app n t) (sym bytes)
-    (subst (λ (x : List Stretch). IsRecord (released_parts p) arena x counts' app n t) (sym same)
-    (subst (λ (x : List CallerCount). IsRecord (released_parts p) arena stretches x app n t) (sym table)
+    → IsRecord q arena' stretches' counts' app n t k
+kept_released p q arena arena' stretches stretches' counts counts' app n t k is closed parts bytes same table =
+    subst (λ (x : Parts). IsRecord x arena' stretches' counts' app n t k) (sym parts)
+    (subst (λ (x : List ℕ). IsRecord (released_parts p) x stretches' counts' app n t k) (sym bytes)
+    (subst (λ (x : List Stretch). IsRecord (released_parts p) arena x counts' app n t k) (sym same)
+    (subst (λ (x : List CallerCount). IsRecord (released_parts p) arena stretches x app n t k) (sym table)
     (record {
       fits = is.fits;
       legal = is.legal;
@@ -78,4 +78,6 @@ kept_released p q arena arena' stretches stretches' counts counts' app n t is cl
       last = is.last;
       few = is.few;
       low = is.low;
+      sent = is.sent;
+      several = is.several;
     }))))

@@ -1,5 +1,5 @@
 -- What a call and an answer of the code mean in the model.
-use Rattle.std.specs.Prelude.{◌≡◌, ℕ, ◌+◌, ◌^◌, ◌<◌, Bool, true, false, List, [], length, take, min, ⊤}
+use Rattle.std.specs.Prelude.{◌≡◌, ℕ, ◌+◌, ◌^◌, ◌<◌, Bool, true, false, List, [], length, take, min, ⊤, Some}
 use Rattle.segment_fields.specs.declared.segment.Segment.{Segment}
 use Rattle.tas_model.specs.declared.entry.Call.{Call}
 use Rattle.tas_model.specs.declared.entry.Call.TheVariants as calls
@@ -104,6 +104,12 @@ answer_len (answers.Sent head len) = len
 answer_len (answers.Took len) = len
 answer_len (answers.Got len update) = len
 answer_len _ = 0
+
+-- how many segments the reply has
+abbrev pub segment_count : Answer → ℕ
+segment_count (answers.Sent head len) = 1
+segment_count (answers.Got len (Some head)) = 1
+segment_count _ = 0
 
 -- ----- conditions
 -- how many bytes a reply to it may have here: a Send takes what fits, and a Recv gives what is unread

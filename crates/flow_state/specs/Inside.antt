@@ -20,3 +20,4 @@ flow_of r = record {
 -- what it keeps true
 abbrev pub IsKept : Inside → Type 0
 IsKept r = IsRecord r.parts r.arena.bytes r.stretches.items r.counts.counts r.application r.made r.last
+    r.sent

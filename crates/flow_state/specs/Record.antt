@@ -1,6 +1,7 @@
 -- What a record keeps true of its parts, its memory, its slots, its counts and its application.
 use Rattle.std.specs.Prelude.{◌≡◌, ℕ, ◌+◌, ◌^◌, ◌<◌, ◌≤◌, List, length, Option}
 use Rattle.tas_model.specs.LegalHistory.{Legal, replay, last_tick}
+use Rattle.tas_model.specs.Outputs.{sent}
 use Rattle.tas_model.specs.Valid.{InRange}
 use Rattle.flow_state.specs.declared.parts.Parts.{Parts}
 use Rattle.flow_state.specs.declared.stretch.Stretch.{Stretch}
@@ -11,9 +12,9 @@ use Rattle.flow_state.specs.Application.{application_of}
 use Rattle.flow_state.specs.Stands.{Stands}
 
 -- The parts stand for the endpoint that the entries lead to, and these are a legal history. Their number is kept, and
--- the tick of the last; a run has no more of them than ticks passed.
+-- the tick of the last; a run has no more of them than ticks passed. The segments that they sent are counted.
 pub record IsRecord (parts : Parts) (arena : List ℕ) (stretches : List Stretch) (table : List CallerCount)
-    (app : Option ℕ) (n t : ℕ) : Type 0 where
+    (app : Option ℕ) (n t segments : ℕ) : Type 0 where
   pub fits : InRange parts.params
   pub legal : Legal parts.params (entries_of arena stretches)
   pub stands : Stands parts (replay parts.params (entries_of arena stretches))
@@ -24,3 +25,5 @@ pub record IsRecord (parts : Parts) (arena : List ℕ) (stretches : List Stretch
   pub last : t ≡ last_tick 0 (entries_of arena stretches)
   pub few : n ≤ length stretches + t
   pub low : t < 2 ^ 32
+  pub sent : segments ≡ length (sent (entries_of arena stretches))
+  pub several : segments ≤ n  -- an entry has one at most

@@ -1,5 +1,5 @@
-ghost use Rattle.std.specs.Prelude.{◌≡◌};
-ghost use Rattle.flow_state.specs.Calls.{payload_of, answer_len};
+ghost use Rattle.std.specs.Prelude.{◌≡◌, ◌≤◌};
+ghost use Rattle.flow_state.specs.Calls.{payload_of, answer_len, segment_count};
 
 use segment_fields::Segment;
 use tas_model::{FrameId, Head, Reason};
@@ -79,6 +79,21 @@ impl Answer {
             Answer::Sent { len, .. } | Answer::Took { len } | Answer::Got { len, .. } => {
                 *len as usize
             }
+            _ => 0,
+        }
+    }
+
+    /// How many segments the reply has, one at most.
+    pub fn segments(&self) -> u64
+        ensures count { result ≡ segment_count self.now }
+        ensures few { result ≤ 1 }
+    {
+        match self {
+            Answer::Sent { .. }
+            | Answer::Got {
+                update: Some(_),
+                ..
+            } => 1,
             _ => 0,
         }
     }

@@ -4,6 +4,7 @@ ghost use Rattle.std.specs.Prelude.{IsSome, OnErr, OnOk, IsOk, None};
 ghost use Rattle.tas_model.specs.declared.entry.Call.TheVariants as calls;
 ghost use Rattle.tas_model.specs.Endpoint.{phase};
 ghost use Rattle.tas_model.specs.LegalHistory.{Legal, replay, extended_by};
+ghost use Rattle.tas_model.specs.Outputs.{sent};
 ghost use Rattle.tas_model.specs.Valid.{InRange};
 ghost use Rattle.flow_state.specs.Stands.{Stands, IsNear, HasRings};
 ghost use Rattle.flow_state.specs.Calls.{call_of, offer_of, answer_of, reply_bytes, payload_of, seg_of, cost_of};
@@ -50,6 +51,8 @@ pub struct FlowRecord {
     made: usize,
     /// The tick of the last.
     last: u32,
+    /// How many segments they sent.
+    sent: u64,
 }
 
 impl Model for FlowRecord {
@@ -106,6 +109,7 @@ impl FlowRecord {
             application: None,
             made: 1,
             last: tick,
+            sent: 0,
         })
     }
 
@@ -138,6 +142,7 @@ impl FlowRecord {
             application: got_by(caller, &CallIn::Connect { iss }, &Answer::Ok),
             made: 1,
             last: tick,
+            sent: 0,
         })
     }
 
@@ -211,6 +216,13 @@ impl FlowRecord {
         ensures legal { Legal self.now.params self.now.entries }
     {
         self.made
+    }
+
+    /// How many segments it sent.
+    pub fn sent(&self) -> u64
+        ensures { result ≡ length (sent self.now.entries) }
+    {
+        self.sent
     }
 
     /// Its history in stretches, the oldest first: to look at all entries takes time by their number.
@@ -302,6 +314,7 @@ impl FlowRecord {
             return Ok(None);
         };
         self.made += 1;
+        self.sent += answer.segments();
         self.last = tick;
         self.application = self.application.or(got_by(caller, call, &answer));
         self.counts.count_one(caller);
@@ -347,6 +360,7 @@ impl FlowRecord {
             return Ok(None);
         };
         self.made += 1;
+        self.sent += answer.segments();
         self.last = tick;
         self.counts.count_one(caller);
         add_tick(&mut self.stretches, caller, number, tick, &answer);

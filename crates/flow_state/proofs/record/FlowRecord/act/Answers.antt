@@ -22,7 +22,8 @@ use Rattle.flow_state.proofs.record.FlowRecord.act.Given
 grown : (g : Given.Over) (c : After-add g)
     → Grown c.self.inside.parts c.answer.new.parts c.self.inside.arena.bytes c.answer.new.self.bytes
     c.self.inside.stretches.items c.add.new.stretches.items c.count_one.new.self.counts
-    c.or-self-inside.result (c.self.inside.made + 1) c.max-tick.result c.args.caller c.args.tick c.args.call.now
+    c.or-self-inside.result (c.self.inside.made + 1) c.max-tick.result
+    (c.self.inside.sent + c.segments.result) c.args.caller c.args.tick c.args.call.now
     c.in-Some.answer
 grown g c =
     let same : c.reserve.new.self.items ≡ c.self.inside.stretches.items = c.in_ok-reserve.ensures.items in
@@ -30,7 +31,8 @@ grown g c =
     kept_after c.self.inside.parts c.answer.new.parts c.self.inside.arena.bytes c.answer.new.self.bytes
     c.self.inside.stretches.items c.add.new.stretches.items c.in-Some.slot c.self.inside.counts.counts
     c.count_one.new.self.counts c.self.inside.application c.or-self-inside.result
-    c.self.inside.made c.self.inside.last c.args.caller c.args.tick c.number_of-number.result c.max-tick.result
+    c.self.inside.made c.self.inside.last c.self.inside.sent
+    (c.self.inside.sent + c.segments.result) c.args.caller c.args.tick c.number_of-number.result c.max-tick.result
     c.args.call.now c.in-Some.answer
     c.self.invariant c.answer.ensures.params (cc (c.answer.ensures.kept, c.reserve-3.ensures.bytes))
     (omega (arith, c.answer.ensures.longer, ap length c.reserve-3.ensures.bytes))
@@ -52,6 +54,7 @@ grown g c =
     ∙ ap (λ (cs : List CallerCount). counted_for other cs + cond (same_caller c.args.caller other) 1 0)
     c.reserve-2.ensures.counts)
     (λ out. c.or-self-inside.ensures ∙ ap (option_or c.self.inside.application) (c.got_by.ensures out))
+    (ap (λ k. c.self.inside.sent + k) c.segments.ensures.count)
     c.in-Some.ensures.made
 
 pub invariant_of-self-2 : goal.invariant_of-self-2

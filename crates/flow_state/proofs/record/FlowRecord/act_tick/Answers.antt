@@ -26,7 +26,8 @@ use Rattle.flow_state.proofs.record.FlowRecord.act_tick.Given
 grown : (g : Given.Over) (c : After-add_tick g)
     → Grown c.self.inside.parts c.run.new.parts c.self.inside.arena.bytes c.self.inside.arena.bytes
     c.self.inside.stretches.items c.add_tick.new.stretches.items c.count_one.new.self.counts
-    c.self.inside.application (c.self.inside.made + 1) c.max-tick.result c.args.caller c.args.tick ins.Tick
+    c.self.inside.application (c.self.inside.made + 1) c.max-tick.result
+    (c.self.inside.sent + c.segments.result) c.args.caller c.args.tick ins.Tick
     c.in-Some.answer
 grown g c =
     let arena : List ℕ = c.self.inside.arena.bytes in
@@ -38,7 +39,8 @@ grown g c =
     same_reply c.in-Some.answer [] out (subst (λ (n : ℕ). take n [] ≡ take n out) (sym bare) refl) in
     kept_after c.self.inside.parts c.run.new.parts arena arena c.self.inside.stretches.items
     c.add_tick.new.stretches.items s c.self.inside.counts.counts c.count_one.new.self.counts
-    c.self.inside.application c.self.inside.application c.self.inside.made c.self.inside.last c.args.caller c.args.tick
+    c.self.inside.application c.self.inside.application c.self.inside.made c.self.inside.last c.self.inside.sent
+    (c.self.inside.sent + c.segments.result) c.args.caller c.args.tick
     c.number_of-number.result c.max-tick.result ins.Tick c.in-Some.answer
     c.self.invariant c.run.ensures.params (take_all (length arena) arena (omega arith)) (omega arith)
     c.number_of-number.ensures
@@ -48,7 +50,8 @@ grown g c =
     (λ (other : Caller). c.count_one.ensures.counted other
     ∙ ap (λ (cs : List CallerCount). counted_for other cs + cond (same_caller c.args.caller other) 1 0)
     c.in_ok-reserve-2.ensures.counts)
-    (λ answered. kept_by_tick c.self.inside.application c.args.caller (reply_of c.in-Some.answer answered)) (
+    (λ answered. kept_by_tick c.self.inside.application c.args.caller (reply_of c.in-Some.answer answered))
+    (ap (λ k. c.self.inside.sent + k) c.segments.ensures.count) (
       out,
       record {
         makes = c.in-Some.ensures.made;
