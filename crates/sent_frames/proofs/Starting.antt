@@ -1,6 +1,6 @@
 -- Where the entries of a tick begin in a history.
 use Rattle.std.proofs.Common.{◌≡◌, ℕ, zero, suc, ◌+◌, ◌≤◌, ◌<◌, Bool, true, false, cond, ltb, List, [], ◌∷◌, ◌++◌}
-use Rattle.std.proofs.Common.{length}
+use Rattle.std.proofs.Common.{length, true≢false}
 use Rattle.std.proofs.Common.{filter, take, drop, flat_map, Some, slice_get, refl, sym, ap, ◌∙◌, subst, arith}
 use Rattle.std.proofs.Common.{append-nil}
 use Rattle.std.proofs.Common.{take-append-drop, append_assoc, length-append, add-one, drop-cons, get_or, eqb}
@@ -20,7 +20,7 @@ use Rattle.link_script.specs.declared.frames.Sent.{Sent}
 use Rattle.run_texts.specs.Frames.{AreAllShort}
 use Rattle.run_texts.proofs.Lists.{taken_more}
 use Rattle.sent_frames.specs.declared.frames.Origin.{Origin}
-use Rattle.sent_frames.specs.Sending.{of_tick, entry_frames, sent_by, sent_before, EntriesBefore}
+use Rattle.sent_frames.specs.Sending.{of_tick, segment_frames, entry_frames, sent_by, sent_before, EntriesBefore}
 use Rattle.sent_frames.proofs.Ticks.{none_of_tick}
 use Rattle.sent_frames.proofs.Numbered.{sent_by-append, sent_by-le, entry_frames-append}
 
@@ -233,3 +233,67 @@ short_in entries xss i xs whole e all =
     ∙ ap (λ ys. sent front ++ ys) (flat_map-append (λ (x : Entry). segments_in x.reply) xs back)) in
     short_front (sent xs) (sent back)
     (short_back (sent front) (sent xs ++ sent back) (subst (λ ys. AreAllShort ys) parts all))
+
+-- ----- a tick in which nothing was sent
+frames_in : (o : Origin) (n u t : ℕ) (segs : List Seg)
+    → length (of_tick t (segment_frames o n u segs)) ≡ cond (eqb u t) (length segs) 0
+frames_in o n u t segs = by_test (eqb u t) refl segs n
+  where
+    by_test : (b : Bool) → eqb u t ≡ b → (segs : List Seg) (n : ℕ)
+        → length (of_tick t (segment_frames o n u segs)) ≡ cond b (length segs) 0
+    by_test true is [] n = refl
+    by_test false is [] n = refl
+    by_test true is (seg ∷ segs) n = rw is (ap suc (by_test true is segs (n + 1)))
+    by_test false is (seg ∷ segs) n = rw is (by_test false is segs (n + 1))
+
+before_first : (t : ℕ) (x : Entry) (xs : List Entry)
+    → sent_before t (x ∷ xs) ≡ cond (ltb x.tick t) (length (segments_in x.reply)) 0 + sent_before t xs
+before_first t x xs = by_test (ltb x.tick t)
+  where
+    rest : List Entry
+    rest = filter (λ (y : Entry). ltb y.tick t) xs
+
+    by_test : (b : Bool) → sent_by (cond b (x ∷ rest) rest)
+        ≡ cond b (length (segments_in x.reply)) 0 + sent_by rest
+    by_test true = sent_by-append (x ∷ []) rest ∙ ap (λ n. n + sent_by rest) (ap length (append-nil (segments_in x.reply)))
+    by_test false = omega arith
+
+apart : (u t k : ℕ) → cond (eqb u t) k 0 + cond (ltb u t) k 0 ≤ k
+apart u t k = by_tests (eqb u t) (ltb u t) refl refl
+  where
+    by_tests : (a b : Bool) → eqb u t ≡ a → ltb u t ≡ b → cond a k 0 + cond b k 0 ≤ k
+    by_tests true true same less = absurd (true≢false (sym less ∙ not_less same))
+      where
+        not_less : eqb u t ≡ true → ltb u t ≡ false
+        not_less h = grind (arith, nat_tests, h)
+    by_tests true false same less = omega arith
+    by_tests false true same less = omega arith
+    by_tests false false same less = omega arith
+
+few_now : (o : Origin) (n t : ℕ) (xs : List Entry)
+    → length (of_tick t (entry_frames o n xs)) + sent_before t xs ≤ sent_by xs
+few_now o n t [] = omega arith
+few_now o n t (x ∷ xs) =
+    let k : ℕ = length (segments_in x.reply) in
+    let front : List Sent = segment_frames o n x.tick (segments_in x.reply) in
+    let back : List Sent = entry_frames o (n + k) xs in
+    let both : length (of_tick t (front ++ back)) ≡ length (of_tick t front) + length (of_tick t back) =
+    ap length (filter-append (λ (f : Sent). eqb f.tick t) front back) ∙ length-append (of_tick t front) (of_tick t back) in
+    let all : sent_by (x ∷ xs) ≡ k + sent_by xs = length-append (segments_in x.reply) (sent xs) in
+    omega (
+      arith,
+      both,
+      all,
+      frames_in o n x.tick t (segments_in x.reply),
+      before_first t x xs,
+      apart x.tick t k,
+      few_now o (n + k) t xs,
+    )
+
+none_left : (fs : List Sent) → length fs ≤ 0 → fs ≡ []
+none_left [] h = refl
+none_left (f ∷ fs) h = absurd (omega (arith, h))
+
+-- where all that was sent was sent before the tick, no frame is of it
+pub none_sent_now : (o : Origin) (t : ℕ) (h : List Entry) → sent_by h ≡ sent_before t h → of_tick t (entry_frames o 0 h) ≡ []
+none_sent_now o t h same = none_left (of_tick t (entry_frames o 0 h)) (omega (arith, same, few_now o 0 t h))

@@ -63,6 +63,10 @@ fn collect_entries(
     ensures number { IfOk result (λ n. n ≡ sent_by history.now.entries) }
     ensures last { OnOk result (AreUpTo tick sent.new) }
 {
+    // Most flows sent none in most ticks, as their count tells.
+    if history.sent() == number {
+        return Ok(number);
+    }
     // Its history is legal, with parameters in their ranges.
     let _parts = history.parts();
     let _entries = history.entries();
