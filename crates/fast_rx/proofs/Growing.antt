@@ -35,7 +35,8 @@ received p e w kept got island s going read ready holds is =
     let none : cond {A = ℕ} e.rx.ended 1 0 ≡ 0 = ap (λ (t : Bool). cond {A = ℕ} t 1 0) going in
     let end : end_of w + 1 ≡ 1 + length got + cond e.rx.ended 1 0 = omega (arith, holds.base) in
     stands_received p e w kept _ got e.rx.read island s
-    (ap (λ (n : ℕ). seq_at n (end_of w + 1)) (peer_is p.irs e.peer s.irs) ∙ ap (seq_at (peer_first e)) end) ready holds is
+    (ap (λ (n : ℕ). seq_at n (end_of w + 1)) (peer_is p.irs e.peer s.irs) ∙ ap (seq_at (peer_first e)) end) ready
+    holds is
 
 -- ----- bytes in order
 -- the window with a part in order, and with the next cells behind it

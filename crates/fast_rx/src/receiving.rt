@@ -1,5 +1,5 @@
-ghost use Rattle.std.specs.Prelude.{◌≡◌, ℕ, List, ◌+◌, ◌-◌, ◌^◌, ◌<◌, ◌≤◌, ◌==◌, ◌&&◌, Some, nat_le, true, false, length};
-ghost use Rattle.std.specs.Prelude.{min, if◌then◌else◌};
+ghost use Rattle.std.specs.Prelude.{◌≡◌, ℕ, List, ◌+◌, ◌-◌, ◌^◌, ◌<◌, ◌≤◌, ◌==◌, ◌&&◌, Some, nat_le, true, false};
+ghost use Rattle.std.specs.Prelude.{length, min, if◌then◌else◌};
 ghost use Rattle.payload_ring.specs.Window.{end_of, room_of};
 ghost use Rattle.tas_model.specs.declared.entry.Reason.TheVariants as reasons;
 ghost use Rattle.tas_model.specs.Endpoint.{Endpoint, phase, wnd};

@@ -161,8 +161,8 @@ impl FlowRecord {
         self.arena.reserve(bytes)
     }
 
-    /// Gives back the memory that a closed flow has no use for: of each ring that holds no byte, and what no entry needs.
-    /// Where the flow isn't closed nothing changes.
+    /// Gives back the memory that a closed flow has no use for: that of each ring that holds no byte, and room that no
+    /// entry needs. Where the flow isn't closed nothing changes.
     pub fn release(&mut self)
         ensures closed { IsSome self.old.parts.reason → self.new.parts ≡ released_parts self.old.parts }
         ensures open { self.old.parts.reason ≡ None → self.new ≡ self.old }

@@ -3,7 +3,7 @@ ghost use Rattle.tas_model.specs.Endpoint.{Endpoint};
 ghost use Rattle.tas_model.specs.Segments.{stray_reply};
 ghost use Rattle.tas_model.specs.Receive.{rx};
 ghost use Rattle.tas_model.specs.Valid.{Valid};
-ghost use Rattle.flow_state.specs.Stands.{Stands, IsNear};
+ghost use Rattle.flow_state.specs.Stands.{Stands, IsNear, HasRings};
 ghost use Rattle.flow_state.specs.Calls.{seg_of, reply_of, answer_len};
 ghost use Rattle.flow_state.specs.Made.{IsOutcome};
 
@@ -32,7 +32,8 @@ fn receive_in_closed(seg: &Segment<'_>) -> Answer
 /// A segment that arrives in any state.
 #[tactic(auto, unfolding(tas_model::specs::Receive::rx))]
 fn receive(parts: &mut Parts, seg: &Segment<'_>, tick: u32) -> Answer
-    requires { IsNear parts.old }
+    requires near { IsNear parts.old }
+    requires rings { HasRings parts.old }
     ensures made { (out : List ℕ) (e : Endpoint) → Valid e → Stands parts.old e
         → IsOutcome parts.new result out (rx e tick (seg_of seg.now)) }
     ensures len { answer_len result ≡ 0 }

@@ -46,6 +46,7 @@ returns-clause-stands c e v s is =
             ∙ ap (λ (n : ℕ). drop n e.tx.out) kept;
       };
       rx = b.rx;
+      rings = b.rings;
       island = b.island;
       window = c.from-parts.ensures;
       wl1 = refl;
