@@ -1,107 +1,99 @@
 -- The items of the records of a capture, one record after the other.
-use Rattle.std.proofs.Common.{◌≡◌, ℕ, ◌+◌, Bool, List, [], ◌∷◌, ◌++◌, length, Option, Some, None, Result, Ok, Err, refl}
-use Rattle.std.proofs.Common.{sym, ap, ◌∙◌, arith, append_assoc, append-nil}
+use Rattle.std.proofs.Common.{◌≡◌, ℕ, ◌+◌, Bool, List, [], ◌∷◌, ◌++◌, Option, Some, None, Result, Ok, Err, IsOk, refl}
+use Rattle.std.proofs.Common.{rules, ◌≤◌, ap, sym, ◌∙◌, subst, length, drop, IfSome, IfNone, arith}
 use Rattle.std.specs.List.{cons_option}
 use Rattle.std.proofs.lemmas.List.Elements.{filter_map-append}
 use Rattle.tas_num.specs.Captures.{Fault, Form, Record, Next, first_record, records_from, joined}
 use Rattle.pcap_frames.proofs.Following.{records_from_next, records_from_ends, records_from_refused}
 use Rattle.tas_runs.specs.Records.{Item, item_of, items_of}
+use Rattle.pcap_frames.specs.Views.{form_in, next_in, record_in}
+use Rattle.pcap_frames.specs.declared.capture.RecordView.{RecordView}
+use Rattle.capture_items.specs.Items.{item_in, items_among, items_from, items_with}
+use Rattle.capture_items.specs.Reading.{IsReadable}
+use Rattle.capture_items.specs.declared.item.Item as code
+use Rattle.capture_items.specs.declared.reader.ItemReader.TheInside.{Inside}
 
--- some records as the items that they make, and their number
-pub record Seen : Type 0 where
-  pub items : List Item
-  pub records : ℕ
-
-abbrev pub seen : Form → (local : ℕ) → (loose : Bool) → Result (List Record) Fault → Result Seen Fault
-seen form local loose (Ok records) = Ok (record { items = items_of form local loose records; records = length records })
-seen form local loose (Err fault) = Err fault
-
--- what was seen before, and what is seen then
-abbrev pub after : List Item → (records : ℕ) → Result Seen Fault → Result Seen Fault
-after items records (Ok more) = Ok (record { items = items ++ more.items; records = records + more.records })
-after items records (Err fault) = Err fault
-
-pub items_of-append : (form : Form) (local : ℕ) (loose : Bool) (xs ys : List Record)
-    → items_of form local loose (xs ++ ys) ≡ items_of form local loose xs ++ items_of form local loose ys
+pub items_of-push : (form : Form) (local : ℕ) (loose : Bool) (xs : List Record) (x : Record)
+    → items_of form local loose (xs ++ x ∷ [])
+    ≡ items_of form local loose xs ++ cons_option (item_of form local loose x) []
 unfolding items_of
-items_of-append form local loose xs ys = filter_map-append (item_of form local loose) xs ys
+items_of-push form local loose xs x = filter_map-append (item_of form local loose) xs (x ∷ [])
 
-same_seen : (xs ys : List Item) (m n : ℕ) → xs ≡ ys → m ≡ n
-    → ◌≡◌ {A = Result Seen Fault} (Ok (record { items = xs; records = m })) (Ok (record { items = ys; records = n }))
-same_seen xs ys m n a b = cc (a, b)
-
--- one record more is seen
-after_joined : (form : Form) (local : ℕ) (loose : Bool) (items : List Item) (records : ℕ) (x : Record)
-    (rest : Result (List Record) Fault)
-    → after items records (seen form local loose (joined (x ∷ []) rest))
-    ≡ after (items ++ items_of form local loose (x ∷ [])) (records + 1) (seen form local loose rest)
-after_joined form local loose items records x (Err fault) = refl
-after_joined form local loose items records x (Ok more) =
-    let first : List Item = items_of form local loose (x ∷ []) in
-    let then : List Item = items_of form local loose more in
-    same_seen _ _ _ _ (ap (λ (zs : List Item). items ++ zs) (items_of-append form local loose (x ∷ []) more)
-    ∙ sym (append_assoc items first then)) (omega arith)
-
-pub seen_next : (form : Form) (local : ℕ) (loose : Bool) (number : ℕ) (b : List ℕ) (next : Next) (items : List Item)
-    (records : ℕ) (whole : Result Seen Fault)
-    → first_record form number b ≡ Ok (Some next)
-    → after items records (seen form local loose (records_from form number b)) ≡ whole
-    → after (items ++ items_of form local loose (next.item ∷ [])) (records + 1)
-    (seen form local loose (records_from form (number + 1) next.rest)) ≡ whole
-seen_next form local loose number b next items records whole found so_far =
-    sym (after_joined form local loose items records next.item (records_from form (number + 1) next.rest))
-    ∙ (ap (λ (r : Result (List Record) Fault). after items records (seen form local loose r))
-    (sym (records_from_next form number b next found)) ∙ so_far)
-
-pub seen_ends : (form : Form) (local : ℕ) (loose : Bool) (number : ℕ) (b : List ℕ) (items : List Item) (records : ℕ)
-    (whole : Result Seen Fault)
-    → first_record form number b ≡ Ok None → after items records (seen form local loose (records_from form number b))
-    ≡ whole → whole ≡ Ok (record { items = items; records = records })
+-- ----- the items that are left
+among_joined : (form : Form) (local : ℕ) (loose : Bool) (x : Record) (r : Result (List Record) Fault)
+    → IsOk (joined (x ∷ []) r)
+    → IsOk r × (items_among form local loose (joined (x ∷ []) r)
+    ≡ cons_option (item_of form local loose x) (items_among form local loose r))
 unfolding items_of
-seen_ends form local loose number b items records whole none so_far =
-    sym so_far ∙ (ap (λ (r : Result (List Record) Fault). after items records (seen form local loose r))
-    (records_from_ends form number b none) ∙ same_seen _ _ _ _ (append-nil items) (omega arith))
+among_joined form local loose x (Ok more) ok = (search rules, refl)
+among_joined form local loose x (Err fault) ok = absurd (search rules)
 
-pub seen_refused : (form : Form) (local : ℕ) (loose : Bool) (number : ℕ) (b : List ℕ) (fault : Fault)
-    (items : List Item) (records : ℕ) (whole : Result Seen Fault)
-    → first_record form number b ≡ Err fault → after items records (seen form local loose (records_from form number b))
-    ≡ whole → whole ≡ Err fault
-seen_refused form local loose number b fault items records whole refused so_far =
-    sym so_far ∙ ap (λ (r : Result (List Record) Fault). after items records (seen form local loose r))
-    (records_from_refused form number b fault refused)
+-- those of the first record, and of the records after it
+pub left_next : (form : Form) (local : ℕ) (loose : Bool) (number : ℕ) (b : List ℕ) (next : Next)
+    → first_record form number b ≡ Ok (Some next) → IsOk (records_from form number b)
+    → IsOk (records_from form (number + 1) next.rest)
+    × (items_from form local loose number b
+    ≡ cons_option (item_of form local loose next.item) (items_from form local loose (number + 1) next.rest))
+left_next form local loose number b next found whole =
+    let follow = records_from_next form number b next found in
+    let rest = among_joined form local loose next.item (records_from form (number + 1) next.rest)
+    (subst (λ (r : Result (List Record) Fault). IsOk r) follow whole) in
+    (rest.0, ap (items_among form local loose) follow ∙ rest.1)
 
--- where it begins: nothing was seen yet
-pub seen_nothing : (r : Result Seen Fault) → after [] 0 r ≡ r
-seen_nothing (Ok more) = same_seen _ _ _ _ refl (omega arith)
-seen_nothing (Err fault) = refl
-
--- ----- one record
-pub items_of-taken : (form : Form) (local : ℕ) (loose : Bool) (r : Record) (x : Item)
-    → item_of form local loose r ≡ Some x → items_of form local loose (r ∷ []) ≡ x ∷ []
+-- none where no byte is left
+pub left_ends : (form : Form) (local : ℕ) (loose : Bool) (number : ℕ) (b : List ℕ)
+    → first_record form number b ≡ Ok None → items_from form local loose number b ≡ []
 unfolding items_of
-items_of-taken form local loose r x taken = ap (λ (o : Option Item). cons_option o []) taken
+left_ends form local loose number b none = ap (items_among form local loose) (records_from_ends form number b none)
 
-pub items_of-passed : (form : Form) (local : ℕ) (loose : Bool) (r : Record) → item_of form local loose r ≡ None
-    → items_of form local loose (r ∷ []) ≡ []
-unfolding items_of
-items_of-passed form local loose r passed = ap (λ (o : Option Item). cons_option o []) passed
+-- no record is refused where all can be read
+never_both : (r : Result (List Record) Fault) (fault : Fault) → r ≡ Err fault → IsOk r → ⊥
+never_both (Ok records) fault refused whole = absurd (cc (refused))
+never_both (Err other) fault refused whole = absurd (search rules)
 
--- ----- what all records show
-abbrev items_seen : Result Seen Fault → List Item
-items_seen (Ok s) = s.items
-items_seen (Err fault) = []
+pub left_whole : (form : Form) (number : ℕ) (b : List ℕ) (fault : Fault)
+    → first_record form number b ≡ Err fault → IsOk (records_from form number b) → ⊥
+left_whole form number b fault refused whole =
+    never_both (records_from form number b) fault (records_from_refused form number b fault refused) whole
 
-abbrev records_seen : Result Seen Fault → ℕ
-records_seen (Ok s) = s.records
-records_seen (Err fault) = 0
+-- ----- places in a capture
+-- the place behind the record that stands here
+abbrev pub behind : Inside → RecordView → Inside
+behind r view = record {
+  header = r.header;
+  bytes = r.bytes;
+  at = view.next;
+  records = r.records + 1;
+  local = r.local;
+  loose = r.loose;
+}
 
-pub seen_all : (form : Form) (local : ℕ) (loose : Bool) (r : Result (List Record) Fault) (items : List Item)
-    (records : ℕ) → seen form local loose r ≡ Ok (record { items = items; records = records })
-    → (all : List Record) × (r ≡ Ok all) × (items ≡ items_of form local loose all) × (records ≡ length all)
-seen_all form local loose (Err fault) items records e = absurd (cc (e))
-seen_all form local loose (Ok all) items records e = (all, refl, sym (ap items_seen e), sym (ap records_seen e))
+-- the items from a place on
+abbrev pub items_at : Inside → List Item
+items_at r = items_from (form_in r.header) r.local r.loose (r.records + 1) (drop r.at r.bytes.now)
 
-pub seen_fault : (form : Form) (local : ℕ) (loose : Bool) (r : Result (List Record) Fault) (fault : Fault)
-    → seen form local loose r ≡ Err fault → r ≡ Err fault
-seen_fault form local loose (Err other) fault e = cc (e)
-seen_fault form local loose (Ok all) fault e = absurd (cc (e))
+pub behind_readable : (r : Inside) (view : RecordView) → IsReadable r
+    → first_record (form_in r.header) (r.records + 1) (drop r.at r.bytes.now) ≡ Ok (Some (next_in r.bytes.now view))
+    → (r.at + 16 ≤ view.next) × (view.next ≤ length r.bytes.now) → IsReadable (behind r view)
+behind_readable r view is found next =
+    record {
+      place = next.1;
+      small = is.small;
+      few = omega (arith, is.few, next.0);
+      whole = (left_next (form_in r.header) r.local r.loose (r.records + 1) _ (next_in r.bytes.now view) found
+          is.whole).0;
+    }
+
+pub items_behind : (r : Inside) (view : RecordView) → IsReadable r
+    → first_record (form_in r.header) (r.records + 1) (drop r.at r.bytes.now) ≡ Ok (Some (next_in r.bytes.now view))
+    → (o : Option Item) → item_of (form_in r.header) r.local r.loose (record_in view) ≡ o
+    → items_at r ≡ cons_option o (items_at (behind r view))
+items_behind r view is found o made =
+    (left_next (form_in r.header) r.local r.loose (r.records + 1) _ (next_in r.bytes.now view) found is.whole).1
+    ∙ ap (λ (p : Option Item). cons_option p (items_at (behind r view))) made
+
+-- ----- an item that is read ahead
+pub ahead_is : (o : Option code.Item) (before after : List Item) → IfSome o (λ x. before ≡ item_in x ∷ after)
+    → IfNone o (before ≡ []) → IfNone o (after ≡ []) → items_with o after ≡ before
+ahead_is None before after some none done = done ∙ sym none
+ahead_is (Some x) before after some none done = sym some

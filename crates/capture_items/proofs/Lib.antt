@@ -1,6 +1,8 @@
 pub mod Read
 pub mod Batches
+pub mod Filling
 pub mod Following
 pub mod Listed
+pub mod Scanning
 pub mod Replays
 pub mod Counted

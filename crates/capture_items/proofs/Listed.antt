@@ -1,6 +1,6 @@
 -- How the first numbers are kept.
-use Rattle.std.proofs.Common.{◌≡◌, ℕ, zero, suc, ◌+◌, ◌*◌, ◌%◌, ◌^◌, ◌==◌, ◌&&◌, ◌||◌, ◌≤◌, ◌<◌, not, Bool, true, false}
-use Rattle.std.proofs.Common.{cond, List, [], ◌∷◌, ◌++◌, length, map, take, get_or, fold, filter_map, Option, Some}
+use Rattle.std.proofs.Common.{◌≡◌, ℕ, zero, suc, ◌+◌, ◌==◌, ◌&&◌, ◌||◌, ◌≤◌, not, Bool, true, false}
+use Rattle.std.proofs.Common.{cond, List, [], ◌∷◌, ◌++◌, length, fold, filter_map, Option, Some}
 use Rattle.std.proofs.Common.{None, if◌then◌else◌, refl, sym, ap, ◌∙◌, subst, true≢false, arith, length-append}
 use Rattle.std.proofs.lemmas.Bool.Decides.{nat_tests}
 use Rattle.std.specs.List.{slice_get, list_any, cons_option}
@@ -10,14 +10,13 @@ use Rattle.std.specs.HashSet.{contains}
 use Rattle.std.specs.Option.{option_map, unwrap_or}
 use Rattle.std.proofs.lemmas.List.Elements.{filter_map-append}
 use Rattle.std.proofs.lemmas.List.Sums.{fold-append}
-use Rattle.std.proofs.lemmas.List.{map_more}
 use Rattle.tas_num.specs.declared.seq.Seq.{Seq}
 use Rattle.tas_model.specs.declared.entry.FourTuple.{FourTuple}
 use Rattle.tas_runs.specs.Records.{Item}
 use Rattle.host_rounds.specs.Hosts.{same_tuple}
 use Rattle.tas_runs.specs.FirstNumbers.{with_new, local_syn, local_numbers, first_number}
 use Rattle.capture_items.specs.Numbers.{equal_tuple, same_turn, same_known, number_at, number_or, kept_numbers}
-use Rattle.capture_items.specs.Numbers.{AreNumbersOf, count_in, AreOf}
+use Rattle.capture_items.specs.Numbers.{AreNumbersOf, count_in, AreOf, with_one}
 use Rattle.capture_items.specs.declared.numbers.Turn.{Turn}
 use Rattle.capture_items.specs.declared.numbers.Known.{Known}
 use Rattle.capture_items.specs.declared.numbers.Numbering.{Numbering}
@@ -182,15 +181,11 @@ listed_more s r tuple t number list more are = subst
     (more_by s r tuple t number list more are)
 
 -- ----- one item more
-abbrev pub with_one : List ℕ → Option ℕ → List ℕ
-with_one list None = list
-with_one list (Some n) = with_new list n
-
 folded : (o : Option ℕ) (list : List ℕ) → fold with_new list (cons_option o []) ≡ with_one list o
 folded None list = refl
 folded (Some n) list = refl
 
-numbers_push : (items : List Item) (x : Item) (t : FourTuple)
+pub numbers_push : (items : List Item) (x : Item) (t : FourTuple)
     → local_numbers (items ++ x ∷ []) t ≡ with_one (local_numbers items t) (local_syn t x.content)
 numbers_push items x t =
     let f : Item → Option ℕ = λ (y : Item). local_syn t y.content in
@@ -198,36 +193,17 @@ numbers_push items x t =
     ∙ (fold-append with_new [] (filter_map f items) (cons_option (f x) [])
     ∙ folded (f x) (fold with_new [] (filter_map f items)))
 
-with_one_few : (o : Option ℕ) (list : List ℕ) → length (with_one list o) ≤ length list + 1
+pub with_one_few : (o : Option ℕ) (list : List ℕ) → length (with_one list o) ≤ length list + 1
 with_one_few None list = omega arith
 with_one_few (Some n) list = by_known (list_any (λ m. m == n) list) where
   by_known : (b : Bool) → length (if b then list else list ++ n ∷ []) ≤ length list + 1
   by_known true = omega arith
   by_known false = omega (arith, length-append list (n ∷ []))
 
--- one value more that stands for an item
-pub numbers_more : {X : Type 0} (f : X → Item) (xs : List X) (i : ℕ) (d : X) (t : FourTuple) (o : Option ℕ)
-    → i < length xs → o ≡ local_syn t (f (get_or xs i d)).content
-    → local_numbers (map f (take (i + 1) xs)) t ≡ with_one (local_numbers (map f (take i xs)) t) o
-numbers_more f xs i d t o below is =
-    ap (λ (ys : List Item). local_numbers ys t) (map_more f xs i d below)
-    ∙ (numbers_push (map f (take i xs)) (f (get_or xs i d)) t
-    ∙ ap (with_one (local_numbers (map f (take i xs)) t)) (sym is))
-
 pub with_one_if : (b : Bool) (list : List ℕ) (n : ℕ)
     → with_one list (if b then Some n else None) ≡ (if b then with_new list n else list)
 with_one_if true list n = refl
 with_one_if false list n = refl
-
--- at most one number an item
-pub numbers_few : {X : Type 0} (f : X → Item) (xs : List X) (i : ℕ) (d : X) (t : FourTuple) (o : Option ℕ)
-    → i < length xs → o ≡ local_syn t (f (get_or xs i d)).content
-    → length (local_numbers (map f (take i xs)) t) ≤ i → length (local_numbers (map f (take (i + 1) xs)) t) ≤ i + 1
-numbers_few f xs i d t o below is few =
-    let more : length (local_numbers (map f (take (i + 1) xs)) t)
-    ≡ length (with_one (local_numbers (map f (take i xs)) t) o) = ap length (numbers_more f xs i d t o below is) in
-    let one = with_one_few o (local_numbers (map f (take i xs)) t) in
-    omega (arith, few, one, more)
 
 pub was_new : (b c : Bool) → b ≡ true → b ≡ not c → c ≡ false
 was_new b true is e = absurd (true≢false (sym is ∙ e))

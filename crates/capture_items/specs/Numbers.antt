@@ -7,9 +7,9 @@ use Rattle.std.specs.Map.{lookup}
 use Rattle.std.specs.Option.{option_map, unwrap_or}
 use Rattle.tas_num.specs.declared.seq.Seq.{Seq}
 use Rattle.tas_model.specs.declared.entry.FourTuple.{FourTuple}
-use Rattle.tas_runs.specs.Records.{Item}
+use Rattle.tas_runs.specs.Records.{Content, Item}
 use Rattle.host_rounds.specs.Hosts.{Numbers, same_tuple}
-use Rattle.tas_runs.specs.FirstNumbers.{local_numbers}
+use Rattle.tas_runs.specs.FirstNumbers.{local_numbers, local_syn, with_new}
 use Rattle.capture_items.specs.declared.numbers.Turn.{Turn}
 use Rattle.capture_items.specs.declared.numbers.Known.{Known}
 use Rattle.capture_items.specs.declared.numbers.Numbering.{Numbering}
@@ -45,7 +45,21 @@ number_or n None = 64000 * n % 2 ^ 32
 abbrev pub kept_numbers : List (Turn × Seq) → Numbers
 kept_numbers kept tuple k n = number_or n (number_at kept tuple k)
 
--- ----- while the items are gone through
+-- ----- while the records are gone through
+-- the number of a local SYN segment of this four-tuple, in a packet and in a record that may be passed over
+abbrev pub syn_in : FourTuple → Option Content → Option ℕ
+syn_in tuple None = None
+syn_in tuple (Some content) = local_syn tuple content
+
+abbrev pub syn_of : FourTuple → Option Item → Option ℕ
+syn_of tuple None = None
+syn_of tuple (Some x) = local_syn tuple x.content
+
+-- the numbers with one more, where there is one
+abbrev pub with_one : List ℕ → Option ℕ → List ℕ
+with_one list None = list
+with_one list (Some n) = with_new list n
+
 -- the number of a segment for one four-tuple, where it has a four-tuple and a number
 abbrev pub number_for : FourTuple → Option (FourTuple × Seq) → Option ℕ
 number_for tuple None = None

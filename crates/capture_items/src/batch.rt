@@ -1,25 +1,63 @@
-ghost use Rattle.std.specs.Prelude.{◌≡◌, ◌<◌, ◌≤◌, ◌∷◌, map, take, drop, length};
+ghost use Rattle.std.specs.Prelude.{◌≡◌, ◌<◌, ◌≤◌, [], ◌∷◌, ◌++◌, map, length, OnOk};
 ghost use Rattle.tas_runs.specs.Batches.{batches_of, joins, clashes, is_of};
 ghost use Rattle.std.specs.List.{list_any};
 ghost use Rattle.capture_items.specs.Items.{item_in};
 
 use crate::item::Item;
+use crate::reader::ItemReader;
+use std::alloc::AllocError;
+use std::marker::Model;
 use tas_model::FourTuple;
 
-/// How many of these items come in the first batch: the longest front of at most 64 with no two segments of one flow.
-pub fn next_batch(items: &[Item<'_>]) -> usize
-    ensures some { 0 < length items.now → 1 ≤ result }
-    ensures most { result ≤ 64 }
-    ensures inside { result ≤ length items.now }
-    ensures first { 0 < length items.now → batches_of (map item_in items.now)
-        ≡ take result (map item_in items.now) ∷ batches_of (drop result (map item_in items.now)) }
-{
-    for (count, item) in items.iter().enumerate() {
-        if !joins(&items[..count], item) {
-            return count;
-        }
+/// The items of a capture from a place on, seen as their list, which are taken batch by batch.
+#[derive(Drop)]
+pub struct BatchReader<'a> {
+    /// The first one. It is read before it is known whether it comes in a batch.
+    ahead: Option<Item<'a>>,
+    items: ItemReader<'a>,
+}
+
+impl<'a> Model for BatchReader<'a> {
+    ghost use Rattle.std.specs.Prelude.{◌≡◌, List, [], IfNone};
+    ghost use Rattle.tas_runs.specs.Records.{Item};
+    ghost use Rattle.capture_items.specs.Items.{items_with};
+
+    ghost Value = { List Item };
+
+    ghost view = { λ r. items_with r.ahead r.items };
+
+    ghost invariant = { λ r. IfNone r.ahead (r.items ≡ []) };
+}
+
+impl<'a> BatchReader<'a> {
+    /// These items.
+    pub fn of(items: ItemReader<'a>) -> BatchReader<'a>
+        ensures { result ≡ items.entry }
+    {
+        let mut items = items;
+        let ahead = items.next_item();
+        BatchReader { ahead, items }
     }
-    items.len()
+
+    /// Puts the next batch into `batch`, in place of what was there: the longest front of at most 64 with no two
+    /// segments of one flow. It is empty where no item is left. The error is want of memory.
+    pub fn next_batch(&mut self, batch: &mut Vec<Item<'a>>) -> Result<(), AllocError>
+        ensures front { OnOk result (self.old ≡ map item_in batch.new.items ++ self.new) }
+        ensures first { OnOk result (0 < length self.old
+            → batches_of self.old ≡ map item_in batch.new.items ∷ batches_of self.new) }
+        ensures some { OnOk result (0 < length self.old → 0 < length batch.new.items) }
+        ensures most { OnOk result (length batch.new.items ≤ 64) }
+    {
+        batch.clear();
+        while let Some(item) = self.ahead {
+            if !joins(batch, &item) {
+                return Ok(());
+            }
+            batch.push(item)?;
+            self.ahead = self.items.next_item();
+        }
+        Ok(())
+    }
 }
 
 /// Whether one more item may come in a batch.

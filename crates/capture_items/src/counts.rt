@@ -1,8 +1,7 @@
-ghost use Rattle.std.specs.Prelude.{◌≡◌, ◌-◌, ◌≤◌, map, length, count_by};
+ghost use Rattle.std.specs.Prelude.{◌≡◌, ◌+◌, ◌-◌, ◌<◌, ◌≤◌, ◌^◌, map, length, count_by};
 ghost use Rattle.tas_runs.specs.Records.{is_damaged};
 ghost use Rattle.capture_items.specs.Items.{item_in};
 
-use crate::found::Found;
 use crate::item::Item;
 
 /// How many records of a capture are what: each is counted once.
@@ -18,24 +17,55 @@ pub struct Counts {
     pub refused: u32,
 }
 
-impl Found<'_> {
-    /// How many records of the capture are what. There are no more items than records, as `find_items` says.
-    pub fn counts(&self) -> Counts
-        requires { length self.now.items.items ≤ self.now.records }
-        ensures records { result.records ≡ self.now.records }
-        ensures frames { result.frames ≡ length (map item_in self.now.items.items) - count_by is_damaged
-            (map item_in self.now.items.items) }
-        ensures passed { result.passed ≡ self.now.records - length (map item_in self.now.items.items) }
-        ensures refused { result.refused ≡ count_by is_damaged (map item_in self.now.items.items) }
+/// How many items there were so far.
+#[derive(Clone, Copy, PartialEq, Eq, Debug)]
+pub struct Tally {
+    /// All of them.
+    pub items: u32,
+    /// Packets that break a rule of reading.
+    pub refused: u32,
+}
+
+impl Tally {
+    /// None.
+    pub fn new() -> Tally
+        ensures items { result.items ≡ 0 }
+        ensures refused { result.refused ≡ 0 }
     {
-        let records = self.records;
-        let items = self.items.len() as u32;
-        let refused = refused_among(&self.items) as u32;
+        Tally {
+            items: 0,
+            refused: 0,
+        }
+    }
+
+    /// So many, and those of one more batch.
+    pub fn with(self, batch: &[Item<'_>]) -> Tally
+        requires items { self.items + length batch.now < 2 ^ 32 }
+        requires refused { self.refused ≤ self.items }
+        ensures items { result.items ≡ self.items + length (map item_in batch.now) }
+        ensures refused { result.refused ≡ self.refused + count_by is_damaged (map item_in batch.now) }
+        ensures few { result.refused ≤ result.items }
+    {
+        Tally {
+            items: self.items + batch.len() as u32,
+            refused: self.refused + refused_among(batch) as u32,
+        }
+    }
+
+    /// How many of a capture's `records` are what, where these are its items.
+    pub fn counts(self, records: u32) -> Counts
+        requires items { self.items ≤ records }
+        requires refused { self.refused ≤ self.items }
+        ensures records { result.records ≡ records }
+        ensures frames { result.frames ≡ self.items - self.refused }
+        ensures passed { result.passed ≡ records - self.items }
+        ensures refused { result.refused ≡ self.refused }
+    {
         Counts {
             records,
-            frames: items - refused,
-            passed: records - items,
-            refused,
+            frames: self.items - self.refused,
+            passed: records - self.items,
+            refused: self.refused,
         }
     }
 }

@@ -1,18 +1,18 @@
-ghost use Rattle.std.specs.Prelude.{◌≡◌, ◌≤◌, ◌++◌, ◌∷◌, [], map, length, IfOk, IfErr, OnOk};
-ghost use Rattle.pcap_frames.specs.Views.{form_in, record_in};
-ghost use Rattle.tas_runs.specs.Records.{items_of};
-ghost use Rattle.capture_items.specs.Items.{item_in};
+ghost use Rattle.std.specs.Prelude.{◌≤◌, length, IfOk, IfErr};
 ghost use Rattle.capture_items.specs.Found.{IsFound, IsNoCapture};
 
-use crate::item::{Item, read_item};
-use pcap_frames::{CaptureHeader, PcapRefused, RecordView, next_record, read_header};
-use std::alloc::{AllocError, Global};
+use crate::numbers::{FirstNumbers, Numbering};
+use crate::reader::ItemReader;
+use pcap_frames::{PcapRefused, next_record, read_header};
+use std::alloc::Global;
 
 /// What a capture holds for one host.
 #[derive(Drop)]
 pub struct Found<'a> {
     /// The records that are not passed over, in their order.
-    pub items: Vec<Item<'a>>,
+    pub items: ItemReader<'a>,
+    /// The first numbers that they show.
+    pub numbers: FirstNumbers,
     /// How many records the capture has.
     pub records: u32,
 }
@@ -25,8 +25,8 @@ pub enum InputFault {
     Refused(PcapRefused),
 }
 
-/// What the capture of these bytes holds for the host of the address `local`, each record read once. With `loose` no
-/// checksum is looked at.
+/// What the capture of these bytes holds for the host of the address `local`. With `loose` no checksum is looked at.
+/// It goes over all records once, without a look at a checksum, and keeps the first numbers alone.
 /// Bytes that are no capture are refused, with the first fault in them; want of memory is told where it comes first.
 pub fn find_items<'a>(
     alloc: Global,
@@ -36,14 +36,14 @@ pub fn find_items<'a>(
 ) -> Result<Found<'a>, InputFault>
     requires { length bytes.now ≤ 67108864 }
     ensures found { IfOk result (IsFound bytes.now local loose) }
-    ensures few { IfOk result (λ found. length found.items.items ≤ found.records) }
+    ensures few { IfOk result (λ found. length found.items ≤ found.records) }
     ensures refused { IfErr result (IsNoCapture bytes.now) }
 {
     let header = match read_header(bytes) {
         Ok(header) => header,
         Err(fault) => return Err(InputFault::Refused(fault)),
     };
-    let mut items = Vec::new(alloc);
+    let mut numbering = Numbering::new(alloc);
     let mut records = 0;
     let mut at = 24;
     loop {
@@ -51,29 +51,18 @@ pub fn find_items<'a>(
             Ok(Some(view)) => {
                 at = view.next;
                 records += 1;
-                if take_up(&mut items, &header, &view, local, loose).is_err() {
+                if numbering.take_up(&header, &view, local).is_err() {
                     return Err(InputFault::OutOfMemory);
                 }
             }
-            Ok(None) => return Ok(Found { items, records }),
+            Ok(None) => {
+                return Ok(Found {
+                    items: ItemReader::new(header, bytes, local, loose),
+                    numbers: numbering.finish(),
+                    records,
+                });
+            }
             Err(fault) => return Err(InputFault::Refused(fault)),
         }
     }
-}
-
-/// Appends the item of a record, where it is one.
-fn take_up<'a>(
-    items: &mut Vec<Item<'a>>,
-    header: &CaptureHeader,
-    view: &RecordView<'a>,
-    local: u32,
-    loose: bool,
-) -> Result<(), AllocError>
-    ensures ok { OnOk result (map item_in items.new.items
-        ≡ map item_in items.old.items ++ items_of (form_in header.now) local loose (record_in view.now ∷ [])) }
-{
-    if let Some(item) = read_item(header, view, local, loose) {
-        items.push(item)?;
-    }
-    Ok(())
 }

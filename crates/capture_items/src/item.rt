@@ -122,7 +122,7 @@ fn is_other_traffic(rule: Refused) -> bool
 }
 
 /// The four-tuple of a segment as its sender sees it.
-fn sender_tuple(segment: &Segment<'_>) -> FourTuple
+pub(crate) fn sender_tuple(segment: &Segment<'_>) -> FourTuple
     ensures { result ≡ sends segment.now }
 {
     FourTuple {

@@ -1,12 +1,16 @@
-ghost use Rattle.std.specs.Prelude.{◌≡◌, ℕ, ◌+◌, ◌<◌, ◌^◌, List, map, IfOk, OnOk, if◌then◌else◌};
+ghost use Rattle.std.specs.Prelude.{◌≡◌, ℕ, ◌+◌, ◌<◌, ◌^◌, Bool, List, [], OnOk, if◌then◌else◌};
+ghost use Rattle.pcap_frames.specs.Views.{form_in, record_in};
 ghost use Rattle.tas_runs.specs.Records as model;
-ghost use Rattle.tas_runs.specs.FirstNumbers.{first_number, with_new, local_syn};
-ghost use Rattle.capture_items.specs.Items.{item_in, content_in};
+ghost use Rattle.tas_runs.specs.Records.{content_of_packet, item_of};
+ghost use Rattle.tas_runs.specs.FirstNumbers.{first_number, with_new};
 ghost use Rattle.capture_items.specs.Numbers.{AreNumbersOf, AreOf, count_in, number_for, kept_numbers};
+ghost use Rattle.capture_items.specs.Numbers.{syn_in, syn_of, with_one};
 ghost use Rattle.tas_model.specs.declared.entry.FourTuple.{FourTuple};
 ghost use Rattle.host_rounds.specs.Hosts.{same_tuple};
 
-use crate::item::{Content, Item};
+use crate::item::sender_tuple;
+use pcap_frames::{CaptureHeader, RecordView, packet};
+use segment_fields::read;
 use std::alloc::{AllocError, Global};
 use std::collections::{HashMap, HashSet};
 use std::marker::Model;
@@ -47,7 +51,7 @@ impl Model for FirstNumbers {
 
 /// The numbers that were met while the items are gone through.
 #[derive(Drop)]
-struct Numbering {
+pub(crate) struct Numbering {
     numbers: HashMap<Turn, Seq>,
     known: HashSet<Known>,
     /// How many different numbers each four-tuple has.
@@ -55,6 +59,44 @@ struct Numbering {
 }
 
 impl Numbering {
+    /// No number was met.
+    pub(crate) fn new(alloc: Global) -> Numbering
+        ensures { (t : FourTuple) → AreOf result t [] }
+    {
+        Numbering {
+            numbers: HashMap::new(alloc),
+            known: HashSet::new(alloc),
+            counts: HashMap::new(alloc),
+        }
+    }
+
+    /// What was met.
+    pub(crate) fn finish(self) -> FirstNumbers
+        ensures { result ≡ self.numbers.entries }
+    {
+        FirstNumbers {
+            numbers: self.numbers,
+        }
+    }
+
+    /// Takes up the number of a record that is a SYN segment of the host of the address `local`.
+    pub(crate) fn take_up(
+        &mut self,
+        header: &CaptureHeader,
+        view: &RecordView<'_>,
+        local: u32,
+    ) -> Result<(), AllocError>
+        requires small { (t : FourTuple) → count_in self.old t + 1 < 2 ^ 64 }
+        ensures ok { OnOk result ((t : FourTuple) (list : List ℕ) (loose : Bool) → AreOf self.old t list
+            → AreOf self.new t (with_one list
+            (syn_of t (item_of (form_in header.now) local loose (record_in view.now))))) }
+    {
+        match local_syn(header, view, local) {
+            Some((tuple, number)) => self.note(tuple, number),
+            None => Ok(()),
+        }
+    }
+
     /// Takes up a number of a four-tuple, which is listed once.
     fn note(&mut self, tuple: FourTuple, number: Seq) -> Result<(), AllocError>
         requires small { count_in self.old tuple + 1 < 2 ^ 64 }
@@ -79,36 +121,7 @@ impl Numbering {
     }
 }
 
-/// The four-tuple and the number of a SYN segment that the host sent itself.
-fn local_syn(item: &Item<'_>) -> Option<(FourTuple, Seq)>
-    ensures { (t : FourTuple) → number_for t result ≡ local_syn t (content_in item.now.content) }
-{
-    match item.content {
-        Content::Local(tuple, segment) if segment.flags.is_syn() => Some((tuple, segment.seq)),
-        _ => None,
-    }
-}
-
 impl FirstNumbers {
-    /// The numbers of the local SYN segments among these items.
-    pub fn of_items(alloc: Global, items: &[Item<'_>]) -> Result<FirstNumbers, AllocError>
-        ensures { IfOk result (AreNumbersOf (map item_in items.now)) }
-    {
-        let mut numbering = Numbering {
-            numbers: HashMap::new(alloc),
-            known: HashSet::new(alloc),
-            counts: HashMap::new(alloc),
-        };
-        for item in items {
-            if let Some((tuple, number)) = local_syn(item) {
-                numbering.note(tuple, number)?;
-            }
-        }
-        Ok(FirstNumbers {
-            numbers: numbering.numbers,
-        })
-    }
-
     /// The first number of a flow of this four-tuple, where `k` flows of the four-tuple were opened before it, and `n`
     /// flows of the host.
     pub fn number(&self, tuple: FourTuple, k: usize, n: u32) -> Seq
@@ -120,5 +133,28 @@ impl FirstNumbers {
             Some(number) => *number,
             None => Seq(n.wrapping_mul(64_000)),
         }
+    }
+}
+
+/// The four-tuple and the number of a record that is a SYN segment of the host of the address `local`. That it sent the
+/// segment shows without a look at checksums.
+fn local_syn(header: &CaptureHeader, view: &RecordView<'_>, local: u32) -> Option<(FourTuple, Seq)>
+    ensures { (t : FourTuple) (loose : Bool)
+        → number_for t result ≡ syn_of t (item_of (form_in header.now) local loose (record_in view.now)) }
+{
+    syn_in(packet(header, view)?, local)
+}
+
+/// The same of a packet.
+fn syn_in(packet: &[u8], local: u32) -> Option<(FourTuple, Seq)>
+    ensures { (t : FourTuple) (loose : Bool)
+        → number_for t result ≡ syn_in t (content_of_packet local loose packet.now) }
+{
+    match read(packet, false) {
+        Ok(segment) if segment.src == local && segment.flags.is_syn() => Some((
+            sender_tuple(&segment),
+            segment.seq,
+        )),
+        _ => None,
     }
 }
