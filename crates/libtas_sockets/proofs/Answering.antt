@@ -1,9 +1,7 @@
 -- An application accepts a flow of its listener.
 use Rattle.std.proofs.Common.{◌≡◌, ℕ, ◌<◌, ap, sym, ◌∙◌, refl, subst, ◌==◌, cond, Bool, true, false, [], ◌∷◌}
 use Rattle.std.proofs.Common.{inr}
-use Rattle.std.specs.Prelude.{Option, Some, None, Result, Ok, Err, All, IfSome}
-use Rattle.std.specs.List.{find}
-use Rattle.std.specs.Option.{option_map}
+use Rattle.std.specs.Prelude.{Option, Some, None, Result, Ok, Err, IfSome}
 use Rattle.tas_model.specs.declared.entry.Caller.{Caller}
 use Rattle.tas_model.specs.declared.entry.FlowId.{FlowId}
 use Rattle.tas_model.specs.declared.entry.Phase.TheVariants as phases
@@ -17,14 +15,11 @@ use Rattle.flow_lock.specs.Steps.{MayAct}
 use Rattle.flow_lock.specs.declared.view.History.{History}
 use Rattle.flow_lock.specs.declared.view.View.{View}
 use Rattle.app_reaper.specs.OneCall.{IsOwn, IsUse}
-use Rattle.slow_handshake.specs.Openings.{Openings, first_ready, is_ready_at, id_of}
-use Rattle.slow_handshake.specs.declared.openings.PassiveFlow.{PassiveFlow}
 use Rattle.libtas_sockets.specs.Accepting.{IsAcceptedOn, IsAnsweredBy, IsTried, IsAcceptance}
 use Rattle.libtas_sockets.specs.Apps.{Application}
 use Rattle.libtas_sockets.specs.declared.socket_error.SocketError.{SocketError}
 use Rattle.libtas_sockets.specs.declared.socket_error.SocketError.TheVariants as errors
 use Rattle.libtas_sockets.proofs.Acting.{may_too, use_acts, use_pins, use_idle}
-use Rattle.libtas_sockets.proofs.Waiting.{found_has}
 
 -- ----- the record
 synchronized_runs : (b shut fin ended first : Bool) → ◌≡◌ {A = Column} (cond b Opening Running) Running
@@ -106,16 +101,10 @@ stays id caller tick v w (Err errors.NoPort) a = absurd a.3
 stays id caller tick v w (Err errors.NoFlowSlot) a = absurd a.3
 
 -- ----- the listener's list
-pub ready_near : (slots : ℕ) (o : Openings) (port : ℕ) (id : FlowId) → first_ready o port ≡ Some id
-    → All (λ (f : PassiveFlow). f.id.slot < slots) o.flows → id.slot < slots
-ready_near slots o port id e all = by_found (find (is_ready_at port) o.flows) refl e where
-  by_found : (x : Option PassiveFlow) → find (is_ready_at port) o.flows ≡ x → option_map id_of x ≡ Some id
-      → id.slot < slots
-  by_found None is q = absurd (cc (q))
-  by_found (Some f) is q =
-      let same : f.id ≡ id = cc (q) in
-      subst (λ (i : FlowId). i.slot < slots) same (found_has (λ (g : PassiveFlow). g.id.slot < slots)
-      (is_ready_at port) o.flows f is all)
+-- the flow that may be accepted next is in the table
+pub ready_near : (slots : ℕ) (o : Option FlowId) (id : FlowId) → o ≡ Some id → IfSome o (λ f. f.slot < slots)
+    → id.slot < slots
+ready_near slots o id e near = subst (λ (x : Option FlowId). IfSome x (λ f. f.slot < slots)) e near
 
 -- ----- the socket
 -- the answer says the same of the flow, whichever way it is named

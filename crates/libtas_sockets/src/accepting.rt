@@ -1,11 +1,10 @@
 //! Flows that peers opened are accepted.
-ghost use Rattle.std.specs.Prelude.{◌≡◌, ℕ, ◌<◌, ◌↔◌, [], None, Err, All, IfSome, IfNone};
+ghost use Rattle.std.specs.Prelude.{◌≡◌, ℕ, ◌<◌, ◌↔◌, [], None, Err, IfSome, IfNone};
 ghost use Rattle.flow_lock.specs.Claims.{HasPin};
 ghost use Rattle.flow_lock.specs.Histories.{IsLonger};
 ghost use Rattle.flow_lock.specs.Steps.{MayAct};
 ghost use Rattle.app_reaper.specs.OneCall.{history};
 ghost use Rattle.slow_handshake.specs.Openings.{first_ready};
-ghost use Rattle.slow_handshake.specs.declared.openings.PassiveFlow.{PassiveFlow};
 ghost use Rattle.libtas_sockets.specs.Apps.{IsSocket, socket_on};
 ghost use Rattle.libtas_sockets.specs.Accepting.{IsAcceptance, after_accept, does_leave, IsAnsweredBy, IsAcceptedOn};
 
@@ -31,7 +30,7 @@ impl App {
         tick: u32,
     ) -> Result<Socket, SocketError>
         requires pass { (self.old.pass.table ≡ t.now) × MayAct self.old.pass.view }
-        requires slots { All (λ (f : PassiveFlow). f.id.slot < t.now.slots) slow.old.flows }
+        requires slot { IfSome (first_ready slow.old port) (λ id. id.slot < t.now.slots) }
         ensures not_yet { result ≡ Err SocketError.NotYet ↔ first_ready slow.old port ≡ None }
         ensures none { IfNone (first_ready slow.old port) ((self.new ≡ self.old) × (slow.new ≡ slow.old)) }
         ensures in_use { IfSome (first_ready slow.old port)

@@ -1,6 +1,5 @@
 // The cores of a host, each with its queue and its worker.
 ghost use Rattle.std.specs.Prelude.{◌≡◌, ◌<◌, ◌≤◌, ◌+◌, true, IfOk, OnOk};
-ghost use Rattle.slow_worker.specs.Workers.{waiting};
 ghost use Rattle.shared_host.specs.Cores.{AreCores};
 ghost use Rattle.shared_host.specs.SlowPaths.{IsNewSlow, with_split};
 
@@ -36,7 +35,6 @@ pub(crate) fn make_cores<R: Wait>(
     requires slow { IsNewSlow slow.old.path.params table.now 0 cores slow.old }
     ensures made { IfOk result (λ made. AreCores table.now cores made.kicks.items made.workers.items) }
     ensures slow { OnOk result (IsNewSlow slow.old.path.params table.now cores 0 slow.new) }
-    ensures waiting { waiting slow.new ≡ waiting slow.old }
 {
     let mut made = Cores {
         kicks: Vec::new(alloc),

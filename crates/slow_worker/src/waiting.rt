@@ -72,4 +72,11 @@ impl WaitingFrames {
     {
         self.frames.pop_front()
     }
+
+    /// The frames alone.
+    pub(crate) fn into_frames(self) -> VecDeque<PassedFrame>
+        ensures { result.items ≡ self.list }
+    {
+        self.frames
+    }
 }

@@ -8,13 +8,14 @@ use crate::opening::show;
 use crate::served::Served;
 use crate::waiting::WaitingFrames;
 use app_reaper::{FiledList, PinList};
-use core_worker::{Shared, tuple_of};
+use core_worker::{PassedFrame, Shared, tuple_of};
 use flow_index::{IndexReader, IndexWriter};
 use flow_lock::SlowPass;
 use flow_state::FlowRecord;
 use segment_fields::read;
 use slow_handshake::SlowPath;
 use std::alloc::{AllocError, Global};
+use std::collections::VecDeque;
 use std::marker::Model;
 use std::sync::Wait;
 use tas_core::{HostLog, LogEvent, LogLine};
@@ -77,6 +78,10 @@ pub struct SlowRemains {
     pub doomed: PinList,
     pub filed: FiledList,
     pub log: HostLog,
+    /// The exceptions that weren't handled, the first first.
+    pub exceptions: VecDeque<PassedFrame>,
+    /// The deferred frames that weren't handled, the first first.
+    pub deferred: VecDeque<PassedFrame>,
 }
 
 impl SlowWorker {
@@ -135,15 +140,16 @@ impl SlowWorker {
         Ok(())
     }
 
-    /// Ends the worker, which no frame waits for. It waits for the readers of the index that read.
+    /// Ends the worker, and leaves the frames that still wait. It waits for the readers of the index that read.
     pub fn end<R: Wait>(self, rt: &R) -> SlowRemains
-        requires none { waiting self ≡ [] }
         ensures path { result.path ≡ self.path }
         ensures pass { result.pass ≡ self.pass }
         ensures pins { result.pins.list ≡ self.pins }
         ensures doomed { result.doomed.list ≡ self.doomed }
         ensures filed { result.filed.list ≡ self.filed }
         ensures log { result.log ≡ self.log }
+        ensures exceptions { result.exceptions.items ≡ self.exceptions.list }
+        ensures deferred { result.deferred.items ≡ self.deferred.list }
     {
         let SlowWorker {
             path,
@@ -156,8 +162,8 @@ impl SlowWorker {
             doomed,
             flows: _,
             index,
-            deferred: _,
-            exceptions: _,
+            deferred,
+            exceptions,
             ticked: _,
         } = self;
         index.end(rt);
@@ -168,6 +174,8 @@ impl SlowWorker {
             doomed,
             filed,
             log,
+            exceptions: exceptions.into_frames(),
+            deferred: deferred.into_frames(),
         }
     }
 

@@ -19,8 +19,7 @@ use Rattle.libtas_sockets.proofs.app.App.accept.Goals as goal
 
 pub pin-requires-clause-slot : goal.pin-requires-clause-slot
 pin-requires-clause-slot c =
-    ready_near c.args.t.now.slots c.args.slow.now c.args.port c.in-Some.id (sym c.ready.ensures ∙ c.in-Some.is)
-    c.requires.slots
+    ready_near c.args.t.now.slots _ c.in-Some.id (sym c.ready.ensures ∙ c.in-Some.is) c.requires.slot
 
 pub pin-requires-clause-unpinned : goal.pin-requires-clause-unpinned
 pin-requires-clause-unpinned c =
@@ -33,14 +32,12 @@ pin-requires-clause-unpinned c =
 pub accept_pinned-accepted-requires-clause-slot : goal.accept_pinned-accepted-requires-clause-slot
 accept_pinned-accepted-requires-clause-slot c =
     subst (λ (f : FlowId). f.slot < c.args.t.now.slots) (sym c.in-Ok.ensures.pinned.0)
-    (ready_near c.args.t.now.slots c.args.slow.now c.args.port c.in-Some.id (sym c.ready.ensures ∙ c.in-Some.is)
-    c.requires.slots)
+    (ready_near c.args.t.now.slots _ c.in-Some.id (sym c.ready.ensures ∙ c.in-Some.is) c.requires.slot)
 
 pub unpin-requires-clause-slot : goal.unpin-requires-clause-slot
 unpin-requires-clause-slot c =
     subst (λ (f : FlowId). f.slot < c.args.t.now.slots) (sym c.in-Ok.ensures.pinned.0)
-    (ready_near c.args.t.now.slots c.args.slow.now c.args.port c.in-Some.id (sym c.ready.ensures ∙ c.in-Some.is)
-    c.requires.slots)
+    (ready_near c.args.t.now.slots _ c.in-Some.id (sym c.ready.ensures ∙ c.in-Some.is) c.requires.slot)
 
 pub invariant_of-self-in-Ok-accepted : goal.invariant_of-self-in-Ok-accepted
 invariant_of-self-in-Ok-accepted c =
@@ -57,8 +54,7 @@ invariant_of-self-in-Ok-accepted c =
     ap (λ (x : Application). x.pass.table) c.self.view_is ∙ c.requires.pass.0 in
     let near : f.slot < i.pass.table.slots = subst (λ (x : TableId). f.slot < x.slots) (sym table)
     (subst (λ (g : FlowId). g.slot < c.args.t.now.slots) (sym is)
-    (ready_near c.args.t.now.slots c.args.slow.now c.args.port id (sym c.ready.ensures ∙ c.in-Some.is)
-    c.requires.slots)) in
+    (ready_near c.args.t.now.slots _ id (sym c.ready.ensures ∙ c.in-Some.is) c.requires.slot)) in
     let pinned = subst (λ (g : FlowId). IsPinned g i.pass.view c.pin.new.pass.view) (sym is) c.in-Ok.ensures.pinned.1 in
     let tried = tried_view f _ c.args.tick i.pass.view c.pin.new.pass.view n.view _ pinned
     c.accept_pinned-accepted.ensures.made c.self.invariant.idle in
