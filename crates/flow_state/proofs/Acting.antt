@@ -166,8 +166,8 @@ pub record Grown (before after : Parts) (old new : List ℕ) (stretches stretche
 pub kept_after : (before after : Parts) (old new : List ℕ) (stretches stretches' : List Stretch) (s : Slot)
     (counts counts' : List CallerCount) (app app' : Option ℕ) (made last segments segments' : ℕ) (caller : Caller)
     (tick number t : ℕ) (call : CallIn) (answer : Answer)
-    → IsRecord before old stretches counts app made last segments → after.params ≡ before.params → take (length old) new ≡ old
-    → length old ≤ length new
+    → IsRecord before old stretches counts app made last segments → after.params ≡ before.params
+    → take (length old) new ≡ old → length old ≤ length new
     → number ≡ counted_for caller counts → t ≡ max tick last → t < 2 ^ 32 → Added stretches stretches' s
     → ((other : Caller) → counted_for other counts' ≡ counted_for other counts + cond (same_caller caller other) 1 0)
     → ((out : List ℕ) → app' ≡ option_or app (got_by caller (call_of call) (reply_of answer out)))

@@ -255,7 +255,8 @@ before_first t x xs = by_test (ltb x.tick t)
 
     by_test : (b : Bool) → sent_by (cond b (x ∷ rest) rest)
         ≡ cond b (length (segments_in x.reply)) 0 + sent_by rest
-    by_test true = sent_by-append (x ∷ []) rest ∙ ap (λ n. n + sent_by rest) (ap length (append-nil (segments_in x.reply)))
+    by_test true = sent_by-append (x ∷ []) rest
+        ∙ ap (λ n. n + sent_by rest) (ap length (append-nil (segments_in x.reply)))
     by_test false = omega arith
 
 apart : (u t k : ℕ) → cond (eqb u t) k 0 + cond (ltb u t) k 0 ≤ k
@@ -278,7 +279,8 @@ few_now o n t (x ∷ xs) =
     let front : List Sent = segment_frames o n x.tick (segments_in x.reply) in
     let back : List Sent = entry_frames o (n + k) xs in
     let both : length (of_tick t (front ++ back)) ≡ length (of_tick t front) + length (of_tick t back) =
-    ap length (filter-append (λ (f : Sent). eqb f.tick t) front back) ∙ length-append (of_tick t front) (of_tick t back) in
+    ap length (filter-append (λ (f : Sent). eqb f.tick t) front back)
+    ∙ length-append (of_tick t front) (of_tick t back) in
     let all : sent_by (x ∷ xs) ≡ k + sent_by xs = length-append (segments_in x.reply) (sent xs) in
     omega (
       arith,
@@ -295,5 +297,6 @@ none_left [] h = refl
 none_left (f ∷ fs) h = absurd (omega (arith, h))
 
 -- where all that was sent was sent before the tick, no frame is of it
-pub none_sent_now : (o : Origin) (t : ℕ) (h : List Entry) → sent_by h ≡ sent_before t h → of_tick t (entry_frames o 0 h) ≡ []
+pub none_sent_now : (o : Origin) (t : ℕ) (h : List Entry) → sent_by h ≡ sent_before t h
+    → of_tick t (entry_frames o 0 h) ≡ []
 none_sent_now o t h same = none_left (of_tick t (entry_frames o 0 h)) (omega (arith, same, few_now o 0 t h))
