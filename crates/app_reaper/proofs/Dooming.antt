@@ -1,5 +1,5 @@
 -- A flow that is doomed, and then freed or held back.
-use Rattle.std.proofs.Common.{◌≡◌, ℕ, true, false, ap, ◌∙◌, subst, ⊎_elim}
+use Rattle.std.proofs.Common.{◌≡◌, ℕ, true, false, ap, ◌∙◌, sym, subst, ⊎_elim}
 use mathlib.Core.Option as O
 use lib.ListN.{get_elem?}
 use Rattle.atomic_table.proofs.Lists.{set_here}
@@ -35,6 +35,14 @@ own_before f v u r e own seen known = record {
   own = own;
   seen = subst (λ (x : View). HasSeen x f (history r)) e seen;
   known = subst (λ (x : View). IsKnownOf x f (history r)) e known;
+}
+
+-- it is the flow's own still, where its history stays
+pub own_kept : (f : FlowId) (v : View) (r q : Flow) → q.id ≡ r.id → history q ≡ history r → IsOwn f v r → IsOwn f v q
+own_kept f v r q id same is = record {
+  own = id ∙ is.own;
+  seen = subst (HasSeen v f) (sym same) is.seen;
+  known = subst (IsKnownOf v f) (sym same) is.known;
 }
 
 pub still_doomed : (n : ℕ) (f : FlowId) (v w : View) → IsHeldBack f v w n → IsDoomed f v → IsDoomed f w

@@ -18,7 +18,8 @@ pub enum Swept {
     Pinned(u16, Pin),
 }
 
-/// Dooms a closed flow, frees its slot and files its record, unless another pass has pinned it. The error is want of
+/// Dooms a closed flow, frees its slot and files its record, unless another pass has pinned it. The record gives back
+/// the memory that it has no use for any more. The error is want of
 /// memory, and leaves the table as it was; the flow stays live then, and its record comes out when the table is closed.
 pub fn sweep(
     table: &FlowTable<FlowRecord>,
@@ -60,7 +61,8 @@ pub fn sweep_reserved(
 {
     table.doom(slow, &pin);
     match table.free(slow, pin) {
-        Ok(flow) => {
+        Ok(mut flow) => {
+            flow.release();
             filed.put(flow);
             Swept::Freed
         }

@@ -237,15 +237,20 @@ impl LiveFlow {
         !self.indexed && (self.filed || self.is_held())
     }
 
-    /// Where it is closed it leaves the index, and its slot too where no application holds it.
+    /// Where it is closed it leaves the index, and its slot too where no application holds it. Then it gives back the
+    /// memory that it has no use for any more.
     pub fn sweep(&mut self)
         ensures { self.new ≡ swept self.old }
     {
         if !self.is_over() {
             return;
         }
-        self.filed = self.filed || !self.is_held();
         self.indexed = false;
+        if self.filed || self.is_held() {
+            return;
+        }
+        self.filed = true;
+        self.history.release();
     }
 
     /// One tick passes, unless it is closed, and its rate is controlled where that is due. The error is want of memory.
