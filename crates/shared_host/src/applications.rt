@@ -28,6 +28,7 @@ pub fn add_app(
     requires senders { Each (HasSenders shared.old) cores.old }
     ensures app { IfOk result (λ app. app ≡ new_app number (split_from slow.old.pass) app.notes) }
     ensures queue { IfOk result (λ app. queue_of number shared.new.queues ≡ Some (queue_at app.notes.line)) }
+    ensures added { IfOk result (λ app. shared.new ≡ with_queue number app.notes.line shared.old) }
     ensures given { IfOk result (λ app. AreGiven number app.notes.line 0 (length cores.old) cores.old cores.new) }
     ensures slow { OnOk result (slow.new ≡ record slow.old { pass = with_split slow.old.pass }) }
     ensures err { OnErr result (slow.new ≡ slow.old) }

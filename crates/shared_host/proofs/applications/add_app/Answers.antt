@@ -1,7 +1,7 @@
 use Rattle.std.proofs.Common.{◌≡◌, Some, length, sym, ◌∙◌, subst}
 use Rattle.atomic_table.specs.Seated.{TableId}
 use Rattle.core_worker.specs.Telling.{queue_of}
-use Rattle.shared_host.specs.Applications.{AreGiven, queue_at}
+use Rattle.shared_host.specs.Applications.{AreGiven, queue_at, with_queue}
 use Rattle.shared_host.proofs.Giving.{queue_found, found_is_some, same_line, free_still, queues_still, senders_still}
 use Rattle.shared_host.proofs.Giving.{by_new}
 use Rattle.shared_host.proofs.applications.add_app.Goals as goal
@@ -98,3 +98,9 @@ returns-clause-given c =
     c.queue_for-queue.ensures)
     ∙ sym c.give_senders.ensures.own)
     c.in_ok-give_senders.ensures.given)
+
+pub returns-clause-added : goal.returns-clause-added
+returns-clause-added c =
+    by_new _ _ _ c.new.ensures.new
+    (subst (λ (l : TableId). c.open_queue.new.shared ≡ with_queue c.args.number l c.args.shared.now)
+    (sym c.give_senders.ensures.own) c.in_ok-notes.ensures.added)
