@@ -3,7 +3,7 @@ ghost use Rattle.local_host.specs.Arriving.{arrival_in};
 ghost use Rattle.local_host.specs.Handing.{AreDistinct, TookFrames, place_in};
 
 use crate::arrival::Arrival;
-use crate::jobs::{hand_out, lanes_of, put_back};
+use crate::jobs::{hand_out, keep_stand_ins, lanes_of, put_back};
 use crate::lanes::{Handed, work_all};
 use crate::live::LiveFlow;
 use std::alloc::{AllocError, Global};
@@ -11,11 +11,12 @@ use std::thread::Threads;
 use tas_num::Gate;
 
 /// Cores take the frames of flows that stand at these places side by side. The answer are the frames that were left, in
-/// the order in which they came. The error is want of memory.
+/// the order in which they came. `spare` has flows that stand in for those that cores have. The error is want of memory.
 pub fn take_on_cores<'a, R: Threads + Sync, G: Gate>(
     rt: &R,
     alloc: Global,
     flows: &mut Vec<LiveFlow>,
+    spare: &mut Vec<LiveFlow>,
     places: &[Option<usize>],
     tick: u32,
     arrivals: &[Arrival<'a>],
@@ -31,10 +32,11 @@ pub fn take_on_cores<'a, R: Threads + Sync, G: Gate>(
     ensures { IfOk result (λ rest. TookFrames tick flows.old.items (map arrival_in arrivals.now)
         (map arrival_in rest.items) flows.new.items) }
 {
-    let mut handing = hand_out(alloc, flows, places, arrivals, steered)?;
+    let mut handing = hand_out(alloc, flows, spare, places, arrivals, steered)?;
     let mut lanes = lanes_of(alloc, handing.take_jobs(alloc))?;
     work_all(rt, &mut lanes, host, tick, gate);
     put_back(flows, &mut handing.left, &mut lanes)?;
+    keep_stand_ins(spare, lanes)?;
     handing.left.sort_by_key(|handed| handed.index)?;
     arrivals_of_handed(alloc, &handing.left)
 }

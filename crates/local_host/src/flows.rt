@@ -66,6 +66,8 @@ struct Table {
     given: usize,
     /// In which slots records of flows stand.
     taken: SlotMarks,
+    /// Flows that stood in for those that cores had, for the next ones.
+    spare: Vec<LiveFlow>,
 }
 
 /// The flows of a host, in the order of their opening, filed ones among them. A flow is found by its four-tuple without
@@ -101,6 +103,7 @@ impl Flows {
                 generations: HashMap::new(alloc),
                 given: 0,
                 taken: SlotMarks::new(alloc),
+                spare: Vec::new(alloc),
             },
         }
     }
@@ -298,8 +301,9 @@ impl Flows {
         match self.places(alloc, arrivals) {
             Ok(places) => {
                 let flows = &mut self.table.flows;
+                let spare = &mut self.table.spare;
                 let done = take_on_cores(
-                    rt, alloc, flows, &places, tick, arrivals, steered, host, gate,
+                    rt, alloc, flows, spare, &places, tick, arrivals, steered, host, gate,
                 );
                 self.table.settle(done)
             }

@@ -62,10 +62,12 @@ impl<'a> Handing<'a> {
 }
 
 /// Frames are handed out: each frame of a flow of the index goes to a job of the core that it was steered to, and the
-/// others are left. The flows of jobs leave their places. The error is want of memory.
+/// others are left. The flows of jobs leave their places, where others stand in for them, `spare` ones as long as there
+/// are some. The error is want of memory.
 pub fn hand_out<'a>(
     alloc: Global,
     flows: &mut Vec<LiveFlow>,
+    spare: &mut Vec<LiveFlow>,
     places: &[Option<usize>],
     arrivals: &[Arrival<'a>],
     steered: &[u32],
@@ -82,7 +84,15 @@ pub fn hand_out<'a>(
             index: k,
             arrival: arrivals[k],
         };
-        hand(alloc, flows, &mut handing, places[k], steered[k], handed)?;
+        hand(
+            alloc,
+            flows,
+            spare,
+            &mut handing,
+            places[k],
+            steered[k],
+            handed,
+        )?;
     }
     Ok(handing)
 }
@@ -91,6 +101,7 @@ pub fn hand_out<'a>(
 fn hand<'a>(
     alloc: Global,
     flows: &mut Vec<LiveFlow>,
+    spare: &mut Vec<LiveFlow>,
     handing: &mut Handing<'a>,
     place: Option<usize>,
     core: u32,
@@ -114,7 +125,7 @@ fn hand<'a>(
         handing.left.push(handed)?;
         return Ok(());
     }
-    let stand_in = LiveFlow::stand_in(alloc)?;
+    let stand_in = next_stand_in(alloc, spare)?;
     let flow = mem::replace(&mut flows[place], stand_in);
     let mut frames = Vec::new(alloc);
     frames.push(handed)?;
@@ -126,6 +137,25 @@ fn hand<'a>(
         frames,
     })?;
     Ok(())
+}
+
+/// A flow that stands in for one that a core has. One that did so before takes no memory. The error is want of memory.
+fn next_stand_in(alloc: Global, spare: &mut Vec<LiveFlow>) -> Result<LiveFlow, AllocError>
+    ensures { IfOk result (λ l. l.indexed ≡ false) }
+{
+    match spare.pop() {
+        Some(flow) => Ok(out_of_index(flow)),
+        None => LiveFlow::stand_in(alloc),
+    }
+}
+
+/// The flow, which the index has under no four-tuple.
+fn out_of_index(flow: LiveFlow) -> LiveFlow
+    ensures { result.indexed ≡ false }
+{
+    let mut flow = flow;
+    flow.leave_index();
+    flow
 }
 
 /// Whether a flow stands at this place that the index has under its four-tuple.
@@ -244,4 +274,19 @@ fn put(flows: &mut Vec<LiveFlow>, job: &mut Job<'_>)
     if job.place < flows.len() {
         mem::swap(&mut flows[job.place], &mut job.flow);
     }
+}
+
+/// Keeps the flows that stood in for those of jobs, whose flows went back. The error is want of memory.
+pub fn keep_stand_ins(spare: &mut Vec<LiveFlow>, lanes: Vec<Lane<'_>>) -> Result<(), AllocError> {
+    for lane in lanes {
+        keep_each(spare, lane.jobs)?;
+    }
+    Ok(())
+}
+
+fn keep_each(spare: &mut Vec<LiveFlow>, jobs: Vec<Job<'_>>) -> Result<(), AllocError> {
+    for job in jobs {
+        spare.push(job.flow)?;
+    }
+    Ok(())
 }

@@ -348,6 +348,13 @@ impl LiveFlow {
         Ok(flow)
     }
 
+    /// The index has it under no four-tuple any more.
+    pub(crate) fn leave_index(&mut self)
+        ensures { self.new.indexed ≡ false }
+    {
+        self.indexed = false;
+    }
+
     /// Whether the index has it under its four-tuple.
     pub(crate) fn is_indexed(&self) -> bool
         ensures { result ≡ self.now.indexed }
