@@ -7,18 +7,18 @@ use Rattle.local_host.proofs.flows.Flows.sweep.Goals as goal
 
 pub mark_anew-requires : goal.mark_anew-requires
 mark_anew-requires c =
-    c.deref-4.ensures.value
+    c.deref-6.ensures.value
     ∙ (places_left c.self.inside.table.flows.items c.self.invariant.standing c.sweep_all.ensures
     (c.drop_filed.ensures ∙ ap (λ (ls : List Live). filter (passes_at is_standing ls)
-    c.self.inside.table.standing.items) c.deref-2.ensures.value)
-    ∙ ap standing_places (sym c.deref-3.ensures.value))
+    c.self.inside.table.standing.items) c.deref-4.ensures.value)
+    ∙ ap standing_places (sym c.deref-5.ensures.value))
 
 pub invariant_of-self : goal.invariant_of-self
 invariant_of-self c =
     known_swept c.self.invariant c.sweep_all.ensures
     (places_left c.self.inside.table.flows.items c.self.invariant.standing c.sweep_all.ensures
     (c.drop_filed.ensures ∙ ap (λ (ls : List Live). filter (passes_at is_standing ls)
-    c.self.inside.table.standing.items) c.deref-2.ensures.value))
+    c.self.inside.table.standing.items) c.deref-4.ensures.value))
     c.mark_anew.ensures.len
     (λ slot low. c.mark_anew.ensures.taken slot low
-    ∙ ap (list_any (is_in_slot slot)) c.deref-3.ensures.value)
+    ∙ ap (list_any (is_in_slot slot)) c.deref-5.ensures.value)
