@@ -1,5 +1,5 @@
 -- The log of a replay as the definitions of runs have it.
-use Rattle.std.specs.Prelude.{◌≡◌, ℕ, ◌≤◌, List, length, map, Err, ⊤}
+use Rattle.std.specs.Prelude.{◌≡◌, ℕ, ◌≤◌, List, length, count_by, map, Err, ⊤}
 use Rattle.tas_num.specs.Captures.{capture_of}
 use Rattle.pcap_frames.specs.Views.{fault_in}
 use Rattle.host_rounds.specs.Logs.{Flow, HostRun, RunLog}
@@ -8,7 +8,7 @@ use Rattle.tas_model.specs.LegalHistory.{Legal}
 use Rattle.tas_model.specs.Valid.{InRange}
 use Rattle.run_texts.specs.declared.frames.Frame.{Frame}
 use Rattle.run_texts.specs.Frames.{history_of, host_of, all_frames, AreShort, IsInOrder}
-use Rattle.tas_runs.specs.Records.{Item}
+use Rattle.tas_runs.specs.Records.{Item, is_damaged}
 use Rattle.tas_runs.specs.Batches.{batches_of}
 use Rattle.tas_runs.specs.LocalScript.{capture_scripts, due_in}
 use Rattle.tas_runs.specs.Replays.{at_start}
@@ -56,11 +56,15 @@ pub record Ended (local : ℕ) (items : List Item) (ending : Ending) : Type 0 wh
   pub played : ending.replay
       ≡ serial_ticks (capture_scripts items) 0 (at_start local) (map due_in (batches_of items))
   pub ticks : ending.ticks ≡ length (batches_of items)
+  pub met : ending.tally.items ≡ length items
+  pub refused : ending.tally.refused ≡ count_by is_damaged items
 
 -- the same after right ticks, in whatever order each of them went
 pub record EndedRight (local : ℕ) (items : List Item) (ending : Ending) : Type 0 where
   pub played : Rounds (capture_scripts items) 0 (map due_in (batches_of items)) (at_start local) ending.replay
   pub ticks : ending.ticks ≡ length (batches_of items)
+  pub met : ending.tally.items ≡ length items
+  pub refused : ending.tally.refused ≡ count_by is_damaged items
 
 -- the bytes are no capture, where it isn't want of memory
 abbrev pub Refuses : List ℕ → ReplayFault → Type 0

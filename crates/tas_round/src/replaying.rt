@@ -1,12 +1,10 @@
-ghost use Rattle.std.specs.Prelude.{◌≡◌, ℕ, ◌≤◌, ◌<◌, ◌^◌, ◌∷◌, take, drop, List, length, map, codes, Ok, IfOk, IfErr};
+ghost use Rattle.std.specs.Prelude.{◌≡◌, ℕ, ◌≤◌, ◌<◌, ◌^◌, List, length, count_by, codes, Ok, IfOk, IfErr};
 ghost use Rattle.tas_runs.specs.Records as model;
+ghost use Rattle.tas_runs.specs.Records.{is_damaged};
 ghost use Rattle.tas_runs.specs.Batches.{batches_of};
 ghost use Rattle.host_rounds.specs.Hosts.{run_of};
-ghost use Rattle.tas_runs.specs.LocalScript.{capture_scripts, due_in};
-ghost use Rattle.tas_runs.specs.Replays.{at_start, replay_log, Replay};
-ghost use Rattle.host_rounds.specs.SerialOrder.{serial_tick, serial_ticks};
+ghost use Rattle.tas_runs.specs.Replays.{replay_log, Replay};
 ghost use Rattle.tas_runs.specs.SerialOrder.{serial_replay};
-ghost use Rattle.capture_items.specs.Items.{item_in};
 ghost use Rattle.capture_items.specs.Found.{IsFound};
 ghost use Rattle.capture_items.specs.Numbers.{AreNumbersOf};
 ghost use Rattle.tas_round.specs.Runs.{host_in, log_in, AreCores, Ended, Refuses};
@@ -14,7 +12,7 @@ ghost use Rattle.tas_round.specs.declared.replaying.Mode.{Mode};
 
 use crate::logs::{FlowList, HostRun, HostRuns, RunLog};
 use crate::on_cores::replay_on_cores;
-use capture_items::{FirstNumbers, Found, InputFault, Item, find_items, next_batch};
+use capture_items::{BatchReader, FirstNumbers, Found, InputFault, ItemReader, Tally, find_items};
 use local_host::LocalReplay;
 use pcap_frames::PcapRefused;
 use std::alloc::{AllocError, Global};
@@ -52,11 +50,12 @@ impl From<AllocError> for ReplayFault {
     }
 }
 
-/// A replay after its last tick, and how many ticks there were.
+/// A replay after its last tick, and how many ticks and items there were.
 #[derive(Drop)]
 pub struct Ending {
     pub replay: LocalReplay,
     pub ticks: u32,
+    pub tally: Tally,
 }
 
 /// Replays a capture on the host with the address `local`, tick by tick. With `loose` no checksum of a frame is looked
@@ -97,11 +96,13 @@ pub fn replay_serially(
     ensures serial { IfOk result (λ log. serial_replay local capture.now loose ≡ Ok (log_in log)) }
     ensures refused { IfErr result (Refuses capture.now) }
 {
-    let found = find(alloc, local, capture, loose)?;
-    let _records = found.records;
-    let numbers = FirstNumbers::of_items(alloc, &found.items)?;
-    let ending = run_batches(alloc, local, &found.items, &numbers)?;
-    let log = log_of(alloc, &found, ending)?;
+    let Found {
+        items,
+        numbers,
+        records,
+    } = find(alloc, local, capture, loose)?;
+    let ending = run_batches(alloc, local, items, &numbers)?;
+    let log = log_of(alloc, records, ending)?;
     Ok(log)
 }
 
@@ -114,7 +115,7 @@ pub(crate) fn find<'a>(
 ) -> Result<Found<'a>, ReplayFault>
     requires small { length capture.now ≤ 67108864 }
     ensures found { IfOk result (IsFound capture.now local loose) }
-    ensures few { IfOk result (λ found. length found.items.items ≤ found.records) }
+    ensures few { IfOk result (λ found. length found.items ≤ found.records) }
     ensures refused { IfErr result (Refuses capture.now) }
 {
     match find_items(alloc, capture, local, loose) {
@@ -124,64 +125,53 @@ pub(crate) fn find<'a>(
     }
 }
 
-/// The replay after all batches of these items.
+/// The replay after all batches of these items, each of which is read where it stands when its tick comes.
 fn run_batches(
     alloc: Global,
     local: u32,
-    items: &[Item<'_>],
+    items: ItemReader<'_>,
     numbers: &FirstNumbers,
 ) -> Result<Ending, AllocError>
-    requires numbers { AreNumbersOf (map item_in items.now) numbers.now }
-    requires few { length items.now < 2 ^ 32 }
-    ensures { IfOk result (Ended local (map item_in items.now)) }
+    requires numbers { AreNumbersOf items numbers.now }
+    requires few { length items < 2 ^ 32 }
+    ensures ended { IfOk result (Ended local items.entry) }
+    ensures few { IfOk result (λ ending. ending.tally.refused ≤ ending.tally.items) }
 {
+    let mut left = BatchReader::of(items);
     let mut replay = LocalReplay::at_start(alloc, local);
-    let mut at = 0;
-    let mut tick = 0;
-    while at < items.len() {
-        at += play_batch(&mut replay, tick, &items[at..], numbers)?;
-        tick += 1;
+    let mut batch = Vec::new(alloc);
+    let mut tally = Tally::new();
+    let mut ticks = 0;
+    loop {
+        left.next_batch(&mut batch)?;
+        if batch.is_empty() {
+            return Ok(Ending {
+                replay,
+                ticks,
+                tally,
+            });
+        }
+        replay.play(ticks, &batch, numbers)?;
+        tally = tally.with(&batch);
+        ticks += 1;
     }
-    Ok(Ending {
-        replay,
-        ticks: tick,
-    })
 }
 
-/// Plays the first batch of these items as one tick, and answers how many items it has. The error is want of memory.
-fn play_batch(
-    replay: &mut LocalReplay,
-    tick: u32,
-    rest: &[Item<'_>],
-    numbers: &FirstNumbers,
-) -> Result<usize, AllocError>
-    requires { 0 < length rest.now }
-    ensures batch { IfOk result (λ n. batches_of (map item_in rest.now) ≡ take n (map item_in rest.now)
-        ∷ batches_of (drop n (map item_in rest.now))) }
-    ensures played { (items : List model.Item) → AreNumbersOf items numbers.now
-        → IfOk result (λ n. replay.new
-        ≡ serial_tick (capture_scripts items) tick replay.old (due_in (map item_in (take n rest.now)))) }
-    ensures some { IfOk result (λ n. 0 < n) }
-    ensures inside { IfOk result (λ n. n ≤ length rest.now) }
+/// The log of a replay with this ending, of a capture of so many records. The error is want of memory.
+pub(crate) fn log_of(alloc: Global, records: u32, ending: Ending) -> Result<RunLog, AllocError>
+    requires items { ending.tally.items ≤ records }
+    requires refused { ending.tally.refused ≤ ending.tally.items }
+    ensures { (local : ℕ) (items : List model.Item) → ending.ticks ≡ length (batches_of items)
+        → ending.tally.items ≡ length items → ending.tally.refused ≡ count_by is_damaged items
+        → IfOk result (λ log. log_in log ≡ replay_log local records items ending.replay.host) }
 {
-    let count = next_batch(rest);
-    replay.play(tick, &rest[..count], numbers)?;
-    Ok(count)
-}
-
-/// The log of a replay with this ending. The error is want of memory.
-pub(crate) fn log_of(alloc: Global, found: &Found<'_>, ending: Ending) -> Result<RunLog, AllocError>
-    requires few { length found.now.items.items ≤ found.now.records }
-    ensures { (local : ℕ) → ending.ticks ≡ length (batches_of (map item_in found.now.items.items))
-        → IfOk result (λ log. log_in log ≡ replay_log local found.now.records (map item_in found.now.items.items)
-        ending.replay.host) }
-{
-    let counts = found.counts();
+    let counts = ending.tally.counts(records);
+    let ticks = ending.ticks;
     let host = host_run(alloc, ending.replay)?;
     Ok(RunLog {
         replay: true,
         hosts: HostRuns::of(vec![in alloc; host]?),
-        ticks: ending.ticks,
+        ticks,
         stalled: false,
         records: counts.records,
         frames: counts.frames,

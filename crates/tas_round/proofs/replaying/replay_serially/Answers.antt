@@ -1,26 +1,30 @@
-use Rattle.std.proofs.Common.{rules, ◌≡◌, Ok, sym, ap, ◌∙◌, map}
+use Rattle.std.proofs.Common.{rules, ◌≡◌, Ok, sym, ap, ◌∙◌, arith}
 use Rattle.host_rounds.specs.Logs.{RunLog}
 use Rattle.tas_runs.specs.Replays.{Replay, replay_log}
 use Rattle.tas_runs.specs.SerialOrder.{serial_log, serial_replay}
 use Rattle.tas_runs.proofs.SerialRun.{serial_is_replay}
-use Rattle.capture_items.specs.Items.{item_in}
 use Rattle.capture_items.proofs.Replays.{found_is_replayed}
 use Rattle.tas_round.specs.Runs.{log_in, Ended}
 use Rattle.tas_round.proofs.Playing.{ok_gives}
 use Rattle.tas_round.proofs.replaying.replay_serially.Goals as goal
-use Rattle.tas_round.proofs.replaying.replay_serially.Goals.{After-drop-found-2}
+use Rattle.tas_round.proofs.replaying.replay_serially.Goals.{After-drop-numbers}
 
-serial : (c : After-drop-found-2)
+serial : (c : After-drop-numbers)
     → serial_replay c.args.local c.args.capture.now c.args.loose ≡ Ok (log_in c.in_ok-log.log)
 serial c =
-    let found = c.in_ok-found.found in
-    let items = map item_in found.items.items in
-    let ended : Ended c.args.local items c.in_ok-ending.ending = search rules in
-    let same : log_in c.in_ok-log.log ≡ serial_log c.args.local found.records items =
-    c.in_ok-log.ensures c.args.local ended.ticks
-    ∙ ap (λ site. replay_log c.args.local found.records items site.host) ended.played in
-    found_is_replayed c.args.capture.now c.args.local c.args.loose found c.in_ok-found.ensures.found
+    let found = c.in_ok-items.field-0 in
+    let ended : Ended c.args.local found.items c.in_ok-ending.ending = c.in_ok-ending.ensures.ended in
+    let same : log_in c.in_ok-log.log ≡ serial_log c.args.local found.records found.items =
+    c.in_ok-log.ensures c.args.local found.items ended.ticks ended.met ended.refused
+    ∙ ap (λ site. replay_log c.args.local found.records found.items site.host) ended.played in
+    found_is_replayed c.args.capture.now c.args.local c.args.loose found c.in_ok-items.ensures.found
     ∙ ap (λ (log : RunLog). Ok log) (sym same)
+
+pub log_of-requires : goal.log_of-requires
+log_of-requires c = record {
+  items = omega (arith, c.in_ok-ending.ensures.ended.met, c.in_ok-items.ensures.few);
+  refused = c.in_ok-ending.ensures.few;
+}
 
 pub returns-clause-serial : goal.returns-clause-serial
 returns-clause-serial c = serial c

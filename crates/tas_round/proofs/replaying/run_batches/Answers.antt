@@ -1,29 +1,58 @@
-use Rattle.std.proofs.Common.{◌≡◌, map, drop, arith, []}
-use Rattle.tas_round.proofs.Playing.{next_played, next_counted, no_more, no_more_ticks, none_left, still_inside}
+use Rattle.std.proofs.Common.{rules, ◌≡◌, ◌+◌, ◌<◌, ◌∙◌, [], map, length, count_by, ap, subst, arith}
+use Rattle.std.proofs.lemmas.List.{length-map}
+use Rattle.tas_runs.specs.Records.{is_damaged}
 use Rattle.capture_items.specs.Items.{item_in}
+use Rattle.tas_round.proofs.Playing.{tick, next_played, next_counted, no_more, no_more_ticks, items_left, batch_within}
+use Rattle.tas_round.proofs.Playing.{counted_left, all_counted, none_left, some_left}
 use Rattle.tas_round.proofs.replaying.run_batches.Goals as goal
 
-pub loop-at-preserved : goal.loop-at-preserved
-loop-at-preserved c =
-    let xs = c.args.items.now in
-    let n = c.in_ok-at.field-0 in
-    let at = c.loop-at.at in
-    let batch = c.in_ok-at.ensures.batch in
-    let made = c.in_ok-at.ensures.played (map item_in xs) c.requires.numbers in
+pub with-requires : goal.with-requires
+with-requires c =
+    let batch = c.next_batch.new.batch.items in
+    let within = batch_within item_in c.loop-batch.left c.next_batch.new.self batch c.loop-batch.tally.items _
+    c.in_ok-next_batch.ensures.front c.loop-batch.invariant.items in
     record {
-      played = next_played item_in (map item_in xs) xs at n c.loop-at.tick c.loop-at.replay _ _ batch made
-          c.loop-at.invariant.played;
-      ticks = next_counted item_in xs at n c.loop-at.tick _ batch c.loop-at.invariant.ticks;
-      inside = still_inside xs at n c.loop-at.invariant.inside c.in_ok-at.ensures.inside;
-      few = omega (arith, c.in_ok-at.ensures.some, c.loop-at.invariant.few);
+      items = omega (arith, ap length c.deref-2.ensures.value, within, c.requires.few);
+      refused = c.loop-batch.invariant.within;
     }
 
-pub returns : goal.returns
-returns c =
-    let xs = c.args.items.now in
-    let none : drop c.loop-at.at xs ≡ [] = none_left c.loop-at.at xs c.loop-at-test.false in
+pub loop-batch-preserved : goal.loop-batch-preserved
+loop-batch-preserved c =
+    let all = c.args.items in
+    let xs = c.loop-batch.left in
+    let rest = c.next_batch.new.self in
+    let batch = c.next_batch.new.batch.items in
+    let front = c.in_ok-next_batch.ensures.front in
+    let nonempty : 0 < length batch = search rules in
+    let first = c.in_ok-next_batch.ensures.first (some_left item_in xs rest batch front nonempty) in
+    let made : c.play.new.self ≡ tick all c.loop-batch.ticks c.loop-batch.replay (map item_in batch) =
+    subst (λ b. c.play.new.self ≡ tick all c.loop-batch.ticks c.loop-batch.replay (map item_in b)) c.deref.ensures.value
+    (c.in_ok-play.ensures all c.requires.numbers) in
+    let n = c.loop-batch.tally.items in
+    let more : c.with.result.items ≡ n + length (map item_in batch) = c.with.ensures.items
+    ∙ ap (λ b. n + length (map item_in b)) c.deref-2.ensures.value in
+    let r = c.loop-batch.tally.refused in
+    let refused : c.with.result.refused ≡ r + count_by is_damaged (map item_in batch) = c.with.ensures.refused
+    ∙ ap (λ b. r + count_by is_damaged (map item_in b)) c.deref-2.ensures.value in
     record {
-      played = no_more item_in (map item_in xs) (drop c.loop-at.at xs) c.loop-at.tick c.loop-at.replay _ none
-          c.loop-at.invariant.played;
-      ticks = no_more_ticks item_in (drop c.loop-at.at xs) c.loop-at.tick _ none c.loop-at.invariant.ticks;
+      played = next_played all xs (map item_in batch) rest c.loop-batch.ticks c.loop-batch.replay c.play.new.self _ first
+          made c.loop-batch.invariant.played;
+      ticks = next_counted xs (map item_in batch) rest c.loop-batch.ticks _ first c.loop-batch.invariant.ticks;
+      items = items_left xs (map item_in batch) rest n c.with.result.items _ front more c.loop-batch.invariant.items;
+      refused = counted_left is_damaged xs (map item_in batch) rest r c.with.result.refused _ front refused
+          c.loop-batch.invariant.refused;
+      within = c.with.ensures.few;
+      few = omega (arith, c.loop-batch.invariant.few, more, length-map batch item_in, nonempty);
+    }
+
+pub returns-then-is_empty-clause-ended : goal.returns-then-is_empty-clause-ended
+returns-then-is_empty-clause-ended c =
+    let xs = c.loop-batch.left in
+    let empty : length c.next_batch.new.batch.items ≡ 0 = search rules in
+    let none : xs ≡ [] = none_left xs c.next_batch.new.batch.items c.in_ok-next_batch.ensures.some empty in
+    record {
+      played = no_more c.args.items xs c.loop-batch.ticks c.loop-batch.replay _ none c.loop-batch.invariant.played;
+      ticks = no_more_ticks xs c.loop-batch.ticks _ none c.loop-batch.invariant.ticks;
+      met = omega (arith, ap length none, c.loop-batch.invariant.items);
+      refused = all_counted is_damaged xs c.loop-batch.tally.refused _ none c.loop-batch.invariant.refused;
     }

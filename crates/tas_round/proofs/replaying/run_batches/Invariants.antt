@@ -1,18 +1,19 @@
-use Rattle.std.proofs.Common.{◌≡◌, ◌+◌, ◌-◌, ◌≤◌, length, map, drop}
+use Rattle.std.proofs.Common.{◌≡◌, ◌+◌, ◌≤◌, length, count_by}
+use Rattle.tas_runs.specs.Records.{is_damaged}
 use Rattle.tas_runs.specs.Batches.{batches_of}
 use Rattle.tas_runs.specs.Replays.{at_start}
 use Rattle.tas_round.proofs.Playing.{ticks}
-use Rattle.capture_items.specs.Items.{item_in}
 use Rattle.tas_round.proofs.replaying.run_batches.Given as goal
 
-abbrev pub invariant-loop-at : goal.invariant-loop-at
-invariant-loop-at l = record {
-  played : ticks (map item_in l.items) l.tick l.replay (map item_in (drop l.at l.items))
-      ≡ ticks (map item_in l.items) 0 (at_start l.local) (map item_in l.items);
-  ticks : l.tick + length (batches_of (map item_in (drop l.at l.items))) ≡ length (batches_of (map item_in l.items));
-  inside : l.at ≤ length l.items;
-  few : l.tick ≤ l.at;
+abbrev pub invariant-loop-batch : goal.invariant-loop-batch
+invariant-loop-batch l = record {
+  played : ticks l.fn.items l.ticks l.replay l.left ≡ ticks l.fn.items 0 (at_start l.local) l.fn.items;
+  ticks : l.ticks + length (batches_of l.left) ≡ length (batches_of l.fn.items);
+  items : l.tally.items + length l.left ≡ length l.fn.items;
+  refused : l.tally.refused + count_by is_damaged l.left ≡ count_by is_damaged l.fn.items;
+  within : l.tally.refused ≤ l.tally.items;
+  few : l.ticks ≤ l.tally.items;
 }
 
-abbrev pub decreases-loop-at : goal.decreases-loop-at
-decreases-loop-at l = length l.items - l.at
+abbrev pub decreases-loop-batch : goal.decreases-loop-batch
+decreases-loop-batch l = length l.left
