@@ -1,6 +1,6 @@
 -- Kicks that are posted one after the other.
-use Rattle.std.proofs.Common.{◌≡◌, ap, sym, ◌∙◌, refl, subst, ℕ, zero, suc, ◌+◌, ◌<◌, ◌≤◌, List, [], ◌∷◌, ◌++◌, set, get_or}
-use Rattle.std.proofs.Common.{append_assoc, append-nil, length, inl, inr, arith, Bool}
+use Rattle.std.proofs.Common.{◌≡◌, ap, sym, ◌∙◌, refl, subst, ℕ, zero, suc, ◌+◌, ◌<◌, ◌≤◌, List, [], ◌∷◌, ◌++◌}
+use Rattle.std.proofs.Common.{append_assoc, append-nil, length, set, get_or, inl, inr, arith, Bool}
 use Rattle.std.specs.Prelude.{Result, Ok, Err, OnOk, OnErr, Option, Some, None, slice_get}
 use Rattle.std.proofs.lemmas.List.{length-append}
 use Rattle.std.proofs.lemmas.Option.{slice_get_read}
@@ -51,8 +51,8 @@ same_line n s t (Err e) posted same = ap (λ (y : Sender). y.line) same
 
 -- ----- a loop that posts kicks
 -- one kick more
-kicked_more : (c : Common) (ks : List Kick) (k : Kick) (x y z : Kicking) (kept one : List Kick) → AreKicked c ks x y kept
-    → IsKicked c k y z one → AreKicked c (ks ++ k ∷ []) x z (kept ++ one)
+kicked_more : (c : Common) (ks : List Kick) (k : Kick) (x y z : Kicking) (kept one : List Kick)
+    → AreKicked c ks x y kept → IsKicked c k y z one → AreKicked c (ks ++ k ∷ []) x z (kept ++ one)
 kicked_more c [] k x y z kept one (e, none) d = (
   z,
   one,

@@ -22,8 +22,8 @@ first_left c tick u v n f rest is first unserved still same =
     subst (λ (w : Worker). IsFirstLeft c tick w n) is
     (record { stopped = inr (f, rest, first, unserved); still = still; same = same })
 
-pub first_served : (c : Common) (tick : ℕ) (u v n : Worker) (f : PassedFrame) (rest : List PassedFrame) (a : Served) → u ≡ v
-    → waiting u ≡ f ∷ rest → IsOneServed (setting_of c tick u) f (sight_of u) (sight_of n) a
+pub first_served : (c : Common) (tick : ℕ) (u v n : Worker) (f : PassedFrame) (rest : List PassedFrame) (a : Served)
+    → u ≡ v → waiting u ≡ f ∷ rest → IsOneServed (setting_of c tick u) f (sight_of u) (sight_of n) a
     → waiting n ≡ rest ++ kept_of f a → length n.exceptions.list ≡ length u.exceptions.list - 1 → IsSame u n
     → IsFirstServed c tick v n
 first_served c tick u v n f rest a is first served after fewer same =

@@ -1,6 +1,6 @@
 -- The flows that are known after the time of a tick.
-use Rattle.std.proofs.Common.{◌≡◌, ap, sym, ◌∙◌, refl, subst, ℕ, zero, suc, Bool, true, false, List, [], ◌∷◌, cond, eqb, length, arith}
-use Rattle.std.proofs.Common.{◌+◌, ◌≤◌}
+use Rattle.std.proofs.Common.{◌≡◌, ap, sym, ◌∙◌, refl, subst, ℕ, zero, suc, Bool, true, false, List, [], ◌∷◌, cond, eqb}
+use Rattle.std.proofs.Common.{◌+◌, ◌≤◌, length, arith}
 use Rattle.std.specs.Prelude.{Option, Some, None, slice_get, position, ◌&&◌}
 use Rattle.std.proofs.lemmas.Bool.{eqb-true}
 use Rattle.tas_model.specs.declared.entry.FlowId.{FlowId}

@@ -106,7 +106,7 @@ abbrev pub IsWorkStopped : (later : Bool) → Common → (tick : ℕ) → Worker
 IsWorkStopped false c tick v w = IsTimeStopped tick v w
 IsWorkStopped true c tick v w = IsPartServed c tick v w
 
--- Then the kicks were posted: those that were kept before, and those of the flows that were left with something to send.
+-- Then the kicks were posted: those that were kept before, and those of flows that were left with something to send.
 abbrev pub IsTurn : (later : Bool) → Common → (tick : ℕ) → Worker → Worker → Type 0
 IsTurn later c tick v w = (m : Worker) × IsWork later c tick v m × AreKicksPosted c m w
 

@@ -108,9 +108,9 @@ fn offer(
 }
 
 impl SlowWorker {
-    /// A flow receives a segment, by one entry of its history. Then its application is told what that brought, and it is
-    /// kicked where it has something to send. Where another pass holds its record, nothing is done. The error is want of
-    /// memory.
+    /// A flow receives a segment, by one entry of its history. Then its application is told what that brought, and it
+    /// is kicked where it has something to send. Where another pass holds its record, nothing is done. The error is
+    /// want of memory.
     pub(crate) fn enter<R: Wait>(
         &mut self,
         rt: &R,

@@ -43,7 +43,10 @@ returns-clause-posted g c =
     let cores = ap (λ (k : Common). k.steering.cores) c.shared.view_is in
     let s : Sender = c.index_mut.result.now in
     subst (λ (x : Kicking). OnOk c.post.result (IsKicked c.args.shared.now c.args.kick x
-    (record { steer = c.core_of-core.new.p; senders = set c.self.inside.senders.items c.core_of-core.result c.post.new.s })
+    (record {
+      steer = c.core_of-core.new.p;
+      senders = set c.self.inside.senders.items c.core_of-core.result c.post.new.s;
+    })
     [])) c.self.view_is
     (kicked_ok c.args.shared.now c.args.kick (the_view c.self.inside) c.core_of-core.new.p c.core_of-core.result
     c.kicks-queue.result.now c.index_mut.result.now c.post.new.s c.group.result c.post.result
@@ -59,7 +62,10 @@ returns-clause-kept g c =
     let can = subst (λ (k : Kicking). CanKick c.args.shared.now k) (sym c.self.view_is) c.requires.can in
     let cores = ap (λ (k : Common). k.steering.cores) c.shared.view_is in
     subst (λ (x : Kicking). OnErr c.post.result (IsKicked c.args.shared.now c.args.kick x
-    (record { steer = c.core_of-core.new.p; senders = set c.self.inside.senders.items c.core_of-core.result c.post.new.s })
+    (record {
+      steer = c.core_of-core.new.p;
+      senders = set c.self.inside.senders.items c.core_of-core.result c.post.new.s;
+    })
     (c.args.kick ∷ []))) c.self.view_is
     (kept_err c.args.shared.now c.args.kick (the_view c.self.inside) c.core_of-core.new.p c.core_of-core.result
     c.kicks-queue.result.now c.index_mut.result.now c.post.new.s c.group.result c.post.result

@@ -41,7 +41,8 @@ returns-in_err-offered-clause-unentered g c =
     err_of _ (subst (λ (y : Worker). IsUnentered c.args.id (sight_of y)
     (record s { path = path; pass = pass; kicks = c.reserve.new.self.list })) c.self.view_is
     (unentered_so c.args.id p s pass path c.reserve.new.self.list named c.offer.ensures.table
-    c.in_err-offered.ensures.refused c.in_err-offered.ensures.untold c.reserve.ensures.list)) c.from_residual-in_err-offered.result
+    c.in_err-offered.ensures.refused c.in_err-offered.ensures.untold c.reserve.ensures.list))
+    c.from_residual-in_err-offered.result
 
 pub returns-in-Busy-clause-kept : goal.returns-in-Busy-clause-kept
 returns-in-Busy-clause-kept g c =

@@ -41,8 +41,8 @@ returns-in-Ok-clause-served g c =
     let fewer : length n.exceptions.list ≡ length u.exceptions.list - 1 =
     let long = ap length c.in-Some.ensures.first in
     let left = ap length exceptions in omega (arith, long, left) in
-    first_served c.args.shared.now c.args.tick u c.args.self.now n f (c.take_first.new.self.list ++ u.deferred.list) c.in-Ok.served
-    c.self.view_is first
+    first_served c.args.shared.now c.args.tick u c.args.self.now n f (c.take_first.new.self.list ++ u.deferred.list)
+    c.in-Ok.served c.self.view_is first
     (subst (λ (s : Sight). IsOneServed (setting_of c.args.shared.now c.args.tick u) f (sight_of u) s c.in-Ok.served)
     (ap sight_of (sym last)) c.in-Ok.ensures.served)
     (joined _ _ _ _ exceptions deferred ∙ sym (append_assoc c.take_first.new.self.list u.deferred.list _)) fewer

@@ -5,7 +5,9 @@ use Rattle.slow_worker.proofs.worker.SlowWorker.turn.Goals as goal
 
 pub post_kicks-requires : goal.post_kicks-requires
 post_kicks-requires g c =
-    record { can = subst (λ (k : Kicking). CanKick c.args.shared.now k) (sym c.work-done.ensures.kickers) c.requires.kickers }
+    let same = sym c.work-done.ensures.kickers in
+    let can = subst (λ (k : Kicking). CanKick c.args.shared.now k) same c.requires.kickers in
+    record { can = can }
 
 pub returns-clause-turned : goal.returns-clause-turned
 returns-clause-turned g c =
