@@ -7,4 +7,5 @@ pub mod Workers
 pub mod Handing
 pub mod Handling
 pub mod Sending
+pub mod Kicks
 pub mod Turns

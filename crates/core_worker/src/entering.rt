@@ -75,7 +75,7 @@ pub(crate) fn enter_for_news(
 }
 
 /// How far a flow is.
-fn progress_of(flow: &FlowRecord) -> Progress
+pub fn progress_of(flow: &FlowRecord) -> Progress
     ensures { result ≡ model_progress (replay flow.now.params flow.now.entries) }
 {
     Progress::of(flow.parts())

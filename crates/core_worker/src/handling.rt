@@ -96,7 +96,7 @@ fn named_flow<R: Wait>(
     let Found::Flow(id) = reader.find(rt, tuple) else {
         return None;
     };
-    if id.slot < shared.slots() {
+    if id.slot < shared.table.slots() {
         Some(id)
     } else {
         None

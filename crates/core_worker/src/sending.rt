@@ -72,7 +72,7 @@ fn send_all(flow: &mut FlowRecord, core: u32, tick: u32) -> Result<(), AllocErro
 }
 
 /// Whether a segment may go.
-fn may_send(flow: &FlowRecord) -> bool
+pub(crate) fn may_send(flow: &FlowRecord) -> bool
     ensures going { result ≡ may_go (history flow.now) }
     ensures piece { result ≡ true → IsSome (next_piece flow.now.parts) }
     ensures legal { Legal flow.now.params flow.now.entries }

@@ -23,13 +23,11 @@ pub struct Shared {
     pub table: FlowTable<FlowRecord>,
     /// The cores of the groups of flows.
     pub steering: Steering,
-    slots: u32,
     kicks: Vec<ContextQueue>,
     queues: Vec<AppQueue>,
 }
 
 impl Model for Shared {
-    ghost use Rattle.std.specs.Prelude.{◌≡◌};
     ghost use Rattle.core_worker.specs.Workers.{Common};
 
     ghost Value = { Common };
@@ -40,27 +38,22 @@ impl Model for Shared {
       kicks = s.kicks.items;
       queues = s.queues.items;
     } };
-
-    ghost invariant = { λ s. s.slots ≡ s.table.slots };
 }
 
 impl Shared {
-    /// What the workers share: a table of so many slots, the steering, and for each core its queue of kicks. No
-    /// application has a queue yet.
+    /// What the workers share: the table, the steering, and for each core its queue of kicks. No application has a
+    /// queue yet.
     pub fn new(
         alloc: Global,
         table: FlowTable<FlowRecord>,
-        slots: u32,
         steering: Steering,
         kicks: Vec<ContextQueue>,
     ) -> Shared
-        requires { slots ≡ table.slots }
         ensures { result ≡ record { table = table; steering = steering; kicks = kicks.items; queues = [] } }
     {
         Shared {
             table,
             steering,
-            slots,
             kicks,
             queues: Vec::new(alloc),
         }
@@ -93,13 +86,6 @@ impl Shared {
         ensures { result ≡ position (is_queue_of app) self.now.queues }
     {
         self.queues.iter().position(|queue| queue.app == app)
-    }
-
-    /// The table's number of slots.
-    pub(crate) fn slots(&self) -> u32
-        ensures { result ≡ self.now.table.slots }
-    {
-        self.slots
     }
 
     /// A core's queue of kicks.

@@ -10,6 +10,7 @@ ghost use Rattle.core_worker.specs.Turns.{IsTurnStopped};
 
 use crate::frames::{Frame, Handled, Passed, PassedFrame};
 use crate::handling::{Duty, handle};
+use crate::kicks::KICK;
 use crate::lists::PassedList;
 use crate::sending::send;
 use crate::shared::Shared;
@@ -19,9 +20,6 @@ use std::alloc::AllocError;
 use std::sync::Wait;
 use tas_model::FlowId;
 use tas_num::Gate;
-
-/// The kind of a note that wants a flow to be looked at.
-const KICK: u8 = 4;
 
 impl CoreWorker {
     /// Handles all frames that were handed to the worker, in their order, and then all its kicks, by sending what may
@@ -170,7 +168,7 @@ impl CoreWorker {
             self.old.pass.view self.new.pass.view) }
         ensures rest { self.new ≡ with_pass self.new.pass self.old }
     {
-        if note.kind != KICK || note.slot >= shared.slots() {
+        if note.kind != KICK || note.slot >= shared.table.slots() {
             return Ok(());
         }
         let flow = FlowId {

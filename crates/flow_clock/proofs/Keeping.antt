@@ -1,7 +1,7 @@
 -- What the slow path may still do after each step, and that it has the pins of its lists still.
 use mathlib.Core.Option as O
 use Rattle.std.proofs.Common.{Bool, refl, true≢false, ◌≡◌, ◌≢◌, ℕ, zero, suc, true, List, [], ◌∷◌, ◌++◌, ap, sym, ◌∙◌}
-use Rattle.std.proofs.Common.{◌==◌, cond, ◌+◌, ◌<◌, ◌≤◌, false, arith, inl, inr, ⊎_elim, subst}
+use Rattle.std.proofs.Common.{◌==◌, cond, ◌+◌, ◌<◌, ◌≤◌, false, arith, inl, inr, ⊎_elim, subst, length, length-set}
 use Rattle.std.specs.Prelude.{Some, slice_get, remove}
 use lib.ListN.{get_elem?}
 use mathlib.Core.Logic.{dite}
@@ -44,8 +44,9 @@ all_still : (v w : View) → ((p : ℕ) → named p w ≡ named p v) → w.made 
 all_still v w names m has p = names p ∙ (has p ∙ ap (once_below p) (sym m))
 
 still_rights : (v w : View) (ds : List Deed) (won lost : List FlowId) → w.turns ≡ noted ds won lost v.turns
-    → w.baton ≡ v.baton → w.made ≡ v.made → w.parts ≡ v.parts → (v.held ≡ [] → w.held ≡ []) → KeepsRights v w
-still_rights v w ds won lost t b m p idle = record {
+    → w.baton ≡ v.baton → w.made ≡ v.made → w.parts ≡ v.parts → (v.held ≡ [] → w.held ≡ []) → w.opened ≡ v.opened
+    → length w.marks ≡ length v.marks → KeepsRights v w
+still_rights v w ds won lost t b m p idle o l = record {
   alone = λ is. (b ∙ is.0, t ∙ ap (noted ds won lost) is.1, m ∙ is.2);
   turned = still_turn v w ds won lost t;
   all = all_still v w
@@ -53,21 +54,34 @@ still_rights v w ds won lost t b m p idle = record {
   idle = idle;
   baton = b;
   parts = p;
+  opened = o;
+  slots = l;
 }
 
 same_rights : (v w : View) → w.turns ≡ v.turns → w.baton ≡ v.baton → w.made ≡ v.made → w.parts ≡ v.parts
-    → w.held ≡ v.held → KeepsRights v w
-same_rights v w t b m p h = record {
+    → w.held ≡ v.held → w.opened ≡ v.opened → length w.marks ≡ length v.marks → KeepsRights v w
+same_rights v w t b m p h o l = record {
   alone = λ is. (b ∙ is.0, t ∙ is.1, m ∙ is.2);
   turned = same_turn v w t;
   all = all_still v w (λ p. ap (total (λ (x : Turn). cond {A = ℕ} (x.name == p) 1 0)) t) m;
   idle = λ is. h ∙ is;
   baton = b;
   parts = p;
+  opened = o;
+  slots = l;
 }
 
 pub no_step : (v : View) → KeepsRights v v
-no_step v = record { alone = λ is. is; turned = λ is. is; all = λ is. is; idle = λ is. is; baton = refl; parts = refl }
+no_step v = record {
+  alone = λ is. is;
+  turned = λ is. is;
+  all = λ is. is;
+  idle = λ is. is;
+  baton = refl;
+  parts = refl;
+  opened = refl;
+  slots = refl;
+}
 
 pub two_steps : (v u w : View) → KeepsRights v u → KeepsRights u w → KeepsRights v w
 two_steps v u w a b = record {
@@ -77,27 +91,33 @@ two_steps v u w a b = record {
   idle = λ is. b.idle (a.idle is);
   baton = b.baton ∙ a.baton;
   parts = b.parts ∙ a.parts;
+  opened = b.opened ∙ a.opened;
+  slots = b.slots ∙ a.slots;
 }
 
 pub after_use : (f : FlowId) (r : Flow) (h : History) (v w : View) → IsUse f r h v w → KeepsRights v w
 after_use f r h v w u = still_rights v w _ [] [] (ap (λ (x : View). x.turns) u.3) (ap (λ (x : View). x.baton) u.3)
     (ap (λ (x : View). x.made) u.3) (ap (λ (x : View). x.parts) u.3) (λ e. ap (λ (x : View). x.held) u.3)
+    (ap (λ (x : View). x.opened) u.3) (ap (λ (x : View). length x.marks) u.3)
 
 pub after_refusal : (f : FlowId) (e : CallFault) (v w : View) → IsCallRefused f v w e → KeepsRights v w
 after_refusal f (faults.Busy x) v w r = same_rights v w (ap (λ (y : View). y.turns) r.0.1)
     (ap (λ (y : View). y.baton) r.0.1) (ap (λ (y : View). y.made) r.0.1) (ap (λ (y : View). y.parts) r.0.1)
-    (ap (λ (y : View). y.held) r.0.1)
+    (ap (λ (y : View). y.held) r.0.1) (ap (λ (y : View). y.opened) r.0.1) (ap (λ (y : View). length y.marks) r.0.1)
 after_refusal f faults.OutOfMemory v w r = after_use f r.0 _ v w r.2
 
 pub after_sweep : (f : FlowId) (v w : View) (a : Swept) → IsSweep f v w a → KeepsRights v w
 after_sweep f v w Freed s = still_rights v w [] [] (f ∷ []) (ap (λ (x : View). x.turns) s.1)
     (ap (λ (x : View). x.baton) s.1) (ap (λ (x : View). x.made) s.1) (ap (λ (x : View). x.parts) s.1)
-    (λ e. ap (λ (x : View). x.held) s.1 ∙ e)
+    (λ e. ap (λ (x : View). x.held) s.1 ∙ e) (ap (λ (x : View). x.opened) s.1)
+    (ap (λ (x : View). length x.marks) s.1 ∙ (length-set _ f.slot _ ∙ length-set v.marks f.slot _))
 after_sweep f v w (Pinned n pin) s = ⊎_elim
     (λ e. same_rights v w (ap (λ (x : View). x.turns) e) (ap (λ (x : View). x.baton) e) (ap (λ (x : View). x.made) e)
-    (ap (λ (x : View). x.parts) e) (ap (λ (x : View). x.held) e))
+    (ap (λ (x : View). x.parts) e) (ap (λ (x : View). x.held) e) (ap (λ (x : View). x.opened) e)
+    (ap (λ (x : View). length x.marks) e ∙ length-set v.marks f.slot _))
     (λ y. same_rights v w (ap (λ (x : View). x.turns) y.1) (ap (λ (x : View). x.baton) y.1)
-    (ap (λ (x : View). x.made) y.1) (ap (λ (x : View). x.parts) y.1) (ap (λ (x : View). x.held) y.1))
+    (ap (λ (x : View). x.made) y.1) (ap (λ (x : View). x.parts) y.1) (ap (λ (x : View). x.held) y.1)
+    (ap (λ (x : View). x.opened) y.1) (ap (λ (x : View). length x.marks) y.1 ∙ length-set v.marks f.slot _))
     s.3
 
 may_still : (v w : View) → KeepsRights v w → MayAct v → MayAct w

@@ -1,5 +1,5 @@
 -- What the slow path has of the flows of its host.
-use Rattle.std.specs.Prelude.{◌≡◌, ℕ, ◌+◌, ◌<◌, ◌≤◌, List, []}
+use Rattle.std.specs.Prelude.{◌≡◌, ℕ, ◌+◌, ◌<◌, ◌≤◌, List, [], length}
 use Rattle.tas_model.specs.declared.entry.FlowId.{FlowId}
 use Rattle.flow_state.specs.Flow.{Flow}
 use Rattle.flow_index.specs.declared.change.Change.{Change}
@@ -28,7 +28,8 @@ abbrev pub IsReady : TableId → Seen → Type 0
 IsReady table s = (s.table ≡ table) × MayAct s.view × (s.view.held ≡ [])
 
 -- A view may do what another may: it is alone, has a turn, has all turns and holds nothing where that one is, has and
--- does so; and it has the baton, and stands for as many passes, as that one.
+-- does so; and it has the baton, stands for as many passes, has opened as many flows and has as many slots as that
+-- one.
 pub record KeepsRights (v w : View) : Type 0 where
   pub alone : IsAlone v → IsAlone w
   pub turned : HasTurn v → HasTurn w
@@ -36,6 +37,8 @@ pub record KeepsRights (v w : View) : Type 0 where
   pub idle : v.held ≡ [] → w.held ≡ []
   pub baton : w.baton ≡ v.baton
   pub parts : w.parts ≡ v.parts
+  pub opened : w.opened ≡ v.opened
+  pub slots : length w.marks ≡ length v.marks
 
 -- it has a pin of the flow, whose slot is live
 abbrev pub IsKept : (slots : ℕ) → Seen → FlowId → Type 0

@@ -1,8 +1,8 @@
 -- One core more: what holds of the cores that were added holds with it too. For `add_core`.
 use Rattle.std.proofs.Common.{◌≡◌, ℕ, suc, ◌+◌, List, [], ◌∷◌, ◌++◌, length, Some, slice_get, refl, sym, ap, ◌∙◌}
-use Rattle.std.proofs.Common.{subst, arith}
+use Rattle.std.proofs.Common.{subst, arith, map}
 use Rattle.atomic_table.specs.Seated.{TableId}
-use Rattle.context_queue.specs.Notes.{Place, Receiver}
+use Rattle.context_queue.specs.Notes.{Place, Sender, Receiver}
 use Rattle.flow_index.specs.declared.change.Change.{Change}
 use Rattle.flow_lock.specs.Callers.{IsGuest}
 use Rattle.flow_lock.specs.Passes.{Seen, right, new_turn}
@@ -10,7 +10,10 @@ use Rattle.flow_lock.specs.declared.view.View.{View}
 use Rattle.core_worker.specs.Workers.{Common, Worker, new_worker, IsFree, HasQueue, HasSenders}
 use Rattle.host_rounds.specs.Lists.{Each}
 use Rattle.host_rounds.proofs.Lists.{length_push}
-use Rattle.shared_host.specs.Cores.{AreCores, AreNumbered, HasRoom, IsNew, IsGuestOf, TakesFrom}
+use Rattle.shared_host.specs.Cores.{AreCores, AreNumbered, HasRoom, HasOneSender, IsNew, IsGuestOf, TakesFrom}
+use Rattle.shared_host.specs.Cores.{first_sender, kicking_on}
+use Rattle.slow_worker.specs.Kicking.{Kicking, AreOn, CanKick}
+use Rattle.steering.specs.Tables.{Sight}
 use Rattle.shared_host.proofs.Lists.{each_map, each_more, still_there, last_there}
 
 -- a pass that was split off is a guest
@@ -31,9 +34,9 @@ numbered_more first (x ∷ ws) w numbered is =
 pub one_core : (t : TableId) (n : ℕ) (ks more : List Place) (ws grown : List Worker) (q : Place) (w : Worker)
     (pass : Seen) (v : View) (known : List Change) (kicks : Receiver)
     → AreCores t n ks ws → HasRoom q → w ≡ new_worker n pass known kicks → known ≡ []
-    → (pass.table ≡ t) × (pass.view ≡ right v) → kicks.line ≡ q.line
+    → (pass.table ≡ t) × (pass.view ≡ right v) → kicks.line ≡ q.line → kicks.senders ≡ 1
     → more ≡ ks ++ q ∷ [] → grown ≡ ws ++ w ∷ [] → AreCores t (n + 1) more grown
-one_core t n ks more ws grown q w pass v known kicks are room is none split of is-more is-grown =
+one_core t n ks more ws grown q w pass v known kicks are room is none split of sole is-more is-grown =
     subst (λ (xs : List Place). AreCores t (n + 1) xs grown) (sym is-more)
     (subst (λ (ys : List Worker). AreCores t (n + 1) (ks ++ q ∷ []) ys) (sym is-grown) grew)
   where
@@ -72,6 +75,7 @@ one_core t n ks more ws grown q w pass v known kicks are room is none split of i
           (each_map (TakesFrom ks) (TakesFrom (ks ++ q ∷ [])) ws
           (λ v own. (own.0, still_there ks q own.0 v.core own.1, own.2)) are.own)
           (q, subst (λ (k : ℕ). slice_get (ks ++ q ∷ []) k ≡ Some q) (sym at_end) (last_there ks q), sym line);
+      sole = each_more HasOneSender ws w are.sole (ap (λ (x : Worker). x.kicks.senders) made ∙ sole);
     }
 
 -- none at first
@@ -84,6 +88,7 @@ none_yet t = record {
   new = tt;
   free = tt;
   own = tt;
+  sole = tt;
 }
 
 pub no_cores : (t : TableId) (ks : List Place) (ws : List Worker) → ks ≡ [] → ws ≡ [] → AreCores t 0 ks ws
@@ -104,3 +109,28 @@ each_own c d ws is own =
 pub each_silent : (d : Common) (ws : List Worker) → Each IsNew ws → Each (HasSenders d) ws
 each_silent d ws new =
     each_map IsNew (HasSenders d) ws (λ w is. subst (λ (x : Worker). HasSenders d x) (sym is) tt) new
+
+-- ----- who posts kicks
+-- the queue's first sender was added
+pub one_kicker : (ks more : List Place) (ss : List Sender) (q : Place) (s : Sender) → ss ≡ map first_sender ks
+    → s ≡ record { line = q.line; number = 0; posts = [] } → more ≡ ks ++ q ∷ []
+    → ss ++ s ∷ [] ≡ map first_sender more
+one_kicker ks more ss q s are is grown =
+    ap (λ l. l ++ s ∷ []) are ∙ (ap (λ x. map first_sender ks ++ x ∷ []) is
+    ∙ (mapped ks ∙ sym (ap (map first_sender) grown)))
+  where
+    mapped : (l : List Place) → map first_sender l ++ first_sender q ∷ [] ≡ map first_sender (l ++ q ∷ [])
+    mapped [] = refl
+    mapped (p ∷ l) = ap (λ x. first_sender p ∷ x) (mapped l)
+
+-- each posts to its queue
+pub all_on : (ks : List Place) → AreOn ks (map first_sender ks)
+all_on [] = tt
+all_on (q ∷ ks) = (refl, all_on ks)
+
+-- so the slow path's worker may kick
+pub can_kick : (c d : Common) (s : Sight) (k : Kicking) (n : ℕ) → d ≡ c → k ≡ kicking_on s c.kicks
+    → s.place ≡ c.steering → c.steering.cores ≡ n → length c.kicks ≡ n → CanKick d k
+can_kick c d s k n is on place cores many =
+    subst (λ (x : Common). CanKick x k) (sym is)
+    (subst (CanKick c) (sym on) (record { steer = place; cores = cores ∙ sym many; own = all_on c.kicks }))

@@ -5,9 +5,13 @@ use Rattle.std.specs.Prelude.{Option, Result, Ok, Err, IfOk, IsSome}
 use Rattle.atomic_table.specs.Seated.{TableId}
 use Rattle.host_rounds.specs.Lists.{Each}
 use Rattle.context_queue.specs.Notes.{Place}
-use Rattle.core_worker.specs.Telling.{queue_of, is_queue_of}
+use Rattle.core_worker.specs.Telling.{queue_of, is_queue_of, AreOwnSenders}
 use Rattle.core_worker.specs.Workers.{Common, Worker, IsFree, HasQueue, HasSenders}
+use Rattle.core_worker.specs.declared.senders.AppSender.{AppSender}
 use Rattle.core_worker.specs.declared.shared.AppQueue.{AppQueue}
+use Rattle.flow_lock.specs.Passes.{Seen}
+use Rattle.slow_worker.specs.Workers as slow
+use Rattle.shared_host.specs.SlowPaths.{with_split, with_slow_sender, with_app}
 use Rattle.core_worker.proofs.Told.{still_own, also_own}
 use Rattle.shared_host.specs.Applications.{AreGiven, new_sender, with_sender, queue_at, with_queue}
 use Rattle.shared_host.proofs.Lists.{none_some, each_map}
@@ -124,3 +128,31 @@ same_line o p line is found = ap (λ (q : Place). q.line) (same_some p (queue_at
 pub by_new : {A E : Type 0} (x : Result A E) (a : A) (P : A → Type 0) → IfOk x (λ b. b ≡ a) → P a → IfOk x P
 by_new (Ok b) a P is p = subst P (sym is) p
 by_new (Err e) a P is p = tt
+
+-- ----- the slow path's worker
+pub slow_still : (app : ℕ) (line : TableId) (c d : Common) (ss ts : List AppSender) → ts ≡ ss
+    → d ≡ with_queue app line c → AreOwnSenders c.queues ss → AreOwnSenders d.queues ts
+slow_still app line c d ss ts same new own =
+    subst (λ (x : Common). AreOwnSenders x.queues ts) (sym new)
+    (subst (AreOwnSenders (with_queue app line c).queues) (sym same)
+    (still_own c.queues ss (record { app = app; queue = queue_at line }) own))
+
+pub slow_given : (app : ℕ) (line k : TableId) (number : ℕ) (c d : Common) (ss ts : List AppSender) → k ≡ line
+    → d ≡ with_queue app line c → queue_of app c.queues ≡ None → ts ≡ ss ++ new_sender app k number ∷ []
+    → AreOwnSenders c.queues ss → AreOwnSenders d.queues ts
+slow_given app line k number c d ss ts same new none grown own =
+    subst (λ (x : Common). AreOwnSenders x.queues ts) (sym new)
+    (subst (AreOwnSenders (with_queue app line c).queues) (sym grown)
+    (also_own c.queues ss (record { app = app; queue = queue_at line }) (new_sender app k number) own none refl same))
+
+pub app_given : (app : ℕ) (line k : TableId) (number n : ℕ) (u w v : slow.Worker) (pass : Seen) → k ≡ line → number ≡ n
+    → u ≡ w → w ≡ with_slow_sender (new_sender app k number) v → pass ≡ with_split u.pass
+    → record u { pass = pass } ≡ with_app (new_sender app line n) v
+app_given app line k number n u w v pass same count is given split =
+    let grown = is ∙ given in
+    ap (λ (x : slow.Worker). record x { pass = pass }) grown
+    ∙ (ap (λ p. with_app_pass p) (split ∙ ap (λ (x : slow.Worker). with_split x.pass) grown)
+    ∙ (ap (λ l. with_app (new_sender app l number) v) same ∙ ap (λ m. with_app (new_sender app line m) v) count))
+  where
+    with_app_pass : Seen → slow.Worker
+    with_app_pass p = record v { pass = p; senders = v.senders ++ new_sender app k number ∷ [] }

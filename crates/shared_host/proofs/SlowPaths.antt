@@ -34,7 +34,7 @@ one_reader r y published pending left =
 -- a core was added
 pub slow_more : (params : HostParams) (t : TableId) (n r : ℕ) (s w : Worker) → IsNewSlow params t n r s
     → w.pass ≡ with_split s.pass → w.index.left + 1 ≡ s.index.left → w.index.published ≡ s.index.published
-    → w.index.pending ≡ s.index.pending → w ≡ record s { pass = w.pass; index = w.index }
+    → w.index.pending ≡ s.index.pending → w ≡ record s { pass = w.pass; index = w.index; kickers = w.kickers }
     → IsNewSlow params t (n + 1) (r - 1) w
 slow_more params t n r s w is pass left published pending rest =
     subst (λ (x : Worker). IsNewSlow params t (n + 1) (r - 1) x) (sym rest) (record {
@@ -60,7 +60,8 @@ slow_more params t n r s w is pass left published pending rest =
 pub core_added : (params : HostParams) (t : TableId) (n cores : ℕ) (s w : Worker)
     → IsNewSlow params t n (cores - n) s → w.pass ≡ with_split s.pass → w.index.left + 1 ≡ s.index.left
     → (w.index.published ≡ s.index.published) × (w.index.pending ≡ s.index.pending)
-    → w ≡ record s { pass = w.pass; index = w.index } → IsNewSlow params t (n + 1) (cores - (n + 1)) w
+    → w ≡ record s { pass = w.pass; index = w.index; kickers = w.kickers }
+    → IsNewSlow params t (n + 1) (cores - (n + 1)) w
 core_added params t n cores s w is pass one same rest =
     let fewer : cores - n - 1 ≡ cores - (n + 1) = omega arith in
     subst (λ (r : ℕ). IsNewSlow params t (n + 1) r w) fewer

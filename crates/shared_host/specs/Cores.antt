@@ -1,10 +1,12 @@
 -- The cores of a host that was just put together.
-use Rattle.std.specs.Prelude.{◌≡◌, ℕ, suc, List, [], ◌∷◌, length, Some, slice_get, ⊤}
+use Rattle.std.specs.Prelude.{◌≡◌, ℕ, suc, List, [], ◌∷◌, length, map, Some, slice_get, ⊤}
 use Rattle.atomic_table.specs.Seated.{TableId}
-use Rattle.context_queue.specs.Notes.{Place}
+use Rattle.context_queue.specs.Notes.{Place, Sender}
 use Rattle.flow_lock.specs.Callers.{IsGuest}
 use Rattle.host_rounds.specs.Lists.{Each}
+use Rattle.steering.specs.Tables.{Sight}
 use Rattle.core_worker.specs.Workers.{Worker, new_worker}
+use Rattle.slow_worker.specs.Kicking.{Kicking}
 
 -- how many notes each queue of a host holds
 abbrev pub queue_room : ℕ
@@ -30,6 +32,10 @@ IsGuestOf t w = IsGuest t w.pass
 abbrev pub TakesFrom : List Place → Worker → Type 0
 TakesFrom kicks w = (place : Place) × (slice_get kicks w.core ≡ Some place) × (place.line ≡ w.kicks.line)
 
+-- its queue has one sender
+abbrev pub HasOneSender : Worker → Type 0
+HasOneSender w = w.kicks.senders ≡ 1
+
 -- So many cores of this table, each with its queue of kicks and its worker.
 pub record AreCores (t : TableId) (count : ℕ) (kicks : List Place) (ws : List Worker) : Type 0 where
   pub queues : length kicks ≡ count
@@ -39,3 +45,13 @@ pub record AreCores (t : TableId) (count : ℕ) (kicks : List Place) (ws : List 
   pub new : Each IsNew ws
   pub free : Each (IsGuestOf t) ws
   pub own : Each (TakesFrom kicks) ws
+  pub sole : Each HasOneSender ws
+
+-- ----- who posts to them
+-- the first sender of a queue, which has posted nothing
+abbrev pub first_sender : Place → Sender
+first_sender q = record { line = q.line; number = 0; posts = [] }
+
+-- the first sender of each of these queues, with a pass to the steering that has seen so much
+abbrev pub kicking_on : Sight → (kicks : List Place) → Kicking
+kicking_on steer kicks = record { steer = steer; senders = map first_sender kicks }

@@ -1,11 +1,12 @@
 -- The slow path of a host that was just put together.
-use Rattle.std.specs.Prelude.{◌≡◌, ℕ, ◌+◌, ◌-◌, true, []}
+use Rattle.std.specs.Prelude.{◌≡◌, ℕ, ◌+◌, ◌-◌, true, [], ◌∷◌, ◌++◌}
 use Rattle.atomic_table.specs.Seated.{TableId}
 use Rattle.tas_model.specs.declared.entry.HostParams.{HostParams}
 use Rattle.flow_index.specs.Changes.{writing}
 use Rattle.flow_lock.specs.Passes.{Seen, first, left}
 use Rattle.flow_lock.specs.declared.view.View.{View}
 use Rattle.slow_handshake.specs.Openings.{no_openings}
+use Rattle.core_worker.specs.declared.senders.AppSender.{AppSender}
 use Rattle.slow_worker.specs.Workers.{Worker, sight_of, first_sight, waiting}
 
 -- what the slow path sees of a new table, after so many passes were split off
@@ -26,3 +27,11 @@ pub record IsNewSlow (params : HostParams) (t : TableId) (passes readers : ℕ) 
 -- one pass was split off
 abbrev pub with_split : Seen → Seen
 with_split s = record s { view = left s.view }
+
+-- it has one sender more
+abbrev pub with_slow_sender : AppSender → Worker → Worker
+with_slow_sender s w = record w { senders = w.senders ++ s ∷ [] }
+
+-- an application was added: it has a pass that was split off, and the worker a sender for it
+abbrev pub with_app : AppSender → Worker → Worker
+with_app s w = record w { pass = with_split w.pass; senders = w.senders ++ s ∷ [] }

@@ -3,8 +3,9 @@ ghost use Rattle.tas_model.specs.Valid.{InRange};
 ghost use Rattle.steering.specs.Tables.{first_table};
 ghost use Rattle.host_rounds.specs.Lists.{Each};
 ghost use Rattle.core_worker.specs.Workers.{IsFree, HasQueue, HasSenders};
+ghost use Rattle.slow_worker.specs.Kicking.{CanKick};
 ghost use Rattle.slow_worker.specs.Workers.{sight_of, IsKept};
-ghost use Rattle.shared_host.specs.Cores.{AreNumbered, IsNew, HasRoom};
+ghost use Rattle.shared_host.specs.Cores.{AreNumbered, IsNew, HasRoom, HasOneSender, kicking_on};
 ghost use Rattle.shared_host.specs.SlowPaths.{IsNewSlow};
 
 use crate::cores::make_cores;
@@ -59,16 +60,19 @@ pub fn assemble<R: Wait>(
     }) }
     ensures slow { IfOk result (λ a. IsNewSlow params a.shared.table cores 0 a.slow) }
     ensures kept { IfOk result (λ a. IsKept a.shared.table (sight_of a.slow)) }
+    ensures sole { IfOk result (λ a. Each HasOneSender a.cores.items) }
+    ensures kickers { IfOk result (λ a. a.slow.kickers ≡ kicking_on a.steer a.shared.kicks) }
+    ensures can { IfOk result (λ a. CanKick a.shared a.slow.kickers) }
 {
-    let slots = params.slots;
-    let (table, pass) = FlowTable::new(alloc, slots)?;
-    let (steering, steer) = Steering::new(alloc, cores)?;
+    let (table, pass) = FlowTable::new(alloc, params.slots)?;
+    let (steering, mut steer) = Steering::new(alloc, cores)?;
+    let own_steer = steering.pass(alloc, &mut steer)?;
     let path = SlowPath::new(alloc, params)?;
     let index = IndexWriter::new(alloc, cores)?;
-    let mut slow = SlowWorker::new(alloc, path, pass, index);
+    let mut slow = SlowWorker::new(alloc, path, pass, index, own_steer);
     match make_cores(rt, alloc, host, &table, &mut slow, cores) {
         Ok(made) => Ok(Assembled {
-            shared: Shared::new(alloc, table, slots, steering, made.kicks),
+            shared: Shared::new(alloc, table, steering, made.kicks),
             slow,
             steer,
             cores: made.workers,

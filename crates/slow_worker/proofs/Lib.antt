@@ -3,3 +3,4 @@ pub mod Entries
 pub mod Moves
 pub mod Serving
 pub mod Ticks
+pub mod Kicks

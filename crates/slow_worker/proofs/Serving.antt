@@ -3,31 +3,31 @@ use Rattle.std.proofs.Common.{◌≡◌, ap, sym, ◌∙◌, refl, subst, ℕ, �
 use Rattle.std.proofs.Common.{append_assoc, append-nil, inl, inr, length, arith}
 use Rattle.std.specs.Prelude.{Result, Ok, Err, OnErr}
 use Rattle.std.proofs.lemmas.List.{length-append}
-use Rattle.atomic_table.specs.Seated.{TableId}
+use Rattle.core_worker.specs.Workers.{Common}
 use Rattle.core_worker.specs.declared.frames.PassedFrame.{PassedFrame}
-use Rattle.slow_worker.specs.Workers.{Worker, Sight, sight_of, waiting, IsKept}
-use Rattle.slow_worker.specs.Serving.{Setting, setting_of, IsUnserved}
+use Rattle.slow_worker.specs.Workers.{Worker, Sight, Setting, setting_of, sight_of, waiting, IsKept, HasSenders}
+use Rattle.slow_worker.specs.Serving.{IsUnserved}
 use Rattle.slow_worker.specs.Queues.{kept_of, IsOneServed, AreServed, IsSame, IsAllServed, IsStopped, IsPartServed}
-use Rattle.slow_worker.specs.Queues.{IsFirstServed, IsFirstLeft}
+use Rattle.slow_worker.specs.Queues.{IsFirstServed, IsFirstLeft, Standing}
 use Rattle.slow_worker.specs.declared.served.Served.{Served}
 
 -- ----- the first frame
 pub joined : {A : Type 0} (a b c d : List A) → a ≡ b → c ≡ d → a ++ c ≡ b ++ d
 joined a b c d e f = ap (λ l. l ++ c) e ∙ ap (λ l. b ++ l) f
 
-pub first_left : (tick : ℕ) (u v n : Worker) (f : PassedFrame) (rest : List PassedFrame) → u ≡ v
-    → waiting u ≡ f ∷ rest → IsUnserved (setting_of tick u) f.frame.packet (sight_of u) (sight_of n)
-    → waiting n ≡ waiting u → IsSame u n → IsFirstLeft tick v n
-first_left tick u v n f rest is first unserved still same =
-    subst (λ (w : Worker). IsFirstLeft tick w n) is
+pub first_left : (c : Common) (tick : ℕ) (u v n : Worker) (f : PassedFrame) (rest : List PassedFrame) → u ≡ v
+    → waiting u ≡ f ∷ rest → IsUnserved (setting_of c tick u) f.frame.packet (sight_of u) (sight_of n)
+    → waiting n ≡ waiting u → IsSame u n → IsFirstLeft c tick v n
+first_left c tick u v n f rest is first unserved still same =
+    subst (λ (w : Worker). IsFirstLeft c tick w n) is
     (record { stopped = inr (f, rest, first, unserved); still = still; same = same })
 
-pub first_served : (tick : ℕ) (u v n : Worker) (f : PassedFrame) (rest : List PassedFrame) (a : Served) → u ≡ v
-    → waiting u ≡ f ∷ rest → IsOneServed (setting_of tick u) f (sight_of u) (sight_of n) a
+pub first_served : (c : Common) (tick : ℕ) (u v n : Worker) (f : PassedFrame) (rest : List PassedFrame) (a : Served)
+    → u ≡ v → waiting u ≡ f ∷ rest → IsOneServed (setting_of c tick u) f (sight_of u) (sight_of n) a
     → waiting n ≡ rest ++ kept_of f a → length n.exceptions.list ≡ length u.exceptions.list - 1 → IsSame u n
-    → IsFirstServed tick v n
-first_served tick u v n f rest a is first served after fewer same =
-    subst (λ (w : Worker). IsFirstServed tick w n) is (record {
+    → IsFirstServed c tick v n
+first_served c tick u v n f rest a is first served after fewer same =
+    subst (λ (w : Worker). IsFirstServed c tick w n) is (record {
       first = f;
       rest = rest;
       waits = first;
@@ -61,20 +61,22 @@ served_more at (g ∷ gs) f s m n kept a (x, b, more, one, rest, e) d = (
 )
 
 -- those handled, those that are left, and those that are kept
-pub record Loop (t : TableId) (tick : ℕ) (first now : Worker) (count : ℕ) : Type 0 where
+pub record Loop (c : Common) (tick : ℕ) (first now : Worker) (count : ℕ) : Type 0 where
   pub done : List PassedFrame
   pub left : List PassedFrame
   pub kept : List PassedFrame
   pub number : length left + count ≡ length (waiting first)
   pub all : waiting first ≡ done ++ left
-  pub served : AreServed (setting_of tick first) done (sight_of first) (sight_of now) kept
+  pub served : AreServed (setting_of c tick first) done (sight_of first) (sight_of now) kept
   pub still : waiting now ≡ left ++ kept
   pub exceptions : length now.exceptions.list ≤ length left
   pub same : IsSame first now
-  pub stays : IsKept t (sight_of now)
+  pub stays : IsKept c.table (sight_of now)
+  pub own : HasSenders c now
 
-pub loop_first : (t : TableId) (tick : ℕ) (w : Worker) → IsKept t (sight_of w) → Loop t tick w w 0
-loop_first t tick w stays = record {
+pub loop_first : (c : Common) (tick : ℕ) (w : Worker) → IsKept c.table (sight_of w) → HasSenders c w
+    → Loop c tick w w 0
+loop_first c tick w stays own = record {
   done = [];
   left = waiting w;
   kept = [];
@@ -83,21 +85,23 @@ loop_first t tick w stays = record {
   served = (refl, refl);
   still = sym (append-nil (waiting w));
   exceptions = let e = length-append w.exceptions.list w.deferred.list in omega (arith, e);
-  same = (refl, refl, refl);
+  same = refl;
   stays = stays;
+  own = own;
 }
 
 -- one is left
-pub loop_waits : (t : TableId) (tick : ℕ) (first m : Worker) (count : ℕ) → Loop t tick first m count
+pub loop_waits : (c : Common) (tick : ℕ) (first m : Worker) (count : ℕ) → Loop c tick first m count
     → count < length (waiting first) → 0 < length (waiting m)
-loop_waits t tick first m count l near =
+loop_waits c tick first m count l near =
     let e = ap length l.still in
     let a = length-append l.left l.kept in
     omega (arith, e, a, l.number, near)
 
-same_setting : (tick : ℕ) (first m : Worker) → m.check_sums ≡ first.check_sums
-    → setting_of tick m ≡ setting_of tick first
-same_setting tick first m e = ap (λ b. record { tick = tick; check_sums = b }) e
+same_setting : (c : Common) (tick : ℕ) (first m : Worker) → IsSame first m
+    → setting_of c tick m ≡ setting_of c tick first
+same_setting c tick first m e =
+    ap (λ (s : Standing). record { tick = tick; check_sums = s.check_sums; queues = c.queues }) e
 
 head_or : PassedFrame → List PassedFrame → PassedFrame
 head_or d [] = d
@@ -107,17 +111,18 @@ tail_of : List PassedFrame → List PassedFrame
 tail_of [] = []
 tail_of (f ∷ fs) = fs
 
-pub loop_more : (t : TableId) (tick : ℕ) (first m n : Worker) (count : ℕ) → Loop t tick first m count
-    → count < length (waiting first) → IsFirstServed tick m n → IsKept t (sight_of n) → Loop t tick first n (count + 1)
+pub loop_more : (c : Common) (tick : ℕ) (first m n : Worker) (count : ℕ) → Loop c tick first m count
+    → count < length (waiting first) → IsFirstServed c tick m n → IsKept c.table (sight_of n) → HasSenders c n
+    → Loop c tick first n (count + 1)
 unfolding head_or tail_of
-loop_more t tick first m n count l near d stays = by_left l.left l.number l.all l.still l.exceptions where
-  at_one : IsOneServed (setting_of tick first) d.first (sight_of m) (sight_of n) d.answer
+loop_more c tick first m n count l near d stays own = by_left l.left l.number l.all l.still l.exceptions where
+  at_one : IsOneServed (setting_of c tick first) d.first (sight_of m) (sight_of n) d.answer
   at_one = subst (λ at. IsOneServed at d.first (sight_of m) (sight_of n) d.answer)
-      (same_setting tick first m l.same.1) d.served
+      (same_setting c tick first m l.same) d.served
 
   by_left : (left : List PassedFrame) → length left + count ≡ length (waiting first)
       → waiting first ≡ l.done ++ left → waiting m ≡ left ++ l.kept → length m.exceptions.list ≤ length left
-      → Loop t tick first n (count + 1)
+      → Loop c tick first n (count + 1)
   by_left [] number all still few = absurd (omega (arith, number, near))
   by_left (g ∷ gs) number all still few =
       let both : d.first ∷ d.rest ≡ g ∷ (gs ++ l.kept) = sym d.waits ∙ still in
@@ -131,22 +136,23 @@ loop_more t tick first m n count l near d stays = by_left l.left l.number l.all 
         kept = l.kept ++ kept_of d.first d.answer;
         number = omega (arith, number);
         all = done;
-        served = served_more (setting_of tick first) l.done d.first (sight_of first) (sight_of m) (sight_of n) l.kept
+        served = served_more (setting_of c tick first) l.done d.first (sight_of first) (sight_of m) (sight_of n) l.kept
             d.answer l.served at_one;
         still = d.after ∙ (ap (λ x. x ++ kept_of d.first d.answer) rest
             ∙ append_assoc gs l.kept (kept_of d.first d.answer));
         exceptions = omega (arith, d.fewer, few);
-        same = (d.same.0 ∙ l.same.0, d.same.1 ∙ l.same.1, d.same.2 ∙ l.same.2);
+        same = d.same ∙ l.same;
         stays = stays;
+        own = own;
       }
 
 pub none_of : {A : Type 0} (xs : List A) → length xs ≡ 0 → xs ≡ []
 none_of [] e = refl
 none_of (x ∷ xs) e = absurd (omega (arith, e))
 
-pub loop_ends : (t : TableId) (tick : ℕ) (first w : Worker) (count : ℕ) → Loop t tick first w count
-    → length (waiting first) ≤ count → IsAllServed tick first w
-loop_ends t tick first w count l past =
+pub loop_ends : (c : Common) (tick : ℕ) (first w : Worker) (count : ℕ) → Loop c tick first w count
+    → length (waiting first) ≤ count → IsAllServed c tick first w
+loop_ends c tick first w count l past =
     let left : l.left ≡ [] = none_of l.left (omega (arith, l.number, past)) in
     let few : length w.exceptions.list ≡ 0 =
     let z = ap length left in omega (arith, l.exceptions, z) in
@@ -155,9 +161,9 @@ loop_ends t tick first w count l past =
     sym (ap (λ x. x ++ w.deferred.list) none) ∙ (l.still ∙ ap (λ x. x ++ l.kept) left) in
     let done : waiting first ≡ l.done = l.all ∙ (ap (λ x. l.done ++ x) left ∙ append-nil l.done) in
     record {
-      served = subst (λ fs. AreServed (setting_of tick first) fs (sight_of first) (sight_of w) w.deferred.list)
+      served = subst (λ fs. AreServed (setting_of c tick first) fs (sight_of first) (sight_of w) w.deferred.list)
           (sym done)
-          (subst (λ k. AreServed (setting_of tick first) l.done (sight_of first) (sight_of w) k) (sym kept) l.served);
+          (subst (λ k. AreServed (setting_of c tick first) l.done (sight_of first) (sight_of w) k) (sym kept) l.served);
       none = none;
       same = l.same;
     }
@@ -171,13 +177,13 @@ longer_stop at [] more s n some (inr r) = absurd (omega (arith, some))
 longer_stop at (g ∷ gs) more s n some (inr (f, rest, first, un)) =
     inr (g, gs, refl, subst (λ (x : PassedFrame). IsUnserved at x.frame.packet s n) (ap (head_or g) (sym first)) un)
 
-pub loop_stops : (t : TableId) (tick : ℕ) (first m w : Worker) (count : ℕ) → Loop t tick first m count
-    → count < length (waiting first) → IsFirstLeft tick m w → IsPartServed tick first w
-loop_stops t tick first m w count l near d =
-    let at : setting_of tick m ≡ setting_of tick first = same_setting tick first m l.same.1 in
+pub loop_stops : (c : Common) (tick : ℕ) (first m w : Worker) (count : ℕ) → Loop c tick first m count
+    → count < length (waiting first) → IsFirstLeft c tick m w → IsPartServed c tick first w
+loop_stops c tick first m w count l near d =
+    let at : setting_of c tick m ≡ setting_of c tick first = same_setting c tick first m l.same in
     let some : 0 < length l.left = omega (arith, l.number, near) in
-    let by_list : IsStopped (setting_of tick first) (l.left ++ l.kept) (sight_of m) (sight_of w) =
-    subst (λ fs. IsStopped (setting_of tick first) fs (sight_of m) (sight_of w)) l.still
+    let by_list : IsStopped (setting_of c tick first) (l.left ++ l.kept) (sight_of m) (sight_of w) =
+    subst (λ fs. IsStopped (setting_of c tick first) fs (sight_of m) (sight_of w)) l.still
     (subst (λ x. IsStopped x (waiting m) (sight_of m) (sight_of w)) at d.stopped) in
     record {
       done = l.done;
@@ -186,9 +192,9 @@ loop_stops t tick first m w count l near d =
       all = l.all;
       before = sight_of m;
       served = l.served;
-      stopped = longer_stop (setting_of tick first) l.left l.kept (sight_of m) (sight_of w) some by_list;
+      stopped = longer_stop (setting_of c tick first) l.left l.kept (sight_of m) (sight_of w) some by_list;
       still = d.still ∙ l.still;
-      same = (d.same.0 ∙ l.same.0, d.same.1 ∙ l.same.1, d.same.2 ∙ l.same.2);
+      same = d.same ∙ l.same;
     }
 
 pub err_of : {A E : Type 0} (P : Type 0) → P → (x : Result A E) → OnErr x P

@@ -1,5 +1,6 @@
 -- The flows that are known after the time of a tick.
 use Rattle.std.proofs.Common.{◌≡◌, ap, sym, ◌∙◌, refl, subst, ℕ, zero, suc, Bool, true, false, List, [], ◌∷◌, cond, eqb}
+use Rattle.std.proofs.Common.{◌+◌, ◌≤◌, length, arith}
 use Rattle.std.specs.Prelude.{Option, Some, None, slice_get, position, ◌&&◌}
 use Rattle.std.proofs.lemmas.Bool.{eqb-true}
 use Rattle.tas_model.specs.declared.entry.FlowId.{FlowId}
@@ -8,7 +9,12 @@ use Rattle.flow_lock.specs.Orders.{same_flow}
 use Rattle.flow_lock.specs.Passes.{Seen}
 use Rattle.flow_clock.specs.Ledgers as clock
 use Rattle.app_reaper.specs.Lists.{is_on}
-use Rattle.slow_worker.specs.Workers.{HasItsPin, AreKept}
+use Rattle.flow_lock.specs.Answers.{is_free}
+use Rattle.flow_lock.specs.Words.{flag}
+use Rattle.flow_lock.specs.declared.view.Mark.{Mark}
+use Rattle.flow_lock.specs.declared.view.View.{View}
+use Rattle.flow_clock.specs.Ledgers.{KeepsRights}
+use Rattle.slow_worker.specs.Workers.{HasItsPin, AreKept, free_slots, HasFew, HasFewYet}
 use Rattle.slow_worker.specs.Turns.{pin_at, is_its, is_pinned, still_known}
 use Rattle.slow_worker.specs.declared.known.KnownFlow.{KnownFlow}
 
@@ -69,3 +75,21 @@ time_sound t u pass doomed pins flows flows' is ready owned kept =
       owned = owned;
       known = λ k f q. known_still pins flows k f (sym (ap (λ l. slice_get l k) kept) ∙ q);
     })
+
+-- ----- how many flows may be opened
+one_at_most : (b : Bool) → flag b ≤ 1
+one_at_most true = omega arith
+one_at_most false = omega arith
+
+free_within : (ms : List Mark) → free_slots ms ≤ length ms
+free_within [] = omega arith
+free_within (m ∷ ms) =
+    let one = one_at_most (is_free m) in let rest = free_within ms in omega (arith, one, rest)
+
+pub few_yet : (v : View) → HasFewYet v → HasFew v
+few_yet v yet = let within = free_within v.marks in omega (arith, within, yet)
+
+-- time opens no flow
+pub still_few : (v w : View) → KeepsRights v w → HasFewYet v → HasFewYet w
+still_few v w keeps yet =
+    let opened = keeps.opened in let slots = keeps.slots in omega (arith, opened, slots, yet)

@@ -13,6 +13,7 @@ use Rattle.flow_lock.specs.Steps.{opened}
 use Rattle.flow_lock.specs.declared.view.History.{History}
 use Rattle.slow_handshake.specs.Openings.{Openings, next_after}
 use Rattle.core_worker.specs.Frames.{tuple_of}
+use Rattle.core_worker.specs.Kicks.{kick_of, one_kick}
 use Rattle.slow_worker.specs.Workers.{Sight}
 
 -- a first number was given
@@ -43,7 +44,7 @@ pub record IsIndexed (t : FourTuple) (id : FlowId) (x y : Writing) : Type 0 wher
   pub pending : y.pending ≡ []
   pub left : y.left ≡ x.left
 
--- The next flow was opened for the SYN, and all know of it.
+-- The next flow was opened for the SYN, and all know of it. It is kicked, where its answer may go.
 pub record IsOpened (tick : ℕ) (frame : FrameId) (seg : Segment) (id : FlowId) (s n : Sight) : Type 0 where
   pub indexed : IsIndexed (tuple_of seg) id s.index n.index
   pub after : n ≡ record {
@@ -54,6 +55,8 @@ pub record IsOpened (tick : ℕ) (frame : FrameId) (seg : Segment) (id : FlowId)
     flows = s.flows ++ record { tuple = tuple_of seg; id = id } ∷ [];
     index = n.index;
     log = s.log;
+    senders = s.senders;
+    kicks = s.kicks ++ one_kick (kick_of id (first_history tick frame seg s.path));
   }
 
 -- What became of the index where memory was wanting: nothing, or the change is pending, or it is published. The id is

@@ -1,10 +1,12 @@
 -- The frames that cores passed on, one after the other.
-use Rattle.std.specs.Prelude.{◌≡◌, ℕ, ◌-◌, List, [], ◌∷◌, ◌++◌, length, ◌⊎◌}
+use Rattle.std.specs.Prelude.{◌≡◌, ℕ, ◌-◌, Bool, List, [], ◌∷◌, ◌++◌, length, ◌⊎◌, Option}
+use Rattle.flow_state.specs.Flow.{Flow}
 use Rattle.core_worker.specs.Workers as cores
 use Rattle.core_worker.specs.declared.frames.PassedFrame.{PassedFrame}
 use Rattle.core_worker.specs.declared.frames.Passed.TheVariants as passed
-use Rattle.slow_worker.specs.Workers.{Worker, Sight, sight_of, waiting}
-use Rattle.slow_worker.specs.Serving.{Setting, setting_of, IsServed, IsUnserved}
+use Rattle.slow_worker.specs.Kicking.{Kicking}
+use Rattle.slow_worker.specs.Workers.{Worker, Sight, Setting, setting_of, sight_of, waiting}
+use Rattle.slow_worker.specs.Serving.{IsServed, IsUnserved}
 use Rattle.slow_worker.specs.declared.served.Served.{Served}
 use Rattle.slow_worker.specs.declared.served.Served.TheVariants as served
 
@@ -42,12 +44,22 @@ AreServed at (f ∷ fs) s n kept =
     × IsOneServed at f s m a × AreServed at fs m n more × (kept ≡ kept_of f a ++ more)
 
 -- what no frame changes
+pub record Standing : Type 0 where
+  pub filed : List Flow
+  pub check_sums : Bool
+  pub ticked : Option ℕ
+  pub kickers : Kicking
+
+abbrev pub standing_of : Worker → Standing
+standing_of w =
+    record { filed = w.filed; check_sums = w.check_sums; ticked = w.ticked; kickers = w.kickers }
+
 abbrev pub IsSame : Worker → Worker → Type 0
-IsSame v w = (w.filed ≡ v.filed) × (w.check_sums ≡ v.check_sums) × (w.ticked ≡ v.ticked)
+IsSame v w = standing_of w ≡ standing_of v
 
 -- All frames that waited were handled. Those that wait on are the deferred ones now.
-pub record IsAllServed (tick : ℕ) (v w : Worker) : Type 0 where
-  pub served : AreServed (setting_of tick v) (waiting v) (sight_of v) (sight_of w) w.deferred.list
+pub record IsAllServed (c : cores.Common) (tick : ℕ) (v w : Worker) : Type 0 where
+  pub served : AreServed (setting_of c tick v) (waiting v) (sight_of v) (sight_of w) w.deferred.list
   pub none : w.exceptions.list ≡ []
   pub same : IsSame v w
 
@@ -58,29 +70,29 @@ IsStopped at left s n =
     ⊎ ((f : PassedFrame) × (rest : List PassedFrame) × (left ≡ f ∷ rest) × IsUnserved at f.frame.packet s n)
 
 -- Some frames were handled. All others wait still, and those behind them that were kept.
-pub record IsPartServed (tick : ℕ) (v w : Worker) : Type 0 where
+pub record IsPartServed (c : cores.Common) (tick : ℕ) (v w : Worker) : Type 0 where
   pub done : List PassedFrame
   pub left : List PassedFrame
   pub kept : List PassedFrame
   pub all : waiting v ≡ done ++ left
   pub before : Sight
-  pub served : AreServed (setting_of tick v) done (sight_of v) before kept
-  pub stopped : IsStopped (setting_of tick v) left before (sight_of w)
+  pub served : AreServed (setting_of c tick v) done (sight_of v) before kept
+  pub stopped : IsStopped (setting_of c tick v) left before (sight_of w)
   pub still : waiting w ≡ left ++ kept
   pub same : IsSame v w
 
 -- ----- the first frame
-pub record IsFirstServed (tick : ℕ) (v n : Worker) : Type 0 where
+pub record IsFirstServed (c : cores.Common) (tick : ℕ) (v n : Worker) : Type 0 where
   pub first : PassedFrame
   pub rest : List PassedFrame
   pub waits : waiting v ≡ first ∷ rest
   pub answer : Served
-  pub served : IsOneServed (setting_of tick v) first (sight_of v) (sight_of n) answer
+  pub served : IsOneServed (setting_of c tick v) first (sight_of v) (sight_of n) answer
   pub after : waiting n ≡ rest ++ kept_of first answer
   pub fewer : length n.exceptions.list ≡ length v.exceptions.list - 1
   pub same : IsSame v n
 
-pub record IsFirstLeft (tick : ℕ) (v n : Worker) : Type 0 where
-  pub stopped : IsStopped (setting_of tick v) (waiting v) (sight_of v) (sight_of n)
+pub record IsFirstLeft (c : cores.Common) (tick : ℕ) (v n : Worker) : Type 0 where
+  pub stopped : IsStopped (setting_of c tick v) (waiting v) (sight_of v) (sight_of n)
   pub still : waiting n ≡ waiting v
   pub same : IsSame v n

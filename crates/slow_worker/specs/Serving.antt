@@ -16,19 +16,11 @@ use Rattle.slow_handshake.specs.Strays.{stray_answer}
 use Rattle.slow_handshake.specs.declared.openings.SynAnswer.{SynAnswer}
 use Rattle.slow_handshake.specs.declared.openings.SynAnswer.TheVariants as syn
 use Rattle.core_worker.specs.Frames.{tuple_of}
-use Rattle.slow_worker.specs.Workers.{Worker, Sight, flow_with}
+use Rattle.slow_worker.specs.Workers.{Sight, Setting, flow_with}
 use Rattle.slow_worker.specs.Entering.{IsEntered, IsUnentered}
 use Rattle.slow_worker.specs.Opening.{IsOpened, IsUnopened}
 use Rattle.slow_worker.specs.declared.served.Served.{Served}
 use Rattle.slow_worker.specs.declared.served.Served.TheVariants as served
-
--- when frames are handled, and whether checksums are looked at
-pub record Setting : Type 0 where
-  pub tick : ℕ
-  pub check_sums : Bool
-
-abbrev pub setting_of : (tick : ℕ) → Worker → Setting
-setting_of tick w = record { tick = tick; check_sums = w.check_sums }
 
 -- ----- lines
 abbrev pub with_line : (tick : ℕ) → LogEvent → Sight → Sight
@@ -71,9 +63,9 @@ IsUnmet asked seg s n = n ≡ s
 
 -- ----- one frame
 -- A segment is received by the flow that has its four-tuple, and else meets a listener, or none.
-abbrev pub IsTaken : Option FlowId → (tick : ℕ) → FrameId → Segment → Sight → Sight → Served → Type 0
-IsTaken (Some id) tick frame seg s n a = IsEntered tick frame seg id s n a
-IsTaken None tick frame seg s n a = IsMet (asked_of s.path seg) tick frame seg s n a
+abbrev pub IsTaken : Option FlowId → Setting → FrameId → Segment → Sight → Sight → Served → Type 0
+IsTaken (Some id) at frame seg s n a = IsEntered at frame seg id s n a
+IsTaken None at frame seg s n a = IsMet (asked_of s.path seg) at.tick frame seg s n a
 
 abbrev pub IsUntaken : Option FlowId → Segment → Sight → Sight → Type 0
 IsUntaken (Some id) seg s n = IsUnentered id s n
@@ -84,7 +76,7 @@ abbrev pub IsServedBy : Option Refused → Setting → FrameId → List ℕ → 
 IsServedBy (Some r) at frame packet s n a =
     (a ≡ served.Refused (number_of r)) × (n ≡ with_line at.tick (events.Refused frame (number_of r)) s)
 IsServedBy None at frame packet s n a =
-    (seg : Segment) × IsText packet seg × IsTaken (flow_with (tuple_of seg) s.flows) at.tick frame seg s n a
+    (seg : Segment) × IsText packet seg × IsTaken (flow_with (tuple_of seg) s.flows) at frame seg s n a
 
 -- The frame was handled, with this answer.
 abbrev pub IsServed : Setting → FrameId → (packet : List ℕ) → Sight → Sight → Served → Type 0

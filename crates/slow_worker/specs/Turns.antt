@@ -1,15 +1,19 @@
 -- A turn of the slow path's worker: the first of a tick passes time, and each later one handles the frames that wait.
-use Rattle.std.specs.Prelude.{◌≡◌, ℕ, ◌==◌, Bool, true, false, List, [], ◌++◌, ◌⊎◌, Option, Some, None}
+use Rattle.std.specs.Prelude.{◌≡◌, ℕ, ◌==◌, Bool, true, false, List, [], ◌∷◌, ◌++◌, ◌⊎◌, Option, Some, None}
 use Rattle.std.specs.Prelude.{position, slice_get}
 use Rattle.std.specs.List.{filter}
 use Rattle.tas_model.specs.declared.entry.FlowId.{FlowId}
 use Rattle.flow_index.specs.Changes.{AnswerAlike}
 use Rattle.flow_index.specs.declared.change.Change.{Change}
 use Rattle.flow_lock.specs.Orders.{same_flow}
+use Rattle.flow_lock.specs.declared.view.View.{View}
 use Rattle.app_reaper.specs.Lists.{is_on}
 use Rattle.flow_clock.specs.Ledgers.{Ledger, ledger}
 use Rattle.flow_clock.specs.Walks.{IsTickDone, IsTickStopped}
-use Rattle.slow_worker.specs.Workers.{Worker}
+use Rattle.core_worker.specs.Workers.{Common}
+use Rattle.core_worker.specs.declared.kicks.Kick.{Kick}
+use Rattle.slow_worker.specs.Kicking.{IsKicked, AreKicked}
+use Rattle.slow_worker.specs.Workers.{Worker, HasFew, HasFewYet}
 use Rattle.slow_worker.specs.Queues.{IsAllServed, IsPartServed}
 use Rattle.slow_worker.specs.declared.known.KnownFlow.{KnownFlow}
 
@@ -64,7 +68,28 @@ pub record IsTimeStopped (tick : ℕ) (v w : Worker) : Type 0 where
   pub flows : w.flows ≡ still_known w.pins v.flows
   pub rest : w ≡ with_time w v
 
+-- ----- kicks
+-- Each kick that was to be posted was posted or is kept, and those that are kept are all that is left.
+pub record AreKicksPosted (c : Common) (v w : Worker) : Type 0 where
+  pub posted : AreKicked c v.kicks v.kickers w.kickers w.kicks
+  pub rest : w ≡ record v { kickers = w.kickers; kicks = w.kicks }
+
+-- the first of them
+pub record IsFirstKicked (c : Common) (v n : Worker) : Type 0 where
+  pub first : Kick
+  pub rest : List Kick
+  pub waits : v.kicks ≡ first ∷ rest
+  pub kept : List Kick
+  pub kicked : IsKicked c first v.kickers n.kickers kept
+  pub after : n.kicks ≡ rest ++ kept
+  pub same : n ≡ record v { kickers = n.kickers; kicks = n.kicks }
+
 -- ----- turns
+-- Few enough flows were opened before a turn. The first one of a tick may free slots, and opens none.
+abbrev pub HasFewBefore : (later : Bool) → View → Type 0
+HasFewBefore false v = HasFewYet v
+HasFewBefore true v = HasFew v
+
 abbrev pub is_tick : (tick : ℕ) → Option ℕ → Bool
 is_tick tick None = false
 is_tick tick (Some t) = t == tick
@@ -73,10 +98,18 @@ is_tick tick (Some t) = t == tick
 abbrev pub has_passed : (tick : ℕ) → Worker → Bool
 has_passed tick w = is_tick tick w.ticked
 
-abbrev pub IsTurn : (later : Bool) → (tick : ℕ) → Worker → Worker → Type 0
-IsTurn false tick v w = IsTimePassed tick v w
-IsTurn true tick v w = IsAllServed tick v w
+abbrev pub IsWork : (later : Bool) → Common → (tick : ℕ) → Worker → Worker → Type 0
+IsWork false c tick v w = IsTimePassed tick v w
+IsWork true c tick v w = IsAllServed c tick v w
 
-abbrev pub IsTurnStopped : (later : Bool) → (tick : ℕ) → Worker → Worker → Type 0
-IsTurnStopped false tick v w = IsTimeStopped tick v w
-IsTurnStopped true tick v w = IsPartServed tick v w
+abbrev pub IsWorkStopped : (later : Bool) → Common → (tick : ℕ) → Worker → Worker → Type 0
+IsWorkStopped false c tick v w = IsTimeStopped tick v w
+IsWorkStopped true c tick v w = IsPartServed c tick v w
+
+-- Then the kicks were posted: those that were kept before, and those of flows that were left with something to send.
+abbrev pub IsTurn : (later : Bool) → Common → (tick : ℕ) → Worker → Worker → Type 0
+IsTurn later c tick v w = (m : Worker) × IsWork later c tick v m × AreKicksPosted c m w
+
+-- Memory was wanting. What was done stands, and the kicks were posted all the same.
+abbrev pub IsTurnStopped : (later : Bool) → Common → (tick : ℕ) → Worker → Worker → Type 0
+IsTurnStopped later c tick v w = (m : Worker) × IsWorkStopped later c tick v m × AreKicksPosted c m w

@@ -1,5 +1,5 @@
 -- What contracts see of the slow path's worker.
-use Rattle.std.specs.Prelude.{◌≡◌, ℕ, ◌+◌, ◌≤◌, Bool, List, [], ◌++◌, slice_get, Option, Some}
+use Rattle.std.specs.Prelude.{◌≡◌, ℕ, ◌+◌, ◌≤◌, Bool, List, [], ◌++◌, length, slice_get, Option, Some}
 use Rattle.std.specs.List.{find}
 use Rattle.std.specs.Option.{option_map}
 use Rattle.atomic_table.specs.Seated.{TableId}
@@ -18,12 +18,18 @@ use Rattle.flow_lock.specs.declared.view.View.{View}
 use Rattle.app_reaper.specs.Lists.{Roomy}
 use Rattle.flow_clock.specs.Ledgers as clock
 use Rattle.slow_handshake.specs.Openings.{Openings}
+use Rattle.core_worker.specs.Telling.{AreOwnSenders}
+use Rattle.core_worker.specs.Workers.{Common}
 use Rattle.core_worker.specs.declared.frames.PassedFrame.{PassedFrame}
+use Rattle.core_worker.specs.declared.kicks.Kick.{Kick}
+use Rattle.core_worker.specs.declared.senders.AppSender.{AppSender}
+use Rattle.core_worker.specs.declared.shared.AppQueue.{AppQueue}
+use Rattle.slow_worker.specs.Kicking.{Kicking}
 use Rattle.slow_worker.specs.declared.known.KnownFlow.{KnownFlow}
 
 -- What handling a frame looks at or changes of the worker: the lists of openings, its pass, the slow path's pins of
 -- open flows and of closed ones that others have pins of, the flows by their four-tuples, the index that shows these to
--- cores, and the lines that it wrote.
+-- cores, the lines that it wrote, what its senders posted to applications, and the kicks that weren't posted yet.
 pub record Sight : Type 0 where
   pub path : Openings
   pub pass : Seen
@@ -32,9 +38,12 @@ pub record Sight : Type 0 where
   pub flows : List KnownFlow
   pub index : Writing
   pub log : List LogLine
+  pub senders : List AppSender
+  pub kicks : List Kick
 
 -- The slow path's worker: besides, the records that were filed, whether it looks at checksums, the frames that cores
--- passed on (those that another pass stood in the way of, and the exceptions), and the tick whose time has passed.
+-- passed on (those that another pass stood in the way of, and the exceptions), the tick whose time has passed, and how
+-- kicks go to cores.
 pub record Worker : Type 0 where
   pub path : Openings
   pub pass : Seen
@@ -48,6 +57,9 @@ pub record Worker : Type 0 where
   pub deferred : Roomy PassedFrame
   pub exceptions : Roomy PassedFrame
   pub ticked : Option ℕ
+  pub senders : List AppSender
+  pub kicks : List Kick
+  pub kickers : Kicking
 
 abbrev pub sight_of : Worker → Sight
 sight_of w = record {
@@ -58,6 +70,8 @@ sight_of w = record {
   flows = w.flows;
   index = w.index;
   log = w.log;
+  senders = w.senders;
+  kicks = w.kicks;
 }
 
 abbrev pub with_sight : Sight → Worker → Worker
@@ -69,9 +83,11 @@ with_sight s w = record w {
   flows = s.flows;
   index = s.index;
   log = s.log;
+  senders = s.senders;
+  kicks = s.kicks;
 }
 
--- a worker that knows no flow
+-- a worker that knows no flow, and tells no application
 abbrev pub first_sight : Openings → Seen → Writing → Sight
 first_sight path pass index = record {
   path = path;
@@ -81,6 +97,8 @@ first_sight path pass index = record {
   flows = [];
   index = index;
   log = [];
+  senders = [];
+  kicks = [];
 }
 
 -- the frames that wait: the exceptions, and then the deferred ones
@@ -107,6 +125,10 @@ free_slots = total (λ m. flag (is_free m))
 abbrev pub HasFew : View → Type 0
 HasFew v = v.opened + free_slots v.marks ≤ 4294967295
 
+-- so few that each slot may be, free or not
+abbrev pub HasFewYet : View → Type 0
+HasFewYet v = v.opened + length v.marks ≤ 4294967295
+
 -- the pin of this flow is in the list
 abbrev pub HasItsPin : List FlowId → FlowId → Type 0
 HasItsPin pins id = (j : ℕ) × (slice_get pins j ≡ Some id)
@@ -123,3 +145,17 @@ IsSound t s = AreKept t s.pass s.doomed s.pins s.flows × InRange s.path.params
 -- and few flows were opened
 abbrev pub IsKept : TableId → Sight → Type 0
 IsKept t s = IsSound t s × HasFew s.pass.view
+
+-- each of its senders posts to its application's queue
+abbrev pub HasSenders : Common → Worker → Type 0
+HasSenders c w = AreOwnSenders c.queues w.senders
+
+-- ----- who handles frames, and when
+-- the tick, whether checksums are looked at, and the queues of applications
+pub record Setting : Type 0 where
+  pub tick : ℕ
+  pub check_sums : Bool
+  pub queues : List AppQueue
+
+abbrev pub setting_of : Common → (tick : ℕ) → Worker → Setting
+setting_of c tick w = record { tick = tick; check_sums = w.check_sums; queues = c.queues }

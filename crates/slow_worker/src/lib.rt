@@ -3,6 +3,7 @@
 
 mod collecting;
 mod entering;
+mod kicking;
 mod known;
 mod meeting;
 mod opening;

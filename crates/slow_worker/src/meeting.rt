@@ -50,6 +50,7 @@ impl SlowWorker {
         ensures answer { IfOk result (λ a. a ≡ answers.Stray) }
         ensures sight { IfOk result
             (λ _. sight_of self.new ≡ with_line tick (stray_event self.old.path frame seg.now) (sight_of self.old)) }
+        ensures senders { self.new.senders ≡ self.old.senders }
         ensures rest { self.new ≡ with_sight (sight_of self.new) self.old }
         ensures err { OnErr result (self.new ≡ self.old) }
     {
@@ -74,6 +75,7 @@ impl SlowWorker {
         ensures answer { IfOk result (λ a. a ≡ answers.Dropped backlog) }
         ensures sight { IfOk result (λ _. sight_of self.new ≡ with_line tick (events.Dropped frame backlog)
             (sight_of self.old)) }
+        ensures senders { self.new.senders ≡ self.old.senders }
         ensures rest { self.new ≡ with_sight (sight_of self.new) self.old }
         ensures err { OnErr result (self.new ≡ self.old) }
     {
@@ -91,6 +93,7 @@ impl SlowWorker {
         ensures answer { IfOk result (λ a. a ≡ answers.Refused number) }
         ensures sight { IfOk result (λ _. sight_of self.new ≡ with_line tick (events.Refused frame number)
             (sight_of self.old)) }
+        ensures senders { self.new.senders ≡ self.old.senders }
         ensures rest { self.new ≡ with_sight (sight_of self.new) self.old }
         ensures err { OnErr result (self.new ≡ self.old) }
     {

@@ -10,7 +10,7 @@ ghost use Rattle.slow_worker.specs.Serving.{asked_of, IsOpenedIn, IsUnopenedIn, 
 use crate::meeting::opens;
 use crate::served::Served;
 use crate::worker::SlowWorker;
-use core_worker::tuple_of;
+use core_worker::{Kick, tuple_of};
 use flow_index::IndexWriter;
 use flow_lock::{FlowTable, Pin, SlowPass};
 use flow_state::FlowRecord;
@@ -70,6 +70,7 @@ impl SlowWorker {
             (sight_of self.old) (sight_of self.new)) }
         ensures unmet { OnErr result (IsUnmet (asked_of self.old.path seg.now) seg.now
             (sight_of self.old) (sight_of self.new)) }
+        ensures senders { self.new.senders ≡ self.old.senders }
         ensures rest { self.new ≡ with_sight (sight_of self.new) self.old }
     {
         if !opens(seg) {
@@ -97,6 +98,7 @@ impl SlowWorker {
             (sight_of self.old) (sight_of self.new)) }
         ensures unopened { OnErr result (IsUnopenedIn (next_in self.old.pass.view.marks) seg.now
             (sight_of self.old) (sight_of self.new)) }
+        ensures senders { self.new.senders ≡ self.old.senders }
         ensures rest { self.new ≡ with_sight (sight_of self.new) self.old }
     {
         let Some(id) = self.pass.next_flow() else {
@@ -106,8 +108,8 @@ impl SlowWorker {
         Ok(Served::Opened(id))
     }
 
-    /// Opens the next flow for a SYN: it has a record, the slow path's pin, and a place in all lists. All that may want
-    /// memory comes before the table changes.
+    /// Opens the next flow for a SYN: it has a record, the slow path's pin, and a place in all lists, and it is kicked.
+    /// All that may want memory comes before the table changes.
     fn open<R: Wait>(
         &mut self,
         rt: &R,
@@ -123,18 +125,22 @@ impl SlowWorker {
         ensures kept { IsKept table.now (sight_of self.new) }
         ensures opened { OnOk result (IsOpened tick frame seg.now id (sight_of self.old) (sight_of self.new)) }
         ensures unopened { OnErr result (IsUnopened seg.now id (sight_of self.old) (sight_of self.new)) }
+        ensures senders { self.new.senders ≡ self.old.senders }
         ensures rest { self.new ≡ with_sight (sight_of self.new) self.old }
     {
         let tuple = tuple_of(seg);
         self.pins.reserve()?;
         self.flows.reserve()?;
+        self.kicks.reserve()?;
         let iss = self.path.next_iss();
         let params = self.path.params();
         let flow = FlowRecord::passive(self.alloc, id, tuple, params, iss, frame, seg, tick)?;
+        let kick = Kick::of(&flow);
         show(rt, &mut self.index, tuple, id)?;
         self.path.opened(id, seg.dport)?;
         self.pins.put(open_next(table, &mut self.pass, flow));
         self.flows.put(tuple, id);
+        self.kicks.put_some(kick);
         Ok(())
     }
 }

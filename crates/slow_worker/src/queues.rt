@@ -1,6 +1,6 @@
 // The frames that wait are handled, one after the other.
 ghost use Rattle.std.specs.Prelude.{◌≡◌, ◌<◌, ◌++◌, length, OnOk, OnErr};
-ghost use Rattle.slow_worker.specs.Workers.{sight_of, waiting, IsKept};
+ghost use Rattle.slow_worker.specs.Workers.{sight_of, waiting, IsKept, HasSenders};
 ghost use Rattle.slow_worker.specs.Queues.{IsAllServed, IsPartServed, IsFirstServed, IsFirstLeft, kept_of};
 
 use crate::served::Served;
@@ -15,9 +15,11 @@ impl SlowWorker {
     /// that wasn't handled still waits.
     pub fn serve<R: Wait>(&mut self, rt: &R, shared: &Shared, tick: u32) -> Result<(), AllocError>
         requires kept { IsKept shared.now.table (sight_of self.old) }
+        requires senders { HasSenders shared.now self.old }
         ensures kept { IsKept shared.now.table (sight_of self.new) }
-        ensures served { OnOk result (IsAllServed tick self.old self.new) }
-        ensures part { OnErr result (IsPartServed tick self.old self.new) }
+        ensures senders { HasSenders shared.now self.new }
+        ensures served { OnOk result (IsAllServed shared.now tick self.old self.new) }
+        ensures part { OnErr result (IsPartServed shared.now tick self.old self.new) }
     {
         for _ in 0..self.waiting() {
             self.serve_first(rt, shared, tick)?;
@@ -35,10 +37,12 @@ impl SlowWorker {
     /// Handles the first frame that waits.
     fn serve_first<R: Wait>(&mut self, rt: &R, shared: &Shared, tick: u32) -> Result<(), AllocError>
         requires kept { IsKept shared.now.table (sight_of self.old) }
+        requires senders { HasSenders shared.now self.old }
         requires some { 0 < length (waiting self.old) }
         ensures kept { IsKept shared.now.table (sight_of self.new) }
-        ensures served { OnOk result (IsFirstServed tick self.old self.new) }
-        ensures left { OnErr result (IsFirstLeft tick self.old self.new) }
+        ensures senders { HasSenders shared.now self.new }
+        ensures served { OnOk result (IsFirstServed shared.now tick self.old self.new) }
+        ensures left { OnErr result (IsFirstLeft shared.now tick self.old self.new) }
     {
         if self.exceptions.len() > 0 {
             self.serve_exception(rt, shared, tick)
@@ -55,10 +59,12 @@ impl SlowWorker {
         tick: u32,
     ) -> Result<(), AllocError>
         requires kept { IsKept shared.now.table (sight_of self.old) }
+        requires senders { HasSenders shared.now self.old }
         requires some { 0 < length self.old.exceptions.list }
         ensures kept { IsKept shared.now.table (sight_of self.new) }
-        ensures served { OnOk result (IsFirstServed tick self.old self.new) }
-        ensures left { OnErr result (IsFirstLeft tick self.old self.new) }
+        ensures senders { HasSenders shared.now self.new }
+        ensures served { OnOk result (IsFirstServed shared.now tick self.old self.new) }
+        ensures left { OnErr result (IsFirstLeft shared.now tick self.old self.new) }
     {
         self.deferred.reserve(1)?;
         let Some(first) = self.exceptions.take_first() else {
@@ -85,11 +91,13 @@ impl SlowWorker {
         tick: u32,
     ) -> Result<(), AllocError>
         requires kept { IsKept shared.now.table (sight_of self.old) }
+        requires senders { HasSenders shared.now self.old }
         requires none { length self.old.exceptions.list ≡ 0 }
         requires some { 0 < length self.old.deferred.list }
         ensures kept { IsKept shared.now.table (sight_of self.new) }
-        ensures served { OnOk result (IsFirstServed tick self.old self.new) }
-        ensures left { OnErr result (IsFirstLeft tick self.old self.new) }
+        ensures senders { HasSenders shared.now self.new }
+        ensures served { OnOk result (IsFirstServed shared.now tick self.old self.new) }
+        ensures left { OnErr result (IsFirstLeft shared.now tick self.old self.new) }
     {
         let Some(first) = self.deferred.take_first() else {
             unreachable!()

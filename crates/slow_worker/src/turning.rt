@@ -1,7 +1,9 @@
 // A turn of the worker.
-ghost use Rattle.std.specs.Prelude.{◌≡◌, true, OnOk, OnErr};
-ghost use Rattle.slow_worker.specs.Workers.{sight_of, HasFew, IsSound};
-ghost use Rattle.slow_worker.specs.Turns.{IsTimePassed, IsTimeStopped, has_passed as is_passed, IsTurn, IsTurnStopped};
+ghost use Rattle.std.specs.Prelude.{◌≡◌, false, true, OnOk, OnErr};
+ghost use Rattle.slow_worker.specs.Workers.{sight_of, HasFew, HasFewYet, IsSound, HasSenders};
+ghost use Rattle.slow_worker.specs.Kicking.{CanKick};
+ghost use Rattle.slow_worker.specs.Turns.{IsTimePassed, IsTimeStopped, has_passed as is_passed, HasFewBefore, IsWork};
+ghost use Rattle.slow_worker.specs.Turns.{IsWorkStopped, IsTurn, IsTurnStopped};
 
 use crate::worker::SlowWorker;
 use core_worker::Shared;
@@ -11,14 +13,39 @@ use std::sync::Wait;
 
 impl SlowWorker {
     /// The first turn of a tick: closed flows are given up, and time passes for all others. Every later turn of that
-    /// tick handles the frames that wait. The error is want of memory, and what was done stands.
+    /// tick handles the frames that wait. Then each kick that was kept, and each flow that the turn's entries and
+    /// openings left with something to send, is posted to the queue of its core, or kept where that is full. The error
+    /// is want of memory, and what was done stands.
     pub fn turn<R: Wait>(&mut self, rt: &R, shared: &Shared, tick: u32) -> Result<(), AllocError>
         requires sound { IsSound shared.now.table (sight_of self.old) }
         requires few { is_passed tick self.old ≡ true → HasFew self.old.pass.view }
+        requires senders { HasSenders shared.now self.old }
+        requires kickers { CanKick shared.now self.old.kickers }
         ensures sound { IsSound shared.now.table (sight_of self.new) }
-        ensures few { is_passed tick self.old ≡ true → HasFew self.new.pass.view }
-        ensures turned { OnOk result (IsTurn (is_passed tick self.old) tick self.old self.new) }
-        ensures stopped { OnErr result (IsTurnStopped (is_passed tick self.old) tick self.old self.new) }
+        ensures senders { HasSenders shared.now self.new }
+        ensures kickers { CanKick shared.now self.new.kickers }
+        ensures few { HasFewBefore (is_passed tick self.old) self.old.pass.view → HasFew self.new.pass.view }
+        ensures slots { is_passed tick self.old ≡ false → HasFewYet self.old.pass.view → HasFewYet self.new.pass.view }
+        ensures turned { OnOk result (IsTurn (is_passed tick self.old) shared.now tick self.old self.new) }
+        ensures stopped { OnErr result (IsTurnStopped (is_passed tick self.old) shared.now tick self.old self.new) }
+    {
+        let done = self.work(rt, shared, tick);
+        self.post_kicks(rt, shared);
+        done
+    }
+
+    /// What the turn is for.
+    fn work<R: Wait>(&mut self, rt: &R, shared: &Shared, tick: u32) -> Result<(), AllocError>
+        requires sound { IsSound shared.now.table (sight_of self.old) }
+        requires few { is_passed tick self.old ≡ true → HasFew self.old.pass.view }
+        requires senders { HasSenders shared.now self.old }
+        ensures sound { IsSound shared.now.table (sight_of self.new) }
+        ensures senders { HasSenders shared.now self.new }
+        ensures few { HasFewBefore (is_passed tick self.old) self.old.pass.view → HasFew self.new.pass.view }
+        ensures slots { is_passed tick self.old ≡ false → HasFewYet self.old.pass.view → HasFewYet self.new.pass.view }
+        ensures kickers { self.new.kickers ≡ self.old.kickers }
+        ensures done { OnOk result (IsWork (is_passed tick self.old) shared.now tick self.old self.new) }
+        ensures stopped { OnErr result (IsWorkStopped (is_passed tick self.old) shared.now tick self.old self.new) }
     {
         if self.has_passed(tick) {
             self.serve(rt, shared, tick)
@@ -41,6 +68,10 @@ impl SlowWorker {
     fn pass_time<R: Wait>(&mut self, rt: &R, shared: &Shared, tick: u32) -> Result<(), AllocError>
         requires sound { IsSound shared.now.table (sight_of self.old) }
         ensures sound { IsSound shared.now.table (sight_of self.new) }
+        ensures senders { self.new.senders ≡ self.old.senders }
+        ensures slots { HasFewYet self.old.pass.view → HasFewYet self.new.pass.view }
+        ensures few { HasFewYet self.old.pass.view → HasFew self.new.pass.view }
+        ensures kickers { self.new.kickers ≡ self.old.kickers }
         ensures passed { OnOk result (IsTimePassed tick self.old self.new) }
         ensures stopped { OnErr result (IsTimeStopped tick self.old self.new) }
     {

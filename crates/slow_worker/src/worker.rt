@@ -1,14 +1,16 @@
-ghost use Rattle.std.specs.Prelude.{◌≡◌, ◌<◌, ◌+◌, true, None, [], IfOk, IsOk, OnOk, OnErr};
-ghost use Rattle.slow_worker.specs.Workers.{sight_of, with_sight, waiting, first_sight, IsKept};
+ghost use Rattle.std.specs.Prelude.{◌≡◌, ◌<◌, ◌+◌, ◌++◌, ◌∷◌, true, None, [], IfOk, IsOk, OnOk, OnErr};
+ghost use Rattle.slow_worker.specs.Workers.{sight_of, with_sight, waiting, first_sight, IsKept, HasSenders, setting_of};
 ghost use Rattle.slow_worker.specs.Opening.{IsKnown, IsUnknown};
-ghost use Rattle.slow_worker.specs.Serving.{setting_of, with_line, IsServed, IsUnserved};
+ghost use Rattle.slow_worker.specs.Serving.{with_line, IsServed, IsUnserved};
 
+use crate::kicking::Kickers;
 use crate::known::KnownFlows;
 use crate::opening::show;
 use crate::served::Served;
 use crate::waiting::WaitingFrames;
 use app_reaper::{FiledList, PinList};
-use core_worker::{PassedFrame, Shared, tuple_of};
+use context_queue::SenderPass;
+use core_worker::{AppSenders, KickList, PassedFrame, Shared, tuple_of};
 use flow_index::{IndexReader, IndexWriter};
 use flow_lock::SlowPass;
 use flow_state::FlowRecord;
@@ -18,6 +20,7 @@ use std::alloc::{AllocError, Global};
 use std::collections::VecDeque;
 use std::marker::Model;
 use std::sync::Wait;
+use steering::SteerPass;
 use tas_core::{HostLog, LogEvent, LogLine};
 use tas_model::{Bytes, FlowId, FourTuple, FrameId};
 
@@ -46,6 +49,10 @@ pub struct SlowWorker {
     pub(crate) exceptions: WaitingFrames,
     /// The last tick whose time has passed for the flows.
     pub(crate) ticked: Option<u32>,
+    pub(crate) senders: AppSenders,
+    /// Kicks that weren't posted yet.
+    pub(crate) kicks: KickList,
+    pub(crate) kickers: Kickers,
 }
 
 impl Model for SlowWorker {
@@ -66,6 +73,9 @@ impl Model for SlowWorker {
       deferred = w.deferred;
       exceptions = w.exceptions;
       ticked = w.ticked;
+      senders = w.senders;
+      kicks = w.kicks.list;
+      kickers = w.kickers;
     } };
 }
 
@@ -85,18 +95,20 @@ pub struct SlowRemains {
 }
 
 impl SlowWorker {
-    /// The worker of a host's slow path, which knows no flow. It takes no memory.
+    /// The worker of a host's slow path, which knows no flow, and kicks no core yet. It takes no memory.
     pub fn new(
         alloc: Global,
         path: SlowPath,
         pass: SlowPass<FlowRecord>,
         index: IndexWriter,
+        steer: SteerPass,
     ) -> SlowWorker
         ensures sight { sight_of result ≡ first_sight path pass index }
         ensures filed { result.filed ≡ [] }
         ensures waiting { waiting result ≡ [] }
         ensures check_sums { result.check_sums ≡ true }
         ensures ticked { result.ticked ≡ None }
+        ensures kickers { result.kickers ≡ record { steer = steer; senders = [] } }
     {
         SlowWorker {
             path,
@@ -112,6 +124,9 @@ impl SlowWorker {
             deferred: WaitingFrames::new(alloc),
             exceptions: WaitingFrames::new(alloc),
             ticked: None,
+            senders: AppSenders::new(alloc),
+            kicks: KickList::new(alloc),
+            kickers: Kickers::new(alloc, steer),
         }
     }
 
@@ -125,6 +140,28 @@ impl SlowWorker {
         ensures rest { self.new ≡ record self.old { index = self.new.index } }
     {
         self.index.reader(rt)
+    }
+
+    /// Adds a sender of an application's queue. The error is want of memory, and then the sender is gone and all else
+    /// as it was.
+    pub fn add_sender(&mut self, app: u32, sender: SenderPass) -> Result<(), AllocError>
+        ensures ok { OnOk result (self.new ≡ record self.old {
+          senders = self.old.senders ++ record { app = app; sender = sender } ∷ [];
+        }) }
+        ensures err { OnErr result (self.new ≡ self.old) }
+    {
+        self.senders.add(app, sender)
+    }
+
+    /// Adds the sender of the next core's queue of kicks, that of core 0 first. The error is want of memory, and then
+    /// the sender is gone and all else as it was.
+    pub fn add_kicker(&mut self, sender: SenderPass) -> Result<(), AllocError>
+        ensures ok { OnOk result (self.new ≡ record self.old {
+          kickers = record self.old.kickers { senders = self.old.kickers.senders ++ sender ∷ [] };
+        }) }
+        ensures err { OnErr result (self.new ≡ self.old) }
+    {
+        self.kickers.add(sender)
     }
 
     /// A flow that an application opened receives the segments of its four-tuple from now on. The error is want of
@@ -165,6 +202,9 @@ impl SlowWorker {
             deferred,
             exceptions,
             ticked: _,
+            senders: _,
+            kicks: _,
+            kickers: _,
         } = self;
         index.end(rt);
         SlowRemains {
@@ -179,8 +219,9 @@ impl SlowWorker {
         }
     }
 
-    /// Handles one frame: its packet is read, and the segment is received by the flow that has its four-tuple, or meets
-    /// a listener, or is a stray. The error is want of memory, and then the frame made no entry, no flow and no line.
+    /// Handles one frame: its packet is read, and the segment is received by the flow that has its four-tuple, whose
+    /// application is told what that brought, or it meets a listener, or is a stray. The error is want of memory, and
+    /// then the frame made no entry, no flow, no line and no note.
     pub fn frame<R: Wait>(
         &mut self,
         rt: &R,
@@ -190,10 +231,12 @@ impl SlowWorker {
         packet: &Bytes,
     ) -> Result<Served, AllocError>
         requires kept { IsKept shared.now.table (sight_of self.old) }
+        requires senders { HasSenders shared.now self.old }
         ensures kept { IsKept shared.now.table (sight_of self.new) }
-        ensures served { IfOk result (IsServed (setting_of tick self.old) id packet.now
+        ensures senders { HasSenders shared.now self.new }
+        ensures served { IfOk result (IsServed (setting_of shared.now tick self.old) id packet.now
             (sight_of self.old) (sight_of self.new)) }
-        ensures unserved { OnErr result (IsUnserved (setting_of tick self.old) packet.now
+        ensures unserved { OnErr result (IsUnserved (setting_of shared.now tick self.old) packet.now
             (sight_of self.old) (sight_of self.new)) }
         ensures rest { self.new ≡ with_sight (sight_of self.new) self.old }
     {
@@ -202,7 +245,7 @@ impl SlowWorker {
             Err(refused) => return self.refuse(tick, id, refused.number()),
         };
         match self.flows.find(tuple_of(&seg)) {
-            Some(flow) => self.enter(&shared.table, tick, id, flow, &seg),
+            Some(flow) => self.enter(rt, shared, tick, id, flow, &seg),
             None => self.meet(rt, &shared.table, tick, id, &seg),
         }
     }
@@ -210,6 +253,7 @@ impl SlowWorker {
     /// Writes a line. The error is want of memory, and leaves all as it was.
     pub(crate) fn note(&mut self, tick: u32, event: LogEvent) -> Result<(), AllocError>
         ensures sight { OnOk result (sight_of self.new ≡ with_line tick event (sight_of self.old)) }
+        ensures senders { self.new.senders ≡ self.old.senders }
         ensures rest { self.new ≡ with_sight (sight_of self.new) self.old }
         ensures err { OnErr result (self.new ≡ self.old) }
     {

@@ -3,8 +3,10 @@ use Rattle.tas_model.specs.declared.entry.HostParams.{HostParams}
 use Rattle.slow_handshake.specs.Openings.{Openings}
 use Rattle.core_worker.specs.Workers.{Common}
 use Rattle.slow_worker.specs.Workers.{Sight, sight_of, IsKept}
+use Rattle.shared_host.specs.Cores.{kicking_on}
 use Rattle.shared_host.specs.SlowPaths.{IsNewSlow}
-use Rattle.shared_host.proofs.Adding.{each_free, each_own, each_silent}
+use Rattle.slow_worker.specs.Kicking.{Kicking}
+use Rattle.shared_host.proofs.Adding.{each_free, each_own, each_silent, can_kick}
 use Rattle.shared_host.proofs.SlowPaths.{kept_at_first}
 use Rattle.shared_host.proofs.assembling.assemble.Goals as goal
 
@@ -30,3 +32,11 @@ returns-in-Ok-clause-kept g c =
     (subst (λ (p : HostParams). IsNewSlow p c.in_ok-table.table c.args.cores 0 c.make_cores.new.slow) same
     c.in-Ok.ensures.slow)
     c.requires.params c.in_ok-table.ensures.table)
+
+pub returns-in-Ok-clause-can : goal.returns-in-Ok-clause-can
+returns-in-Ok-clause-can g c =
+    let made = c.in-Ok.made.kicks.items in
+    let first = ap (λ (k : Kicking). k.steer) c.new-slow.ensures.kickers ∙ c.in_ok-own_steer.ensures.alike in
+    can_kick _ c.new-in-Ok.result c.in_ok-steering.steer c.make_cores.new.slow.kickers c.args.cores c.new-in-Ok.ensures
+    (c.in-Ok.ensures.kickers ∙ ap (λ s. kicking_on s made) first) c.in_ok-steering.ensures.own
+    c.in_ok-steering.ensures.cores c.in-Ok.ensures.made.queues

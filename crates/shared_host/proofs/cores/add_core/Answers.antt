@@ -1,3 +1,5 @@
+use Rattle.std.proofs.Common.{ap, ◌∙◌, ◌+◌}
+use Rattle.context_queue.specs.Notes.{Receiver}
 use Rattle.shared_host.proofs.Adding.{one_core}
 use Rattle.shared_host.proofs.cores.add_core.Goals as goal
 
@@ -7,4 +9,7 @@ returns-clause-cores g c =
     c.args.cores.now.workers.items c.push-2.new.self.items c.in_ok-queue.queue c.new-worker.result _
     c.slow.inside.pass.view _ _
     c.requires.cores c.in_ok-queue.ensures.room c.new-worker.ensures c.in_ok-reader.ensures.new
-    c.split-pass.ensures.new c.in_ok-queue.ensures.own c.in_ok-push.ensures.items c.in_ok-push-2.ensures.items
+    c.split-pass.ensures.new
+    (ap (λ (r : Receiver). r.line) c.in_ok-sender.ensures.counted ∙ c.in_ok-queue.ensures.own)
+    (ap (λ (r : Receiver). r.senders) c.in_ok-sender.ensures.counted ∙ ap (λ n. n + 1) c.in_ok-queue.ensures.new.0)
+    c.in_ok-push.ensures.items c.in_ok-push-2.ensures.items

@@ -1,3 +1,5 @@
+use Rattle.std.proofs.Common.{map, refl, sym, ap, ◌∙◌}
+use Rattle.shared_host.specs.Cores.{first_sender}
 use Rattle.shared_host.proofs.Adding.{no_cores}
 use Rattle.shared_host.proofs.SlowPaths.{all_left, core_added}
 use Rattle.shared_host.proofs.cores.make_cores.Goals as goal
@@ -6,6 +8,8 @@ pub loop-core-init : goal.loop-core-init
 loop-core-init g c = record {
   slow = all_left c.args.slow.now.path.params c.args.table.now c.args.cores c.args.slow.now c.requires.slow;
   made = no_cores c.args.table.now c.new.result.items c.new-2.result.items c.new.ensures.items c.new-2.ensures.items;
+  kickers = c.requires.none ∙ sym (ap (map first_sender) c.new.ensures.items);
+  steer = refl;
 }
 
 pub loop-core-preserved : goal.loop-core-preserved
@@ -14,4 +18,6 @@ loop-core-preserved g c = record {
       c.add_core.new.slow c.loop-core.invariant.slow c.in_ok-add_core.ensures.pass c.in_ok-add_core.ensures.reader
       c.in_ok-add_core.ensures.index c.add_core.ensures.rest;
   made = c.in_ok-add_core.ensures.cores;
+  kickers = c.in_ok-add_core.ensures.kickers;
+  steer = c.add_core.ensures.steer ∙ c.loop-core.invariant.steer;
 }

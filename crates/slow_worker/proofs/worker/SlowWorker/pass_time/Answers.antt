@@ -1,8 +1,8 @@
 use Rattle.std.proofs.Common.{ap, sym, subst}
 use Rattle.tas_model.specs.Valid.{InRange}
 use Rattle.core_worker.specs.Workers.{Common}
-use Rattle.slow_worker.specs.Workers.{Worker}
-use Rattle.slow_worker.proofs.Ticks.{time_sound}
+use Rattle.slow_worker.specs.Workers.{Worker, HasFewYet}
+use Rattle.slow_worker.proofs.Ticks.{time_sound, still_few, few_yet}
 use Rattle.slow_worker.proofs.worker.SlowWorker.pass_time.Goals as goal
 
 pub returns-in_err-done-clause-sound : goal.returns-in_err-done-clause-sound
@@ -22,3 +22,15 @@ returns-clause-sound g c = (
       c.keep.ensures.list,
   subst (λ (w : Worker). InRange w.path.params) (sym c.self.view_is) c.requires.sound.1,
 )
+
+pub returns-in_err-done-clause-few : goal.returns-in_err-done-clause-few
+returns-in_err-done-clause-few g c =
+    λ yet. few_yet c.tick_all-done.new.slow.view
+    (still_few c.self.inside.pass.view c.tick_all-done.new.slow.view c.tick_all-done.ensures.rights
+    (subst (λ (w : Worker). HasFewYet w.pass.view) (sym c.self.view_is) yet))
+
+pub returns-clause-few : goal.returns-clause-few
+returns-clause-few g c =
+    λ yet. few_yet c.tick_all-done.new.slow.view
+    (still_few c.self.inside.pass.view c.tick_all-done.new.slow.view c.tick_all-done.ensures.rights
+    (subst (λ (w : Worker). HasFewYet w.pass.view) (sym c.self.view_is) yet))

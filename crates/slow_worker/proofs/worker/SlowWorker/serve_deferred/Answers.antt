@@ -1,7 +1,8 @@
 use Rattle.std.proofs.Common.{◌≡◌, ap, sym, ◌∙◌, subst, ◌∷◌, length}
 use Rattle.slow_worker.specs.contracts.worker.SlowWorker.{the_view}
-use Rattle.slow_worker.specs.Workers.{Worker, Sight, sight_of}
-use Rattle.slow_worker.specs.Serving.{setting_of, IsUnserved}
+use Rattle.slow_worker.specs.Workers.{Worker, Sight, sight_of, setting_of}
+use Rattle.slow_worker.specs.Serving.{IsUnserved}
+use Rattle.slow_worker.specs.Queues.{standing_of}
 use Rattle.slow_worker.proofs.Serving.{joined, none_of, first_left}
 use Rattle.slow_worker.proofs.worker.SlowWorker.serve_deferred.Goals as goal
 
@@ -19,8 +20,8 @@ returns-in-Err-clause-left g c =
     let deferred : n.deferred.list ≡ u.deferred.list =
     c.put_back.ensures.list
     ∙ (ap (λ (w : Worker). f ∷ w.deferred.list) rest ∙ sym c.in-Some.ensures.first) in
-    first_left c.args.tick u c.args.self.now n f _ c.self.view_is first
-    (subst (λ (s : Sight). IsUnserved (setting_of c.args.tick u) f.frame.packet (sight_of u) s)
+    first_left c.args.shared.now c.args.tick u c.args.self.now n f _ c.self.view_is first
+    (subst (λ (s : Sight). IsUnserved (setting_of c.args.shared.now c.args.tick u) f.frame.packet (sight_of u) s)
     (ap sight_of (sym c.self-in-Err.view_is)) c.in-Err.ensures.unserved)
     (joined _ _ _ _ exceptions deferred)
-    (ap (λ (w : Worker). w.filed) rest, ap (λ (w : Worker). w.check_sums) rest, ap (λ (w : Worker). w.ticked) rest)
+    (ap standing_of rest)

@@ -1,8 +1,8 @@
 use Rattle.std.proofs.Common.{◌≡◌, ap, sym, ◌∙◌, subst, ◌++◌, ◌∷◌, length, ◌-◌, arith, append_assoc}
 use Rattle.slow_worker.specs.contracts.worker.SlowWorker.{the_view}
-use Rattle.slow_worker.specs.Workers.{Worker, Sight, sight_of}
-use Rattle.slow_worker.specs.Serving.{setting_of, IsUnserved}
-use Rattle.slow_worker.specs.Queues.{kept_of, IsOneServed}
+use Rattle.slow_worker.specs.Workers.{Worker, Sight, sight_of, setting_of}
+use Rattle.slow_worker.specs.Serving.{IsUnserved}
+use Rattle.slow_worker.specs.Queues.{kept_of, IsOneServed, standing_of}
 use Rattle.slow_worker.proofs.Serving.{joined, first_left, first_served}
 use Rattle.slow_worker.proofs.worker.SlowWorker.serve_exception.Goals as goal
 
@@ -18,11 +18,11 @@ returns-in-Err-clause-left g c =
     c.put_back.ensures.list ∙ ap (λ (w : Worker). f ∷ w.exceptions.list) rest in
     let deferred : n.deferred.list ≡ u.deferred.list =
     ap (λ (w : Worker). w.deferred.list) rest ∙ c.reserve.ensures.list in
-    first_left c.args.tick u c.args.self.now n f _ c.self.view_is first
-    (subst (λ (s : Sight). IsUnserved (setting_of c.args.tick u) f.frame.packet (sight_of u) s)
+    first_left c.args.shared.now c.args.tick u c.args.self.now n f _ c.self.view_is first
+    (subst (λ (s : Sight). IsUnserved (setting_of c.args.shared.now c.args.tick u) f.frame.packet (sight_of u) s)
     (ap sight_of (sym c.self-in-Err.view_is)) c.in-Err.ensures.unserved)
     (joined _ _ _ _ exceptions deferred ∙ sym first)
-    (ap (λ (w : Worker). w.filed) rest, ap (λ (w : Worker). w.check_sums) rest, ap (λ (w : Worker). w.ticked) rest)
+    (ap standing_of rest)
 
 pub returns-in-Ok-clause-served : goal.returns-in-Ok-clause-served
 returns-in-Ok-clause-served g c =
@@ -41,12 +41,9 @@ returns-in-Ok-clause-served g c =
     let fewer : length n.exceptions.list ≡ length u.exceptions.list - 1 =
     let long = ap length c.in-Some.ensures.first in
     let left = ap length exceptions in omega (arith, long, left) in
-    first_served c.args.tick u c.args.self.now n f (c.take_first.new.self.list ++ u.deferred.list) c.in-Ok.served
-    c.self.view_is first
-    (subst (λ (s : Sight). IsOneServed (setting_of c.args.tick u) f (sight_of u) s c.in-Ok.served)
+    first_served c.args.shared.now c.args.tick u c.args.self.now n f (c.take_first.new.self.list ++ u.deferred.list)
+    c.in-Ok.served c.self.view_is first
+    (subst (λ (s : Sight). IsOneServed (setting_of c.args.shared.now c.args.tick u) f (sight_of u) s c.in-Ok.served)
     (ap sight_of (sym last)) c.in-Ok.ensures.served)
-    (joined _ _ _ _ exceptions deferred ∙ sym (append_assoc c.take_first.new.self.list u.deferred.list _)) fewer (
-      ap (λ (w : Worker). w.filed) last ∙ ap (λ (w : Worker). w.filed) rest,
-      ap (λ (w : Worker). w.check_sums) last ∙ ap (λ (w : Worker). w.check_sums) rest,
-      ap (λ (w : Worker). w.ticked) last ∙ ap (λ (w : Worker). w.ticked) rest,
-    )
+    (joined _ _ _ _ exceptions deferred ∙ sym (append_assoc c.take_first.new.self.list u.deferred.list _)) fewer
+    (ap standing_of last ∙ ap standing_of rest)
