@@ -11,7 +11,8 @@ use std::thread::Threads;
 use tas_num::Gate;
 
 /// Cores take the frames of flows that stand at these places side by side. The answer are the frames that were left, in
-/// the order in which they came. `spare` has flows that stand in for those that cores have. The error is want of memory.
+/// the order in which they came. `spare` has flows that stand in for those that cores have. The error is want of
+/// memory.
 pub fn take_on_cores<'a, R: Threads + Sync, G: Gate>(
     rt: &R,
     alloc: Global,

@@ -35,8 +35,8 @@ loop-batch-preserved c =
     let refused : c.with.result.refused ≡ r + count_by is_damaged (map item_in batch) = c.with.ensures.refused
     ∙ ap (λ b. r + count_by is_damaged (map item_in b)) c.deref-2.ensures.value in
     record {
-      played = next_played all xs (map item_in batch) rest c.loop-batch.ticks c.loop-batch.replay c.play.new.self _ first
-          made c.loop-batch.invariant.played;
+      played = next_played all xs (map item_in batch) rest c.loop-batch.ticks c.loop-batch.replay c.play.new.self _
+          first made c.loop-batch.invariant.played;
       ticks = next_counted xs (map item_in batch) rest c.loop-batch.ticks _ first c.loop-batch.invariant.ticks;
       items = items_left xs (map item_in batch) rest n c.with.result.items _ front more c.loop-batch.invariant.items;
       refused = counted_left is_damaged xs (map item_in batch) rest r c.with.result.refused _ front refused
