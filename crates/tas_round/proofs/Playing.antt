@@ -1,6 +1,7 @@
 -- A replay, a batch at a time.
-use Rattle.std.proofs.Common.{◌≡◌, ℕ, suc, ◌+◌, ◌<◌, ◌≤◌, Bool, [], ◌∷◌, ◌++◌, List, length, map, count_by, Result, Ok}
-use Rattle.std.proofs.Common.{IfOk, cond, refl, ap, subst, sym, ◌∙◌, arith, length-append}
+use Rattle.std.proofs.Common.{◌≡◌, ℕ, suc, ◌+◌, ◌<◌, ◌≤◌, ◌==◌, Bool, false, [], ◌∷◌, ◌++◌, List, length, map}
+use Rattle.std.proofs.Common.{count_by, Result, Ok, IfOk, cond, refl, ap, subst, sym, ◌∙◌, arith, length-append}
+use Rattle.std.proofs.lemmas.Bool.Decides.{nat_tests}
 use Rattle.std.proofs.lemmas.List.{length-map}
 use Rattle.std.proofs.lemmas.List.Sums.{sum_by-append}
 use Rattle.tas_runs.specs.Records.{Item}
@@ -85,6 +86,13 @@ some_left f xs rest [] front some = absurd (omega (arith, some))
 some_left f xs rest (x ∷ batch) front some =
     let len : length xs ≡ suc (length (map f batch ++ rest)) = ap length front in
     omega (arith, len)
+
+pub some_there : {X : Type 0} (xs lent : List X) (n : ℕ) (b : Bool) → lent ≡ xs → length lent ≡ n → b ≡ (n == 0)
+    → b ≡ false → 0 < length xs
+some_there xs lent n b same len test apart =
+    let not_none : (n == 0) ≡ false = sym test ∙ apart in
+    let here : length lent ≡ length xs = ap length same in
+    grind (arith, nat_tests, not_none, len, here)
 
 -- what holds of an answer that is known
 pub ok_gives : {T E : Type 0} (r : Result T E) (P : T → Type 0) (x : T) → r ≡ Ok x → IfOk r P → P x

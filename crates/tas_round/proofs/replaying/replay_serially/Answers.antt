@@ -7,18 +7,6 @@ use Rattle.capture_items.proofs.Replays.{found_is_replayed}
 use Rattle.tas_round.specs.Runs.{log_in, Ended}
 use Rattle.tas_round.proofs.Playing.{ok_gives}
 use Rattle.tas_round.proofs.replaying.replay_serially.Goals as goal
-use Rattle.tas_round.proofs.replaying.replay_serially.Goals.{After-drop-numbers}
-
-serial : (c : After-drop-numbers)
-    → serial_replay c.args.local c.args.capture.now c.args.loose ≡ Ok (log_in c.in_ok-log.log)
-serial c =
-    let found = c.in_ok-items.field-0 in
-    let ended : Ended c.args.local found.items c.in_ok-ending.ending = c.in_ok-ending.ensures.ended in
-    let same : log_in c.in_ok-log.log ≡ serial_log c.args.local found.records found.items =
-    c.in_ok-log.ensures c.args.local found.items ended.ticks ended.met ended.refused
-    ∙ ap (λ site. replay_log c.args.local found.records found.items site.host) ended.played in
-    found_is_replayed c.args.capture.now c.args.local c.args.loose found c.in_ok-items.ensures.found
-    ∙ ap (λ (log : RunLog). Ok log) (sym same)
 
 pub log_of-requires : goal.log_of-requires
 log_of-requires c = record {
@@ -27,11 +15,18 @@ log_of-requires c = record {
 }
 
 pub returns-clause-serial : goal.returns-clause-serial
-returns-clause-serial c = serial c
+returns-clause-serial c =
+    let found = c.in_ok-items.field-0 in
+    let ended : Ended c.args.local found.items c.in_ok-ending.ending = c.in_ok-ending.ensures.ended in
+    let same : log_in c.in_ok-log.log ≡ serial_log c.args.local found.records found.items =
+    c.in_ok-log.ensures c.args.local found.items ended.ticks ended.met ended.refused
+    ∙ ap (λ site. replay_log c.args.local found.records found.items site.host) ended.played in
+    found_is_replayed c.args.capture.now c.args.local c.args.loose found c.in_ok-items.ensures.found
+    ∙ ap (λ (log : RunLog). Ok log) (sym same)
 
 pub returns-clause-run : goal.returns-clause-run
 returns-clause-run c =
     let run = serial_replay c.args.local c.args.capture.now c.args.loose in
     let is_run = Replay c.args.local c.args.capture.now c.args.loose in
     let right = serial_is_replay c.args.local c.args.capture.now c.args.loose in
-    ok_gives run is_run (log_in c.in_ok-log.log) (serial c) right
+    ok_gives run is_run (log_in c.in_ok-log.log) (returns-clause-serial c) right

@@ -3,16 +3,16 @@ use Rattle.std.proofs.lemmas.List.{length-map}
 use Rattle.tas_runs.specs.Records.{is_damaged}
 use Rattle.capture_items.specs.Items.{item_in}
 use Rattle.tas_round.proofs.Playing.{tick, next_played, next_counted, no_more, no_more_ticks, items_left, batch_within}
-use Rattle.tas_round.proofs.Playing.{counted_left, all_counted, none_left, some_left}
+use Rattle.tas_round.proofs.Playing.{counted_left, all_counted, none_left, some_left, some_there}
 use Rattle.tas_round.proofs.replaying.run_batches.Goals as goal
 
-pub with-requires : goal.with-requires
-with-requires c =
+pub with-tally-requires : goal.with-tally-requires
+with-tally-requires c =
     let batch = c.next_batch.new.batch.items in
     let within = batch_within item_in c.loop-batch.left c.next_batch.new.self batch c.loop-batch.tally.items _
     c.in_ok-next_batch.ensures.front c.loop-batch.invariant.items in
     record {
-      items = omega (arith, ap length c.deref-2.ensures.value, within, c.requires.few);
+      items = omega (arith, ap length c.deref-in-loop-batch.ensures.value, within, c.requires.few);
       refused = c.loop-batch.invariant.within;
     }
 
@@ -23,25 +23,26 @@ loop-batch-preserved c =
     let rest = c.next_batch.new.self in
     let batch = c.next_batch.new.batch.items in
     let front = c.in_ok-next_batch.ensures.front in
-    let nonempty : 0 < length batch = search rules in
+    let nonempty : 0 < length batch = some_there batch c.deref.result.now _ c.is_empty.result c.deref.ensures.value
+    c.deref.ensures.len c.is_empty.ensures c.if-is_empty.false in
     let first = c.in_ok-next_batch.ensures.first (some_left item_in xs rest batch front nonempty) in
     let made : c.play.new.self ≡ tick all c.loop-batch.ticks c.loop-batch.replay (map item_in batch) =
     subst (λ b. c.play.new.self ≡ tick all c.loop-batch.ticks c.loop-batch.replay (map item_in b)) c.deref.ensures.value
     (c.in_ok-play.ensures all c.requires.numbers) in
     let n = c.loop-batch.tally.items in
-    let more : c.with.result.items ≡ n + length (map item_in batch) = c.with.ensures.items
-    ∙ ap (λ b. n + length (map item_in b)) c.deref-2.ensures.value in
+    let more : c.with-tally.result.items ≡ n + length (map item_in batch) = c.with-tally.ensures.items
+    ∙ ap (λ b. n + length (map item_in b)) c.deref-in-loop-batch.ensures.value in
     let r = c.loop-batch.tally.refused in
-    let refused : c.with.result.refused ≡ r + count_by is_damaged (map item_in batch) = c.with.ensures.refused
-    ∙ ap (λ b. r + count_by is_damaged (map item_in b)) c.deref-2.ensures.value in
+    let refused : c.with-tally.result.refused ≡ r + count_by is_damaged (map item_in batch) = c.with-tally.ensures.refused
+    ∙ ap (λ b. r + count_by is_damaged (map item_in b)) c.deref-in-loop-batch.ensures.value in
     record {
       played = next_played all xs (map item_in batch) rest c.loop-batch.ticks c.loop-batch.replay c.play.new.self _
           first made c.loop-batch.invariant.played;
       ticks = next_counted xs (map item_in batch) rest c.loop-batch.ticks _ first c.loop-batch.invariant.ticks;
-      items = items_left xs (map item_in batch) rest n c.with.result.items _ front more c.loop-batch.invariant.items;
-      refused = counted_left is_damaged xs (map item_in batch) rest r c.with.result.refused _ front refused
+      items = items_left xs (map item_in batch) rest n c.with-tally.result.items _ front more c.loop-batch.invariant.items;
+      refused = counted_left is_damaged xs (map item_in batch) rest r c.with-tally.result.refused _ front refused
           c.loop-batch.invariant.refused;
-      within = c.with.ensures.few;
+      within = c.with-tally.ensures.few;
       few = omega (arith, c.loop-batch.invariant.few, more, length-map batch item_in, nonempty);
     }
 
