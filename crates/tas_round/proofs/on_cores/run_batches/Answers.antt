@@ -39,7 +39,8 @@ loop-batch-preserved g c =
     let more : c.with-tally.result.items ≡ n + length (map item_in batch) = c.with-tally.ensures.items
     ∙ ap (λ b. n + length (map item_in b)) c.deref-in-loop-batch.ensures.value in
     let r = c.loop-batch.tally.refused in
-    let refused : c.with-tally.result.refused ≡ r + count_by is_damaged (map item_in batch) = c.with-tally.ensures.refused
+    let refused : c.with-tally.result.refused ≡ r + count_by is_damaged (map item_in batch) =
+    c.with-tally.ensures.refused
     ∙ ap (λ b. r + count_by is_damaged (map item_in b)) c.deref-in-loop-batch.ensures.value in
     record {
       played = next_right c.args.local all xs (map item_in batch) rest c.loop-batch.ticks c.loop-batch.replay
@@ -47,7 +48,8 @@ loop-batch-preserved g c =
       histories = batch_kept all c.loop-batch.ticks (map item_in batch) c.loop-batch.replay c.play_on_cores.new.self
           c.loop-batch.invariant.histories round;
       ticks = next_counted xs (map item_in batch) rest c.loop-batch.ticks _ first c.loop-batch.invariant.ticks;
-      items = items_left xs (map item_in batch) rest n c.with-tally.result.items _ front more c.loop-batch.invariant.items;
+      items = items_left xs (map item_in batch) rest n c.with-tally.result.items _ front more
+          c.loop-batch.invariant.items;
       refused = counted_left is_damaged xs (map item_in batch) rest r c.with-tally.result.refused _ front refused
           c.loop-batch.invariant.refused;
       within = c.with-tally.ensures.few;

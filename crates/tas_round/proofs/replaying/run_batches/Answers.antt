@@ -33,13 +33,15 @@ loop-batch-preserved c =
     let more : c.with-tally.result.items ≡ n + length (map item_in batch) = c.with-tally.ensures.items
     ∙ ap (λ b. n + length (map item_in b)) c.deref-in-loop-batch.ensures.value in
     let r = c.loop-batch.tally.refused in
-    let refused : c.with-tally.result.refused ≡ r + count_by is_damaged (map item_in batch) = c.with-tally.ensures.refused
+    let refused : c.with-tally.result.refused ≡ r + count_by is_damaged (map item_in batch) =
+    c.with-tally.ensures.refused
     ∙ ap (λ b. r + count_by is_damaged (map item_in b)) c.deref-in-loop-batch.ensures.value in
     record {
       played = next_played all xs (map item_in batch) rest c.loop-batch.ticks c.loop-batch.replay c.play.new.self _
           first made c.loop-batch.invariant.played;
       ticks = next_counted xs (map item_in batch) rest c.loop-batch.ticks _ first c.loop-batch.invariant.ticks;
-      items = items_left xs (map item_in batch) rest n c.with-tally.result.items _ front more c.loop-batch.invariant.items;
+      items = items_left xs (map item_in batch) rest n c.with-tally.result.items _ front more
+          c.loop-batch.invariant.items;
       refused = counted_left is_damaged xs (map item_in batch) rest r c.with-tally.result.refused _ front refused
           c.loop-batch.invariant.refused;
       within = c.with-tally.ensures.few;
