@@ -27,6 +27,7 @@ pub enum Piece {
 }
 
 /// The piece that goes next; `None` where nothing may.
+#[inline(always)]
 pub fn next_piece(parts: &Parts) -> Option<Piece>
     ensures { result ≡ piece_of parts.now }
 {
@@ -38,6 +39,7 @@ pub fn next_piece(parts: &Parts) -> Option<Piece>
 }
 
 /// The piece that goes next past the opening.
+#[inline(always)]
 fn running_piece(parts: &Parts) -> Option<Piece>
     ensures { result ≡ running_of parts.now }
 {
@@ -79,9 +81,14 @@ pub fn bytes_waiting(parts: &Parts) -> u32
 fn bytes_due(parts: &Parts) -> u32
     ensures { result ≡ due_of parts.now }
 {
+    let waiting = bytes_waiting(parts);
+    // Mostly none waits, and nothing else has to be looked at.
+    if waiting == 0 {
+        return 0;
+    }
     let flight = in_flight(parts);
     u32::from(parts.smss)
-        .min(bytes_waiting(parts))
+        .min(waiting)
         .min(parts.window.saturating_sub(flight))
         .min(parts.cwnd.saturating_sub(flight))
         .min(parts.bucket.tokens)

@@ -1,6 +1,6 @@
 -- The history that stretches mean: a stretch is one entry, or a run of quiet ticks.
 use Rattle.std.specs.Prelude.{◌≡◌, ℕ, zero, suc, ◌+◌, ◌^◌, ◌<◌, ◌≤◌, ◌==◌, ◌&&◌, Bool, true, false, List, [], ◌∷◌}
-use Rattle.std.specs.Prelude.{◌++◌, length, flat_map, ⊤}
+use Rattle.std.specs.Prelude.{◌++◌, length, flat_map, ⊤, ◌-◌, slice_get, Option, Some, None}
 use Rattle.tas_model.specs.declared.entry.Caller.{Caller}
 use Rattle.tas_model.specs.declared.entry.Call.TheVariants as calls
 use Rattle.tas_model.specs.declared.entry.Reply.TheVariants as replies
@@ -75,6 +75,15 @@ is_quiet_tick s = is_quiet_pair s.call s.reply
 abbrev pub comes_next : QuietRun → Caller → (number tick : ℕ) → Bool
 comes_next r caller number tick =
     same_caller r.caller caller && number == r.number + r.more + 1 && tick == r.tick + r.more + 1
+
+abbrev pub ends_so : Option Stretch → Caller → (number tick : ℕ) → Bool
+ends_so None caller number tick = false
+ends_so (Some (One s)) caller number tick = false
+ends_so (Some (Quiet r)) caller number tick = comes_next r caller number tick
+
+-- it is the next one of the run that the stretches end with
+abbrev pub goes_on : List Stretch → Caller → (number tick : ℕ) → Bool
+goes_on ss caller number tick = ends_so (slice_get ss (length ss - 1)) caller number tick
 
 -- ----- one entry more
 -- The stretches have the entry of this slot behind the others. Where no stretch came to them, a tick passed.

@@ -1,6 +1,7 @@
 ghost use Rattle.std.specs.Prelude.{◌≡◌, ℕ, ◌+◌, ◌-◌, ◌^◌, ◌<◌, ◌≤◌, if◌then◌else◌, vec_len, vec_capacity, position};
 ghost use Rattle.std.specs.Prelude.{IfOk, IsOk, OnOk};
 ghost use Rattle.tas_model.specs.declared.entry.Caller.{Caller};
+ghost use Rattle.tas_model.specs.declared.entry.Caller.TheVariants.{Slow};
 ghost use Rattle.tas_model.specs.LegalHistory.{same_caller};
 ghost use Rattle.flow_state.specs.Counts.{counted_for, is_for};
 
@@ -124,6 +125,24 @@ impl CallerCounts {
             Caller::Slow => self.slow,
             _ => number_in(&self.others, caller),
         }
+    }
+
+    /// How many entries the slow path has made.
+    pub fn slow(&self) -> u64
+        ensures { result ≡ counted_for Slow self.now.counts }
+    {
+        self.slow
+    }
+
+    /// Counts one entry more of the slow path, whose count has its place.
+    pub fn count_slow(&mut self)
+        requires small { counted_for Slow self.old.counts < 2 ^ 64 - 1 }
+        ensures counted { (other : Caller)
+            → counted_for other self.new.counts ≡ counted_for other self.old.counts + (if same_caller Slow other then
+            1 else 0) }
+        ensures spare { self.new.spare ≡ self.old.spare }
+    {
+        self.slow += 1;
     }
 
     /// Counts one entry more of the caller.

@@ -24,7 +24,7 @@ mod view;
 
 pub use app::AppCalls;
 pub use call::{Answer, CallIn};
-pub use engine::{Engine, cost, need};
+pub use engine::{Clock, Engine, cost, need};
 pub use parts::Parts;
 pub use record::FlowRecord;
 pub use stage::Stage;

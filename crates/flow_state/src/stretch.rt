@@ -4,7 +4,8 @@ ghost use Rattle.tas_model.specs.LegalHistory.{last_tick};
 ghost use Rattle.flow_state.specs.Slots.{IsWithin, entry_of};
 ghost use Rattle.flow_state.specs.Stretches.{AllWithin, entries_of, entries_in, StretchWithin, IsRun};
 ghost use Rattle.flow_state.specs.Stretches.{is_quiet_tick as model_quiet, comes_next as model_next};
-ghost use Rattle.flow_state.specs.Stretches.{quiet_tick, AddedTick};
+ghost use Rattle.flow_state.specs.Stretches.{quiet_tick, AddedTick, goes_on as model_goes_on};
+ghost use Rattle.flow_state.specs.declared.call.Answer.TheVariants as answers;
 ghost use Rattle.flow_state.specs.Calls.{answer_len};
 
 use crate::call::Answer;
@@ -41,6 +42,7 @@ fn is_quiet_tick(slot: &Slot) -> bool
 }
 
 /// Whether a quiet tick with this caller, number and tick is the next one of the run.
+#[inline(always)]
 fn comes_next(run: &QuietRun, caller: Caller, number: u64, tick: u32) -> bool
     ensures { result ≡ model_next run.now caller number tick }
 {
@@ -49,13 +51,26 @@ fn comes_next(run: &QuietRun, caller: Caller, number: u64, tick: u32) -> bool
         && u64::from(tick) == u64::from(run.tick) + u64::from(run.more) + 1
 }
 
+/// Whether a quiet tick with this caller, number and tick is the next one of the run that the stretches end with.
+#[inline(always)]
+pub fn goes_on(stretches: &[Stretch], caller: Caller, number: u64, tick: u32) -> bool
+    ensures { result ≡ model_goes_on stretches.now caller number tick }
+{
+    match stretches.last() {
+        Some(Stretch::Quiet(run)) => comes_next(run, caller, number, tick),
+        _ => false,
+    }
+}
+
 /// Lengthens the last run by a quiet tick, where it is its next one, and tells whether it is.
+#[inline(always)]
 fn lengthen(stretches: &mut Vec<Stretch>, caller: Caller, number: u64, tick: u32) -> bool
     ensures entries { (arena : List ℕ) → result ≡ true → entries_of arena stretches.new.items
         ≡ entries_of arena stretches.old.items ++ quiet_tick caller number tick ∷ [] }
     ensures tick { (arena : List ℕ) → result ≡ true
         → tick ≡ last_tick 0 (entries_of arena stretches.old.items) + 1 }
     ensures within { (n : ℕ) → AllWithin n stretches.old.items → AllWithin n stretches.new.items }
+    ensures goes { model_goes_on stretches.old.items caller number tick ≡ true → result ≡ true }
     ensures unmade { result ≡ false → stretches.new ≡ stretches.old }
     ensures len { vec_len stretches.new ≡ vec_len stretches.old }
     ensures capacity { vec_capacity stretches.new ≡ vec_capacity stretches.old }
@@ -75,6 +90,17 @@ fn lengthen(stretches: &mut Vec<Stretch>, caller: Caller, number: u64, tick: u32
         ..run
     });
     true
+}
+
+/// Lengthens the last run by this quiet tick, which is its next one.
+pub fn go_on(stretches: &mut Vec<Stretch>, caller: Caller, number: u64, tick: u32)
+    requires { model_goes_on stretches.old.items caller number tick ≡ true }
+    ensures added { AddedTick stretches.old.items stretches.new.items caller number tick answers.Quiet }
+    ensures next { (arena : List ℕ) → tick ≡ last_tick 0 (entries_of arena stretches.old.items) + 1 }
+    ensures len { vec_len stretches.new ≡ vec_len stretches.old }
+    ensures capacity { vec_capacity stretches.new ≡ vec_capacity stretches.old }
+{
+    lengthen(stretches, caller, number, tick);
 }
 
 /// Adds a stretch behind the others, which have room for it.

@@ -1,10 +1,14 @@
-ghost use Rattle.std.specs.Prelude.{◌≡◌, OnOk, IfOk};
+ghost use Rattle.std.specs.Prelude.{◌≡◌, OnOk, IfOk, []};
+ghost use Rattle.tas_model.specs.declared.entry.Call.TheVariants as calls;
+ghost use Rattle.tas_model.specs.declared.entry.Caller.TheVariants.{Slow};
+ghost use Rattle.flow_state.specs.declared.call.CallIn.TheVariants as ins;
 ghost use Rattle.flow_state.specs.Calls.{call_of, offer_of, answer_of, IsSmall, IsTimely};
 ghost use Rattle.flow_state.specs.Flow.{reply_to};
 ghost use Rattle.tas_model.specs.LegalHistory.{Legal};
 ghost use Rattle.local_host.specs.Live.{flow_in, called, took};
 
 use flow_state::{Answer, CallIn, Engine, FlowRecord};
+use slow_timeout::TimerWork;
 use std::alloc::AllocError;
 use tas_model::Caller;
 
@@ -30,6 +34,21 @@ pub fn make<E: Engine>(
         Some(answer) => Ok(answer),
         None => unreachable!(),
     }
+}
+
+/// One tick passes for the record of a flow that is not closed. The error is want of memory.
+pub fn pass_one(flow: &mut FlowRecord, tick: u32) -> Result<(), AllocError>
+    requires { IsTimely flow.old.parts.phase ins.Tick }
+    ensures made { OnOk result (flow_in flow.new ≡ called (flow_in flow.old) Slow tick calls.Tick []) }
+    ensures legal { Legal flow.new.params flow.new.entries }
+    ensures params { flow.new.params ≡ flow.old.params }
+{
+    // Most ticks lengthen a run.
+    if flow.pass_quietly(tick, &TimerWork) {
+        return Ok(());
+    }
+    make(flow, Caller::Slow, tick, &CallIn::Tick, &TimerWork)?;
+    Ok(())
 }
 
 /// How many bytes a Send with this answer took.

@@ -20,7 +20,7 @@ ghost use Rattle.local_host.specs.Live.{flow_in, holder_in, IsLegal, opened_live
 ghost use Rattle.local_host.specs.Ports.{MayAsk};
 
 use crate::arrival::{Arrival, Packet, Taking};
-use crate::calls::{make, taken};
+use crate::calls::{make, pass_one, taken};
 use crate::reading::{first_number, is_closed, is_control_tick, sent_count, stage_of};
 use capture_items::is_same_tuple;
 use fast_rx::FastRx;
@@ -260,13 +260,7 @@ impl LiveFlow {
         if is_closed(&self.history) {
             return Ok(());
         }
-        make(
-            &mut self.history,
-            Caller::Slow,
-            tick,
-            &CallIn::Tick,
-            &TimerWork,
-        )?;
+        pass_one(&mut self.history, tick)?;
         self.control(tick)
     }
 

@@ -1,3 +1,4 @@
+pub mod Decades
 pub mod Writing
 pub mod Lists
 pub mod Packets

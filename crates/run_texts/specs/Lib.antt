@@ -1,2 +1,3 @@
+pub mod Decades
 pub mod Frames
 pub mod Writes

@@ -1,4 +1,4 @@
-ghost use Rattle.std.specs.Prelude.{◌≡◌, ◌+◌, ◌*◌, ◌≤◌, ◌++◌, [], length, IfOk};
+ghost use Rattle.std.specs.Prelude.{◌≡◌, ◌+◌, ◌*◌, ◌≤◌, ◌++◌, ◌<◌, [], length, set, IfOk};
 ghost use Rattle.tas_runs.specs.Report.{hex_bytes};
 
 use crate::hex_digits::write_digits;
@@ -51,6 +51,13 @@ impl Buffer {
         ROOM - self.filled
     }
 
+    /// How many bytes wait.
+    pub fn len(&self) -> usize
+        ensures { result ≡ length self.now }
+    {
+        self.filled
+    }
+
     /// Nothing waits any more.
     pub fn clear(&mut self)
         ensures { self.new ≡ [] }
@@ -66,6 +73,22 @@ impl Buffer {
     {
         let end = self.filled + bytes.len();
         self.room[self.filled..end].copy_from_slice(bytes);
+        self.filled = end;
+    }
+
+    /// Puts bytes behind those that wait, with others in two of their places.
+    #[inline(always)]
+    pub fn push_with(&mut self, bytes: &[u8], first: usize, one: u8, second: usize, other: u8)
+        requires room { length self.old + length bytes.now ≤ 4096 }
+        requires first { first < length bytes.now }
+        requires second { second < length bytes.now }
+        ensures { self.new ≡ self.old ++ set (set bytes.now first one) second other }
+    {
+        let end = self.filled + bytes.len();
+        let room = &mut self.room[self.filled..end];
+        room.copy_from_slice(bytes);
+        room[first] = one;
+        room[second] = other;
         self.filled = end;
     }
 

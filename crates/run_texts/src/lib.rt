@@ -10,6 +10,7 @@ mod hex_digits;
 mod laws;
 mod line_texts;
 mod logs;
+mod quiet_lines;
 mod stretches;
 mod summary;
 mod text;

@@ -9,7 +9,7 @@ use std::marker::Model;
 use tas_num::{IoFault, Sink, write_all};
 
 /// How many bytes a text has at most that is put together at once.
-const TEXT: usize = 256;
+const TEXT: usize = 570;
 
 /// Bytes that wait to be written to a sink, seen as their list.
 #[derive(Drop)]
@@ -60,7 +60,7 @@ impl Writer {
 
     /// Writes a text.
     pub fn put_text<K: Sink, T: Text>(&mut self, sink: &mut K, text: &T) -> Result<(), IoFault>
-        requires { T.most ≤ 256 }
+        requires { T.most ≤ 570 }
         ensures { Writes (K.state sink.old) self.old result (K.state sink.new) self.new (T.text text.now) }
     {
         push_text(sink, &mut self.waiting, text)
@@ -92,7 +92,7 @@ fn make_room<K: Sink>(sink: &mut K, waiting: &mut Buffer, count: usize) -> Resul
 
 /// Writes a text behind all that waits.
 fn push_text<K: Sink, T: Text>(sink: &mut K, waiting: &mut Buffer, text: &T) -> Result<(), IoFault>
-    requires { T.most ≤ 256 }
+    requires { T.most ≤ 570 }
     ensures { Writes (K.state sink.old) waiting.old result (K.state sink.new) waiting.new (T.text text.now) }
 {
     make_room(sink, waiting, TEXT)?;

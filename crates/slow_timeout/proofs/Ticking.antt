@@ -4,6 +4,7 @@ use Rattle.std.proofs.Common.{refl, sym, ◌∙◌, ap, subst, arith}
 use Rattle.tas_model.specs.declared.entry.Reason.{Reason}
 use Rattle.tas_model.specs.declared.entry.Phase.{Phase}
 use Rattle.tas_model.specs.declared.entry.Phase.TheVariants as phases
+use Rattle.tas_model.specs.Segments.{Outcome}
 use Rattle.tas_model.specs.Endpoint.{Endpoint, Rate, phase, phase_by, is_fin_acked}
 use Rattle.tas_model.specs.ApplicationCalls.{Running, column, column_by}
 use Rattle.tas_model.specs.declared.entry.Reply.TheVariants as replies
@@ -14,6 +15,7 @@ use Rattle.flow_state.specs.declared.call.Answer.{Answer}
 use Rattle.flow_state.specs.declared.call.Answer.TheVariants as answers
 use Rattle.flow_state.specs.Stands.{Stands}
 use Rattle.flow_state.specs.Made.{IsOutcome}
+use Rattle.slow_timeout.specs.Age.{next_age}
 use Rattle.slow_timeout.specs.Rate.{rate_with}
 use Rattle.flow_state.specs.Calls.{is_closed_phase}
 
@@ -71,14 +73,37 @@ control_is e after cwnd ssthresh out a b s = record {
       (subst (λ (n : ℕ). Stands after (record e { rate = rate_with e.rate cwnd n })) b s);
 }
 
--- a tick of the timer, by its two tests
-pub still_quiet : (e : Endpoint) (after : Parts) (age : ℕ) (out : List ℕ) → is_armed e.tx ≡ true
-    → nat_lt (e.tx.age + 1) (patience e) ≡ true → age ≡ e.tx.age + 1
-    → Stands after (aged e age) → IsOutcome after answers.Quiet out (ticked e)
-still_quiet e after age out armed early is s =
-    rw (armed, early) (record { reply = refl; state = subst (λ (n : ℕ). Stands after (aged e n)) is s })
+-- a tick of the timer, by its age after it
+abbrev Aged : Endpoint → Option ℕ → Outcome
+Aged e (Some age) = record { state = aged e age; reply = replies.Quiet }
+Aged e None = expired e
 
-pub runs_out : (e : Endpoint) (after : Parts) (answer : Answer) (out : List ℕ) → is_armed e.tx ≡ true
-    → nat_lt (e.tx.age + 1) (patience e) ≡ false
+ticked_by : (e : Endpoint) (o : Option ℕ) → next_age e ≡ o → ticked e ≡ Aged e o
+ticked_by e o is = by_tests (is_armed e.tx) refl (nat_lt (e.tx.age + 1) (patience e)) refl
+  where
+    by_tests : (a : Bool) → is_armed e.tx ≡ a → (b : Bool) → nat_lt (e.tx.age + 1) (patience e) ≡ b
+        → ticked e ≡ Aged e o
+    by_tests false armed b early = rw (← is, armed) refl
+    by_tests true armed true early = rw (← is, armed, early) refl
+    by_tests true armed false early = rw (← is, armed, early) refl
+
+pub still_quiet : (e : Endpoint) (after : Parts) (age : ℕ) (out : List ℕ) → next_age e ≡ Some age
+    → Stands after (aged e age) → IsOutcome after answers.Quiet out (ticked e)
+still_quiet e after age out is s =
+    subst (IsOutcome after answers.Quiet out) (sym (ticked_by e (Some age) is)) (record { reply = refl; state = s })
+
+pub runs_out : (e : Endpoint) (after : Parts) (answer : Answer) (out : List ℕ) → next_age e ≡ None
     → IsOutcome after answer out (expired e) → IsOutcome after answer out (ticked e)
-runs_out e after answer out armed late o = rw (armed, late) o
+runs_out e after answer out is o = subst (IsOutcome after answer out) (sym (ticked_by e None is)) o
+
+-- the age, by the two tests
+pub age_unarmed : (e : Endpoint) → is_armed e.tx ≡ false → Some 0 ≡ next_age e
+age_unarmed e armed = rw armed refl
+
+pub age_early : (e : Endpoint) (age : ℕ) → is_armed e.tx ≡ true → nat_lt (e.tx.age + 1) (patience e) ≡ true
+    → age ≡ e.tx.age + 1 → Some age ≡ next_age e
+age_early e age armed early is = rw (armed, early) (ap (λ (n : ℕ). Some n) is)
+
+pub age_late : (e : Endpoint) → is_armed e.tx ≡ true → nat_lt (e.tx.age + 1) (patience e) ≡ false
+    → None ≡ next_age e
+age_late e armed late = rw (armed, late) refl

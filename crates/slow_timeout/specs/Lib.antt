@@ -1,2 +1,3 @@
+pub mod Age
 pub mod Rate
 pub mod Serves

@@ -1,6 +1,6 @@
 use crate::control::control;
-use crate::timer::tick as run_tick;
-use flow_state::{Answer, CallIn, Engine, Parts};
+use crate::timer::{pass_quietly, tick as run_tick};
+use flow_state::{Answer, CallIn, Clock, Engine, Parts};
 
 /// The engine of Tick and Control. It answers `None` exactly on the other calls.
 #[derive(Clone, Copy)]
@@ -24,5 +24,12 @@ impl Engine for TimerWork {
             CallIn::Control => Some(control(parts)),
             _ => None,
         }
+    }
+}
+
+impl Clock for TimerWork {
+    #[tactic(auto, unfolding(tas_model::specs::LegalHistory::step))]
+    fn pass(&self, parts: &mut Parts, tick: u32) -> bool {
+        pass_quietly(parts, tick)
     }
 }

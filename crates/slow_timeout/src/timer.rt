@@ -1,4 +1,4 @@
-ghost use Rattle.std.specs.Prelude.{◌≡◌, ℕ, ◌+◌, ◌*◌, ◌^◌, ◌≤◌, ◌<◌, List, min, false, Some, None};
+ghost use Rattle.std.specs.Prelude.{◌≡◌, ℕ, ◌+◌, ◌*◌, ◌^◌, ◌≤◌, ◌<◌, List, min, true, false, Some, None};
 ghost use Rattle.tas_model.specs.declared.entry.Reason.TheVariants as reasons;
 ghost use Rattle.tas_model.specs.Endpoint.{Endpoint};
 ghost use Rattle.tas_model.specs.Timers.{ticks, filled, aged, ticked, waited, expired, is_armed as model_is_armed};
@@ -7,6 +7,8 @@ ghost use Rattle.tas_model.specs.Valid.{Valid};
 ghost use Rattle.flow_state.specs.Stands.{Stands};
 ghost use Rattle.flow_state.specs.Calls.{answer_len, is_closed_phase};
 ghost use Rattle.flow_state.specs.Made.{IsOutcome, IsStep};
+ghost use Rattle.flow_state.specs.declared.call.Answer.TheVariants as answers;
+ghost use Rattle.slow_timeout.specs.Age.{next_age as model_next_age};
 
 use flow_state::{Answer, Parts};
 use tas_model::{Phase, Reason};
@@ -26,6 +28,28 @@ pub fn tick(parts: &mut Parts, now: u32) -> Answer
         Phase::TimeWait => wait(parts, now),
         _ => run_timer(parts),
     }
+}
+
+/// One tick of a flow that is not closed, where nothing comes of it but the bucket's fill and the timer's age, and says
+/// whether that is so. Else nothing changes.
+#[inline(always)]
+pub fn pass_quietly(parts: &mut Parts, now: u32) -> bool
+    requires { is_closed_phase parts.old.phase ≡ false }
+    ensures made { result ≡ true → (out : List ℕ) (e : Endpoint) → Valid e → Stands parts.old e
+        → IsStep parts.new answers.Quiet out (ticks e now) }
+    ensures unmade { result ≡ false → parts.new ≡ parts.old }
+    ensures tuple { parts.new.tuple ≡ parts.old.tuple }
+    ensures params { parts.new.params ≡ parts.old.params }
+{
+    if let Phase::TimeWait = parts.phase {
+        return false;
+    }
+    let Some(age) = next_age(parts) else {
+        return false;
+    };
+    fill(parts);
+    set_age(parts, age);
+    true
 }
 
 /// The bucket gets its fill.
@@ -71,16 +95,29 @@ fn run_timer(parts: &mut Parts) -> Answer
     ensures tuple { parts.new.tuple ≡ parts.old.tuple }
     ensures params { parts.new.params ≡ parts.old.params }
 {
+    match next_age(parts) {
+        Some(age) => {
+            set_age(parts, age);
+            Answer::Quiet
+        }
+        None => expire(parts),
+    }
+}
+
+/// For how many ticks the timer has run after this one; `None` where it runs out.
+#[inline(always)]
+fn next_age(parts: &Parts) -> Option<u32>
+    ensures { (e : Endpoint) → Valid e → Stands parts.now e → result ≡ model_next_age e }
+{
     if !is_armed(parts) {
-        set_age(parts, 0);
-        return Answer::Quiet;
+        return Some(0);
     }
     let age = parts.age.saturating_add(1);
     if u64::from(age) < patience(parts) {
-        set_age(parts, age);
-        return Answer::Quiet;
+        Some(age)
+    } else {
+        None
     }
-    expire(parts)
 }
 
 /// The timer has run for so many ticks.
@@ -93,6 +130,7 @@ fn set_age(parts: &mut Parts, age: u32)
 }
 
 /// Whether the timer runs: something sent is not acknowledged, or data waits at a window of 0.
+#[inline(always)]
 fn is_armed(parts: &Parts) -> bool
     ensures { (e : Endpoint) → Valid e → Stands parts.now e → result ≡ model_is_armed e.tx }
 {

@@ -15,7 +15,7 @@ returns c =
     ok_by c.control.result
     (λ made.
     made
-    ∙ subst (λ (m : Live). controlled Slow c.args.tick (record l { flow = flow_in c.make.new.flow })
+    ∙ subst (λ (m : Live). controlled Slow c.args.tick (record l { flow = flow_in c.pass_one.new.flow })
     ≡ timed Slow c.args.tick m)
-    c.self.view_is (ticked l (flow_in c.make.new.flow) c.args.tick c.in_ok-make.ensures.made runs))
+    c.self.view_is (ticked l (flow_in c.pass_one.new.flow) c.args.tick c.in_ok-pass_one.ensures.made runs))
     c.control.ensures
