@@ -9,10 +9,6 @@ use tas_num::Seq;
 /// numbers are kept modulo 2^32; the places that may stay old for longer than 32 bits can tell are whole.
 #[derive(Drop)]
 pub struct Parts {
-    /// The connection's ends.
-    pub tuple: FourTuple,
-    /// The host's parameters.
-    pub params: HostParams,
     /// The state of RFC 9293, section 3.3.2.
     pub phase: Phase,
     /// Why it is closed, where it is.
@@ -29,22 +25,8 @@ pub struct Parts {
     pub max: Seq,
     /// The next place that is expected of the peer.
     pub rcv: Seq,
-    /// The bytes accepted for sending, from the first that is not acknowledged on.
-    pub tx: Ring,
-    /// The bytes received in order, from the first unread one on, and ahead of them the island's.
-    pub rx: Ring,
-    /// Where bytes stand past a gap: how far past `rcv` they begin, and how many they are.
-    pub island: Option<(u32, u32)>,
     /// The window that the peer advertised, in bytes.
     pub window: u32,
-    /// The place of the segment that last moved that window (SND.WL1 of RFC 9293).
-    pub wl1: u128,
-    /// The place that this segment acknowledged (SND.WL2).
-    pub wl2: u128,
-    /// Duplicate acknowledgements in a row, at most 3 (RFC 5681, section 3.2).
-    pub dup: u8,
-    /// What is counted between two runs of the control. `flight` is 0 but while the control runs, which fills it in.
-    pub counters: Counters,
     /// The congestion window, in bytes (RFC 5681, section 3.1).
     pub cwnd: u32,
     /// The slow start threshold, in bytes.
@@ -59,6 +41,24 @@ pub struct Parts {
     pub tries: u8,
     /// Whether a byte is to probe a window of 0.
     pub probe: bool,
+    /// Duplicate acknowledgements in a row, at most 3 (RFC 5681, section 3.2).
+    pub dup: u8,
     /// The tick at which TIME-WAIT began.
     pub entered: u32,
+    /// The bytes accepted for sending, from the first that is not acknowledged on.
+    pub tx: Ring,
+    /// The bytes received in order, from the first unread one on, and ahead of them the island's.
+    pub rx: Ring,
+    /// Where bytes stand past a gap: how far past `rcv` they begin, and how many they are.
+    pub island: Option<(u32, u32)>,
+    /// What is counted between two runs of the control. `flight` is 0 but while the control runs, which fills it in.
+    pub counters: Counters,
+    /// The place of the segment that last moved that window (SND.WL1 of RFC 9293).
+    pub wl1: u128,
+    /// The place that this segment acknowledged (SND.WL2).
+    pub wl2: u128,
+    /// The connection's ends.
+    pub tuple: FourTuple,
+    /// The host's parameters.
+    pub params: HostParams,
 }

@@ -42,16 +42,16 @@ use tas_num::Seq;
 #[derive(Drop)]
 pub struct FlowRecord {
     id: FlowId,
-    parts: Parts,
-    stretches: Vec<Stretch>,
-    arena: Arena,
-    counts: CallerCounts,
-    /// The application that the flow is of.
-    application: Option<u32>,
     /// How many entries there are.
     made: usize,
     /// The tick of the last.
     last: u32,
+    stretches: Vec<Stretch>,
+    counts: CallerCounts,
+    parts: Parts,
+    arena: Arena,
+    /// The application that the flow is of.
+    application: Option<u32>,
     /// How many segments they sent.
     sent: u64,
 }

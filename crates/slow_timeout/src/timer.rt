@@ -137,7 +137,7 @@ fn is_armed(parts: &Parts) -> bool
     if parts.una.0 != parts.max.0 {
         return true;
     }
-    parts.tx.end() > parts.nxt_place().saturating_sub(1) && parts.window == 0
+    parts.window == 0 && parts.tx.end() > parts.nxt_place().saturating_sub(1)
 }
 
 /// How many ticks the timer runs: twice as many after each time in a row, up to 16 times the first (RFC 6298, section
