@@ -1,7 +1,7 @@
 -- Workers that are given a sender of an application's queue, one after the other. For `give_senders` and `add_app`.
 use Rattle.std.proofs.Common.{◌≡◌, ℕ, zero, suc, ◌+◌, List, [], ◌∷◌, ◌++◌, set, Some, None, slice_get}
-use Rattle.std.proofs.Common.{refl, sym, ap, ◌∙◌, subst, arith, Bool, true, false, ◌==◌, tests}
-use Rattle.std.specs.Prelude.{Option, Result, Ok, Err, IfOk, IsSome}
+use Rattle.std.proofs.Common.{refl, sym, ap, ◌∙◌, subst, arith, Bool, true, false, ◌==◌, tests, inl, inr}
+use Rattle.std.specs.Prelude.{Option, Result, Ok, Err, IfOk, OnErr, IsSome}
 use Rattle.atomic_table.specs.Seated.{TableId}
 use Rattle.host_rounds.specs.Lists.{Each}
 use Rattle.context_queue.specs.Notes.{Place}
@@ -13,7 +13,7 @@ use Rattle.flow_lock.specs.Passes.{Seen}
 use Rattle.slow_worker.specs.Workers as slow
 use Rattle.shared_host.specs.SlowPaths.{with_split, with_slow_sender, with_app}
 use Rattle.core_worker.proofs.Told.{still_own, also_own}
-use Rattle.shared_host.specs.Applications.{AreGiven, new_sender, with_sender, queue_at, with_queue}
+use Rattle.shared_host.specs.Applications.{AreGiven, IsPartAdded, new_sender, with_sender, queue_at, with_queue}
 use Rattle.shared_host.proofs.Lists.{none_some, each_map}
 
 same_some : {X : Type 0} (x y : X) → Some x ≡ Some y → x ≡ y
@@ -67,6 +67,11 @@ given_keeps app line P Q same sent first (suc count) (w ∷ ws) (v ∷ vs) are e
 -- the first so many workers were given one, while the application got its queue
 abbrev pub IsPart : (app : ℕ) → (line : TableId) → (ws vs : List Worker) → Type 0
 IsPart app line ws vs = (count : ℕ) × AreGiven app line 0 count ws vs
+
+pub part_added : (app : ℕ) (line k : TableId) (c d : Common) (ws vs : List Worker) → k ≡ line
+    → d ≡ with_queue app line c → IsPart app k ws vs → IsPartAdded app c d ws vs
+part_added app line k c d ws vs same new some =
+    let part = subst (λ (l : TableId). IsPart app l ws vs) same some in inr (line, part.0, new, part.1)
 
 pub free_still : (app : ℕ) (line k : TableId) (c d : Common) (ws vs : List Worker) → k ≡ line
     → d ≡ with_queue app line c → IsPart app k ws vs → Each (IsFree c) ws → Each (IsFree d) vs
@@ -128,6 +133,10 @@ same_line o p line is found = ap (λ (q : Place). q.line) (same_some p (queue_at
 pub by_new : {A E : Type 0} (x : Result A E) (a : A) (P : A → Type 0) → IfOk x (λ b. b ≡ a) → P a → IfOk x P
 by_new (Ok b) a P is p = subst P (sym is) p
 by_new (Err e) a P is p = tt
+
+pub on_err : {A E : Type 0} (x : Result A E) (P : Type 0) → P → OnErr x P
+on_err (Ok a) P p = tt
+on_err (Err e) P p = p
 
 -- ----- the slow path's worker
 pub slow_still : (app : ℕ) (line : TableId) (c d : Common) (ss ts : List AppSender) → ts ≡ ss

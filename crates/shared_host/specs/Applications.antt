@@ -1,5 +1,5 @@
 -- An application that is added to a host.
-use Rattle.std.specs.Prelude.{◌≡◌, ℕ, zero, suc, List, [], ◌∷◌, ◌++◌}
+use Rattle.std.specs.Prelude.{◌≡◌, ℕ, zero, suc, List, [], ◌∷◌, ◌++◌, ◌⊎◌}
 use Rattle.atomic_table.specs.Seated.{TableId}
 use Rattle.context_queue.specs.Notes.{Place, Receiver}
 use Rattle.flow_lock.specs.Passes.{Seen, right}
@@ -37,3 +37,10 @@ AreGiven app line first zero ws vs = vs ≡ ws
 AreGiven app line first (suc count) (w ∷ ws) (v ∷ vs) =
     (v ≡ with_sender (new_sender app line first) w) × AreGiven app line (suc first) count ws vs
 AreGiven app line first (suc count) ws vs = ⊥
+
+-- Memory was wanting: there is no queue, and no worker has a sender more; or the application has a queue, and the first
+-- so many workers a sender for it. All else stays.
+abbrev pub IsPartAdded : (app : ℕ) → (before after : Common) → (before after : List Worker) → Type 0
+IsPartAdded app c d ws vs =
+    ((d ≡ c) × (vs ≡ ws))
+    ⊎ ((line : TableId) × (count : ℕ) × (d ≡ with_queue app line c) × AreGiven app line 0 count ws vs)

@@ -1,5 +1,5 @@
 -- The slow path of a host that was just put together.
-use Rattle.std.specs.Prelude.{◌≡◌, ℕ, ◌+◌, ◌-◌, true, [], ◌∷◌, ◌++◌}
+use Rattle.std.specs.Prelude.{◌≡◌, ℕ, ◌+◌, ◌-◌, true, [], ◌∷◌, ◌++◌, None}
 use Rattle.atomic_table.specs.Seated.{TableId}
 use Rattle.tas_model.specs.declared.entry.HostParams.{HostParams}
 use Rattle.flow_index.specs.Changes.{writing}
@@ -16,13 +16,14 @@ split_view slots passes = record (first slots) { parts = 4097 - passes; made = 1
 abbrev pub split_pass : TableId → (passes : ℕ) → Seen
 split_pass t passes = record { table = t; view = split_view t.slots passes }
 
--- No flow is open or was filed, no port listens, and no frame waits. So many passes were split off, and so many readers
--- of the index are still to be made.
+-- No flow is open or was filed, no port listens, no frame waits, and no time has passed. So many passes were split off,
+-- and so many readers of the index are still to be made.
 pub record IsNewSlow (params : HostParams) (t : TableId) (passes readers : ℕ) (w : Worker) : Type 0 where
   pub sight : sight_of w ≡ first_sight (no_openings params) (split_pass t passes) (writing [] [] readers)
   pub filed : w.filed ≡ []
   pub waiting : waiting w ≡ []
   pub check_sums : w.check_sums ≡ true
+  pub ticked : w.ticked ≡ None
 
 -- one pass was split off
 abbrev pub with_split : Seen → Seen

@@ -5,7 +5,7 @@ ghost use Rattle.core_worker.specs.Workers.{IsFree, HasQueue, HasSenders};
 ghost use Rattle.slow_worker.specs.Workers as slow_worker;
 ghost use Rattle.shared_host.specs.SlowPaths.{with_slow_sender, with_app};
 ghost use Rattle.shared_host.specs.Applications.{split_from, new_app, queue_at, new_sender, with_sender, with_queue};
-ghost use Rattle.shared_host.specs.Applications.{AreGiven};
+ghost use Rattle.shared_host.specs.Applications.{AreGiven, IsPartAdded};
 
 use crate::cores::QUEUE_ROOM;
 use context_queue::{ContextQueue, ReceiverPass};
@@ -16,7 +16,7 @@ use std::alloc::{AllocError, Global};
 
 /// Adds an application: it has a queue of its own and a pass, and each worker a sender for it, that of core k the
 /// sender with the number k, and the slow path's the last. The error is want of memory; then the number may be used up,
-/// with a queue that nobody takes from.
+/// with a queue that nobody takes from, and the first workers may have a sender for it.
 pub fn add_app(
     alloc: Global,
     number: u32,
@@ -36,6 +36,7 @@ pub fn add_app(
     ensures slow { IfOk result (λ app. slow.new
         ≡ with_app (new_sender number app.notes.line (length cores.old)) slow.old) }
     ensures err { OnErr result (slow.new ≡ slow.old) }
+    ensures part { OnErr result (IsPartAdded number shared.old shared.new cores.old cores.new) }
     ensures shared { shared.new ≡ record shared.old { queues = shared.new.queues } }
     ensures free { Each (IsFree shared.old) cores.old → Each (IsFree shared.new) cores.new }
     ensures queues { Each (HasQueue shared.old) cores.old → Each (HasQueue shared.new) cores.new }

@@ -6,6 +6,7 @@ use Rattle.std.specs.Prelude.{Option, Some, None, slice_get, slice_index_or, pos
 use Rattle.std.specs.List.{find, position_or_len}
 use Rattle.std.specs.Option.{option_map}
 use Rattle.std.proofs.lemmas.Bool.{eqb-true}
+use Rattle.std.proofs.lemmas.List.{length-set}
 use Rattle.std.proofs.lemmas.List.Sums.{fails_before_first}
 use Rattle.std.proofs.lemmas.List.Quantifiers.{position-Some}
 use Rattle.std.proofs.lemmas.Option.{slice_get_within, get_or_from_slice_get}
@@ -36,7 +37,7 @@ use Rattle.app_reaper.specs.declared.one_call.CallFault.{CallFault}
 use Rattle.app_reaper.specs.declared.one_call.CallFault.TheVariants.{Busy, OutOfMemory}
 use Rattle.app_reaper.proofs.Walking.{none_some, same_pin}
 use Rattle.tas_model.specs.declared.entry.FourTuple.{FourTuple}
-use Rattle.slow_worker.specs.Workers.{has_tuple, id_of, flow_with, free_slots, HasFew, HasItsPin, AreKept}
+use Rattle.slow_worker.specs.Workers.{has_tuple, id_of, flow_with, free_slots, HasFew, HasItsPin, AreKept, OpensFree}
 use Rattle.slow_worker.specs.Opening.{with_open}
 use Rattle.slow_worker.specs.declared.known.KnownFlow.{KnownFlow}
 
@@ -233,9 +234,10 @@ kept_opened t id h s n doomed pins flows f next near named e k =
           (in_longer flows f g i q);
     }
 
-few_left : (id : FlowId) (h : History) (s n : Seen) → next_in s.view.marks ≡ Some id → n ≡ with_open id h s
-    → HasFew s.view → HasFew n.view
-few_left id h s n next e few =
+-- it takes a free slot
+pub opens_one : (id : FlowId) (h : History) (s n : Seen) → next_in s.view.marks ≡ Some id → n ≡ with_open id h s
+    → OpensFree s.view n.view
+opens_one id h s n next e =
     let free = next_free s.view.marks id next in
     let v = ap (λ (x : Seen). x.view) e in
     let m : Mark = mark id.generation true false in
@@ -245,7 +247,14 @@ few_left id h s n next e few =
     let one : flag (is_free free.0) ≡ 1 = ap (λ b. flag (not b)) free.2 in
     let opened : n.view.opened ≡ s.view.opened + 1 = ap (λ (x : View). x.opened) v in
     let left : free_slots n.view.marks ≡ free_slots (set s.view.marks id.slot m) = ap free_slots after in
-    omega (arith, count, one, opened, left, few)
+    record {
+      slots = ap length after ∙ length-set s.view.marks id.slot m;
+      most = omega (arith, count, one, opened, left);
+    }
+
+few_left : (id : FlowId) (h : History) (s n : Seen) → next_in s.view.marks ≡ Some id → n ≡ with_open id h s
+    → HasFew s.view → HasFew n.view
+few_left id h s n next e few = subst (λ m. m ≤ 4294967295) (sym (opens_one id h s n next e).most) few
 
 -- the same, with what the calls answer
 pub opened_kept : (t : TableId) (id p : FlowId) (h : History) (s n : Seen) (doomed pins pins' : List FlowId)

@@ -81,7 +81,7 @@ one_at_most : (b : Bool) → flag b ≤ 1
 one_at_most true = omega arith
 one_at_most false = omega arith
 
-free_within : (ms : List Mark) → free_slots ms ≤ length ms
+pub free_within : (ms : List Mark) → free_slots ms ≤ length ms
 free_within [] = omega arith
 free_within (m ∷ ms) =
     let one = one_at_most (is_free m) in let rest = free_within ms in omega (arith, one, rest)

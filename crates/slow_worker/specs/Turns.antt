@@ -3,7 +3,7 @@ use Rattle.std.specs.Prelude.{◌≡◌, ℕ, ◌==◌, Bool, true, false, List,
 use Rattle.std.specs.Prelude.{position, slice_get}
 use Rattle.std.specs.List.{filter}
 use Rattle.tas_model.specs.declared.entry.FlowId.{FlowId}
-use Rattle.flow_index.specs.Changes.{AnswerAlike}
+use Rattle.flow_index.specs.Changes.{AnswerAlike, Begins}
 use Rattle.flow_index.specs.declared.change.Change.{Change}
 use Rattle.flow_lock.specs.Orders.{same_flow}
 use Rattle.flow_lock.specs.declared.view.View.{View}
@@ -54,8 +54,10 @@ with_time w v = record v {
 pub record IsTimePassed (tick : ℕ) (v w : Worker) : Type 0 where
   pub changes : List Change
   pub done : IsTickDone tick (ledger_of v v.index.pending) (ledger_of w changes)
+  pub later : Begins v.index.published w.index.published
   pub shown : AnswerAlike w.index.published (v.index.published ++ changes)
   pub pending : w.index.pending ≡ []
+  pub readers : w.index.left ≡ v.index.left
   pub flows : w.flows ≡ still_known w.pins v.flows
   pub ticked : w.ticked ≡ Some tick
   pub rest : w ≡ with_time w v
@@ -65,6 +67,7 @@ pub record IsTimeStopped (tick : ℕ) (v w : Worker) : Type 0 where
   pub stopped : (IsTickStopped tick (ledger_of v v.index.pending) (ledger_of w w.index.pending) × (w.ticked ≡ v.ticked))
       ⊎ (IsTickDone tick (ledger_of v v.index.pending) (ledger_of w w.index.pending) × (w.ticked ≡ Some tick))
   pub published : w.index.published ≡ v.index.published
+  pub readers : w.index.left ≡ v.index.left
   pub flows : w.flows ≡ still_known w.pins v.flows
   pub rest : w ≡ with_time w v
 

@@ -1,5 +1,5 @@
 -- What contracts see of the slow path's worker.
-use Rattle.std.specs.Prelude.{◌≡◌, ℕ, ◌+◌, ◌≤◌, Bool, List, [], ◌++◌, length, slice_get, Option, Some}
+use Rattle.std.specs.Prelude.{◌≡◌, ℕ, ◌+◌, ◌*◌, ◌≤◌, Bool, List, [], ◌++◌, length, slice_get, Option, Some}
 use Rattle.std.specs.List.{find}
 use Rattle.std.specs.Option.{option_map}
 use Rattle.atomic_table.specs.Seated.{TableId}
@@ -121,13 +121,26 @@ flow_with t fs = option_map id_of (find (has_tuple t) fs)
 abbrev pub free_slots : List Mark → ℕ
 free_slots = total (λ m. flag (is_free m))
 
+-- how many flows were opened, when each free slot has been opened once more
+abbrev pub most_opened : View → ℕ
+most_opened v = v.opened + free_slots v.marks
+
 -- so few flows were opened that each free slot may be opened once more
 abbrev pub HasFew : View → Type 0
-HasFew v = v.opened + free_slots v.marks ≤ 4294967295
+HasFew v = most_opened v ≤ 4294967295
 
 -- so few that each slot may be, free or not
 abbrev pub HasFewYet : View → Type 0
 HasFewYet v = v.opened + length v.marks ≤ 4294967295
+
+-- so few that besides each slot may be opened once in each of so many ticks more
+abbrev pub HasFewFor : (ticks : ℕ) → View → Type 0
+HasFewFor ticks v = most_opened v + ticks * length v.marks ≤ 4294967295
+
+-- Flows may have been opened in slots that were free. No slot was freed.
+pub record OpensFree (v w : View) : Type 0 where
+  pub slots : length w.marks ≡ length v.marks
+  pub most : most_opened w ≡ most_opened v
 
 -- the pin of this flow is in the list
 abbrev pub HasItsPin : List FlowId → FlowId → Type 0

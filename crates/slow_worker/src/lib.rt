@@ -5,6 +5,7 @@ mod collecting;
 mod entering;
 mod kicking;
 mod known;
+mod laws;
 mod meeting;
 mod opening;
 mod queues;
@@ -13,5 +14,6 @@ mod turning;
 mod waiting;
 mod worker;
 
+pub use laws::{few_for_ticks, frames_open_free_slots};
 pub use served::Served;
 pub use worker::{SlowRemains, SlowWorker};

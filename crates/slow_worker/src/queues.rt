@@ -1,6 +1,6 @@
 // The frames that wait are handled, one after the other.
 ghost use Rattle.std.specs.Prelude.{◌≡◌, ◌<◌, ◌++◌, length, OnOk, OnErr};
-ghost use Rattle.slow_worker.specs.Workers.{sight_of, waiting, IsKept, HasSenders};
+ghost use Rattle.slow_worker.specs.Workers.{sight_of, waiting, IsKept, HasSenders, OpensFree};
 ghost use Rattle.slow_worker.specs.Queues.{IsAllServed, IsPartServed, IsFirstServed, IsFirstLeft, kept_of};
 
 use crate::served::Served;
@@ -18,6 +18,7 @@ impl SlowWorker {
         requires senders { HasSenders shared.now self.old }
         ensures kept { IsKept shared.now.table (sight_of self.new) }
         ensures senders { HasSenders shared.now self.new }
+        ensures opens { OpensFree self.old.pass.view self.new.pass.view }
         ensures served { OnOk result (IsAllServed shared.now tick self.old self.new) }
         ensures part { OnErr result (IsPartServed shared.now tick self.old self.new) }
     {

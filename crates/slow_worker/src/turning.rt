@@ -1,6 +1,6 @@
 // A turn of the worker.
-ghost use Rattle.std.specs.Prelude.{◌≡◌, false, true, OnOk, OnErr};
-ghost use Rattle.slow_worker.specs.Workers.{sight_of, HasFew, HasFewYet, IsSound, HasSenders};
+ghost use Rattle.std.specs.Prelude.{◌≡◌, false, true, length, OnOk, OnErr};
+ghost use Rattle.slow_worker.specs.Workers.{sight_of, HasFew, HasFewYet, most_opened, IsSound, HasSenders};
 ghost use Rattle.slow_worker.specs.Kicking.{CanKick};
 ghost use Rattle.slow_worker.specs.Turns.{IsTimePassed, IsTimeStopped, has_passed as is_passed, HasFewBefore, IsWork};
 ghost use Rattle.slow_worker.specs.Turns.{IsWorkStopped, IsTurn, IsTurnStopped};
@@ -15,7 +15,8 @@ impl SlowWorker {
     /// The first turn of a tick: closed flows are given up, and time passes for all others. Every later turn of that
     /// tick handles the frames that wait. Then each kick that was kept, and each flow that the turn's entries and
     /// openings left with something to send, is posted to the queue of its core, or kept where that is full. The error
-    /// is want of memory, and what was done stands.
+    /// is want of memory, and what was done stands. How many flows were opened, with all slots that are free, stays as
+    /// it was but for the slots that the first turn frees: by `few_for_ticks` a caller has `few` in many ticks.
     pub fn turn<R: Wait>(&mut self, rt: &R, shared: &Shared, tick: u32) -> Result<(), AllocError>
         requires sound { IsSound shared.now.table (sight_of self.old) }
         requires few { is_passed tick self.old ≡ true → HasFew self.old.pass.view }
@@ -25,7 +26,10 @@ impl SlowWorker {
         ensures senders { HasSenders shared.now self.new }
         ensures kickers { CanKick shared.now self.new.kickers }
         ensures few { HasFewBefore (is_passed tick self.old) self.old.pass.view → HasFew self.new.pass.view }
-        ensures slots { is_passed tick self.old ≡ false → HasFewYet self.old.pass.view → HasFewYet self.new.pass.view }
+        ensures slots { length self.new.pass.view.marks ≡ length self.old.pass.view.marks }
+        ensures opened { is_passed tick self.old ≡ false → self.new.pass.view.opened ≡ self.old.pass.view.opened }
+        ensures most { is_passed tick self.old ≡ true
+            → most_opened self.new.pass.view ≡ most_opened self.old.pass.view }
         ensures turned { OnOk result (IsTurn (is_passed tick self.old) shared.now tick self.old self.new) }
         ensures stopped { OnErr result (IsTurnStopped (is_passed tick self.old) shared.now tick self.old self.new) }
     {
@@ -42,7 +46,10 @@ impl SlowWorker {
         ensures sound { IsSound shared.now.table (sight_of self.new) }
         ensures senders { HasSenders shared.now self.new }
         ensures few { HasFewBefore (is_passed tick self.old) self.old.pass.view → HasFew self.new.pass.view }
-        ensures slots { is_passed tick self.old ≡ false → HasFewYet self.old.pass.view → HasFewYet self.new.pass.view }
+        ensures slots { length self.new.pass.view.marks ≡ length self.old.pass.view.marks }
+        ensures opened { is_passed tick self.old ≡ false → self.new.pass.view.opened ≡ self.old.pass.view.opened }
+        ensures most { is_passed tick self.old ≡ true
+            → most_opened self.new.pass.view ≡ most_opened self.old.pass.view }
         ensures kickers { self.new.kickers ≡ self.old.kickers }
         ensures done { OnOk result (IsWork (is_passed tick self.old) shared.now tick self.old self.new) }
         ensures stopped { OnErr result (IsWorkStopped (is_passed tick self.old) shared.now tick self.old self.new) }
@@ -69,7 +76,8 @@ impl SlowWorker {
         requires sound { IsSound shared.now.table (sight_of self.old) }
         ensures sound { IsSound shared.now.table (sight_of self.new) }
         ensures senders { self.new.senders ≡ self.old.senders }
-        ensures slots { HasFewYet self.old.pass.view → HasFewYet self.new.pass.view }
+        ensures slots { length self.new.pass.view.marks ≡ length self.old.pass.view.marks }
+        ensures opened { self.new.pass.view.opened ≡ self.old.pass.view.opened }
         ensures few { HasFewYet self.old.pass.view → HasFew self.new.pass.view }
         ensures kickers { self.new.kickers ≡ self.old.kickers }
         ensures passed { OnOk result (IsTimePassed tick self.old self.new) }

@@ -3,7 +3,7 @@ use Rattle.atomic_table.specs.Seated.{TableId}
 use Rattle.core_worker.specs.Telling.{queue_of}
 use Rattle.shared_host.specs.Applications.{AreGiven, queue_at, with_queue}
 use Rattle.shared_host.proofs.Giving.{queue_found, found_is_some, same_line, free_still, queues_still, senders_still}
-use Rattle.shared_host.proofs.Giving.{by_new, slow_still, slow_given, app_given}
+use Rattle.shared_host.proofs.Giving.{by_new, on_err, part_added, slow_still, slow_given, app_given}
 use Rattle.slow_worker.specs.Workers as slow
 use Rattle.slow_worker.specs.contracts.worker.SlowWorker.{the_view}
 use Rattle.shared_host.proofs.applications.add_app.Goals as goal
@@ -179,3 +179,23 @@ returns-clause-slow c =
     c.queue_for-queue.ensures
     ∙ sym (c.give_slow.ensures.own ∙ c.give_senders.ensures.own))
     c.in_ok-give_senders.ensures.count c.slow.view_is c.in_ok-give_slow.ensures.given c.split-pass.ensures.from)
+
+pub returns-in_err-give_senders-clause-part : goal.returns-in_err-give_senders-clause-part
+returns-in_err-give_senders-clause-part c =
+    on_err _ _ (part_added c.args.number c.in_ok-notes.notes.line c.queue_for-queue.result.now.line c.args.shared.now
+    c.open_queue.new.shared c.args.cores.now c.give_senders.new.cores
+    (same_line _ c.queue_for-queue.result.now c.in_ok-notes.notes.line
+    (queue_found c.args.number c.in_ok-notes.notes.line c.args.shared.now c.open_queue.new.shared
+    c.in_ok-notes.ensures.added c.requires.first)
+    c.queue_for-queue.ensures)
+    c.in_ok-notes.ensures.added c.give_senders.ensures.part)
+
+pub returns-in_err-give_slow-clause-part : goal.returns-in_err-give_slow-clause-part
+returns-in_err-give_slow-clause-part c =
+    on_err _ _ (part_added c.args.number c.in_ok-notes.notes.line c.queue_for-queue.result.now.line c.args.shared.now
+    c.open_queue.new.shared c.args.cores.now c.give_senders.new.cores
+    (same_line _ c.queue_for-queue.result.now c.in_ok-notes.notes.line
+    (queue_found c.args.number c.in_ok-notes.notes.line c.args.shared.now c.open_queue.new.shared
+    c.in_ok-notes.ensures.added c.requires.first)
+    c.queue_for-queue.ensures)
+    c.in_ok-notes.ensures.added c.give_senders.ensures.part)

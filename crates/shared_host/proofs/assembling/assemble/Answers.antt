@@ -7,7 +7,7 @@ use Rattle.shared_host.specs.Cores.{kicking_on}
 use Rattle.shared_host.specs.SlowPaths.{IsNewSlow}
 use Rattle.slow_worker.specs.Kicking.{Kicking}
 use Rattle.shared_host.proofs.Adding.{each_free, each_own, each_silent, can_kick}
-use Rattle.shared_host.proofs.SlowPaths.{kept_at_first}
+use Rattle.shared_host.proofs.SlowPaths.{kept_at_first, few_at_first}
 use Rattle.shared_host.proofs.assembling.assemble.Goals as goal
 
 pub returns-in-Ok-clause-free : goal.returns-in-Ok-clause-free
@@ -32,6 +32,17 @@ returns-in-Ok-clause-kept g c =
     (subst (λ (p : HostParams). IsNewSlow p c.in_ok-table.table c.args.cores 0 c.make_cores.new.slow) same
     c.in-Ok.ensures.slow)
     c.requires.params c.in_ok-table.ensures.table)
+
+pub returns-in-Ok-clause-few : goal.returns-in-Ok-clause-few
+returns-in-Ok-clause-few g c =
+    λ ticks few.
+    let same =
+    ap (λ (s : Sight). s.path.params) c.new-slow.ensures.sight
+    ∙ ap (λ (o : Openings). o.params) c.in_ok-path.ensures in
+    few_at_first c.args.params c.in_ok-table.table c.args.cores 0 ticks c.make_cores.new.slow
+    (subst (λ (p : HostParams). IsNewSlow p c.in_ok-table.table c.args.cores 0 c.make_cores.new.slow) same
+    c.in-Ok.ensures.slow)
+    c.in_ok-table.ensures.table few
 
 pub returns-in-Ok-clause-can : goal.returns-in-Ok-clause-can
 returns-in-Ok-clause-can g c =

@@ -32,7 +32,7 @@ returns-clause-can g c =
     record {
       steer = c.core_of-core.ensures.own ∙ can.steer;
       cores = can.cores;
-      own = on_still c.args.shared.now.kicks c.self.inside.senders.items c.core_of-core.result s c.post.new.s can.own
+      own = on_still c.args.shared.now.kicks c.self.inside.senders.items _ s c.post.new.s can.own
           (same_line _ s c.post.new.s c.post.result c.post.ensures.posted c.post.ensures.err
           ∙ ap (λ (x : Sender). x.line) c.index_mut.ensures.value);
     }
