@@ -11,3 +11,4 @@ pub mod Forgotten
 pub mod Played
 pub mod Finishing
 pub mod CoresPlayed
+pub mod InSeats

@@ -6,6 +6,7 @@ mod collecting;
 mod on_cores;
 mod playing;
 mod resting;
+mod seats;
 mod world;
 
 pub use on_cores::play_scenario_on_cores;

@@ -1,4 +1,4 @@
-ghost use Rattle.std.specs.Prelude.{◌≡◌, ℕ, ◌+◌, ◌<◌, ◌≤◌, length, IfOk, OnOk};
+ghost use Rattle.std.specs.Prelude.{◌≡◌, ℕ, ◌+◌, ◌<◌, ◌≤◌, false, length, slice_index_or, IfOk, OnOk};
 ghost use Rattle.host_rounds.specs.Lists.{Each};
 ghost use Rattle.host_rounds.specs.Histories.{HasHistory};
 ghost use Rattle.host_rounds.specs.Rounds.{Round};
@@ -9,11 +9,14 @@ ghost use Rattle.scenario_runs.specs.Runs.{AreRounds, IsTick, Run};
 ghost use Rattle.local_host.specs.declared.host.HostEnd.{HostEnd};
 ghost use Rattle.local_host.specs.Live.{IsLegal};
 ghost use Rattle.scenario_world.specs.Ends.{log_of};
-ghost use Rattle.scenario_world.specs.Playing.{IsWorld, AreEarly, AreCoresOf};
+ghost use Rattle.scenario_world.specs.Playing.{IsWorld, AreEarly};
+ghost use Rattle.scenario_world.specs.Seats.{AreSeatsOf, HasPlayed, cores_in};
+ghost use denote.Param.Send.{IsSync};
 
 use crate::arriving::arrivals_at;
 use crate::playing::{Playing, at_start, end_tick, is_at_rest};
 use crate::resting::have_ended;
+use crate::seats::{Seat, change_places, none_failed, seats_of};
 use crate::world::{WorldEnd, end_of};
 use link_script::{DueList, due};
 use local_host::Cores;
@@ -21,8 +24,12 @@ use scenario_host::ScenarioHost;
 use scenario_text::Scenario;
 use std::alloc::{AllocError, Global};
 use std::sync::Wait;
+use std::thread;
 use std::thread::Threads;
 use tas_num::Gate;
+
+/// With fewer frames in a tick its hosts play one after the other: threads would cost more than they gain.
+const FRAMES_FOR_THREADS: usize = 32;
 
 /// Plays a scenario to its end on hosts with so many cores each, from 1 to 16: the first tick after which all scripts
 /// have ended, all flows are closed and no frame is on the link, or its limit. The error is want of memory.
@@ -40,9 +47,9 @@ pub fn play_scenario_on_cores<R: Threads + Wait + Sync, G: Gate>(
     ensures legal { IfOk result (λ end. Each (λ (e : HostEnd). Each IsLegal e.flows.items) end.hosts.items) }
 {
     let mut playing = at_start(alloc, s)?;
-    let mut cores = cores_of(alloc, s, cores)?;
+    let mut seats = seats_of(alloc, s, cores)?;
     for tick in 0..s.limit {
-        play_tick_on_cores(rt, alloc, s, tick, &mut playing, &mut cores, gate)?;
+        play_tick_on_cores(rt, alloc, s, tick, &mut playing, &mut seats, gate)?;
         if is_at_rest(tick, &playing) {
             return end_of(alloc, playing.hosts, tick + 1, false);
         }
@@ -51,93 +58,129 @@ pub fn play_scenario_on_cores<R: Threads + Wait + Sync, G: Gate>(
     end_of(alloc, playing.hosts, s.limit, stalled)
 }
 
-/// So many cores of each host, from 1 to 16. The error is want of memory.
-pub fn cores_of(alloc: Global, s: &Scenario, count: u32) -> Result<Vec<Cores>, AllocError>
-    requires ranges { IsInRange s.now }
-    requires count { (0 < count) × (count ≤ 16) }
-    ensures { IfOk result (λ cores. AreCoresOf (length s.now.hosts) cores.items) }
-{
-    let mut cores = Vec::new(alloc);
-    for number in 0..s.hosts.len() {
-        cores.push(Cores::new(alloc, number as u32, count)?)?;
-    }
-    Ok(cores)
-}
-
 /// Plays a tick of all hosts, each on its cores. The error is want of memory.
-pub fn play_tick_on_cores<R: Threads + Wait + Sync, G: Gate>(
+pub fn play_tick_on_cores<'a, R: Threads + Wait + Sync, G: Gate>(
     rt: &R,
     alloc: Global,
     s: &Scenario,
     tick: u32,
-    p: &mut Playing<'_>,
-    cores: &mut [Cores],
+    p: &mut Playing<'a>,
+    seats: &mut [Seat<'a>],
     gate: &G,
 ) -> Result<(), AllocError>
     requires ranges { IsInRange s.now }
     requires world { IsWorld s.now tick p.old }
-    requires cores { AreCoresOf (length s.now.hosts) cores.old }
+    requires seats { AreSeatsOf (length s.now.hosts) seats.old }
     ensures tick { OnOk result (IsTick s.now tick p.old.hosts.items p.new.hosts.items) }
     ensures world { OnOk result (IsWorld s.now (tick + 1) p.new) }
-    ensures cores { OnOk result (cores.new ≡ cores.old) }
+    ensures seats { OnOk result (cores_in seats.new ≡ cores_in seats.old) }
 {
     let due = due(alloc, &s.link, &p.sent, tick)?;
-    play_hosts_on_cores(rt, alloc, s, tick, &due, &mut p.hosts, cores, gate)?;
+    play_hosts_on_cores(rt, alloc, s, tick, &due, &mut p.hosts, seats, gate)?;
     drop(due);
     end_tick(alloc, s, tick, p)
 }
 
-/// Each host plays a tick on its cores, in which these frames are due. The error is want of memory.
-fn play_hosts_on_cores<R: Threads + Wait + Sync, G: Gate>(
+/// The hosts play a tick side by side, each on its cores, in which these frames are due. The error is want of memory,
+/// and leaves hosts in their seats.
+fn play_hosts_on_cores<'a, R: Threads + Wait + Sync, G: Gate>(
     rt: &R,
     alloc: Global,
     s: &Scenario,
     tick: u32,
     due: &DueList<'_>,
-    hosts: &mut [ScenarioHost<'_>],
-    cores: &mut [Cores],
+    hosts: &mut [ScenarioHost<'a>],
+    seats: &mut [Seat<'a>],
     gate: &G,
 ) -> Result<(), AllocError>
-    requires cores { AreCoresOf (length hosts.old) cores.old }
+    requires seats { AreSeatsOf (length hosts.old) seats.old }
     ensures rounds { (whole : World) → due.now ≡ frames.due s.now.link (sent_in whole) tick → AreEarly tick hosts.old
         → OnOk result (AreRounds s.now whole tick 0 hosts.old hosts.new) }
-    ensures cores { OnOk result (cores.new ≡ cores.old) }
+    ensures seats { OnOk result (cores_in seats.new ≡ cores_in seats.old) }
 {
-    for (number, host) in hosts.iter_mut().enumerate() {
-        play_host_on_cores(
-            rt,
-            alloc,
-            s,
-            tick,
-            due,
-            number,
-            host,
-            &mut cores[number],
-            gate,
-        )?;
-    }
+    change_places(hosts, seats);
+    play_seats(rt, alloc, s, tick, due, seats, gate);
+    none_failed(seats)?;
+    change_places(hosts, seats);
     Ok(())
 }
 
-/// The host with this number plays a tick on its cores. The error is want of memory.
+/// The hosts in these seats play a tick side by side.
+fn play_seats<R: Threads + Wait + Sync, G: Gate>(
+    rt: &R,
+    alloc: Global,
+    s: &Scenario,
+    tick: u32,
+    due: &DueList<'_>,
+    seats: &mut [Seat<'_>],
+    gate: &G,
+)
+    ensures len { length seats.new ≡ length seats.old }
+    ensures played { (i : ℕ) (d : Seat) → i < length seats.old → (slice_index_or seats.new i d).failed ≡ false
+        → HasPlayed s.now tick due.now (slice_index_or seats.old i d) (slice_index_or seats.new i d) }
+{
+    let threads = threads_for(seats.len(), due.len());
+    let part = move |_: usize, seat: &mut Seat<'_>|
+        requires { IsSync R.row × IsSync G.row }
+        ensures { seat.exit.now.failed ≡ false
+            → HasPlayed s.entry.now tick due.entry.now seat.entry.now seat.exit.now }
+    { play_seat(rt, alloc, s, tick, due, seat, gate) };
+    thread::for_each_mut(rt, seats, threads, &part);
+}
+
+/// How many threads play so many hosts, in a tick in which so many frames are due.
+fn threads_for(hosts: usize, frames: usize) -> usize
+    ensures some { 0 < result }
+{
+    if frames < FRAMES_FOR_THREADS {
+        1
+    } else {
+        hosts.max(1)
+    }
+}
+
+/// The host in this seat plays a tick.
+fn play_seat<R: Threads + Wait + Sync, G: Gate>(
+    rt: &R,
+    alloc: Global,
+    s: &Scenario,
+    tick: u32,
+    due: &DueList<'_>,
+    seat: &mut Seat<'_>,
+    gate: &G,
+)
+    ensures { seat.new.failed ≡ false → HasPlayed s.now tick due.now seat.old seat.new }
+{
+    let done = play_host_on_cores(
+        rt,
+        alloc,
+        s,
+        tick,
+        due,
+        &mut seat.host,
+        &mut seat.cores,
+        gate,
+    );
+    seat.failed = done.is_err();
+}
+
+/// The host plays a tick on its cores, which have its number. The error is want of memory.
 fn play_host_on_cores<R: Threads + Wait + Sync, G: Gate>(
     rt: &R,
     alloc: Global,
     s: &Scenario,
     tick: u32,
     due: &DueList<'_>,
-    number: usize,
     host: &mut ScenarioHost<'_>,
     cores: &mut Cores,
     gate: &G,
 ) -> Result<(), AllocError>
-    requires own { cores.old.host ≡ number }
     ensures round { (whole : World) → due.now ≡ frames.due s.now.link (sent_in whole) tick
         → Each HasHistory host.old.host.flows
         → OnOk result (Round (scripts_of s.now host.old.host.params) tick
-        (due_at s.now whole tick number host.old.scripts) host.old host.new) }
+        (due_at s.now whole tick cores.old.host host.old.scripts) host.old host.new) }
     ensures cores { cores.new ≡ cores.old }
 {
-    let arrivals = arrivals_at(alloc, &*due, number)?;
+    let arrivals = arrivals_at(alloc, &*due, cores.host() as usize)?;
     host.play_on_cores(rt, tick, &arrivals, s, cores, gate)
 }

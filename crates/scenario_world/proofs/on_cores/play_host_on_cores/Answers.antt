@@ -10,9 +10,11 @@ pub returns-clause-round : goal.returns-clause-round
 returns-clause-round g c = λ whole same histories.
     ok_by c.play_on_cores.result
     (λ tick.
-    one_round c.args.s.now whole c.args.tick c.args.number c.args.host.now c.play_on_cores.new.self
+    one_round c.args.s.now whole c.args.tick c.args.cores.now.host c.args.host.now c.play_on_cores.new.self
     (map arrival_in c.deref.result.now) histories
     (ap (map arrival_in) c.deref.ensures.value
-    ∙ (c.in_ok-arrivals.ensures ∙ ap (λ fs. map arrival (filter (λ (f : Sent). f.to == c.args.number) fs)) same))
+    ∙ (c.in_ok-arrivals.ensures
+    ∙ (ap (λ n. map arrival (filter (λ (f : Sent). f.to == n) c.args.due.now)) c.host.ensures.host
+    ∙ ap (λ fs. map arrival (filter (λ (f : Sent). f.to == c.args.cores.now.host) fs)) same)))
     tick)
     c.play_on_cores.ensures.tick

@@ -4,6 +4,7 @@ use Rattle.std.proofs.lemmas.Result.{IfOk-weaker}
 use Rattle.scenario_runs.specs.Worlds.{all_ended}
 use Rattle.scenario_world.specs.Ends.{AreEnds}
 use Rattle.scenario_world.specs.Playing.{AreCoresOf}
+use Rattle.scenario_world.specs.Seats.{cores_in}
 use Rattle.scenario_world.proofs.Ended.{ends_len}
 use Rattle.scenario_world.proofs.Finishing.{begins_right, goes_on_right, rests_right, runs_out_right, run_shown}
 use Rattle.scenario_world.proofs.on_cores.play_scenario_on_cores.Goals as goal
@@ -11,7 +12,7 @@ use Rattle.scenario_world.proofs.on_cores.play_scenario_on_cores.Goals as goal
 pub loop-tick-init : goal.loop-tick-init
 loop-tick-init g c = record {
   world = c.in_ok-playing.ensures.world;
-  cores = c.in_ok-cores.ensures;
+  seats = c.in_ok-seats.ensures;
   run = begins_right c.args.s.now c.in_ok-playing.playing.hosts.items c.in_ok-playing.ensures.hosts;
 }
 
@@ -43,14 +44,14 @@ loop-tick-preserved g c =
     let t = c.loop-tick.tick in
     let inside : t < s.limit = omega arith in
     let world = c.in_ok-play_tick_on_cores.ensures.world in
-    let cores = c.play_tick_on_cores.new.cores in
-    let len : length cores ≡ c.loop-tick.cores.len = omega arith in
+    let seats = c.play_tick_on_cores.new.seats in
+    let len : length seats ≡ c.loop-tick.seats.len = omega arith in
     record {
       world = world;
-      cores = subst (λ cs. AreCoresOf (length s.hosts) cs)
-          (sym (with_items_is c.loop-tick.cores cores len
-          ∙ (c.in_ok-play_tick_on_cores.ensures.cores ∙ c.deref_mut.ensures.value)))
-          c.loop-tick.invariant.cores;
+      seats = subst (λ cs. AreCoresOf (length s.hosts) cs)
+          (sym (ap cores_in (with_items_is c.loop-tick.seats seats len)
+          ∙ (c.in_ok-play_tick_on_cores.ensures.seats ∙ ap cores_in c.deref_mut.ensures.value)))
+          c.loop-tick.invariant.seats;
       run = goes_on_right s t c.loop-tick.playing.hosts.items p.hosts.items inside c.loop-tick.invariant.run
           c.in_ok-play_tick_on_cores.ensures.tick (sym (c.is_at_rest.ensures s world) ∙ c.if-is_at_rest.false);
     }

@@ -1,5 +1,6 @@
 use Rattle.std.proofs.Common.{length}
-use Rattle.scenario_world.specs.Playing.{IsWorld, AreCoresOf}
+use Rattle.scenario_world.specs.Playing.{IsWorld}
+use Rattle.scenario_world.specs.Seats.{AreSeatsOf}
 use Rattle.scenario_world.proofs.Finishing.{LeadsRight}
 use Rattle.scenario_world.proofs.on_cores.play_scenario_on_cores.Given as goal
 
@@ -7,6 +8,6 @@ use Rattle.scenario_world.proofs.on_cores.play_scenario_on_cores.Given as goal
 abbrev pub invariant-loop-tick : goal.invariant-loop-tick
 invariant-loop-tick g l = record {
   world : IsWorld l.s l.tick l.playing;
-  cores : AreCoresOf (length l.s.hosts) l.cores.items;
+  seats : AreSeatsOf (length l.s.hosts) l.seats.items;
   run : LeadsRight l.s l.tick l.playing.hosts.items;
 }

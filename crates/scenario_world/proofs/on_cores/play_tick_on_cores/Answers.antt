@@ -2,16 +2,16 @@ use Rattle.std.proofs.Common.{◌≡◌, length, refl, sym, subst, ap, ◌∙◌
 use Rattle.std.proofs.lemmas.List.{with_items_is}
 use Rattle.local_host.proofs.Places.{ok_by}
 use Rattle.scenario_runs.specs.Runs.{IsTick}
-use Rattle.scenario_world.specs.Playing.{AreCoresOf}
+use Rattle.scenario_world.specs.Seats.{AreSeatsOf}
 use Rattle.scenario_world.proofs.NextTick.{hosts_len, cores_played, are_played}
 use Rattle.scenario_world.proofs.on_cores.play_tick_on_cores.Goals as goal
 
-pub play_hosts_on_cores-requires-clause-cores : goal.play_hosts_on_cores-requires-clause-cores
-play_hosts_on_cores-requires-clause-cores g c = λ lifetimes outlive.
+pub play_hosts_on_cores-requires-clause-seats : goal.play_hosts_on_cores-requires-clause-seats
+play_hosts_on_cores-requires-clause-seats g c = λ lifetimes outlive.
     let p = c.args.p.now in
-    subst (λ n. AreCoresOf n c.args.cores.now)
+    subst (λ n. AreSeatsOf n c.args.seats.now)
     (sym (ap length c.deref_mut.ensures.value ∙ hosts_len c.args.s.now c.args.tick p.hosts.items p c.requires.world))
-    c.requires.cores
+    c.requires.seats
 
 pub end_tick-requires-clause-played : goal.end_tick-requires-clause-played
 end_tick-requires-clause-played g c =
