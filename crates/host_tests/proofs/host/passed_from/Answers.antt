@@ -1,0 +1,8 @@
+use Rattle.std.proofs.lemmas.List.Elements.{All-set}
+use Rattle.host_tests.specs.Hosts.{IsCore}
+use Rattle.host_tests.proofs.host.passed_from.Goals as goal
+
+pub returns : goal.returns
+returns c =
+    All-set (IsCore c.args.shared.now) c.args.workers.now c.args.core c.passed_on.new.core c.passed_on.ensures
+    c.requires

@@ -1,0 +1,129 @@
+//! A core is in the middle of its turn while an application calls, and the other way round.
+ghost use Rattle.std.specs.Prelude.{◌≡◌, IfSome};
+ghost use Rattle.host_tests.specs.Hosts.{AreCores, IsApp, IsSlow};
+
+use crate::clients::{Clients, side_by_side};
+use crate::host::{Cores, deliver_all, end};
+use crate::starting::started;
+use crate::threads::connect_all;
+use crate::workers::TICK;
+use core_worker::Shared;
+use slow_worker::SlowWorker;
+use std::alloc::Global;
+use std::hint::spin_loop;
+use std::sync::Wait;
+use std::sync::atomic::{AtomicBool, Ordering};
+use std::test::*;
+use std::thread::Threads;
+use tas_num::Gate;
+
+/// How many turns a worker waits at most.
+const TURNS: u32 = 10_000_000;
+
+/// The points of core 1 on host 1, before its first frame and after it.
+const CORE: [u32; 2] = [66, 67];
+
+/// The points of application 0, before its calls and after them.
+const APPLICATION: [u32; 2] = [0, 1];
+
+/// Holds the first who comes to one point until another point was passed, or for so many turns.
+#[derive(Drop)]
+struct Hold {
+    held: u32,
+    until: u32,
+    was_held: AtomicBool,
+    was_passed: AtomicBool,
+    ran_out: AtomicBool,
+}
+
+impl Hold {
+    fn new(held: u32, until: u32) -> Hold {
+        Hold {
+            held,
+            until,
+            was_held: AtomicBool::new(false),
+            was_passed: AtomicBool::new(false),
+            ran_out: AtomicBool::new(false),
+        }
+    }
+
+    fn wait(&self) {
+        for _ in 0..TURNS {
+            if self.was_passed.load(Ordering::SeqCst) {
+                return;
+            }
+            // A turn takes longer so, and the other thread has more time to start on a busy machine.
+            spin_loop();
+        }
+        self.ran_out.store(true, Ordering::SeqCst);
+    }
+}
+
+impl Gate for Hold {
+    fn pass(&self, point: u32) {
+        if point == self.until {
+            self.was_passed.store(true, Ordering::SeqCst);
+        }
+        if point == self.held && !self.was_held.swap(true, Ordering::SeqCst) {
+            self.wait();
+        }
+    }
+}
+
+/// All peers open connections, and one piece of each is handled while the applications talk. `None` where it didn't
+/// come to that.
+fn run_gated<R: Threads + Wait + Sync, G: Gate>(
+    rt: &R,
+    alloc: Global,
+    shared: &Shared,
+    slow: &mut SlowWorker,
+    cores: &mut Cores,
+    clients: &mut Clients,
+    gate: &G,
+) -> Option<()>
+    requires slow { IsSlow shared.now slow.old }
+    requires cores { AreCores shared.now cores.old.steer cores.old.workers.items }
+    requires apps { IsApp shared.now 0 clients.old.first.app × IsApp shared.now 1 clients.old.second.app }
+{
+    connect_all(rt, alloc, shared, slow, cores, clients)?;
+    if !deliver_all(rt, alloc, shared, cores, 2) {
+        return None;
+    }
+    side_by_side(rt, shared, cores, clients, TICK, gate);
+    Some(())
+}
+
+/// The same on a host of its own.
+fn is_run<R: Threads + Wait + Sync, G: Gate>(rt: &R, alloc: Global, gate: &G) -> bool {
+    let Some((shared, mut host)) = started(rt, alloc) else {
+        return false;
+    };
+    let slow = &mut host.slow;
+    let done = run_gated(
+        rt,
+        alloc,
+        &shared,
+        slow,
+        &mut host.cores,
+        &mut host.clients,
+        gate,
+    );
+    end(rt, host);
+    done.is_some()
+}
+
+/// Whether somebody was held at the one point until another had passed the other one.
+fn meets<R: Threads + Wait + Sync>(rt: &R, alloc: Global, held: u32, until: u32) -> bool {
+    let gate = Hold::new(held, until);
+    is_run(rt, alloc, &gate)
+        && gate.was_held.load(Ordering::SeqCst)
+        && !gate.ran_out.load(Ordering::SeqCst)
+}
+
+/// The core is before a frame while the application calls, and the other way round.
+#[test]
+fn cores_and_applications_are_about_at_once(rt: HostRuntime) -> Result<(), Fail> {
+    assert!(rt; meets(&rt, rt.alloc(), CORE[0], APPLICATION[1]));
+    assert!(rt; meets(&rt, rt.alloc(), APPLICATION[0], CORE[1]));
+    Ok(())
+}

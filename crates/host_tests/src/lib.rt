@@ -1,0 +1,21 @@
+//! Tests of a host put together, whose cores, slow path and applications run on one table. This crate has tests alone.
+#![tactic(auto)]
+
+#[cfg(test)]
+mod clients;
+#[cfg(test)]
+mod flows;
+#[cfg(test)]
+mod gates;
+#[cfg(test)]
+mod host;
+#[cfg(test)]
+mod opening;
+#[cfg(test)]
+mod packets;
+#[cfg(test)]
+mod starting;
+#[cfg(test)]
+mod threads;
+#[cfg(test)]
+mod workers;
