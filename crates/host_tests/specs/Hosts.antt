@@ -21,6 +21,10 @@ IsCore c w = cores.IsFree c w × cores.HasQueue c w × cores.HasSenders c w
 abbrev pub AreEach : cores.Common → List cores.Worker → Type 0
 AreEach c ws = Each (cores.IsFree c) ws × Each (cores.HasQueue c) ws × Each (cores.HasSenders c) ws
 
+-- all of a host may have a turn
+pub record AreWorking (c : cores.Common) (ws : List cores.Worker) : Type 0 where
+  pub each : All (IsCore c) ws
+
 -- all of a host, with a pass to its steering
 abbrev pub AreCores : cores.Common → tables.Sight → List cores.Worker → Type 0
 AreCores c steer ws = (steer.place ≡ c.steering) × All (IsCore c) ws

@@ -1,6 +1,6 @@
 //! Applications that write and read on two sockets each, beside cores that have their turns.
-ghost use Rattle.std.specs.Prelude.{◌≡◌, All, IfSome};
-ghost use Rattle.host_tests.specs.Hosts.{AreCores, IsApp, IsClient, IsCore, IsSlow};
+ghost use Rattle.std.specs.Prelude.{◌≡◌, IfSome};
+ghost use Rattle.host_tests.specs.Hosts.{AreCores, AreWorking, IsApp, IsClient, IsSlow};
 
 use crate::host::{Cores, work_all};
 use crate::workers::{accept, read, write};
@@ -112,6 +112,20 @@ pub fn both_talk<R: Threads + Sync, G: Gate>(
     join_mut(rt, &mut one, &mut two);
 }
 
+/// Each core has its turns.
+fn take_turns<R: Threads + Wait + Sync, G: Gate>(
+    rt: &R,
+    shared: &Shared,
+    workers: &mut [CoreWorker],
+    tick: u32,
+    gate: &G,
+)
+    requires { AreWorking shared.now workers.old }
+    ensures { AreWorking shared.now workers.new }
+{
+    work_all(rt, shared, workers, 2, tick, gate);
+}
+
 /// The cores have their turns while the applications talk in the next tick, each on a thread of its own.
 fn beside<R: Threads + Wait + Sync, G: Gate>(
     rt: &R,
@@ -122,18 +136,18 @@ fn beside<R: Threads + Wait + Sync, G: Gate>(
     tick: u32,
     gate: &G,
 )
-    requires cores { All (IsCore shared.now) workers.old }
+    requires cores { AreWorking shared.now workers.old }
     requires first { IsClient shared.now 0 first.old.app first.old.sockets }
     requires second { IsClient shared.now 1 second.old.app second.old.sockets }
-    ensures cores { All (IsCore shared.now) workers.new }
+    ensures cores { AreWorking shared.now workers.new }
     ensures first { IsClient shared.now 0 first.new.app first.new.sockets }
     ensures second { IsClient shared.now 1 second.new.app second.new.sockets }
 {
     let next = tick.saturating_add(1);
     let mut turns = ||
-        requires { All (IsCore shared.now) workers.now }
-        ensures { All (IsCore shared.entry.now) workers.exit.now }
-    { work_all(rt, shared, workers, 2, tick, gate) };
+        requires { AreWorking shared.now workers.now }
+        ensures { AreWorking shared.entry.now workers.exit.now }
+    { take_turns(rt, shared, workers, tick, gate) };
     let mut talks = ||
         requires { IsClient shared.now 0 first.now.app first.now.sockets
             × IsClient shared.now 1 second.now.app second.now.sockets }
