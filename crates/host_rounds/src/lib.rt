@@ -2,10 +2,12 @@
 //! laws of these.
 #![tactic(auto)]
 
+mod kept_seg;
 mod laws;
 mod log;
 mod run_laws;
 mod worked;
 
+pub use kept_seg::KeptSeg;
 pub use log::{LogEvent, LogLine};
 pub use worked::worked_ticks;

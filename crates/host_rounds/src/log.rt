@@ -1,4 +1,5 @@
-use tas_model::{FourTuple, FrameId, Head, Seg};
+use crate::kept_seg::KeptSeg;
+use tas_model::{FourTuple, FrameId, Head};
 
 /// A line of a host's log: what happened to it outside of every flow, and in which tick.
 #[derive(Drop)]
@@ -34,7 +35,7 @@ pub enum LogEvent {
     Stray {
         frame: FrameId,
         tuple: FourTuple,
-        seg: Seg,
+        seg: KeptSeg,
         answer: Option<Head>,
     },
     /// A SYN came for a listener, and was dropped: for a full backlog where `backlog` is true, and else for want of a

@@ -37,7 +37,7 @@ use slow_handshake::stray;
 use std::alloc::{AllocError, Global};
 use std::marker::Model;
 use std::thread::Threads;
-use tas_core::{HostLog, LogEvent, LogLine};
+use tas_core::{HostLog, KeptSeg, LogEvent, LogLine};
 use tas_model::{Bytes, Caller, FlowId, FourTuple, FrameId, Head, HostParams, Seg};
 use tas_num::{Gate, Seq};
 
@@ -645,10 +645,10 @@ fn opens(seg: &Segment<'_>) -> bool
 }
 
 /// The segment with a payload of its own. The error is want of memory.
-fn owned(alloc: Global, seg: &Segment<'_>) -> Result<Seg, AllocError>
+fn owned(alloc: Global, seg: &Segment<'_>) -> Result<KeptSeg, AllocError>
     ensures { IfOk result (λ s. s ≡ seg_of seg.now) }
 {
-    Ok(Seg {
+    let owned = Seg {
         head: Head {
             flags: seg.flags.0,
             seq: seg.seq,
@@ -657,5 +657,6 @@ fn owned(alloc: Global, seg: &Segment<'_>) -> Result<Seg, AllocError>
             mss: seg.mss,
         },
         bytes: Bytes::copy(alloc, seg.payload)?,
-    })
+    };
+    KeptSeg::new(alloc, owned)
 }

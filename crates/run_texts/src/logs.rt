@@ -67,7 +67,7 @@ fn write_event<K: Sink>(
             tuple: _,
             seg,
             answer,
-        } => { write_stray(writer, sink, names, *frame, seg, *answer) }
+        } => { write_stray(writer, sink, names, *frame, seg.get(), *answer) }
         LogEvent::Dropped { frame, backlog } => write_dropped(
             writer, sink, names, *frame, *backlog,
         ),

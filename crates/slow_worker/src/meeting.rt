@@ -13,7 +13,7 @@ use core_worker::tuple_of;
 use segment_fields::Segment;
 use slow_handshake::stray;
 use std::alloc::{AllocError, Global};
-use tas_core::LogEvent;
+use tas_core::{KeptSeg, LogEvent};
 use tas_model::{Bytes, FrameId, Head, Seg};
 
 /// Whether the segment asks for a connection: SYN is set, and neither ACK nor RST is.
@@ -24,10 +24,10 @@ pub(crate) fn opens(seg: &Segment<'_>) -> bool
 }
 
 /// The segment with a payload of its own. The error is want of memory.
-fn owned(alloc: Global, seg: &Segment<'_>) -> Result<Seg, AllocError>
+fn owned(alloc: Global, seg: &Segment<'_>) -> Result<KeptSeg, AllocError>
     ensures { IfOk result (λ s. s ≡ seg_of seg.now) }
 {
-    Ok(Seg {
+    let owned = Seg {
         head: Head {
             flags: seg.flags.0,
             seq: seg.seq,
@@ -36,7 +36,8 @@ fn owned(alloc: Global, seg: &Segment<'_>) -> Result<Seg, AllocError>
             mss: seg.mss,
         },
         bytes: Bytes::copy(alloc, seg.payload)?,
-    })
+    };
+    KeptSeg::new(alloc, owned)
 }
 
 impl SlowWorker {

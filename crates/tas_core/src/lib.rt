@@ -3,5 +3,5 @@
 
 mod log;
 
-pub use host_rounds::{LogEvent, LogLine};
+pub use host_rounds::{KeptSeg, LogEvent, LogLine};
 pub use log::HostLog;
