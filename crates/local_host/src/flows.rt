@@ -44,6 +44,9 @@ pub const FIRST_PORT: u16 = 49152;
 /// the highest number means no flow.
 const MOST_FLOWS: usize = 0xffff_ffff;
 
+/// How many flows are moved before their room is given back.
+const PIECE: usize = 4096;
+
 /// What is known of the flows of a four-tuple.
 #[derive(Clone, Copy)]
 struct Openings {
@@ -124,14 +127,19 @@ impl Flows {
     }
 
     /// The records of all flows, in the order of their opening. The error is want of memory.
+    ///
+    /// Of the flows no more is kept than was not moved yet, but for a piece, as they may be most of a run's memory.
     pub fn into_records(self, alloc: Global) -> Result<Vec<FlowRecord>, AllocError>
         ensures flows { IfOk result (λ records. map flow_in records.items ≡ flows_of self) }
         ensures legal { IfOk result (λ records. Each IsLegal records.items) }
     {
         let table = self.table;
-        let mut records = Vec::with_capacity(alloc, table.flows.len())?;
-        for flow in table.flows {
+        let mut flows = table.flows;
+        flows.reverse();
+        let mut records = Vec::with_capacity(alloc, flows.len())?;
+        'moving: while let Some(flow) = flows.pop() {
             records.push(flow.into_record())?;
+            give_room_back(&mut flows);
         }
         Ok(records)
     }
@@ -555,6 +563,15 @@ fn is_settled_at(flows: &[LiveFlow], place: usize) -> bool
     match flows.get(place) {
         Some(flow) => flow.is_settled(),
         None => false,
+    }
+}
+
+/// Gives back the room of those that left, where a piece of them did.
+fn give_room_back(flows: &mut Vec<LiveFlow>)
+    ensures { flows.new.items ≡ flows.old.items }
+{
+    if flows.len() % PIECE == 0 {
+        flows.shrink_to_fit();
     }
 }
 

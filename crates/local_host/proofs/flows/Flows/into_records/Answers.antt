@@ -1,14 +1,15 @@
 use Rattle.std.proofs.Common.{sym, subst}
 use Rattle.host_rounds.specs.Lists.{Each}
 use Rattle.local_host.specs.Live.{IsLegal}
-use Rattle.local_host.proofs.Records.{record_push, each_push}
+use Rattle.local_host.proofs.Records.{record_moved, each_push}
 use Rattle.local_host.proofs.flows.Flows.into_records.Goals as goal
 
-pub loop-flow-preserved : goal.loop-flow-preserved
-loop-flow-preserved c = record {
-  flows = record_push c.loop-flow.records.items c.push.new.self.items c.into_record.result c.loop-flow.yielded
-      c.in-Some.flow c.in_ok-push.ensures.items c.into_record.ensures.flow c.loop-flow.invariant.flows;
+pub moving-preserved : goal.moving-preserved
+moving-preserved c = record {
+  flows = rw c.give_room_back.ensures (record_moved c.moving.records.items c.push.new.self.items c.into_record.result
+      c.moving.flows.items c.pop.new.self.items c.in-Some.flow _ c.in_ok-push.ensures.items c.into_record.ensures.flow
+      (rw c.in-Some.is at c.pop.ensures.items) c.moving.invariant.flows);
   legal = subst (Each IsLegal) (sym c.in_ok-push.ensures.items)
-      (each_push IsLegal c.loop-flow.records.items c.into_record.result c.loop-flow.invariant.legal
+      (each_push IsLegal c.moving.records.items c.into_record.result c.moving.invariant.legal
       c.into_record.ensures.legal);
 }
