@@ -10,6 +10,7 @@ use Rattle.flow_lock.specs.Passes.{Seen}
 use Rattle.flow_lock.specs.Steps.{HasAll, HasTurn, IsAlone, MayAct}
 use Rattle.flow_lock.specs.declared.view.View.{View}
 use Rattle.host_rounds.specs.Lists.{Each}
+use Rattle.core_worker.specs.declared.kicks.Kick.{Kick}
 
 -- The slow path's view and lists, as contracts see them.
 pub record Ledger : Type 0 where
@@ -18,10 +19,11 @@ pub record Ledger : Type 0 where
   pub doomed : List FlowId  -- of closed ones that others have pins of
   pub filed : List Flow
   pub changes : List Change  -- of the index, not published yet
+  pub kicks : List Kick  -- not posted yet
 
-abbrev pub ledger : View → (pins doomed : List FlowId) → List Flow → List Change → Ledger
-ledger view pins doomed filed changes =
-    record { view = view; pins = pins; doomed = doomed; filed = filed; changes = changes }
+abbrev pub ledger : View → (pins doomed : List FlowId) → List Flow → List Change → List Kick → Ledger
+ledger view pins doomed filed changes kicks =
+    record { view = view; pins = pins; doomed = doomed; filed = filed; changes = changes; kicks = kicks }
 
 -- the slow path may act, and holds nothing
 abbrev pub IsReady : TableId → Seen → Type 0

@@ -1,10 +1,12 @@
 -- What a tick does with one flow.
-use Rattle.std.specs.Prelude.{◌≡◌, ℕ, true, false}
+use Rattle.std.specs.Prelude.{◌≡◌, ℕ, true, false, List, ◌++◌}
 use Rattle.tas_model.specs.declared.entry.FlowId.{FlowId}
 use Rattle.flow_state.specs.Flow.{Flow}
 use Rattle.flow_lock.specs.declared.view.History.{History}
 use Rattle.flow_lock.specs.declared.view.View.{View}
 use Rattle.app_reaper.specs.OneCall.{history, IsOwn, IsUse}
+use Rattle.core_worker.specs.Kicks.{kick_of, one_kick}
+use Rattle.core_worker.specs.declared.kicks.Kick.{Kick}
 use Rattle.flow_clock.specs.Histories.{is_over, is_control_due, timed_by}
 use Rattle.flow_clock.specs.declared.timing.Timed.{Timed}
 use Rattle.flow_clock.specs.declared.timing.Timed.TheVariants.{Closed, Ticked, Controlled}
@@ -16,8 +18,14 @@ HasPassed t h k (Closed tuple) = (is_over h ≡ true) × (tuple ≡ h.tuple) × 
 HasPassed t h k Ticked = (is_over h ≡ false) × (is_control_due t h ≡ false) × (k ≡ timed_by t h)
 HasPassed t h k Controlled = (is_over h ≡ false) × (is_control_due t h ≡ true) × (k ≡ timed_by t h)
 
+-- A flow that its tick left with something to send has a kick more, and a closed one none.
+abbrev pub kicks_with : FlowId → (after : History) → Timed → List Kick → List Kick
+kicks_with id k (Closed tuple) kicks = kicks
+kicks_with id k timed kicks = kicks ++ one_kick (kick_of id k)
+
 -- ----- views
--- The flow's own record was taken and given back, and this became of its history meanwhile.
-abbrev pub IsTimed : (tick : ℕ) → FlowId → (before after : View) → Timed → Type 0
-IsTimed t id v w timed =
+-- The flow's own record was taken and given back, and this became of its history meanwhile, and of the kicks.
+abbrev pub IsTimed : (tick : ℕ) → FlowId → (before after : View) → (kicks kicks' : List Kick) → Timed → Type 0
+IsTimed t id v w kicks kicks' timed =
     (r : Flow) × (after : History) × IsOwn id v r × HasPassed t (history r) after timed × IsUse id r after v w
+    × (kicks' ≡ kicks_with id after timed kicks)

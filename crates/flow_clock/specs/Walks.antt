@@ -12,6 +12,7 @@ use Rattle.app_reaper.specs.Sweeping.{IsFiling, IsSweep}
 use Rattle.app_reaper.specs.declared.one_call.CallFault.TheVariants.{Busy, OutOfMemory}
 use Rattle.app_reaper.specs.declared.sweeping.Swept.{Swept}
 use Rattle.app_reaper.specs.declared.sweeping.Swept.TheVariants.{Freed, Pinned}
+use Rattle.core_worker.specs.Kicks.{kick_of, one_kick}
 use Rattle.flow_clock.specs.Histories.{is_over, timed_by}
 use Rattle.flow_clock.specs.Ledgers.{Ledger}
 
@@ -34,15 +35,17 @@ pub record WasBusy (f : FlowId) (l m : Ledger) : Type 0 where
   pub busy : IsCallRefused f l.view m.view (Busy word)
   pub rest : m ≡ record l { view = m.view; pins = l.pins ++ f ∷ [] }
 
--- It wasn't closed, and its history grew by exactly its Tick, and its Control where that was due.
+-- It wasn't closed, and its history grew by exactly its Tick, and its Control where that was due. It is kicked, where a
+-- segment may then go.
 pub record WasTimed (tick : ℕ) (f : FlowId) (l m : Ledger) : Type 0 where
   pub flow : Flow
   pub own : IsOwn f l.view flow
   pub not_over : is_over (history flow) ≡ false
   pub grown : IsUse f flow (timed_by tick (history flow)) l.view m.view
-  pub rest : m ≡ record l { view = m.view; pins = l.pins ++ f ∷ [] }
+  pub kicked : m.kicks ≡ l.kicks ++ one_kick (kick_of f (timed_by tick (history flow)))
+  pub rest : m ≡ record l { view = m.view; pins = l.pins ++ f ∷ []; kicks = m.kicks }
 
--- It was closed: it left the index and the list, and was swept.
+-- It was closed: it left the index and the list, and was swept. It is not kicked.
 pub record WasClosed (f : FlowId) (l m : Ledger) : Type 0 where
   pub flow : Flow
   pub found : View
@@ -52,6 +55,7 @@ pub record WasClosed (f : FlowId) (l m : Ledger) : Type 0 where
   pub swept : IsSwept f found m.view l.filed m.filed l.doomed m.doomed
   pub left : m.changes ≡ l.changes ++ Remove flow.tuple ∷ []
   pub gone : m.pins ≡ l.pins
+  pub unkicked : m.kicks ≡ l.kicks
 
 abbrev pub IsServed : (tick : ℕ) → FlowId → Ledger → Ledger → Type 0
 IsServed tick f l m = WasTimed tick f l m ⊎ WasClosed f l m ⊎ WasBusy f l m

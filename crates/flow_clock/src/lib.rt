@@ -1,4 +1,5 @@
-//! What the slow path does first in each tick: closed flows are given up, and time passes for all others.
+//! What the slow path does first in each tick: closed flows are given up, and time passes for all others, of which
+//! those that then have something to send are to be kicked.
 #![tactic(auto)]
 
 mod closing;

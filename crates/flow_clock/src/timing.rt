@@ -7,10 +7,11 @@ ghost use Rattle.flow_lock.specs.Histories.{IsLonger};
 ghost use Rattle.flow_lock.specs.Steps.{MayAct};
 ghost use Rattle.app_reaper.specs.OneCall.{history, IsCallRefused};
 ghost use Rattle.host_rounds.specs.Upkeep.{is_control_tick as model_control_tick};
-ghost use Rattle.flow_clock.specs.Histories.{is_over, is_running, with_call, with_tick};
-ghost use Rattle.flow_clock.specs.OneFlow.{HasPassed, IsTimed};
+ghost use Rattle.flow_clock.specs.Histories.{is_over, is_running, is_control_due, timed_by, with_call};
+ghost use Rattle.flow_clock.specs.OneFlow.{HasPassed, kicks_with, IsTimed};
 
 use app_reaper::CallFault;
+use core_worker::{Kick, KickList};
 use flow_lock::{FlowTable, Pin, SlowPass};
 use flow_state::{CallIn, FlowRecord, Stage};
 use slow_timeout::TimerWork;
@@ -31,36 +32,43 @@ pub enum Timed {
 }
 
 /// A tick passes for a pinned flow, by one take and one give: it has one Tick more, and a Control behind it where that
-/// is due, but where it is closed it stays as it is. `Busy` comes where another pass held the record, and never alone;
-/// then, and where memory is wanting, there is no entry.
+/// is due, but where it is closed it stays as it is. Where a segment of it may then go, its kick is put to the list.
+/// `Busy` comes where another pass held the record, and never alone; then, and where memory is wanting, there is no
+/// entry and no kick.
 pub fn pass_time(
     table: &FlowTable<FlowRecord>,
     slow: &mut SlowPass<FlowRecord>,
     pin: &Pin,
+    kicks: &mut KickList,
     tick: u32,
 ) -> Result<Timed, CallFault>
     requires slot { pin.now.slot < table.now.slots }
     requires slow { (slow.old.table ≡ table.now) × HasPin slow.old.view pin.now × MayAct slow.old.view }
     requires free { slow.old.view.held ≡ [] }
     ensures table { slow.new.table ≡ slow.old.table }
-    ensures timed { IfOk result (IsTimed tick pin.now slow.old.view slow.new.view) }
+    ensures timed { IfOk result (IsTimed tick pin.now slow.old.view slow.new.view kicks.old.list kicks.new.list) }
     ensures refused { IfErr result (IsCallRefused pin.now slow.old.view slow.new.view) }
+    ensures unkicked { OnErr result (kicks.new.list ≡ kicks.old.list) }
 {
     let mut flow = match table.slow_take(slow, pin) {
         Ok(flow) => flow,
         Err(word) => return Err(CallFault::Busy(word)),
     };
-    let timed = pass_for(&mut flow, tick);
+    let timed = pass_for(&mut flow, kicks, tick);
     table.slow_give(slow, pin, flow);
     timed
 }
 
-/// A tick passes for a record that was taken. `Busy` never comes; where memory is wanting the history stays.
-fn pass_for(flow: &mut FlowRecord, tick: u32) -> Result<Timed, CallFault>
+/// A tick passes for a record that was taken. `Busy` never comes; where memory is wanting the history and the kicks
+/// stay.
+fn pass_for(flow: &mut FlowRecord, kicks: &mut KickList, tick: u32) -> Result<Timed, CallFault>
     ensures id { flow.new.id ≡ flow.old.id }
     ensures longer { IsLonger (history flow.old) (history flow.new) }
     ensures passed { IfOk result (HasPassed tick (history flow.old) (history flow.new)) }
+    ensures kicked { IfOk result (λ timed.
+        kicks.new.list ≡ kicks_with flow.old.id (history flow.new) timed kicks.old.list) }
     ensures full { IfErr result (λ e. (e ≡ CallFault.OutOfMemory) × (history flow.new ≡ history flow.old)) }
+    ensures unkicked { OnErr result (kicks.new.list ≡ kicks.old.list) }
 {
     if is_closed(flow) {
         return Ok(Timed::Closed(flow.tuple()));
@@ -68,12 +76,32 @@ fn pass_for(flow: &mut FlowRecord, tick: u32) -> Result<Timed, CallFault>
     if flow.reserve(ENTRIES, 0).is_err() {
         return Err(CallFault::OutOfMemory);
     }
+    if kicks.reserve().is_err() {
+        return Err(CallFault::OutOfMemory);
+    }
+    let controlled = enter_time(flow, tick);
+    kicks.put_some(Kick::of(flow));
+    if controlled {
+        return Ok(Timed::Controlled);
+    }
+    Ok(Timed::Ticked)
+}
+
+/// Enters a Tick, and a Control behind it where that is due, and tells whether it was.
+fn enter_time(flow: &mut FlowRecord, tick: u32) -> bool
+    requires open { is_closed_phase flow.old.parts.phase ≡ false }
+    requires room { 2 ≤ flow.old.spare_entries }
+    ensures id { flow.new.id ≡ flow.old.id }
+    ensures longer { IsLonger (history flow.old) (history flow.new) }
+    ensures due { result ≡ is_control_due tick (history flow.old) }
+    ensures entered { history flow.new ≡ timed_by tick (history flow.old) }
+{
     enter_tick(flow, tick);
     if !(is_control_tick(flow.params().fixed, tick) && is_running(flow)) {
-        return Ok(Timed::Ticked);
+        return false;
     }
     enter_control(flow, tick);
-    Ok(Timed::Controlled)
+    true
 }
 
 /// Enters a Tick of the slow path.

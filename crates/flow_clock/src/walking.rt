@@ -2,6 +2,7 @@
 ghost use Rattle.std.specs.Prelude.{◌≡◌, ◌<◌, [], List, length, IfOk, OnOk, OnErr};
 ghost use Rattle.tas_model.specs.declared.entry.FlowId.{FlowId};
 ghost use Rattle.flow_index.specs.declared.change.Change.{Change};
+ghost use Rattle.core_worker.specs.declared.kicks.Kick.{Kick};
 ghost use Rattle.flow_clock.specs.Ledgers.{IsReady, KeepsRights, AreKept, ledger};
 ghost use Rattle.flow_clock.specs.Walks.{IsServedAt, IsRefusedAt, AreServed, IsWalkStopped, AreSweptAgain};
 ghost use Rattle.flow_clock.specs.Walks.{IsSweepStopped, IsTickDone, IsTickStopped};
@@ -9,6 +10,7 @@ ghost use Rattle.flow_clock.specs.Walks.{IsSweepStopped, IsTickDone, IsTickStopp
 use crate::closing::{close_at, sweep_one};
 use crate::timing::{Timed, pass_time};
 use app_reaper::{CallFault, FiledList, PinList};
+use core_worker::KickList;
 use flow_index::IndexWriter;
 use flow_lock::{FlowTable, SlowPass};
 use flow_state::FlowRecord;
@@ -17,10 +19,11 @@ use std::alloc::AllocError;
 /// What the slow path does first in a tick. Each closed flow that others still had pins of is swept again. Then each
 /// flow of the list has its time: one Tick, and a Control where that is due; one that is closed leaves the index and
 /// the list instead, and is freed and filed, or is among the doomed ones where others have pins of it. A flow whose
-/// record another pass holds is passed over, which never comes alone.
+/// record another pass holds is passed over, which never comes alone. Each flow that its tick left with something to
+/// send has a kick more in the list of kicks, and no other has one.
 ///
-/// The changes of the index are not published yet. The error is want of memory: what was done stands, and each pin that
-/// is left is in its list still.
+/// The changes of the index are not published yet, and the kicks not posted. The error is want of memory: what was done
+/// stands, and each pin that is left is in its list still.
 pub fn tick_all(
     table: &FlowTable<FlowRecord>,
     slow: &mut SlowPass<FlowRecord>,
@@ -28,6 +31,7 @@ pub fn tick_all(
     doomed: &mut PinList,
     filed: &mut FiledList,
     index: &mut IndexWriter,
+    kicks: &mut KickList,
     tick: u32,
 ) -> Result<(), AllocError>
     requires slow { IsReady table.now slow.old }
@@ -37,14 +41,14 @@ pub fn tick_all(
     ensures kept { AreKept table.now.slots slow.new doomed.new.list pins.new.list }
     ensures published { (index.new.published ≡ index.old.published) × (index.new.left ≡ index.old.left) }
     ensures done { OnOk result (IsTickDone tick
-        (ledger slow.old.view pins.old.list doomed.old.list filed.old.list index.old.pending)
-        (ledger slow.new.view pins.new.list doomed.new.list filed.new.list index.new.pending)) }
+        (ledger slow.old.view pins.old.list doomed.old.list filed.old.list index.old.pending kicks.old.list)
+        (ledger slow.new.view pins.new.list doomed.new.list filed.new.list index.new.pending kicks.new.list)) }
     ensures stopped { OnErr result (IsTickStopped tick
-        (ledger slow.old.view pins.old.list doomed.old.list filed.old.list index.old.pending)
-        (ledger slow.new.view pins.new.list doomed.new.list filed.new.list index.new.pending)) }
+        (ledger slow.old.view pins.old.list doomed.old.list filed.old.list index.old.pending kicks.old.list)
+        (ledger slow.new.view pins.new.list doomed.new.list filed.new.list index.new.pending kicks.new.list)) }
 {
     sweep_again(table, slow, doomed, filed)?;
-    serve_all(table, slow, pins, doomed, filed, index, tick)
+    serve_all(table, slow, pins, doomed, filed, index, kicks, tick)
 }
 
 /// Tries each doomed flow again. The error is want of memory.
@@ -60,12 +64,12 @@ fn sweep_again(
     ensures rights { KeepsRights slow.old.view slow.new.view }
     ensures kept { (pins : List FlowId) → AreKept table.now.slots slow.old doomed.old.list pins
         → AreKept table.now.slots slow.new doomed.new.list pins }
-    ensures done { (pins : List FlowId) (changes : List Change) → OnOk result (AreSweptAgain doomed.old.list
-        (ledger slow.old.view pins [] filed.old.list changes)
-        (ledger slow.new.view pins doomed.new.list filed.new.list changes)) }
-    ensures stopped { (pins : List FlowId) (changes : List Change) → OnErr result (IsSweepStopped
-        (ledger slow.old.view pins doomed.old.list filed.old.list changes)
-        (ledger slow.new.view pins doomed.new.list filed.new.list changes)) }
+    ensures done { (pins : List FlowId) (changes : List Change) (kicks : List Kick) → OnOk result (AreSweptAgain
+        doomed.old.list (ledger slow.old.view pins [] filed.old.list changes kicks)
+        (ledger slow.new.view pins doomed.new.list filed.new.list changes kicks)) }
+    ensures stopped { (pins : List FlowId) (changes : List Change) (kicks : List Kick) → OnErr result (IsSweepStopped
+        (ledger slow.old.view pins doomed.old.list filed.old.list changes kicks)
+        (ledger slow.new.view pins doomed.new.list filed.new.list changes kicks)) }
 {
     let mut left = doomed.len();
     while left > 0 {
@@ -85,6 +89,7 @@ fn serve_all(
     doomed: &mut PinList,
     filed: &mut FiledList,
     index: &mut IndexWriter,
+    kicks: &mut KickList,
     tick: u32,
 ) -> Result<(), AllocError>
     requires slow { IsReady table.now slow.old }
@@ -94,15 +99,15 @@ fn serve_all(
     ensures kept { AreKept table.now.slots slow.new doomed.new.list pins.new.list }
     ensures published { (index.new.published ≡ index.old.published) × (index.new.left ≡ index.old.left) }
     ensures done { OnOk result (AreServed tick pins.old.list
-        (ledger slow.old.view [] doomed.old.list filed.old.list index.old.pending)
-        (ledger slow.new.view pins.new.list doomed.new.list filed.new.list index.new.pending)) }
+        (ledger slow.old.view [] doomed.old.list filed.old.list index.old.pending kicks.old.list)
+        (ledger slow.new.view pins.new.list doomed.new.list filed.new.list index.new.pending kicks.new.list)) }
     ensures stopped { OnErr result (IsWalkStopped tick
-        (ledger slow.old.view pins.old.list doomed.old.list filed.old.list index.old.pending)
-        (ledger slow.new.view pins.new.list doomed.new.list filed.new.list index.new.pending)) }
+        (ledger slow.old.view pins.old.list doomed.old.list filed.old.list index.old.pending kicks.old.list)
+        (ledger slow.new.view pins.new.list doomed.new.list filed.new.list index.new.pending kicks.new.list)) }
 {
     let mut at = 0;
     while at < pins.len() {
-        if serve_at(table, slow, pins, at, doomed, filed, index, tick)? {
+        if serve_at(table, slow, pins, at, doomed, filed, index, kicks, tick)? {
             at += 1;
         }
     }
@@ -119,6 +124,7 @@ fn serve_at(
     doomed: &mut PinList,
     filed: &mut FiledList,
     index: &mut IndexWriter,
+    kicks: &mut KickList,
     tick: u32,
 ) -> Result<bool, AllocError>
     requires place { at < length pins.old.list }
@@ -129,15 +135,16 @@ fn serve_at(
     ensures kept { AreKept table.now.slots slow.new doomed.new.list pins.new.list }
     ensures published { (index.new.published ≡ index.old.published) × (index.new.left ≡ index.old.left) }
     ensures served { IfOk result (IsServedAt tick at
-        (ledger slow.old.view pins.old.list doomed.old.list filed.old.list index.old.pending)
-        (ledger slow.new.view pins.new.list doomed.new.list filed.new.list index.new.pending)) }
+        (ledger slow.old.view pins.old.list doomed.old.list filed.old.list index.old.pending kicks.old.list)
+        (ledger slow.new.view pins.new.list doomed.new.list filed.new.list index.new.pending kicks.new.list)) }
     ensures refused { OnErr result (IsRefusedAt at pins.old.list slow.old.view slow.new.view) }
     ensures pins { OnErr result (pins.new.list ≡ pins.old.list) }
     ensures doomed { OnErr result (doomed.new.list ≡ doomed.old.list) }
     ensures filed { OnErr result (filed.new.list ≡ filed.old.list) }
     ensures pending { OnErr result (index.new.pending ≡ index.old.pending) }
+    ensures unkicked { OnErr result (kicks.new.list ≡ kicks.old.list) }
 {
-    let timed = match pass_time(table, slow, pins.pin(at), tick) {
+    let timed = match pass_time(table, slow, pins.pin(at), kicks, tick) {
         Ok(timed) => timed,
         Err(CallFault::Busy(_)) => return Ok(true),
         Err(CallFault::OutOfMemory) => return Err(AllocError),

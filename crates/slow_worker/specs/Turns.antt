@@ -34,9 +34,10 @@ abbrev pub still_known : (pins : List FlowId) → List KnownFlow → List KnownF
 still_known pins = filter (λ f. is_pinned pins f.id)
 
 -- ----- time
--- the slow path's view and lists, with these changes of the index that aren't published yet
+-- the slow path's view and lists, with these changes of the index that aren't published yet, and the kicks that aren't
+-- posted
 abbrev pub ledger_of : Worker → List Change → Ledger
-ledger_of w changes = ledger w.pass.view w.pins w.doomed w.filed changes
+ledger_of w changes = ledger w.pass.view w.pins w.doomed w.filed changes w.kicks
 
 -- what the time of a tick leaves as it was
 abbrev pub with_time : Worker → Worker → Worker
@@ -48,9 +49,11 @@ with_time w v = record v {
   flows = w.flows;
   index = w.index;
   ticked = w.ticked;
+  kicks = w.kicks;
 }
 
--- Each flow had its time or was closed, in order; those closed are known no more, and the index shows it.
+-- Each flow had its time, and is to be kicked where it then has something to send, or was closed, in order; those
+-- closed are known no more, and the index shows it.
 pub record IsTimePassed (tick : ℕ) (v w : Worker) : Type 0 where
   pub changes : List Change
   pub done : IsTickDone tick (ledger_of v v.index.pending) (ledger_of w changes)

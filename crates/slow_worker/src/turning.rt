@@ -13,10 +13,11 @@ use std::sync::Wait;
 
 impl SlowWorker {
     /// The first turn of a tick: closed flows are given up, and time passes for all others. Every later turn of that
-    /// tick handles the frames that wait. Then each kick that was kept, and each flow that the turn's entries and
-    /// openings left with something to send, is posted to the queue of its core, or kept where that is full. The error
-    /// is want of memory, and what was done stands. How many flows were opened, with all slots that are free, stays as
-    /// it was but for the slots that the first turn frees: by `few_for_ticks` a caller has `few` in many ticks.
+    /// tick handles the frames that wait. Then each kick that was kept, and each flow that the turn's ticks, entries
+    /// and openings left with something to send, is posted to the queue of its core, or kept where that is full. The
+    /// error is want of memory, and what was done stands. How many flows were opened, with all slots that are free,
+    /// stays as it was but for the slots that the first turn frees: by `few_for_ticks` a caller has `few` in many
+    /// ticks.
     pub fn turn<R: Wait>(&mut self, rt: &R, shared: &Shared, tick: u32) -> Result<(), AllocError>
         requires sound { IsSound shared.now.table (sight_of self.old) }
         requires few { is_passed tick self.old ≡ true → HasFew self.old.pass.view }
@@ -71,7 +72,8 @@ impl SlowWorker {
         }
     }
 
-    /// Gives closed flows up, and lets time pass for all others.
+    /// Gives closed flows up, and lets time pass for all others, of which each that then has something to send is to
+    /// be kicked.
     fn pass_time<R: Wait>(&mut self, rt: &R, shared: &Shared, tick: u32) -> Result<(), AllocError>
         requires sound { IsSound shared.now.table (sight_of self.old) }
         ensures sound { IsSound shared.now.table (sight_of self.new) }
@@ -90,6 +92,7 @@ impl SlowWorker {
             &mut self.doomed,
             &mut self.filed,
             &mut self.index,
+            &mut self.kicks,
             tick,
         );
         self.flows.keep(&self.pins);

@@ -16,5 +16,6 @@ pub returns-clause-timed : goal.returns-clause-timed
 returns-clause-timed c =
     let t = c.in-Ok.ensures in
     flow_timed c.args.tick c.args.pin.now c.in-Ok.flow (history c.pass_for-timed.new.flow) c.args.slow.now.view
-    c.slow_take.new.slow.view c.slow_give.new.slow.view _ (record { own = t.own; seen = t.seen; known = t.known })
-    t.taken (ap (λ (s : Seen). s.view) c.slow_give.ensures) c.pass_for-timed.ensures.passed
+    c.slow_take.new.slow.view c.slow_give.new.slow.view c.args.kicks.now.list c.pass_for-timed.new.kicks.list _
+    (record { own = t.own; seen = t.seen; known = t.known }) t.taken
+    (ap (λ (s : Seen). s.view) c.slow_give.ensures) c.pass_for-timed.ensures.passed c.pass_for-timed.ensures.kicked

@@ -12,16 +12,18 @@ returns-in_err-serve_at-clause-stopped c =
     let e = c.in_err-serve_at.ensures in
     on_err_stopped c.from_residual.result
     (serving_stops c.args.tick c.args.table.now _ l.slow n.slow l.pins.list n.pins.list l.doomed.list n.doomed.list
-    l.filed.list n.filed.list l.index.pending n.index.pending l.at l.invariant.serving e.refused e.pins e.doomed e.filed
-    e.pending)
+    l.filed.list n.filed.list l.index.pending n.index.pending l.kicks.list n.kicks.list l.at l.invariant.serving
+    e.refused e.pins e.doomed e.filed e.pending e.unkicked)
 
 pub loop-at-smaller-then-branch : goal.loop-at-smaller-then-branch
 loop-at-smaller-then-branch c =
     let l = c.loop-at in
     let n = c.serve_at.new in
-    fewer_left c.args.tick l.at (ledger l.slow.view l.pins.list l.doomed.list l.filed.list l.index.pending)
-    (ledger n.slow.view n.pins.list n.doomed.list n.filed.list n.index.pending) c.in_ok-serve_at.field-0 (l.at + 1)
-    c.in_ok-serve_at.ensures.served (ap (λ (b : Bool). l.at + one_if b) (sym c.if-branch.true))
+    fewer_left c.args.tick l.at
+    (ledger l.slow.view l.pins.list l.doomed.list l.filed.list l.index.pending l.kicks.list)
+    (ledger n.slow.view n.pins.list n.doomed.list n.filed.list n.index.pending n.kicks.list)
+    c.in_ok-serve_at.field-0 (l.at + 1) c.in_ok-serve_at.ensures.served
+    (ap (λ (b : Bool). l.at + one_if b) (sym c.if-branch.true))
 
 pub loop-at-preserved-then-branch : goal.loop-at-preserved-then-branch
 loop-at-preserved-then-branch c =
@@ -29,8 +31,8 @@ loop-at-preserved-then-branch c =
     let n = c.serve_at.new in
     let e = c.in_ok-serve_at.ensures in record {
       serving = serving_more c.args.tick c.args.table.now _ l.slow n.slow l.pins.list n.pins.list l.doomed.list
-          n.doomed.list l.filed.list n.filed.list l.index.pending n.index.pending l.at (l.at + 1)
-          c.in_ok-serve_at.field-0 l.invariant.serving e.served
+          n.doomed.list l.filed.list n.filed.list l.index.pending n.index.pending l.kicks.list n.kicks.list l.at
+          (l.at + 1) c.in_ok-serve_at.field-0 l.invariant.serving e.served
           (ap (λ (b : Bool). l.at + one_if b) (sym c.if-branch.true)) e.slow e.rights e.kept;
       published = (e.published.0 ∙ l.invariant.published.0, e.published.1 ∙ l.invariant.published.1);
     }
@@ -40,9 +42,11 @@ loop-at-smaller c =
     let l = c.loop-at in
     let n = c.serve_at.new in
     let same : l.at ≡ l.at + 0 = omega arith in
-    fewer_left c.args.tick l.at (ledger l.slow.view l.pins.list l.doomed.list l.filed.list l.index.pending)
-    (ledger n.slow.view n.pins.list n.doomed.list n.filed.list n.index.pending) c.in_ok-serve_at.field-0 l.at
-    c.in_ok-serve_at.ensures.served (same ∙ ap (λ (b : Bool). l.at + one_if b) (sym c.if-branch.false))
+    fewer_left c.args.tick l.at
+    (ledger l.slow.view l.pins.list l.doomed.list l.filed.list l.index.pending l.kicks.list)
+    (ledger n.slow.view n.pins.list n.doomed.list n.filed.list n.index.pending n.kicks.list)
+    c.in_ok-serve_at.field-0 l.at c.in_ok-serve_at.ensures.served
+    (same ∙ ap (λ (b : Bool). l.at + one_if b) (sym c.if-branch.false))
 
 pub loop-at-preserved : goal.loop-at-preserved
 loop-at-preserved c =
@@ -52,7 +56,7 @@ loop-at-preserved c =
     let same : l.at ≡ l.at + 0 = omega arith in
     record {
       serving = serving_more c.args.tick c.args.table.now _ l.slow n.slow l.pins.list n.pins.list l.doomed.list
-          n.doomed.list l.filed.list n.filed.list l.index.pending n.index.pending l.at l.at
+          n.doomed.list l.filed.list n.filed.list l.index.pending n.index.pending l.kicks.list n.kicks.list l.at l.at
           c.in_ok-serve_at.field-0 l.invariant.serving e.served
           (same ∙ ap (λ (b : Bool). l.at + one_if b) (sym c.if-branch.false)) e.slow e.rights e.kept;
       published = (e.published.0 ∙ l.invariant.published.0, e.published.1 ∙ l.invariant.published.1);
@@ -62,8 +66,8 @@ pub returns-clause-done : goal.returns-clause-done
 returns-clause-done c =
     let l = c.loop-at in
     let past : length l.pins.list ≤ l.at = let t = c.loop-at-test.false in let e = c.len.ensures in omega arith in
-    serving_ends c.args.tick c.args.table.now _ l.slow l.pins.list l.doomed.list l.filed.list l.index.pending l.at
-    l.invariant.serving past
+    serving_ends c.args.tick c.args.table.now _ l.slow l.pins.list l.doomed.list l.filed.list l.index.pending
+    l.kicks.list l.at l.invariant.serving past
 
 pub returns-in_err-serve_at-clause-rights : goal.returns-in_err-serve_at-clause-rights
 returns-in_err-serve_at-clause-rights c =
