@@ -18,6 +18,7 @@ mod LaneLists
 mod HandingOut
 mod SeenFrames
 mod CoreTaking
+mod Halves
 pub mod Timing
 pub mod Ports
 pub mod Holding

@@ -26,6 +26,7 @@ ghost use Rattle.local_host.specs.Live.{flow_in, holder_in, IsLegal};
 use crate::arrival::{Arrival, Packet, Taking};
 use crate::cores::take_on_cores;
 use crate::live::{Holder, LiveFlow};
+use crate::parts::{FLOWS_FOR_THREADS, Sending, Timing, work_all};
 use crate::script::Shown;
 use crate::slot_marks::SlotMarks;
 use flow_state::{Answer, CallIn, FlowRecord};
@@ -267,6 +268,47 @@ impl Flows {
     {
         let done = empty_all(&mut self.table.flows, &self.table.standing, tick);
         self.table.settle(done)
+    }
+
+    /// One tick passes for each flow that is not closed, in at most so many parts of them side by side. The error is
+    /// want of memory.
+    pub fn pass_time_on_cores<R: Threads + Sync>(
+        &mut self,
+        rt: &R,
+        tick: u32,
+        threads: u32,
+    ) -> Result<(), AllocError>
+        ensures made { OnOk result (self.new ≡ map (timed Slow tick) self.old) }
+        ensures none { OnErr result (self.new ≡ []) }
+    {
+        if self.are_for_one() {
+            return self.pass_time(tick);
+        }
+        let done = work_all(rt, &Timing { tick }, threads, &mut self.table.flows);
+        self.table.settle(done)
+    }
+
+    /// Each flow sends all that may go, in at most so many parts of them side by side. The error is want of memory.
+    pub fn send_all_on_cores<R: Threads + Sync>(
+        &mut self,
+        rt: &R,
+        tick: u32,
+        threads: u32,
+    ) -> Result<(), AllocError>
+        ensures made { OnOk result (self.new ≡ map (quieted tick) self.old) }
+        ensures none { OnErr result (self.new ≡ []) }
+    {
+        if self.are_for_one() {
+            return self.send_all(tick);
+        }
+        let done = work_all(rt, &Sending { tick }, threads, &mut self.table.flows);
+        self.table.settle(done)
+    }
+
+    /// Whether one thread, which looks at those alone that are not filed, does as well as several that look at all.
+    fn are_for_one(&self) -> bool {
+        let standing = self.table.standing.len();
+        standing < FLOWS_FOR_THREADS || standing < self.table.flows.len().div_ceil(2)
     }
 
     /// A segment comes to the flow at place `i`. The error is want of memory.

@@ -336,6 +336,34 @@ impl LocalHost {
         self.flows.send_all(tick)
     }
 
+    /// The slow path: closed flows are given up, and time passes for the others, in at most so many parts of them side
+    /// by side. The error is want of memory.
+    pub fn pass_time_on_cores<R: Threads + Sync>(
+        &mut self,
+        rt: &R,
+        tick: u32,
+        threads: u32,
+    ) -> Result<(), AllocError>
+        ensures made { OnOk result (self.new ≡ slow_phase tick self.old) }
+        ensures params { self.new.params ≡ self.old.params }
+    {
+        self.flows.sweep();
+        self.flows.pass_time_on_cores(rt, tick, threads)
+    }
+
+    /// All that may go is sent, by at most so many parts of the flows side by side. The error is want of memory.
+    pub fn send_all_on_cores<R: Threads + Sync>(
+        &mut self,
+        rt: &R,
+        tick: u32,
+        threads: u32,
+    ) -> Result<(), AllocError>
+        ensures made { OnOk result (self.new ≡ emit_phase tick self.old) }
+        ensures params { self.new.params ≡ self.old.params }
+    {
+        self.flows.send_all_on_cores(rt, tick, threads)
+    }
+
     /// A packet came that breaks the rule of reading with this number. The error is want of memory.
     fn refuse(&mut self, tick: u32, frame: FrameId, number: u8) -> Result<(), AllocError>
         ensures made { OnOk result (self.new ≡ logged self.old tick (events.Refused frame number)) }

@@ -12,6 +12,7 @@ mod jobs;
 mod lanes;
 mod live;
 mod numbers;
+mod parts;
 mod pending;
 mod reading;
 mod replay;

@@ -132,7 +132,7 @@ impl LocalReplay {
             self.old self.new) }
         ensures cores { cores.new ≡ cores.old }
     {
-        self.host.pass_time(tick)?;
+        self.host.pass_time_on_cores(rt, tick, cores.count())?;
         let arrivals = arrivals_of(self.alloc, batch)?;
         let steered = cores.steer(rt, self.alloc, &arrivals, &[])?;
         let (host, count) = (cores.host(), cores.count());
@@ -141,7 +141,7 @@ impl LocalReplay {
             .receive_on_cores(rt, tick, &arrivals, &steered, host, count, gate)?;
         self.deliver_rest(tick, &rest, numbers)?;
         self.serve_all(tick, batch, numbers)?;
-        self.host.send_all(tick)
+        self.host.send_all_on_cores(rt, tick, cores.count())
     }
 
     /// The slow path takes the frames that cores left. The error is want of memory.

@@ -46,11 +46,11 @@ pub(crate) fn play_tick_on_cores<R: Threads + Wait + Sync, G: Gate>(
     ensures sound { OnOk result (IsSound (site_with host.new scripts.new.items)) }
     ensures cores { cores.new ≡ cores.old }
 {
-    host.pass_time(tick)?;
+    host.pass_time_on_cores(rt, tick, cores.count())?;
     let rest = take_on_cores(rt, alloc, host, tick, arrivals, s, cores, gate)?;
     deliver_rest(host, tick, &rest, numbers)?;
     ask_all(host, scripts, tick, s, numbers, filling)?;
-    host.send_all(tick)
+    host.send_all_on_cores(rt, tick, cores.count())
 }
 
 /// The cores take frames side by side. The answer are those that they left, in their order. The error is want of
