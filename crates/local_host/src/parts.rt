@@ -6,7 +6,7 @@ use std::alloc::AllocError;
 use std::thread::{Threads, join_mut};
 
 /// Fewer flows than these are no two parts: a thread would cost more than it gains.
-pub const FLOWS_FOR_THREADS: usize = 256;
+pub const FLOWS_FOR_THREADS: usize = 4096;
 
 /// What a host does to each of its flows in a phase of a tick.
 pub trait Chore {
