@@ -117,6 +117,10 @@ impl Gate for Hold {
             self.wait();
         }
     }
+
+    fn is_open(&self) -> bool {
+        false
+    }
 }
 
 /// The log of a scenario's run on so many cores.

@@ -123,10 +123,14 @@ frame_host {params} {listeners} core t frame (Segment tuple seg) F here is =
     (host_change f at.0 (core_keeps core t frame seg) is)
 
 -- a frame leads to where it led
-there : (F : List Live) (i : ℕ) (d : Live) → i < length F → slice_get F i ≡ Some (get_or F i d)
+pub there : (F : List Live) (i : ℕ) (d : Live) → i < length F → slice_get F i ≡ Some (get_or F i d)
 there [] i d low = absurd (omega (arith, low))
 there (l ∷ ls) zero d low = refl
 there (l ∷ ls) (suc i) d low = there ls i d (omega (arith, low))
+
+pub place_below : (p : Packet) (F : List Live) (i : ℕ) → place_in F p ≡ Some i → i < length F
+place_below (Damaged rule) F i h = absurd (cc (h))
+place_below (Segment tuple seg) F i h = (found_change (is_indexed_as tuple) (λ (l : Live). l) F i h).0
 
 frame_leads : (core t : ℕ) (frame : FrameId) (p q : Packet) (F : List Live) → is_some (place_in F p) ≡ true
     → place_in (taken_packet core t frame p F) q ≡ place_in F q
@@ -143,10 +147,6 @@ frame_leads core t frame p q (l ∷ ls) here =
     let stands : slice_get F i ≡ Some m = there F i l low in
     ap (λ (G : List Live). place_in G q) (frame_done core t i frame p F m stands at.1)
     ∙ place_kept F i m (packet_taken core t frame p m) q stands (taken_shape core t frame p m)
-  where
-    place_below : (r : Packet) (G : List Live) (k : ℕ) → place_in G r ≡ Some k → k < length G
-    place_below (Damaged rule) G k h = absurd (cc (h))
-    place_below (Segment tuple seg) G k h = (found_change (is_indexed_as tuple) (λ (n : Live). n) G k h).0
 
 -- ----- all that were taken
 abbrev AreKnown : List Live → List Taken → Type 0
@@ -162,6 +162,14 @@ rest_known t F x order all = λ k d low.
 first_known : (F : List Live) (x : Taken) (order : List Taken) → AreKnown F (x ∷ order)
     → is_some (place_in F x.arrival.packet) ≡ true
 first_known F x order all = All-head (λ (y : Taken). is_some (place_in F y.arrival.packet) ≡ true) x order all
+
+-- after them all a frame leads to where it led
+pub order_leads : (t : ℕ) (order : List Taken) (F : List Live) (q : Packet) → AreKnown F order
+    → place_in (fold (flow_taken t) F order) q ≡ place_in F q
+order_leads t [] F q all = refl
+order_leads t (x ∷ order) F q all =
+    order_leads t order (flow_taken t F x) q (rest_known t F x order all)
+    ∙ frame_leads x.core t x.arrival.frame x.arrival.packet q F (first_known F x order all)
 
 order_known : (known : FourTuple → Option Openings) (slots : ℕ → Option ℕ) (places : List ℕ) (given : ℕ)
     (marks : List Bool) (t : ℕ) (order : List Taken) (F : List Live) → AreKnown F order

@@ -178,7 +178,7 @@ job_done core t place (h ∷ hs) F l here led =
           ∙ set_twice F place m (worked_flow core t hs m))
       by_test false rest = rest F l here others
 
-fold_both : {A B : Type 0} (f : B → A → B) (b : B) (xs ys : List A) → fold f b (xs ++ ys) ≡ fold f (fold f b xs) ys
+pub fold_both : {A B : Type 0} (f : B → A → B) (b : B) (xs ys : List A) → fold f b (xs ++ ys) ≡ fold f (fold f b xs) ys
 fold_both f b [] ys = refl
 fold_both f b (x ∷ xs) ys = fold_both f (f b x) xs ys
 

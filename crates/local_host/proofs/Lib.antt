@@ -12,6 +12,7 @@ pub mod Records
 pub mod Staging
 pub mod Serving
 pub mod Recording
+mod InTurn
 mod CoreRecording
 mod LaneWork
 mod LaneLists

@@ -1,6 +1,8 @@
-ghost use Rattle.std.specs.Prelude.{◌≡◌, ◌<◌, All, length, map, IfOk};
+ghost use Rattle.std.specs.Prelude.{◌≡◌, ◌<◌, ◌++◌, ◌∷◌, [], List, All, length, map, IfOk, OnOk};
+ghost use Rattle.host_rounds.specs.Hosts.{Live};
+ghost use Rattle.host_rounds.specs.Deliveries.{Arrival as ModelArrival};
 ghost use Rattle.local_host.specs.Arriving.{arrival_in};
-ghost use Rattle.local_host.specs.Handing.{AreDistinct, TookFrames, place_in};
+ghost use Rattle.local_host.specs.Handing.{AreDistinct, TookFrames, TookSome, place_in};
 
 use crate::arrival::Arrival;
 use crate::jobs::{hand_out, keep_stand_ins, lanes_of, put_back};
@@ -10,8 +12,12 @@ use std::alloc::{AllocError, Global};
 use std::thread::Threads;
 use tas_num::Gate;
 
-/// Cores take the frames of flows that stand at these places side by side. The answer are the frames that were left, in
-/// the order in which they came. `spare` has flows that stand in for those that cores have. The error is want of
+/// Fewer frames than these are one thread's work: what threads of their own would gain is less than what it costs to
+/// hand the frames out.
+const FRAMES_FOR_THREADS: usize = 4096;
+
+/// Cores take the frames of flows that stand at these places, side by side where they are many or the gate may hold one.
+/// The answer are the frames that were left, in the order in which they came. `spare` has flows that stand in for those that cores have. The error is want of
 /// memory.
 pub fn take_on_cores<'a, R: Threads + Sync, G: Gate>(
     rt: &R,
@@ -33,6 +39,9 @@ pub fn take_on_cores<'a, R: Threads + Sync, G: Gate>(
     ensures { IfOk result (λ rest. TookFrames tick flows.old.items (map arrival_in arrivals.now)
         (map arrival_in rest.items) flows.new.items) }
 {
+    if gate.is_open() && arrivals.len() < FRAMES_FOR_THREADS {
+        return take_in_turn(alloc, flows, places, tick, arrivals, steered);
+    }
     let mut handing = hand_out(alloc, flows, spare, places, arrivals, steered)?;
     let mut lanes = lanes_of(alloc, handing.take_jobs(alloc))?;
     work_all(rt, &mut lanes, host, tick, gate);
@@ -40,6 +49,54 @@ pub fn take_on_cores<'a, R: Threads + Sync, G: Gate>(
     keep_stand_ins(spare, lanes)?;
     handing.left.sort_by_key(|handed| handed.index)?;
     arrivals_of_handed(alloc, &handing.left)
+}
+
+/// The same by one thread, frame by frame.
+fn take_in_turn<'a>(
+    alloc: Global,
+    flows: &mut [LiveFlow],
+    places: &[Option<usize>],
+    tick: u32,
+    arrivals: &[Arrival<'a>],
+    steered: &[u32],
+) -> Result<Vec<Arrival<'a>>, AllocError>
+    requires places { places.now ≡ map (λ x. place_in flows.old (arrival_in x).packet) arrivals.now }
+    requires steered { length steered.now ≡ length arrivals.now }
+    ensures took { IfOk result (λ rest. TookSome tick flows.old (map arrival_in arrivals.now)
+        (map arrival_in rest.items) flows.new) }
+    ensures len { length flows.new ≡ length flows.old }
+{
+    let mut rest = Vec::new(alloc);
+    for k in 0..arrivals.len() {
+        take_next(flows, &mut rest, places[k], steered[k], tick, arrivals[k])?;
+    }
+    Ok(rest)
+}
+
+/// A core takes the frame of a flow that stands at this place, where it is for the fast path. Else it is left. The error
+/// is want of memory.
+fn take_next<'a>(
+    flows: &mut [LiveFlow],
+    rest: &mut Vec<Arrival<'a>>,
+    place: Option<usize>,
+    core: u32,
+    tick: u32,
+    arrival: Arrival<'a>,
+) -> Result<(), AllocError>
+    requires { place_in flows.old (arrival_in arrival).packet ≡ place }
+    ensures took { (old : List Live) (frames : List ModelArrival)
+        → TookSome tick old frames (map arrival_in rest.old.items) flows.old
+        → OnOk result (TookSome tick old (frames ++ arrival_in arrival.entry ∷ []) (map arrival_in rest.new.items)
+        flows.new) }
+    ensures len { length flows.new ≡ length flows.old }
+{
+    if let Some(place) = place {
+        if flows[place].take(core, tick, &arrival)? {
+            return Ok(());
+        }
+    }
+    rest.push(arrival)?;
+    Ok(())
 }
 
 /// The frames alone. The error is want of memory.

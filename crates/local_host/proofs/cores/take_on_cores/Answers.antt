@@ -1,10 +1,20 @@
-use Rattle.std.proofs.Common.{◌++◌, ◌∙◌, List, map, ap, subst}
+use Rattle.std.proofs.Common.{◌++◌, ◌∙◌, List, length, drop, map, ap, subst, arith}
+use Rattle.std.proofs.lemmas.List.{take_at}
 use Rattle.local_host.specs.Arriving.{arrival_in}
 use Rattle.local_host.specs.Handing.{AreLanes, left_in}
 use Rattle.local_host.specs.declared.lanes.Handed.{Handed}
 use Rattle.local_host.specs.declared.lanes.Job.{Job}
 use Rattle.local_host.proofs.CoreTaking.{cores_took, if_took}
+use Rattle.local_host.proofs.InTurn.{if_turned}
 use Rattle.local_host.proofs.cores.take_on_cores.Goals as goal
+
+pub returns-then-arrivals-lt-FRAMES_FOR_THREADS : goal.returns-then-arrivals-lt-FRAMES_FOR_THREADS
+returns-then-arrivals-lt-FRAMES_FOR_THREADS g c =
+    if_turned c.args.tick c.args.flows.now.items c.deref_mut.result.now c.take_in_turn.new.flows _
+    (map arrival_in c.args.arrivals.now) c.take_in_turn.result c.requires.distinct c.deref_mut.ensures.value
+    (take_at c.take_in_turn.new.flows (drop (length c.take_in_turn.new.flows) c.args.flows.now.items)
+    c.args.flows.now.len (omega (arith, c.take_in_turn.ensures.len, c.deref_mut.ensures.len)))
+    c.take_in_turn.ensures.took
 
 pub returns : goal.returns
 returns g c =
