@@ -29,7 +29,7 @@ use std::thread::Threads;
 use tas_num::Gate;
 
 /// With fewer frames in a tick its hosts play one after the other: threads would cost more than they gain.
-const FRAMES_FOR_THREADS: usize = 32;
+const FRAMES_FOR_THREADS: usize = 1024;
 
 /// Plays a scenario to its end on hosts with so many cores each, from 1 to 16: the first tick after which all scripts
 /// have ended, all flows are closed and no frame is on the link, or its limit. The error is want of memory.
