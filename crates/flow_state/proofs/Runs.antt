@@ -1,7 +1,8 @@
 -- Runs of quiet ticks, and one tick more.
-use Rattle.std.proofs.Common.{◌≡◌, ℕ, zero, suc, ◌+◌, ◌<◌, Bool, true, false, ◌&&◌, eqb, List, [], ◌∷◌, ◌++◌, length}
+use Rattle.std.proofs.Common.{◌≡◌, ℕ, zero, suc, ◌+◌, ◌-◌, ◌<◌, Option, subst, Bool, true, false, ◌&&◌, eqb, List, [], ◌∷◌, ◌++◌, length}
 use Rattle.std.proofs.Common.{get_or, set, slice_get, Some, refl, sym, ◌∙◌, ap, arith, append_assoc, append-nil}
 use Rattle.std.proofs.lemmas.Bool.Decides.{nat_tests}
+use Rattle.std.proofs.lemmas.Option.{slice_get-get_or}
 use Rattle.tas_model.specs.declared.entry.Caller.{Caller}
 use Rattle.tas_model.specs.declared.entry.Entry.{Entry}
 use Rattle.tas_model.specs.LegalHistory.{last_tick, same_caller}
@@ -15,7 +16,7 @@ use Rattle.flow_state.specs.declared.stretch.Stretch.{Stretch}
 use Rattle.flow_state.specs.declared.stretch.Stretch.TheVariants.{Quiet}
 use Rattle.flow_state.specs.Slots.{entry_of, bytes_at, call_in, reply_part, reply_in}
 use Rattle.flow_state.specs.Stretches.{quiet_tick, quiet_ticks, run_entries, entries_in, entries_of, StretchWithin}
-use Rattle.flow_state.specs.Stretches.{AllWithin, is_quiet_pair, is_quiet_tick, comes_next}
+use Rattle.flow_state.specs.Stretches.{AllWithin, is_quiet_pair, is_quiet_tick, comes_next, ends_so, goes_on}
 use Rattle.flow_state.proofs.Counting.{caller_is}
 
 -- the last of so many and one more
@@ -108,6 +109,21 @@ longer arena (x ∷ y ∷ ss) (suc i) d r caller n t len is next =
     ap (λ (xs : List Entry). entries_in arena x ++ xs)
     (longer arena (y ∷ ss) i d r caller n t (omega (arith, len)) is next)
     ∙ sym (append_assoc (entries_in arena x) (entries_of arena (y ∷ ss)) (quiet_tick caller n t ∷ []))
+
+-- what goes on has a last stretch
+pub goes_somewhere : (ss : List Stretch) (caller : Caller) (n t : ℕ) → goes_on ss caller n t ≡ true
+    → length ss ≡ suc (length ss - 1)
+goes_somewhere [] caller n t goes = absurd (cc (goes))
+goes_somewhere (s ∷ ss) caller n t goes = omega arith
+
+-- where the last run goes on, the tick is its next one
+pub goes_next : (ss : List Stretch) (i : ℕ) (d : Stretch) (r : QuietRun) (caller : Caller) (n t : ℕ)
+    → length ss ≡ suc i → get_or ss i d ≡ Quiet r → goes_on ss caller n t ≡ true → comes_next r caller n t ≡ true
+goes_next ss i d r caller n t len is goes =
+    let last : length ss - 1 ≡ i = omega (arith, len) in
+    let there : slice_get ss (length ss - 1) ≡ Some (Quiet r) = ap (slice_get ss) last
+    ∙ (slice_get-get_or ss i d (omega (arith, len)) ∙ ap (λ (s : Stretch). Some s) is) in
+    subst (λ (o : Option Stretch). ends_so o caller n t ≡ true) there goes
 
 -- ----- the last tick
 last_both : (t : ℕ) (xs ys : List Entry) → last_tick t (xs ++ ys) ≡ last_tick (last_tick t xs) ys

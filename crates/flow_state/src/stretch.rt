@@ -62,6 +62,25 @@ pub fn goes_on(stretches: &[Stretch], caller: Caller, number: u64, tick: u32) ->
     }
 }
 
+/// Lengthens the last run by this quiet tick, which is its next one.
+#[inline(always)]
+pub fn go_on(stretches: &mut Vec<Stretch>, caller: Caller, number: u64, tick: u32)
+    requires { model_goes_on stretches.old.items caller number tick ≡ true }
+    ensures added { AddedTick stretches.old.items stretches.new.items caller number tick answers.Quiet }
+    ensures next { (arena : List ℕ) → tick ≡ last_tick 0 (entries_of arena stretches.old.items) + 1 }
+    ensures len { vec_len stretches.new ≡ vec_len stretches.old }
+    ensures capacity { vec_capacity stretches.new ≡ vec_capacity stretches.old }
+{
+    let last = stretches.len() - 1;
+    let Stretch::Quiet(run) = stretches[last] else {
+        unreachable!()
+    };
+    stretches[last] = Stretch::Quiet(QuietRun {
+        more: run.more + 1,
+        ..run
+    });
+}
+
 /// Lengthens the last run by a quiet tick, where it is its next one, and tells whether it is.
 #[inline(always)]
 fn lengthen(stretches: &mut Vec<Stretch>, caller: Caller, number: u64, tick: u32) -> bool
@@ -70,37 +89,15 @@ fn lengthen(stretches: &mut Vec<Stretch>, caller: Caller, number: u64, tick: u32
     ensures tick { (arena : List ℕ) → result ≡ true
         → tick ≡ last_tick 0 (entries_of arena stretches.old.items) + 1 }
     ensures within { (n : ℕ) → AllWithin n stretches.old.items → AllWithin n stretches.new.items }
-    ensures goes { model_goes_on stretches.old.items caller number tick ≡ true → result ≡ true }
     ensures unmade { result ≡ false → stretches.new ≡ stretches.old }
     ensures len { vec_len stretches.new ≡ vec_len stretches.old }
     ensures capacity { vec_capacity stretches.new ≡ vec_capacity stretches.old }
 {
-    let n = stretches.len();
-    if n == 0 {
+    if !goes_on(stretches, caller, number, tick) {
         return false;
     }
-    let Stretch::Quiet(run) = stretches[n - 1] else {
-        return false;
-    };
-    if !comes_next(&run, caller, number, tick) {
-        return false;
-    }
-    stretches[n - 1] = Stretch::Quiet(QuietRun {
-        more: run.more + 1,
-        ..run
-    });
+    go_on(stretches, caller, number, tick);
     true
-}
-
-/// Lengthens the last run by this quiet tick, which is its next one.
-pub fn go_on(stretches: &mut Vec<Stretch>, caller: Caller, number: u64, tick: u32)
-    requires { model_goes_on stretches.old.items caller number tick ≡ true }
-    ensures added { AddedTick stretches.old.items stretches.new.items caller number tick answers.Quiet }
-    ensures next { (arena : List ℕ) → tick ≡ last_tick 0 (entries_of arena stretches.old.items) + 1 }
-    ensures len { vec_len stretches.new ≡ vec_len stretches.old }
-    ensures capacity { vec_capacity stretches.new ≡ vec_capacity stretches.old }
-{
-    lengthen(stretches, caller, number, tick);
 }
 
 /// Adds a stretch behind the others, which have room for it.
