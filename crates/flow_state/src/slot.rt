@@ -1,9 +1,12 @@
-ghost use Rattle.std.specs.Prelude.{◌≡◌, ℕ, ◌+◌, ◌≤◌, List, take, drop, length, ◌<◌, ◌^◌, vec_len, vec_capacity};
-ghost use Rattle.flow_state.specs.Calls.{call_of, seg_of, head_of as model_head, reply_of, payload_of, answer_len};
+ghost use Rattle.std.specs.Prelude.{◌≡◌, ℕ, ◌+◌, ◌≤◌, List, take, drop, length, ◌<◌, ◌^◌, ◌∷◌, []};
+ghost use Rattle.tas_model.specs.declared.entry.FrameId.{FrameId};
+ghost use Rattle.flow_state.specs.declared.slot.CameSlot.{CameSlot};
+ghost use Rattle.flow_state.specs.Arena.{Memory, memory_of};
+ghost use Rattle.flow_state.specs.Calls.{call_of, seg_of, reply_of, payload_of, answer_len};
 ghost use Rattle.flow_state.specs.Calls.{IsSmall};
 ghost use Rattle.flow_state.specs.Flow.{first_passive, first_connect};
 ghost use Rattle.flow_state.specs.Slots.{Holds, call_in, reply_part, reply_in, bytes_at, SpanWithin, IsWithin, IsBare};
-ghost use Rattle.flow_state.specs.Slots.{entry_of, head_in};
+ghost use Rattle.flow_state.specs.Slots.{entry_of, head_in, came_of, HasCame, CameWithin};
 ghost use Rattle.flow_state.specs.Stretches.{IsTickSlot};
 
 use crate::call::{Answer, CallIn};
@@ -28,58 +31,70 @@ pub struct HeadSlot {
     pub mss: Option<u16>,
 }
 
-/// A call of an entry.
+/// A segment that came, but for its payload. Few entries have one, so that it stands in a list of its own.
+#[derive(Clone, Copy)]
+pub struct CameSlot {
+    pub frame: FrameId,
+    pub head: HeadSlot,
+}
+
+/// A call of an entry. `at` is the place of its segment in the record's list of those that came.
 #[derive(Clone, Copy)]
 pub enum CallSlot {
-    Connect {
-        iss: Seq,
-    },
-    Passive {
-        iss: Seq,
-        frame: FrameId,
-        head: HeadSlot,
-    },
-    Rx {
-        frame: FrameId,
-        head: HeadSlot,
-    },
+    Connect { iss: Seq },
+    Passive { iss: Seq, at: u32 },
+    Rx { at: u32 },
     Emit,
     Tick,
     Control,
     Accept,
     Ready,
-    Send {
-        offered: u32,
-    },
-    Recv {
-        most: u32,
-    },
+    Send { offered: u32 },
+    Recv { most: u32 },
     Shut,
     Close,
     Abort,
 }
 
-/// A reply of an entry.
+/// A reply of an entry. The fields of a header stand in it one by one: so the first of them need no room beside the
+/// reply's kind.
 #[derive(Clone, Copy)]
 pub enum ReplySlot {
     Ok,
     Nothing,
-    Sent { head: HeadSlot },
+    Sent {
+        flags: u8,
+        window: u16,
+        seq: Seq,
+        ack: Seq,
+        mss: Option<u16>,
+    },
     Took,
     Got,
     /// Bytes are got, and the window is told anew.
-    Update { head: HeadSlot },
+    Update {
+        flags: u8,
+        window: u16,
+        seq: Seq,
+        ack: Seq,
+        mss: Option<u16>,
+    },
     End,
     NotYet,
     NotOpen,
     Shut,
-    Closed { reason: Reason },
+    Closed {
+        reason: Reason,
+    },
     Quiet,
     Resend,
     Probe,
     Expired,
     TimedOut,
-    Window { cwnd: u32, ssthresh: u32 },
+    Window {
+        cwnd: u32,
+        ssthresh: u32,
+    },
 }
 
 /// An entry whose bytes stand in the record's memory: those of a segment that its call brings, else of its reply.
@@ -110,39 +125,30 @@ impl HeadSlot {
     }
 }
 
-/// The slot of a header.
-fn head_slot(head: Head) -> HeadSlot
-    ensures { head_in result ≡ head }
+/// A segment that came in this frame.
+pub fn came_slot(frame: FrameId, seg: &Segment<'_>) -> CameSlot
+    ensures { result ≡ came_of frame seg.now }
 {
-    HeadSlot {
-        seq: head.seq,
-        ack: head.ack,
-        window: head.window,
-        flags: head.flags,
-        mss: head.mss,
-    }
-}
-
-/// The header of a segment.
-fn head_of(seg: &Segment<'_>) -> HeadSlot
-    ensures { head_in result ≡ model_head seg.now }
-{
-    HeadSlot {
-        seq: seg.seq,
-        ack: seg.ack,
-        window: seg.window,
-        flags: seg.flags.0,
-        mss: seg.mss,
+    CameSlot {
+        frame,
+        head: HeadSlot {
+            seq: seg.seq,
+            ack: seg.ack,
+            window: seg.window,
+            flags: seg.flags.0,
+            mss: seg.mss,
+        },
     }
 }
 
 /// The call, and where the bytes of its entry stand: the payload that it brings at `end`, or the `n` bytes of its reply
-/// at `start`.
-pub fn call_slot(call: &CallIn<'_>, start: usize, n: usize, end: usize) -> (CallSlot, Span)
+/// at `start`. The segment that it brings is the one at `at` of those that came.
+pub fn call_slot(call: &CallIn<'_>, at: u32, start: usize, n: usize, end: usize) -> (CallSlot, Span)
     requires small { IsSmall call.now }
     requires bare { IsBare call.now n }
-    ensures means { (arena : List ℕ) → Holds arena end (payload_of call.now)
-        → call_in (bytes_at arena result.1) result.0 ≡ call_of call.now }
+    ensures means { (memory : Memory) → Holds memory.bytes end (payload_of call.now) → HasCame memory.came at call.now
+        → call_in memory.came (bytes_at memory.bytes result.1) result.0 ≡ call_of call.now }
+    ensures came { (came : List CameSlot) → HasCame came at call.now → CameWithin (length came) result.0 }
     ensures reply { (arena : List ℕ) → reply_part result.0 (bytes_at arena result.1) ≡ take n (drop start arena) }
     ensures within { (m : ℕ) → start + n ≤ m → end + length (payload_of call.now) ≤ m → SpanWithin m result.1 }
 {
@@ -152,21 +158,10 @@ pub fn call_slot(call: &CallIn<'_>, start: usize, n: usize, end: usize) -> (Call
     };
     match call {
         CallIn::Connect { iss } => (CallSlot::Connect { iss: *iss }, reply),
-        CallIn::Passive { frame, iss, seg } => (
-            CallSlot::Passive {
-                frame: *frame,
-                iss: *iss,
-                head: head_of(seg),
-            },
-            payload_at(seg, end),
-        ),
-        CallIn::Rx { frame, seg } => (
-            CallSlot::Rx {
-                frame: *frame,
-                head: head_of(seg),
-            },
-            payload_at(seg, end),
-        ),
+        CallIn::Passive { iss, seg, .. } => {
+            (CallSlot::Passive { iss: *iss, at }, payload_at(seg, end))
+        }
+        CallIn::Rx { seg, .. } => (CallSlot::Rx { at }, payload_at(seg, end)),
         CallIn::Emit => (CallSlot::Emit, reply),
         CallIn::Tick => (CallSlot::Tick, reply),
         CallIn::Control => (CallSlot::Control, reply),
@@ -204,7 +199,11 @@ pub fn reply_slot(answer: &Answer) -> ReplySlot
         Answer::Ok => ReplySlot::Ok,
         Answer::Nothing => ReplySlot::Nothing,
         Answer::Sent { head, .. } => ReplySlot::Sent {
-            head: head_slot(head),
+            flags: head.flags,
+            window: head.window,
+            seq: head.seq,
+            ack: head.ack,
+            mss: head.mss,
         },
         Answer::Took { .. } => ReplySlot::Took,
         Answer::Got { update: None, .. } => ReplySlot::Got,
@@ -212,7 +211,11 @@ pub fn reply_slot(answer: &Answer) -> ReplySlot
             update: Some(head),
             ..
         } => ReplySlot::Update {
-            head: head_slot(head),
+            flags: head.flags,
+            window: head.window,
+            seq: head.seq,
+            ack: head.ack,
+            mss: head.mss,
         },
         Answer::End => ReplySlot::End,
         Answer::NotYet => ReplySlot::NotYet,
@@ -243,20 +246,18 @@ pub fn tick_slot(caller: Caller, number: u64, tick: u32, answer: &Answer) -> Slo
     }
 }
 
-/// The slot of the first entry of a passive flow, whose payload is all that stands in memory.
-pub fn passive_slot(iss: Seq, frame: FrameId, seg: &Segment<'_>, tick: u32) -> Slot
-    ensures entry { entry_of seg.now.payload.now result ≡ first_passive tick frame iss (seg_of seg.now) }
-    ensures within { IsWithin (length seg.now.payload.now) result }
+/// The slot of the first entry of a passive flow, whose segment is all that stands in memory.
+pub fn passive_slot(iss: Seq, seg: &Segment<'_>, tick: u32) -> Slot
+    ensures entry { (frame : FrameId)
+        → entry_of (memory_of seg.now.payload.now (came_of frame seg.now ∷ [])) result
+        ≡ first_passive tick frame iss (seg_of seg.now) }
+    ensures within { IsWithin (length seg.now.payload.now) 1 result }
 {
     Slot {
         caller: Caller::Slow,
         number: 0,
         tick,
-        call: CallSlot::Passive {
-            frame,
-            iss,
-            head: head_of(seg),
-        },
+        call: CallSlot::Passive { iss, at: 0 },
         bytes: payload_at(seg, 0),
         reply: ReplySlot::Ok,
     }
@@ -264,8 +265,8 @@ pub fn passive_slot(iss: Seq, frame: FrameId, seg: &Segment<'_>, tick: u32) -> S
 
 /// The slot of the first entry of a flow that its own host opens.
 pub fn connect_slot(caller: Caller, iss: Seq, tick: u32) -> Slot
-    ensures entry { (arena : List ℕ) → entry_of arena result ≡ first_connect caller tick iss }
-    ensures within { (n : ℕ) → IsWithin n result }
+    ensures entry { (memory : Memory) → entry_of memory result ≡ first_connect caller tick iss }
+    ensures within { (n k : ℕ) → IsWithin n k result }
 {
     Slot {
         caller,

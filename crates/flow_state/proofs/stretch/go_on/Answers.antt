@@ -29,18 +29,18 @@ returns-clause-added c =
         reply = rs.Quiet;
         call = cs.Tick;
       },
-      record { entry = λ arena. refl; within = λ n. omega arith },
+      record { entry = λ memory. refl; within = λ n k. record { bytes = omega arith; came = tt } },
       record {
-        entries = λ arena.
-            longer arena ss (c.len-last.result - 1) c.index.result.now run c.args.caller c.args.number c.args.tick one
+        entries = λ memory.
+            longer memory ss (c.len-last.result - 1) c.index.result.now run c.args.caller c.args.number c.args.tick one
             last next;
-        within = λ n all here.
-            within_set n ss (c.len-last.result - 1) longer-run
+        within = λ n k all here.
+            within_set n k ss (c.len-last.result - 1) longer-run
             (record { number = omega (arith, is.1); tick = omega (arith, is.2) }) all;
-        few = λ arena low.
+        few = λ memory low.
             omega (
               arith,
-              last_is arena 0 ss (c.len-last.result - 1) c.index.result.now run one last,
+              last_is memory 0 ss (c.len-last.result - 1) c.index.result.now run one last,
               is.2,
               length-set ss (c.len-last.result - 1) longer-run,
             );
@@ -48,7 +48,7 @@ returns-clause-added c =
     )
 
 pub returns-clause-next : goal.returns-clause-next
-returns-clause-next c arena =
+returns-clause-next c memory =
     let ss : List Stretch = c.args.stretches.now.items in
     let run = c.in-Quiet.run' in
     let there = goes_somewhere ss c.args.caller c.args.number c.args.tick c.requires in
@@ -60,6 +60,6 @@ returns-clause-next c arena =
     c.requires in
     omega (
       arith,
-      last_is arena 0 ss (c.len-last.result - 1) c.index.result.now run one last,
+      last_is memory 0 ss (c.len-last.result - 1) c.index.result.now run one last,
       (next_is run c.args.caller c.args.number c.args.tick next).2,
     )
