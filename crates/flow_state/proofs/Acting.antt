@@ -1,6 +1,6 @@
 -- A record with one entry more.
-use Rattle.std.proofs.Common.{◌≡◌, ℕ, ◌+◌, ◌^◌, ◌<◌, ◌≤◌, cond, List, [], ◌∷◌, ◌++◌, length, take, drop, max, Option}
-use Rattle.std.proofs.Common.{Some, None, refl, sym, ◌∙◌, ap, subst, arith, take-append-drop, length-append}
+use Rattle.std.proofs.Common.{◌≡◌, ℕ, ◌+◌, ◌^◌, ◌<◌, ◌≤◌, cond, List, [], ◌∷◌, ◌++◌, length, max, Option}
+use Rattle.std.proofs.Common.{Some, None, refl, sym, ◌∙◌, ap, subst, arith, length-append}
 use Rattle.std.specs.Option.{option_or}
 use Rattle.std.proofs.Common.{append-nil}
 use Rattle.std.proofs.lemmas.List.Concat.{flat_map-append}
@@ -33,12 +33,13 @@ use Rattle.flow_state.specs.Made.{IsStep, IsMadeWith, IsMadeAt}
 use Rattle.flow_state.specs.Record.{IsRecord}
 use Rattle.flow_state.specs.declared.stretch.Stretch.{Stretch}
 use Rattle.flow_state.specs.declared.stretch.Stretch.TheVariants.{One, Quiet}
+use Rattle.flow_state.specs.Arena.{Memory, Grows}
 use Rattle.flow_state.specs.Slots.{entry_of, IsWithin}
-use Rattle.flow_state.specs.Stretches.{entries_of, StretchWithin, AllWithin, Added}
+use Rattle.flow_state.specs.Stretches.{entries_of, StretchWithin, AllWithin, AllStand, Added}
 use Rattle.flow_state.specs.Stands.{Stands}
 use Rattle.flow_state.proofs.Counting.{counts_push, counts_first}
 use Rattle.flow_state.proofs.Owning.{application_push}
-use Rattle.flow_state.proofs.Entries.{entries_kept}
+use Rattle.flow_state.proofs.Entries.{entries_kept, call_longer}
 use Rattle.flow_state.proofs.Runs.{last_push}
 use Rattle.flow_state.proofs.Sending.{step_again, answer_is}
 
@@ -58,11 +59,11 @@ record Follows (params : HostParams) (h : List Entry) (caller : Caller) (tick : 
   answer : a ≡ answer_of (reply_to params h tick (call_of call) (offer_of call))
 
 follows : (params : HostParams) (h : List Entry) (caller : Caller) (tick : ℕ) (call : CallIn) (before after : Parts)
-    (arena : List ℕ) (answer : Answer) (slot : Slot) (out : List ℕ)
+    (memory : Memory) (answer : Answer) (slot : Slot) (out : List ℕ)
     → InRange params → Legal params h → Stands before (replay params h)
-    → IsMadeWith before after arena caller (next_number caller h) (max tick (last_tick 0 h)) call answer slot out
+    → IsMadeWith before after memory caller (next_number caller h) (max tick (last_tick 0 h)) call answer slot out
     → Follows params h caller tick call after answer (next_entry h caller tick (call_of call) (reply_of answer out))
-follows params h caller tick call before after arena answer slot out fits legal stands made =
+follows params h caller tick call before after memory answer slot out fits legal stands made =
     let e : Endpoint = replay params h in
     let t : ℕ = max tick (last_tick 0 h) in
     let reply : Reply = reply_of answer out in
@@ -86,25 +87,24 @@ follows params h caller tick call before after arena answer slot out fits legal 
       answer = sym (answer_is answer out made.bytes) ∙ ap answer_of same;
     }
 
-stretch_longer : (n m : ℕ) (s : Stretch) → n ≤ m → StretchWithin n s → StretchWithin m s
-stretch_longer n m (One s) le is = omega arith
-stretch_longer n m (Quiet r) le is = is
+stretch_longer : (n m k l : ℕ) (s : Stretch) → n ≤ m → k ≤ l → StretchWithin n k s → StretchWithin m l s
+stretch_longer n m k l (One t s) le le' is =
+    record { bytes = omega (arith, is.bytes); came = call_longer k l s.call le' is.came }
+stretch_longer n m k l (Quiet r) le le' is = is
 
-within_longer : (n m : ℕ) (stretches : List Stretch) → n ≤ m → AllWithin n stretches → AllWithin m stretches
-within_longer n m [] le all = tt
-within_longer n m (s ∷ stretches) le all = (stretch_longer n m s le all.0, within_longer n m stretches le all.1)
+within_longer : (n m k l : ℕ) (stretches : List Stretch) → n ≤ m → k ≤ l → AllWithin n k stretches
+    → AllWithin m l stretches
+within_longer n m k l [] le le' all = tt
+within_longer n m k l (s ∷ stretches) le le' all =
+    (stretch_longer n m k l s le le' all.0, within_longer n m k l stretches le le' all.1)
 
 -- their entries in memory that grew
-entries_push : (old new : List ℕ) (before after : List Stretch) (s : Slot) (x : Entry) → take (length old) new ≡ old
-    → AllWithin (length old) before
-    → entry_of new s ≡ x → Added before after s → entries_of new after ≡ entries_of old before ++ x ∷ []
-entries_push old new before after s x front within is added =
-    let whole : old ++ drop (length old) new ≡ new = ap (λ (f : List ℕ). f ++ drop (length old) new) (sym front)
-    ∙ take-append-drop (length old) new in
-    let kept : entries_of new before ≡ entries_of old before =
-    subst (λ (n : List ℕ). entries_of n before ≡ entries_of old before) whole
-    (entries_kept old (drop (length old) new) before within) in
-    added.entries new ∙ (ap (λ (es : List Entry). es ++ entry_of new s ∷ []) kept
+entries_push : (old new : Memory) (before after : List Stretch) (t : ℕ) (s : Slot) (x : Entry) → Grows old new
+    → AllStand old before → entry_of new t s ≡ x → Added before after t s
+    → entries_of new after ≡ entries_of old before ++ x ∷ []
+entries_push old new before after t s x grows within is added =
+    added.entries new
+    ∙ (ap (λ (es : List Entry). es ++ entry_of new t s ∷ []) (entries_kept old new before grows within)
     ∙ ap (λ (y : Entry). entries_of old before ++ y ∷ []) is)
 
 -- ----- segments
@@ -154,7 +154,7 @@ sent_push h x =
     ∙ ap (λ (segs : List Seg). length (outputs.sent h) + length segs) (append-nil (segments_in x.reply)))
 
 -- what one more entry leaves
-pub record Grown (before after : Parts) (old new : List ℕ) (stretches stretches' : List Stretch)
+pub record Grown (before after : Parts) (old new : Memory) (stretches stretches' : List Stretch)
     (counts : List CallerCount) (app : Option ℕ) (made last segments : ℕ) (caller : Caller) (tick : ℕ) (call : CallIn)
     (a : Answer) : Type 0 where
   pub kept : IsRecord after new stretches' counts app made last segments
@@ -163,19 +163,19 @@ pub record Grown (before after : Parts) (old new : List ℕ) (stretches stretche
   pub answer : a ≡ answer_of (reply_to before.params (entries_of old stretches) tick (call_of call) (offer_of call))
 
 -- all that the record keeps true, after one more entry
-pub kept_after : (before after : Parts) (old new : List ℕ) (stretches stretches' : List Stretch) (s : Slot)
+pub kept_after : (before after : Parts) (old new : Memory) (stretches stretches' : List Stretch) (s : Slot)
     (counts counts' : List CallerCount) (app app' : Option ℕ) (made last segments segments' : ℕ) (caller : Caller)
     (tick number t : ℕ) (call : CallIn) (answer : Answer)
     → IsRecord before old stretches counts app made last segments → after.params ≡ before.params
-    → take (length old) new ≡ old → length old ≤ length new
-    → number ≡ counted_for caller counts → t ≡ max tick last → t < 2 ^ 32 → Added stretches stretches' s
+    → Grows old new → number ≡ counted_for caller counts → t ≡ max tick last → t < 2 ^ 32
+    → Added stretches stretches' t s
     → ((other : Caller) → counted_for other counts' ≡ counted_for other counts + cond (same_caller caller other) 1 0)
     → ((out : List ℕ) → app' ≡ option_or app (got_by caller (call_of call) (reply_of answer out)))
     → segments' ≡ segments + segment_count answer
     → IsMadeAt before after new caller number t call answer s
     → Grown before after old new stretches stretches' counts' app' (made + 1) t segments' caller tick call answer
 kept_after before after old new stretches stretches' s counts counts' app app' made last segments segments' caller tick
-    number t call answer is same front longer n-is t-at low added more got counted done =
+    number t call answer is same grows n-is t-at low added more got counted done =
     let h : List Entry = entries_of old stretches in
     let n-is' : number ≡ next_number caller h = n-is ∙ is.counts caller in
     let t-is : t ≡ max tick (last_tick 0 h) = t-at ∙ ap (max tick) is.last in
@@ -183,30 +183,30 @@ kept_after before after old new stretches stretches' s counts counts' app app' m
     (max tick (last_tick 0 h)) call answer s done.0 = rw (← n-is', ← t-is) done.1 in
     let x : Entry = next_entry h caller tick (call_of call) (reply_of answer done.0) in
     let grown : entries_of new stretches' ≡ h ++ x ∷ [] =
-    entries_push old new stretches stretches' s x front is.within done'.entry added in
-    let at : s.tick ≡ t = ap (λ (y : Entry). y.tick) done'.entry ∙ sym t-is in
+    entries_push old new stretches stretches' t s x grows is.within
+    (rw t-is done'.entry) added in
     let all = follows before.params h caller tick call before after new answer s done.0 is.fits is.legal is.stands
     done' in
     let P : HostParams → List Entry → Type 0 = λ p es. Legal p es × Stands after (replay p es) in
     let there : P after.params (entries_of new stretches') =
     subst (λ (p : HostParams). P p (entries_of new stretches')) (sym same)
     (subst (P before.params) (sym grown) (all.legal, all.stands)) in
-    let few : length stretches + last_tick 0 h + 1 ≤ length stretches' + s.tick =
-    added.few old (omega (arith, at, t-is)) in
+    let few : length stretches + last_tick 0 h + 1 ≤ length stretches' + t = added.few old (omega (arith, t-is)) in
     record {
       kept = record {
         fits = subst InRange (sym same) is.fits;
         legal = there.0;
         stands = there.1;
-        within = added.within (length new)
-            (within_longer (length old) (length new) stretches longer is.within) done'.within;
+        within = added.within (length new.bytes) (length new.came)
+            (within_longer (length old.bytes) (length new.bytes) (length old.came) (length new.came) stretches
+            grows.longer grows.longer_came is.within) done'.within;
         counts = subst (AreCounts counts') (sym grown) (counts_push counts counts' h x is.counts more);
         application = got done.0
             ∙ (ap (λ (o : Option ℕ). option_or o (got_by caller (call_of call) (reply_of answer done.0))) is.application
             ∙ (sym (application_push h x) ∙ sym (ap application_of grown)));
         made = omega (arith, is.made, ap (length {A = Entry}) grown, length-append h (x ∷ []));
         last = t-is ∙ sym (ap (last_tick 0) grown ∙ last_push 0 h x);
-        few = omega (arith, few, at, is.few, is.last);
+        few = omega (arith, few, is.few, is.last);
         low = low;
         sent = omega (
           arith,
@@ -222,26 +222,31 @@ kept_after before after old new stretches stretches' s counts counts' app app' m
       answer = all.answer;
     }
 
+pub first_entries : (memory : Memory) (stretches : List Stretch) (t : ℕ) (s : Slot) (x : Entry)
+    → stretches ≡ One t s ∷ [] → entry_of memory t s ≡ x → entries_of memory stretches ≡ x ∷ []
+first_entries memory stretches t s x one is = ap (entries_of memory) one ∙ ap (λ (y : Entry). y ∷ []) is
+
 -- a record with its first entry
-pub opens_record : (p : Parts) (params : HostParams) (arena : List ℕ) (stretches : List Stretch)
+pub opens_record : (p : Parts) (params : HostParams) (memory : Memory) (stretches : List Stretch)
     (counts : List CallerCount) (app : Option ℕ) (s : Slot) (x : Entry)
-    → x.tick < 2 ^ 32 → InRange params → p.params ≡ params → stretches ≡ One s ∷ [] → entry_of arena s ≡ x
-    → IsWithin (length arena) s → IsFirst x
+    → x.tick < 2 ^ 32 → InRange params → p.params ≡ params → stretches ≡ One x.tick s ∷ []
+    → entry_of memory x.tick s ≡ x
+    → IsWithin (length memory.bytes) (length memory.came) s → IsFirst x
     → ((other : Caller) → counted_for other counts ≡ cond (same_caller x.caller other) 1 0)
     → Stands p (opened params x.call)
-    → app ≡ got_by x.caller x.call x.reply → IsRecord p arena stretches counts app 1 x.tick 0
-opens_record p params arena stretches counts app s x low fits same one is within first counted stands got =
-    let entries : entries_of arena stretches ≡ x ∷ [] = ap (entries_of arena) one ∙ ap (λ (y : Entry). y ∷ []) is in
+    → app ≡ got_by x.caller x.call x.reply → IsRecord p memory stretches counts app 1 x.tick 0
+opens_record p params memory stretches counts app s x low fits same one is within first counted stands got =
+    let entries : entries_of memory stretches ≡ x ∷ [] = first_entries memory stretches x.tick s x one is in
     let P : HostParams → List Entry → Type 0 = λ q es. Legal q es × Stands p (replay q es) in
     let begun : P params (x ∷ []) = ((first, tt), subst (Stands p) (sym (replay_first params x)) stands) in
-    let there : P p.params (entries_of arena stretches) =
-    subst (λ (q : HostParams). P q (entries_of arena stretches)) (sym same)
+    let there : P p.params (entries_of memory stretches) =
+    subst (λ (q : HostParams). P q (entries_of memory stretches)) (sym same)
     (subst (P params) (sym entries) begun) in
     record {
       fits = subst InRange (sym same) fits;
       legal = there.0;
       stands = there.1;
-      within = subst (AllWithin (length arena)) (sym one) (within, tt);
+      within = subst (AllStand memory) (sym one) (within, tt);
       counts = subst (AreCounts counts) (sym entries) (counts_first counts x counted);
       application = got ∙ sym (ap application_of entries ∙ application_push [] x);
       made = sym (ap (length {A = Entry}) entries);

@@ -16,26 +16,27 @@ use Rattle.std.proofs.lemmas.List.{take_all, take_more}
 use Rattle.std.proofs.lemmas.Option.{get_or_from_slice_get}
 use Rattle.std.proofs.lemmas.List.Concat.{flat_map-append}
 use Rattle.flow_state.specs.declared.stretch.Stretch.TheVariants.{One, Quiet}
+use Rattle.flow_state.specs.Arena.{Memory}
 use Rattle.flow_state.specs.Slots.{entry_of}
 use Rattle.flow_state.specs.Stretches.{quiet_tick, quiet_ticks, run_entries, entries_in, entries_of, StretchWithin}
 use Rattle.flow_state.specs.Stretches.{AllWithin}
 
-pub within_at : (n : ℕ) (stretches : List Stretch) (i : ℕ) (d : Stretch) → i < length stretches → AllWithin n stretches
-    → StretchWithin n (get_or stretches i d)
-within_at n [] i d below all = absurd (omega arith)
-within_at n (s ∷ stretches) zero d below all = all.0
-within_at n (s ∷ stretches) (suc i) d below all = within_at n stretches i d (omega arith) all.1
+pub within_at : (n k : ℕ) (stretches : List Stretch) (i : ℕ) (d : Stretch) → i < length stretches
+    → AllWithin n k stretches → StretchWithin n k (get_or stretches i d)
+within_at n k [] i d below all = absurd (omega arith)
+within_at n k (s ∷ stretches) zero d below all = all.0
+within_at n k (s ∷ stretches) (suc i) d below all = within_at n k stretches i d (omega arith) all.1
 
-pub stretch_at : (arena : List ℕ) (stretches : List Stretch) (i : ℕ) (d : Stretch) → i < length stretches
-    → slice_get (map (entries_in arena) stretches) i ≡ Some (entries_in arena (get_or stretches i d))
-stretch_at arena [] i d below = absurd (omega arith)
-stretch_at arena (s ∷ stretches) zero d below = refl
-stretch_at arena (s ∷ stretches) (suc i) d below = stretch_at arena stretches i d (omega arith)
+pub stretch_at : (memory : Memory) (stretches : List Stretch) (i : ℕ) (d : Stretch) → i < length stretches
+    → slice_get (map (entries_in memory) stretches) i ≡ Some (entries_in memory (get_or stretches i d))
+stretch_at memory [] i d below = absurd (omega arith)
+stretch_at memory (s ∷ stretches) zero d below = refl
+stretch_at memory (s ∷ stretches) (suc i) d below = stretch_at memory stretches i d (omega arith)
 
-pub joined : (arena : List ℕ) (stretches : List Stretch)
-    → flat_map (λ xs. xs) (map (entries_in arena) stretches) ≡ entries_of arena stretches
-joined arena [] = refl
-joined arena (s ∷ stretches) = ap (λ (es : List Entry). entries_in arena s ++ es) (joined arena stretches)
+pub joined : (memory : Memory) (stretches : List Stretch)
+    → flat_map (λ xs. xs) (map (entries_in memory) stretches) ≡ entries_of memory stretches
+joined memory [] = refl
+joined memory (s ∷ stretches) = ap (λ (es : List Entry). entries_in memory s ++ es) (joined memory stretches)
 
 -- ----- the i-th of all, by the k-th list
 got_front : (xs ys : List Entry) (j : ℕ) (x : Entry) → slice_get xs j ≡ Some x → slice_get (xs ++ ys) j ≡ Some x
@@ -116,39 +117,39 @@ last_cut (x ∷ ss) s h =
     ∙ (ap (λ y. take (length ss) (x ∷ ss) ++ y ∷ []) (get_or_from_slice_get (x ∷ ss) (length ss) s s there)
     ∙ ap (λ k. take k (x ∷ ss) ++ s ∷ []) (sym last)))
 
-stretch_behind : (arena : List ℕ) (h : List Entry) (s : Stretch)
-    → last_reply (h ++ (entries_in arena s ++ [])) ≡ last_reply (entries_in arena s)
-stretch_behind arena h (One s) = last_reply_behind h (entry_of arena s) []
-stretch_behind arena h (Quiet r) =
+stretch_behind : (memory : Memory) (h : List Entry) (s : Stretch)
+    → last_reply (h ++ (entries_in memory s ++ [])) ≡ last_reply (entries_in memory s)
+stretch_behind memory h (One t s) = last_reply_behind h (entry_of memory t s) []
+stretch_behind memory h (Quiet r) =
     ap (λ (xs : List Entry). last_reply (h ++ xs)) (append-nil (run_entries r))
     ∙ last_reply_behind h (quiet_tick r.caller r.number r.tick)
     (quiet_ticks r.caller (r.number + 1) (r.tick + 1) r.more)
 
 -- the last reply is that of the last stretch
-pub last_reply_stretches : (arena : List ℕ) (stretches : List Stretch) (s : Stretch)
+pub last_reply_stretches : (memory : Memory) (stretches : List Stretch) (s : Stretch)
     → slice_get stretches (length stretches - 1) ≡ Some s
-    → last_reply (entries_of arena stretches) ≡ last_reply (entries_in arena s)
-last_reply_stretches arena [] s h = absurd (cc (h))
-last_reply_stretches arena (x ∷ []) s h =
+    → last_reply (entries_of memory stretches) ≡ last_reply (entries_in memory s)
+last_reply_stretches memory [] s h = absurd (cc (h))
+last_reply_stretches memory (x ∷ []) s h =
     let is : x ≡ s = cc (h) in
-    ap (λ (z : Stretch). last_reply (entries_in arena z ++ [])) is ∙ stretch_behind arena [] s
-last_reply_stretches arena (x ∷ y ∷ ss) s h =
+    ap (λ (z : Stretch). last_reply (entries_in memory z ++ [])) is ∙ stretch_behind memory [] s
+last_reply_stretches memory (x ∷ y ∷ ss) s h =
     let all : List Stretch = x ∷ y ∷ ss in
     let below : length all - 1 < length all = omega arith in
     let cut : all ≡ take (length all - 1) all ++ s ∷ [] = last_cut all s h in
-    ap (λ (zs : List Stretch). last_reply (entries_of arena zs)) cut
-    ∙ (ap last_reply (flat_map-append (entries_in arena) (take (length all - 1) all) (s ∷ []))
-    ∙ stretch_behind arena (entries_of arena (take (length all - 1) all)) s)
+    ap (λ (zs : List Stretch). last_reply (entries_of memory zs)) cut
+    ∙ (ap last_reply (flat_map-append (entries_in memory) (take (length all - 1) all) (s ∷ []))
+    ∙ stretch_behind memory (entries_of memory (take (length all - 1) all)) s)
 
-pub within_last : (n : ℕ) (stretches : List Stretch) (s : Stretch) → slice_get stretches (length stretches - 1) ≡ Some s
-    → AllWithin n stretches → StretchWithin n s
-within_last n [] s h all = absurd (cc (h))
-within_last n (x ∷ ss) s h all =
+pub within_last : (n k : ℕ) (stretches : List Stretch) (s : Stretch)
+    → slice_get stretches (length stretches - 1) ≡ Some s → AllWithin n k stretches → StretchWithin n k s
+within_last n k [] s h all = absurd (cc (h))
+within_last n k (x ∷ ss) s h all =
     let below : length ss < length (x ∷ ss) = omega arith in
     let last : length (x ∷ ss) - 1 ≡ length ss = omega arith in
     let is : get_or (x ∷ ss) (length ss) s ≡ s =
-    get_or_from_slice_get (x ∷ ss) (length ss) s s (subst (λ k. slice_get (x ∷ ss) k ≡ Some s) last h) in
-    subst (StretchWithin n) is (within_at n (x ∷ ss) (length ss) s below all)
+    get_or_from_slice_get (x ∷ ss) (length ss) s s (subst (λ j. slice_get (x ∷ ss) j ≡ Some s) last h) in
+    subst (StretchWithin n k) is (within_at n k (x ∷ ss) (length ss) s below all)
 
 pub last_quiet : (r : QuietRun) → reply_bytes (last_reply (run_entries r)) ≡ []
 last_quiet r =

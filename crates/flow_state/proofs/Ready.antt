@@ -1,5 +1,5 @@
 -- The rings' memory: it is there where bytes may be put, and may go where the flow is closed.
-use Rattle.std.proofs.Common.{◌≡◌, ℕ, Bool, true, false, cond, eqb, List, length, drop, Option, Some, None, sym, subst}
+use Rattle.std.proofs.Common.{◌≡◌, ℕ, Bool, true, false, eqb, List, length, drop, Option, Some, None, sym, subst}
 use Rattle.std.specs.Prelude.{is_some}
 use Rattle.payload_ring.specs.Window.{Window, Holds, released}
 use Rattle.tas_model.proofs.Tests.{on_cond}
@@ -9,6 +9,7 @@ use Rattle.tas_model.specs.OneStream.{IsSynchronized}
 use Rattle.flow_state.specs.declared.parts.Parts.{Parts}
 use Rattle.flow_state.specs.declared.counts.CallerCount.{CallerCount}
 use Rattle.flow_state.specs.declared.stretch.Stretch.{Stretch}
+use Rattle.flow_state.specs.Arena.{Memory}
 use Rattle.flow_state.specs.Record.{IsRecord}
 use Rattle.flow_state.specs.Released.{kept_ring, released_parts}
 use Rattle.flow_state.specs.Stands.{Stands, IsIsland, AreReady, HasRings}
@@ -58,15 +59,15 @@ stands_released p e closed s =
     search (s, tx, rx.0, rx.1, rings)
 
 -- all that the record keeps true, once its memory is given back
-pub kept_released : (p q : Parts) (arena arena' : List ℕ) (stretches stretches' : List Stretch)
-    (counts counts' : List CallerCount) (app : Option ℕ) (n t k : ℕ) → IsRecord p arena stretches counts app n t k
-    → is_some p.reason ≡ true → q ≡ released_parts p → arena' ≡ arena → stretches' ≡ stretches → counts' ≡ counts
-    → IsRecord q arena' stretches' counts' app n t k
-kept_released p q arena arena' stretches stretches' counts counts' app n t k is closed parts bytes same table =
-    subst (λ (x : Parts). IsRecord x arena' stretches' counts' app n t k) (sym parts)
-    (subst (λ (x : List ℕ). IsRecord (released_parts p) x stretches' counts' app n t k) (sym bytes)
-    (subst (λ (x : List Stretch). IsRecord (released_parts p) arena x counts' app n t k) (sym same)
-    (subst (λ (x : List CallerCount). IsRecord (released_parts p) arena stretches x app n t k) (sym table)
+pub kept_released : (p q : Parts) (memory memory' : Memory) (stretches stretches' : List Stretch)
+    (counts counts' : List CallerCount) (app : Option ℕ) (n t k : ℕ) → IsRecord p memory stretches counts app n t k
+    → is_some p.reason ≡ true → q ≡ released_parts p → memory' ≡ memory → stretches' ≡ stretches → counts' ≡ counts
+    → IsRecord q memory' stretches' counts' app n t k
+kept_released p q memory memory' stretches stretches' counts counts' app n t k is closed parts bytes same table =
+    subst (λ (x : Parts). IsRecord x memory' stretches' counts' app n t k) (sym parts)
+    (subst (λ (x : Memory). IsRecord (released_parts p) x stretches' counts' app n t k) (sym bytes)
+    (subst (λ (x : List Stretch). IsRecord (released_parts p) memory x counts' app n t k) (sym same)
+    (subst (λ (x : List CallerCount). IsRecord (released_parts p) memory stretches x app n t k) (sym table)
     (record {
       fits = is.fits;
       legal = is.legal;

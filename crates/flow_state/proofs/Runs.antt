@@ -1,7 +1,9 @@
 -- Runs of quiet ticks, and one tick more.
-use Rattle.std.proofs.Common.{◌≡◌, ℕ, zero, suc, ◌+◌, ◌<◌, Bool, true, false, ◌&&◌, eqb, List, [], ◌∷◌, ◌++◌, length}
-use Rattle.std.proofs.Common.{get_or, set, slice_get, Some, refl, sym, ◌∙◌, ap, arith, append_assoc, append-nil}
+use Rattle.std.proofs.Common.{◌≡◌, ℕ, zero, suc, ◌+◌, ◌-◌, ◌<◌, Bool, true, false, ◌&&◌, eqb, List, [], ◌∷◌, ◌++◌}
+use Rattle.std.proofs.Common.{length, get_or, set, slice_get, Option, Some, refl, sym, ◌∙◌, ap, subst, arith}
+use Rattle.std.proofs.Common.{append_assoc, append-nil}
 use Rattle.std.proofs.lemmas.Bool.Decides.{nat_tests}
+use Rattle.std.proofs.lemmas.Option.{slice_get-get_or}
 use Rattle.tas_model.specs.declared.entry.Caller.{Caller}
 use Rattle.tas_model.specs.declared.entry.Entry.{Entry}
 use Rattle.tas_model.specs.LegalHistory.{last_tick, same_caller}
@@ -13,9 +15,10 @@ use Rattle.flow_state.specs.declared.slot.Slot.{Slot}
 use Rattle.flow_state.specs.declared.stretch.QuietRun.{QuietRun}
 use Rattle.flow_state.specs.declared.stretch.Stretch.{Stretch}
 use Rattle.flow_state.specs.declared.stretch.Stretch.TheVariants.{Quiet}
+use Rattle.flow_state.specs.Arena.{Memory}
 use Rattle.flow_state.specs.Slots.{entry_of, bytes_at, call_in, reply_part, reply_in}
 use Rattle.flow_state.specs.Stretches.{quiet_tick, quiet_ticks, run_entries, entries_in, entries_of, StretchWithin}
-use Rattle.flow_state.specs.Stretches.{AllWithin, is_quiet_pair, is_quiet_tick, comes_next}
+use Rattle.flow_state.specs.Stretches.{AllWithin, is_quiet_pair, is_quiet_tick, comes_next, ends_so, goes_on}
 use Rattle.flow_state.proofs.Counting.{caller_is}
 
 -- the last of so many and one more
@@ -72,11 +75,11 @@ next_is r caller number tick h =
     (eqb tick (r.tick + r.more + 1)) h in
     (caller_is r.caller caller all.0, equal _ _ all.1, equal _ _ all.2)
 
-pub quiet_entry : (arena : List ℕ) (s : Slot) → is_quiet_tick s ≡ true
-    → entry_of arena s ≡ quiet_tick s.caller s.number s.tick
-quiet_entry arena s h = let is : (s.call ≡ cs.Tick) × (s.reply ≡ rs.Quiet) = pair_is s.call s.reply h in
-    let bytes : List ℕ = bytes_at arena s.bytes in
-    cc (ap (call_in bytes) is.0, ap (reply_in (reply_part s.call bytes)) is.1)
+pub quiet_entry : (memory : Memory) (t : ℕ) (s : Slot) → is_quiet_tick s ≡ true
+    → entry_of memory t s ≡ quiet_tick s.caller s.number t
+quiet_entry memory t s h = let is : (s.call ≡ cs.Tick) × (s.reply ≡ rs.Quiet) = pair_is s.call s.reply h in
+    let bytes : List ℕ = bytes_at memory.bytes s.bytes in
+    cc (ap (call_in memory.came bytes) is.0, ap (reply_in (reply_part s.call bytes)) is.1)
 
 run_longer : (r : QuietRun) (caller : Caller) (n t : ℕ) → comes_next r caller n t ≡ true
     → run_entries (record r { more = r.more + 1 }) ≡ run_entries r ++ quiet_tick caller n t ∷ []
@@ -92,22 +95,37 @@ run_longer r caller n t next =
     ∙ (ticks_push r.caller r.number r.tick (suc r.more) ∙ ap (λ (x : Entry). run_entries r ++ x ∷ []) same)
 
 -- the history with its last run lengthened
-pub longer : (arena : List ℕ) (ss : List Stretch) (i : ℕ) (d : Stretch) (r : QuietRun) (caller : Caller) (n t : ℕ)
+pub longer : (memory : Memory) (ss : List Stretch) (i : ℕ) (d : Stretch) (r : QuietRun) (caller : Caller) (n t : ℕ)
     → length ss ≡ suc i → get_or ss i d ≡ Quiet r → comes_next r caller n t ≡ true
-    → entries_of arena (set ss i (Quiet (record r { more = r.more + 1 }))) ≡ entries_of arena ss
+    → entries_of memory (set ss i (Quiet (record r { more = r.more + 1 }))) ≡ entries_of memory ss
     ++ quiet_tick caller n t ∷ []
-longer arena [] i d r caller n t len is next = absurd (omega (arith, len))
-longer arena (x ∷ []) zero d r caller n t len is next =
-    let run : entries_in arena x ≡ run_entries r = ap (entries_in arena) is in
+longer memory [] i d r caller n t len is next = absurd (omega (arith, len))
+longer memory (x ∷ []) zero d r caller n t len is next =
+    let run : entries_in memory x ≡ run_entries r = ap (entries_in memory) is in
     append-nil (run_entries (record r { more = r.more + 1 }))
     ∙ (run_longer r caller n t next
-    ∙ ap (λ (xs : List Entry). xs ++ quiet_tick caller n t ∷ []) (sym run ∙ sym (append-nil (entries_in arena x))))
-longer arena (x ∷ []) (suc i) d r caller n t len is next = absurd (omega (arith, len))
-longer arena (x ∷ y ∷ ss) zero d r caller n t len is next = absurd (omega (arith, len))
-longer arena (x ∷ y ∷ ss) (suc i) d r caller n t len is next =
-    ap (λ (xs : List Entry). entries_in arena x ++ xs)
-    (longer arena (y ∷ ss) i d r caller n t (omega (arith, len)) is next)
-    ∙ sym (append_assoc (entries_in arena x) (entries_of arena (y ∷ ss)) (quiet_tick caller n t ∷ []))
+    ∙ ap (λ (xs : List Entry). xs ++ quiet_tick caller n t ∷ []) (sym run ∙ sym (append-nil (entries_in memory x))))
+longer memory (x ∷ []) (suc i) d r caller n t len is next = absurd (omega (arith, len))
+longer memory (x ∷ y ∷ ss) zero d r caller n t len is next = absurd (omega (arith, len))
+longer memory (x ∷ y ∷ ss) (suc i) d r caller n t len is next =
+    ap (λ (xs : List Entry). entries_in memory x ++ xs)
+    (longer memory (y ∷ ss) i d r caller n t (omega (arith, len)) is next)
+    ∙ sym (append_assoc (entries_in memory x) (entries_of memory (y ∷ ss)) (quiet_tick caller n t ∷ []))
+
+-- what goes on has a last stretch
+pub goes_somewhere : (ss : List Stretch) (caller : Caller) (n t : ℕ) → goes_on ss caller n t ≡ true
+    → length ss ≡ suc (length ss - 1)
+goes_somewhere [] caller n t goes = absurd (cc (goes))
+goes_somewhere (s ∷ ss) caller n t goes = omega arith
+
+-- where the last run goes on, the tick is its next one
+pub goes_next : (ss : List Stretch) (i : ℕ) (d : Stretch) (r : QuietRun) (caller : Caller) (n t : ℕ)
+    → length ss ≡ suc i → get_or ss i d ≡ Quiet r → goes_on ss caller n t ≡ true → comes_next r caller n t ≡ true
+goes_next ss i d r caller n t len is goes =
+    let last : length ss - 1 ≡ i = omega (arith, len) in
+    let there : slice_get ss (length ss - 1) ≡ Some (Quiet r) = ap (slice_get ss) last
+    ∙ (slice_get-get_or ss i d (omega (arith, len)) ∙ ap (λ (s : Stretch). Some s) is) in
+    subst (λ (o : Option Stretch). ends_so o caller n t ≡ true) there goes
 
 -- ----- the last tick
 last_both : (t : ℕ) (xs ys : List Entry) → last_tick t (xs ++ ys) ≡ last_tick (last_tick t xs) ys
@@ -122,24 +140,24 @@ last_run t r = ap (last_tick t) (ticks_push r.caller r.number r.tick r.more)
     ∙ last_push t (quiet_ticks r.caller r.number r.tick r.more)
     (quiet_tick r.caller (r.number + r.more) (r.tick + r.more))
 
-pub last_is : (arena : List ℕ) (t : ℕ) (ss : List Stretch) (i : ℕ) (d : Stretch) (r : QuietRun) → length ss ≡ suc i
-    → get_or ss i d ≡ Quiet r → last_tick t (entries_of arena ss) ≡ r.tick + r.more
-last_is arena t [] i d r len is = absurd (omega (arith, len))
-last_is arena t (x ∷ []) zero d r len is = ap (last_tick t) (append-nil (entries_in arena x) ∙ ap (entries_in arena) is)
-    ∙ last_run t r
-last_is arena t (x ∷ []) (suc i) d r len is = absurd (omega (arith, len))
-last_is arena t (x ∷ y ∷ ss) zero d r len is = absurd (omega (arith, len))
-last_is arena t (x ∷ y ∷ ss) (suc i) d r len is = last_both t (entries_in arena x) (entries_of arena (y ∷ ss))
-    ∙ last_is arena (last_tick t (entries_in arena x)) (y ∷ ss) i d r (omega (arith, len)) is
+pub last_is : (memory : Memory) (t : ℕ) (ss : List Stretch) (i : ℕ) (d : Stretch) (r : QuietRun) → length ss ≡ suc i
+    → get_or ss i d ≡ Quiet r → last_tick t (entries_of memory ss) ≡ r.tick + r.more
+last_is memory t [] i d r len is = absurd (omega (arith, len))
+last_is memory t (x ∷ []) zero d r len is =
+    ap (last_tick t) (append-nil (entries_in memory x) ∙ ap (entries_in memory) is) ∙ last_run t r
+last_is memory t (x ∷ []) (suc i) d r len is = absurd (omega (arith, len))
+last_is memory t (x ∷ y ∷ ss) zero d r len is = absurd (omega (arith, len))
+last_is memory t (x ∷ y ∷ ss) (suc i) d r len is = last_both t (entries_in memory x) (entries_of memory (y ∷ ss))
+    ∙ last_is memory (last_tick t (entries_in memory x)) (y ∷ ss) i d r (omega (arith, len)) is
 
 -- ----- what lies in memory
-pub within_set : (n : ℕ) (ss : List Stretch) (i : ℕ) (s : Stretch) → StretchWithin n s → AllWithin n ss
-    → AllWithin n (set ss i s)
-within_set n [] i s is all = tt
-within_set n (x ∷ ss) zero s is all = (is, all.1)
-within_set n (x ∷ ss) (suc i) s is all = (all.0, within_set n ss i s is all.1)
+pub within_set : (n k : ℕ) (ss : List Stretch) (i : ℕ) (s : Stretch) → StretchWithin n k s → AllWithin n k ss
+    → AllWithin n k (set ss i s)
+within_set n k [] i s is all = tt
+within_set n k (x ∷ ss) zero s is all = (is, all.1)
+within_set n k (x ∷ ss) (suc i) s is all = (all.0, within_set n k ss i s is all.1)
 
-pub within_push : (n : ℕ) (ss : List Stretch) (s : Stretch) → StretchWithin n s → AllWithin n ss
-    → AllWithin n (ss ++ s ∷ [])
-within_push n [] s is all = (is, tt)
-within_push n (x ∷ ss) s is all = (all.0, within_push n ss s is all.1)
+pub within_push : (n k : ℕ) (ss : List Stretch) (s : Stretch) → StretchWithin n k s → AllWithin n k ss
+    → AllWithin n k (ss ++ s ∷ [])
+within_push n k [] s is all = (is, tt)
+within_push n k (x ∷ ss) s is all = (all.0, within_push n k ss s is all.1)

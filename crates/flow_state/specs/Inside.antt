@@ -5,19 +5,20 @@ use Rattle.flow_state.specs.Flow.{Flow}
 use Rattle.flow_state.specs.Stretches.{entries_of}
 use Rattle.flow_state.specs.Record.{IsRecord}
 
--- an entry needs a stretch, and a count where its caller is a new one
+-- An entry needs a stretch, a count where its caller is a new one, and a place among the segments that came where its
+-- call brings one.
 abbrev pub flow_of : Inside → Flow
 flow_of r = record {
   id = r.id;
   tuple = r.parts.tuple;
   params = r.parts.params;
-  entries = entries_of r.arena.bytes r.stretches.items;
+  entries = entries_of r.arena.memory r.stretches.items;
   parts = r.parts;
-  spare_entries = min (vec_capacity r.stretches - vec_len r.stretches) r.counts.spare;
+  spare_entries = min (min (vec_capacity r.stretches - vec_len r.stretches) r.counts.spare) r.arena.spare_came;
   spare_bytes = r.arena.spare;
 }
 
 -- what it keeps true
 abbrev pub IsKept : Inside → Type 0
-IsKept r = IsRecord r.parts r.arena.bytes r.stretches.items r.counts.counts r.application r.made r.last
+IsKept r = IsRecord r.parts r.arena.memory r.stretches.items r.counts.counts r.application r.made r.last
     r.sent

@@ -10,6 +10,7 @@ use Rattle.flow_state.specs.declared.call.CallIn.{CallIn}
 use Rattle.flow_state.specs.declared.call.Answer.{Answer}
 use Rattle.flow_state.specs.declared.slot.Slot.{Slot}
 use Rattle.flow_state.specs.Calls.{call_of, offer_of, reply_of, answer_len}
+use Rattle.flow_state.specs.Arena.{Memory}
 use Rattle.flow_state.specs.Slots.{entry_of, IsWithin}
 use Rattle.flow_state.specs.Stands.{Stands}
 
@@ -29,21 +30,21 @@ pub record Makes (e : Endpoint) (tick : ℕ) (call : CallIn) (after : Parts) (ou
   pub step : IsStep after answer out (step e tick (call_of call) (shown e (offer_of call)))
 
 -- the call was made, and the slot has its entry, `out` having the reply's bytes
-pub record IsMadeWith (before after : Parts) (arena : List ℕ) (caller : Caller) (number tick : ℕ) (call : CallIn)
+pub record IsMadeWith (before after : Parts) (memory : Memory) (caller : Caller) (number tick : ℕ) (call : CallIn)
     (answer : Answer) (slot : Slot) (out : List ℕ) : Type 0 where
   pub makes : (e : Endpoint) → Valid e → Stands before e → Makes e tick call after out answer
-  pub entry : entry_of arena slot ≡ record {
+  pub entry : entry_of memory tick slot ≡ record {
     caller = caller;
     number = number;
     tick = tick;
     call = call_of call;
     reply = reply_of answer out;
   }
-  pub within : IsWithin (length arena) slot
+  pub within : IsWithin (length memory.bytes) (length memory.came) slot
   pub bytes : answer_len answer ≤ length out
 
 -- the same, whatever memory the reply's bytes stood in first
-abbrev pub IsMadeAt : (before after : Parts) (arena : List ℕ) (caller : Caller) (number tick : ℕ) (call : CallIn)
+abbrev pub IsMadeAt : (before after : Parts) (memory : Memory) (caller : Caller) (number tick : ℕ) (call : CallIn)
     (answer : Answer) (slot : Slot) → Type 0
-IsMadeAt before after arena caller number tick call answer slot = (out : List ℕ)
-    × IsMadeWith before after arena caller number tick call answer slot out
+IsMadeAt before after memory caller number tick call answer slot = (out : List ℕ)
+    × IsMadeWith before after memory caller number tick call answer slot out

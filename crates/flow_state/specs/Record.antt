@@ -6,24 +6,25 @@ use Rattle.tas_model.specs.Valid.{InRange}
 use Rattle.flow_state.specs.declared.parts.Parts.{Parts}
 use Rattle.flow_state.specs.declared.stretch.Stretch.{Stretch}
 use Rattle.flow_state.specs.declared.counts.CallerCount.{CallerCount}
-use Rattle.flow_state.specs.Stretches.{AllWithin, entries_of}
+use Rattle.flow_state.specs.Arena.{Memory}
+use Rattle.flow_state.specs.Stretches.{AllStand, entries_of}
 use Rattle.flow_state.specs.Counts.{AreCounts}
 use Rattle.flow_state.specs.Application.{application_of}
 use Rattle.flow_state.specs.Stands.{Stands}
 
 -- The parts stand for the endpoint that the entries lead to, and these are a legal history. Their number is kept, and
 -- the tick of the last; a run has no more of them than ticks passed. The segments that they sent are counted.
-pub record IsRecord (parts : Parts) (arena : List ℕ) (stretches : List Stretch) (table : List CallerCount)
+pub record IsRecord (parts : Parts) (memory : Memory) (stretches : List Stretch) (table : List CallerCount)
     (app : Option ℕ) (n t segments : ℕ) : Type 0 where
   pub fits : InRange parts.params
-  pub legal : Legal parts.params (entries_of arena stretches)
-  pub stands : Stands parts (replay parts.params (entries_of arena stretches))
-  pub within : AllWithin (length arena) stretches
-  pub counts : AreCounts table (entries_of arena stretches)
-  pub application : app ≡ application_of (entries_of arena stretches)
-  pub made : n ≡ length (entries_of arena stretches)
-  pub last : t ≡ last_tick 0 (entries_of arena stretches)
+  pub legal : Legal parts.params (entries_of memory stretches)
+  pub stands : Stands parts (replay parts.params (entries_of memory stretches))
+  pub within : AllStand memory stretches
+  pub counts : AreCounts table (entries_of memory stretches)
+  pub application : app ≡ application_of (entries_of memory stretches)
+  pub made : n ≡ length (entries_of memory stretches)
+  pub last : t ≡ last_tick 0 (entries_of memory stretches)
   pub few : n ≤ length stretches + t
   pub low : t < 2 ^ 32
-  pub sent : segments ≡ length (sent (entries_of arena stretches))
+  pub sent : segments ≡ length (sent (entries_of memory stretches))
   pub several : segments ≤ n  -- an entry has one at most

@@ -16,6 +16,7 @@ use Rattle.flow_state.specs.declared.stretch.Stretch.{Stretch}
 use Rattle.flow_state.specs.declared.stretch.Stretch.TheVariants.{One, Quiet}
 use Rattle.flow_state.specs.declared.call.Answer.{Answer}
 use Rattle.flow_state.specs.Calls.{reply_of}
+use Rattle.flow_state.specs.Arena.{Memory}
 use Rattle.flow_state.specs.Slots.{entry_of, IsWithin}
 
 -- a call of Tick that nothing came of
@@ -38,13 +39,13 @@ abbrev pub run_entries : QuietRun → List Entry
 run_entries r = quiet_ticks r.caller r.number r.tick (suc r.more)
 
 -- those of a stretch
-abbrev pub entries_in : List ℕ → Stretch → List Entry
-entries_in arena (One s) = entry_of arena s ∷ []
-entries_in arena (Quiet r) = run_entries r
+abbrev pub entries_in : Memory → Stretch → List Entry
+entries_in memory (One tick s) = entry_of memory tick s ∷ []
+entries_in memory (Quiet r) = run_entries r
 
 -- the whole history
-abbrev pub entries_of : List ℕ → List Stretch → List Entry
-entries_of arena stretches = flat_map (entries_in arena) stretches
+abbrev pub entries_of : Memory → List Stretch → List Entry
+entries_of memory stretches = flat_map (entries_in memory) stretches
 
 -- ----- conditions
 -- numbers and ticks of a run can be written
@@ -52,15 +53,19 @@ pub record IsRun (r : QuietRun) : Type 0 where
   pub number : r.number + r.more < 2 ^ 64
   pub tick : r.tick + r.more < 2 ^ 32
 
--- the bytes of a stretch stand in the first n of the memory
-abbrev pub StretchWithin : ℕ → Stretch → Type 0
-StretchWithin n (One s) = IsWithin n s
-StretchWithin n (Quiet r) = IsRun r
+-- a stretch names nothing but the first n bytes, and the first k segments that came
+abbrev pub StretchWithin : (n k : ℕ) → Stretch → Type 0
+StretchWithin n k (One tick s) = IsWithin n k s
+StretchWithin n k (Quiet r) = IsRun r
 
--- those of all
-abbrev pub AllWithin : ℕ → List Stretch → Type 0
-AllWithin n [] = ⊤
-AllWithin n (s ∷ ss) = StretchWithin n s × AllWithin n ss
+-- nor does any of all
+abbrev pub AllWithin : (n k : ℕ) → List Stretch → Type 0
+AllWithin n k [] = ⊤
+AllWithin n k (s ∷ ss) = StretchWithin n k s × AllWithin n k ss
+
+-- what all name stands in this memory
+abbrev pub AllStand : Memory → List Stretch → Type 0
+AllStand memory stretches = AllWithin (length memory.bytes) (length memory.came) stretches
 
 -- ----- tests
 abbrev pub is_quiet_pair : CallSlot → ReplySlot → Bool
@@ -78,7 +83,7 @@ comes_next r caller number tick =
 
 abbrev pub ends_so : Option Stretch → Caller → (number tick : ℕ) → Bool
 ends_so None caller number tick = false
-ends_so (Some (One s)) caller number tick = false
+ends_so (Some (One at s)) caller number tick = false
 ends_so (Some (Quiet r)) caller number tick = comes_next r caller number tick
 
 -- it is the next one of the run that the stretches end with
@@ -86,12 +91,13 @@ abbrev pub goes_on : List Stretch → Caller → (number tick : ℕ) → Bool
 goes_on ss caller number tick = ends_so (slice_get ss (length ss - 1)) caller number tick
 
 -- ----- one entry more
--- The stretches have the entry of this slot behind the others. Where no stretch came to them, a tick passed.
-pub record Added (before after : List Stretch) (s : Slot) : Type 0 where
-  pub entries : (arena : List ℕ) → entries_of arena after ≡ entries_of arena before ++ entry_of arena s ∷ []
-  pub within : (n : ℕ) → AllWithin n before → IsWithin n s → AllWithin n after
-  pub few : (arena : List ℕ) → last_tick 0 (entries_of arena before) ≤ s.tick
-      → length before + last_tick 0 (entries_of arena before) + 1 ≤ length after + s.tick
+-- The stretches have the entry of this slot, at this tick, behind the others. Where no stretch came to them, a tick
+-- passed.
+pub record Added (before after : List Stretch) (tick : ℕ) (s : Slot) : Type 0 where
+  pub entries : (memory : Memory) → entries_of memory after ≡ entries_of memory before ++ entry_of memory tick s ∷ []
+  pub within : (n k : ℕ) → AllWithin n k before → IsWithin n k s → AllWithin n k after
+  pub few : (memory : Memory) → last_tick 0 (entries_of memory before) ≤ tick
+      → length before + last_tick 0 (entries_of memory before) + 1 ≤ length after + tick
 
 -- the entry of a Tick with an answer that has no bytes
 abbrev pub tick_entry : Caller → (number tick : ℕ) → Answer → Entry
@@ -105,10 +111,10 @@ tick_entry caller number tick answer = record {
 
 -- a slot of that entry, wherever its memory ends
 pub record IsTickSlot (caller : Caller) (number tick : ℕ) (answer : Answer) (s : Slot) : Type 0 where
-  pub entry : (arena : List ℕ) → entry_of arena s ≡ tick_entry caller number tick answer
-  pub within : (n : ℕ) → IsWithin n s
+  pub entry : (memory : Memory) → entry_of memory tick s ≡ tick_entry caller number tick answer
+  pub within : (n k : ℕ) → IsWithin n k s
 
 -- the stretches have the entry of a Tick more
 abbrev pub AddedTick : (before after : List Stretch) → Caller → (number tick : ℕ) → Answer → Type 0
 AddedTick before after caller number tick answer =
-    (s : Slot) × IsTickSlot caller number tick answer s × Added before after s
+    (s : Slot) × IsTickSlot caller number tick answer s × Added before after tick s

@@ -1,21 +1,26 @@
-ghost use Rattle.std.specs.Prelude.{◌≡◌, ◌↔◌, ℕ, List, ◌+◌, ◌-◌, ◌≤◌, ◌++◌, [], length, take, drop, vec_len};
+ghost use Rattle.std.specs.Prelude.{◌≡◌, ◌↔◌, ℕ, List, ◌+◌, ◌-◌, ◌≤◌, ◌++◌, ◌∷◌, [], length, take, drop, vec_len};
 ghost use Rattle.std.specs.Prelude.{vec_capacity, IfOk, IfSome, IfNone, IsSome, OnOk, IsOk};
 ghost use Rattle.flow_state.specs.Calls.{call_of, reply_of, payload_of, answer_len, need_of, IsSmall, IsTimely};
+ghost use Rattle.flow_state.specs.declared.slot.CameSlot.{CameSlot};
+ghost use Rattle.flow_state.specs.Arena.{memory_of, Grows};
 ghost use Rattle.flow_state.specs.Made.{IsMadeAt};
-ghost use Rattle.flow_state.specs.Slots.{entry_of, IsWithin, IsBare};
+ghost use Rattle.flow_state.specs.Slots.{entry_of, IsWithin, IsBare, HasCame, came_of, came_count};
 ghost use Rattle.flow_state.specs.Stands.{IsNear, HasRings};
 
 use crate::call::{Answer, CallIn};
+use crate::came::{keep_came, reserve_came};
 use crate::engine::{Engine, need};
 use crate::parts::Parts;
 use crate::sharing::{Kept, Known, keep, next_bytes};
-use crate::slot::{Slot, call_slot, reply_slot};
+use crate::slot::{CameSlot, Slot, call_slot, came_slot, reply_slot};
 use payload_ring::fill_with_zeros;
+use segment_fields::Segment;
 use std::alloc::{AllocError, Global};
 use std::marker::Model;
-use tas_model::Caller;
+use tas_model::{Caller, FrameId};
+use tas_num::Seq;
 
-/// The bytes of a record's entries, one after the other, and room behind them.
+/// The bytes of a record's entries, one after the other, and room behind them; and the segments that came.
 ///
 /// An engine puts the bytes of its reply there. The room keeps what was written to it, so that it is filled once and
 /// not anew for each call.
@@ -30,70 +35,97 @@ pub struct Arena {
     used: usize,
     /// Where to look for bytes that an entry shares.
     known: Known,
+    /// The segments that came, but for their payloads.
+    came: Vec<CameSlot>,
 }
 
 impl Model for Arena {
-    ghost use Rattle.std.specs.Prelude.{◌≤◌, ◌-◌, take, vec_len, vec_capacity};
-    ghost use Rattle.flow_state.specs.Arena.{Held};
+    ghost use Rattle.std.specs.Prelude.{ℕ, ◌<◌, ◌≤◌, ◌-◌, ◌^◌, take, vec_len, vec_capacity};
+    ghost use Rattle.flow_state.specs.Arena.{Held, memory_of, came_room};
 
     ghost Value = { Held };
 
-    ghost view = { λ a. record { bytes = take a.used a.bytes.items; spare = vec_capacity a.bytes - a.used } };
+    ghost view = { λ a. record {
+      memory = memory_of (take a.used a.bytes.items) a.came.items;
+      spare = vec_capacity a.bytes - a.used;
+      spare_came = came_room (vec_capacity a.came) (vec_len a.came);
+    } };
 
-    ghost invariant = { λ a. a.used ≤ vec_len a.bytes };
+    ghost invariant = { λ a. (a.used ≤ vec_len a.bytes) × (vec_len a.came < 2 ^ 32) };
 }
 
 impl Arena {
     /// No bytes and no room. It takes no memory.
     pub fn new(alloc: Global) -> Arena
-        ensures { result.bytes ≡ [] }
+        ensures { result.memory ≡ memory_of [] [] }
     {
         Arena {
             bytes: Vec::new(alloc),
             used: 0,
             known: Known::new(),
+            came: Vec::new(alloc),
         }
     }
 
-    /// These bytes. The error is want of memory.
-    pub fn copy(alloc: Global, bytes: &[u8]) -> Result<Arena, AllocError>
-        ensures { IfOk result (λ a. a.bytes ≡ bytes.now) }
+    /// That of a segment which came in this frame, and opens a flow with this own first number. The error is want of
+    /// memory.
+    pub fn of_segment(
+        alloc: Global,
+        frame: FrameId,
+        iss: Seq,
+        seg: &Segment<'_>,
+    ) -> Result<Arena, AllocError>
+        ensures { IfOk result (λ a. a.memory ≡ memory_of seg.now.payload.now (came_of frame iss seg.now ∷ [])) }
     {
+        let mut came = Vec::new(alloc);
+        came.push(came_slot(frame, iss, seg))?;
         Ok(Arena {
-            bytes: Vec::from_slice(alloc, bytes)?,
-            used: bytes.len(),
+            bytes: Vec::from_slice(alloc, seg.payload)?,
+            used: seg.payload.len(),
             known: Known::new(),
+            came,
         })
     }
 
     /// The bytes that are kept.
     pub fn as_slice(&self) -> &[u8]
-        ensures { result.now ≡ self.now.bytes }
+        ensures { result.now ≡ self.now.memory.bytes }
     {
         &self.bytes[..self.used]
     }
 
-    /// Makes room for so many bytes more. The error is want of memory, and leaves all as it was.
-    pub fn reserve(&mut self, more: usize) -> Result<(), AllocError>
-        ensures bytes { self.new.bytes ≡ self.old.bytes }
-        ensures room { OnOk result (more ≤ self.new.spare) }
-        ensures longer { self.old.spare ≤ self.new.spare }
-        ensures spare { more ≤ self.old.spare → IsOk result }
+    /// The segments that came.
+    pub fn came(&self) -> &[CameSlot]
+        ensures { result.now ≡ self.now.memory.came }
     {
+        &self.came
+    }
+
+    /// Makes room for so many segments and bytes more. The error is want of memory, and leaves what is kept as it was.
+    pub fn reserve(&mut self, came: usize, bytes: usize) -> Result<(), AllocError>
+        ensures memory { self.new.memory ≡ self.old.memory }
+        ensures room { OnOk result (bytes ≤ self.new.spare) }
+        ensures room_came { OnOk result (came ≤ self.new.spare_came) }
+        ensures longer { self.old.spare ≤ self.new.spare }
+        ensures longer_came { self.old.spare_came ≤ self.new.spare_came }
+        ensures spare { came ≤ self.old.spare_came → bytes ≤ self.old.spare → IsOk result }
+    {
+        reserve_came(&mut self.came, came)?;
         let room = self.bytes.len() - self.used;
-        self.bytes.reserve(more.saturating_sub(room))
+        self.bytes.reserve(bytes.saturating_sub(room))
     }
 
     /// Gives the room back.
     pub fn trim(&mut self)
-        ensures { self.new.bytes ≡ self.old.bytes }
+        ensures { self.new.memory ≡ self.old.memory }
     {
         self.bytes.truncate(self.used);
         self.bytes.shrink_to_fit();
+        self.came.shrink_to_fit();
     }
 
-    /// Makes the call by the engine, and keeps the bytes of its entry. Where the engine does not answer the call,
-    /// nothing changes.
+    /// Makes the call by the engine, and keeps the bytes of its entry and the segment that it brings. Where the engine
+    /// does not answer the call, nothing changes.
     pub fn answer<E: Engine>(
         &mut self,
         engine: &E,
@@ -108,14 +140,15 @@ impl Arena {
         requires near { IsNear parts.old }
         requires rings { HasRings parts.old }
         requires room { need_of parts.old call.now ≤ self.old.spare }
+        requires room_came { came_count call.now ≤ self.old.spare_came }
         ensures made { IfSome result
-            (λ r. IsMadeAt parts.old parts.new self.new.bytes caller number tick call.now r.0 r.1) }
+            (λ r. IsMadeAt parts.old parts.new self.new.memory caller number tick call.now r.0 r.1) }
         ensures unmade { IfNone result (parts.new ≡ parts.old) }
-        ensures unmade_bytes { IfNone result (self.new.bytes ≡ self.old.bytes) }
+        ensures unmade_memory { IfNone result (self.new.memory ≡ self.old.memory) }
         ensures serves { IsSome result ↔ E.serves engine.now parts.old call.now }
-        ensures kept { take (length self.old.bytes) self.new.bytes ≡ self.old.bytes }
-        ensures longer { length self.old.bytes ≤ length self.new.bytes }
+        ensures kept { Grows self.old.memory self.new.memory }
         ensures spent { self.old.spare ≤ self.new.spare + need_of parts.old call.now }
+        ensures spent_came { self.old.spare_came ≤ self.new.spare_came + came_count call.now }
         ensures params { parts.new.params ≡ parts.old.params }
         ensures tuple { parts.new.tuple ≡ parts.old.tuple }
     {
@@ -129,20 +162,23 @@ impl Arena {
                 caller,
                 number,
                 tick,
+                at: self.came.len() as u32,
             },
             call,
         )?;
         self.used = end;
+        keep_came(&mut self.came, call);
         Some((answer, slot))
     }
 }
 
-/// Who makes an entry, and when.
+/// Who makes an entry, and when, and at which place its segment stands among those that came, where it brings one.
 #[derive(Clone, Copy)]
 struct Stamp {
     caller: Caller,
     number: u64,
     tick: u32,
+    at: u32,
 }
 
 /// Makes the call, and keeps the bytes of its entry behind the first `used`, or its reply's among these. Also gives how
@@ -162,8 +198,9 @@ fn answer_behind<E: Engine>(
     requires rings { HasRings parts.old }
     requires within { used ≤ vec_len bytes.old }
     requires room { used + need_of parts.old call.now ≤ vec_capacity bytes.old }
-    ensures made { IfSome result (λ r. IsMadeAt parts.old parts.new (take r.2 bytes.new.items) stamp.caller stamp.number
-        stamp.tick call.now r.0 r.1) }
+    ensures made { IfSome result (λ r. (came : List CameSlot) → HasCame came stamp.at call.now
+        → IsMadeAt parts.old parts.new (memory_of (take r.2 bytes.new.items) came) stamp.caller stamp.number stamp.tick
+        call.now r.0 r.1) }
     ensures few { IfSome result (λ r. r.2 ≤ vec_len bytes.new) }
     ensures past { IfSome result (λ r. used ≤ r.2) }
     ensures need { IfSome result (λ r. r.2 ≤ used + need_of parts.old call.now) }
@@ -204,7 +241,9 @@ fn keep_entry(
     requires bare { IsBare call.now (answer_len answer.now) }
     requires room { used + answer_len answer.now + length (payload_of call.now) ≤ vec_len bytes.old }
     ensures kept { take used bytes.new.items ≡ take used bytes.old.items }
-    ensures entry { entry_of (take (result.1.end + length (payload_of call.now)) bytes.new.items) result.0
+    ensures entry { (came : List CameSlot) → HasCame came stamp.at call.now
+        → entry_of (memory_of (take (result.1.end + length (payload_of call.now)) bytes.new.items) came) stamp.tick
+        result.0
         ≡ record {
           caller = stamp.caller;
           number = stamp.number;
@@ -216,7 +255,8 @@ fn keep_entry(
     ensures past { result.1.end ≤ used + answer_len answer.now }
     ensures len { vec_len bytes.new ≡ vec_len bytes.old }
     ensures capacity { vec_capacity bytes.new ≡ vec_capacity bytes.old }
-    ensures within { IsWithin (result.1.end + length (payload_of call.now)) result.0 }
+    ensures within { (came : List CameSlot) → HasCame came stamp.at call.now
+        → IsWithin (result.1.end + length (payload_of call.now)) (length came) result.0 }
 {
     let kept = keep(bytes, used, answer.bytes(), guess);
     let slot = close_entry(bytes, kept, call, answer, stamp);
@@ -236,7 +276,8 @@ fn close_entry(
     requires within { kept.start + answer_len answer.now ≤ kept.end }
     requires room { kept.end + length (payload_of call.now) ≤ vec_len bytes.old }
     ensures kept { take kept.end bytes.new.items ≡ take kept.end bytes.old.items }
-    ensures entry { entry_of (take (kept.end + length (payload_of call.now)) bytes.new.items) result
+    ensures entry { (came : List CameSlot) → HasCame came stamp.at call.now
+        → entry_of (memory_of (take (kept.end + length (payload_of call.now)) bytes.new.items) came) stamp.tick result
         ≡ record {
           caller = stamp.caller;
           number = stamp.number;
@@ -246,14 +287,14 @@ fn close_entry(
         } }
     ensures len { vec_len bytes.new ≡ vec_len bytes.old }
     ensures capacity { vec_capacity bytes.new ≡ vec_capacity bytes.old }
-    ensures within { IsWithin (kept.end + length (payload_of call.now)) result }
+    ensures within { (came : List CameSlot) → HasCame came stamp.at call.now
+        → IsWithin (kept.end + length (payload_of call.now)) (length came) result }
 {
     put(bytes, kept.end, call.payload());
-    let (call, span) = call_slot(call, kept.start, answer.bytes(), kept.end);
+    let (call, span) = call_slot(call, stamp.at, kept.start, answer.bytes(), kept.end);
     Slot {
         caller: stamp.caller,
         number: stamp.number,
-        tick: stamp.tick,
         bytes: span,
         reply: reply_slot(answer),
         call,

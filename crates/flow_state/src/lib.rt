@@ -8,6 +8,7 @@ mod app_send;
 mod application;
 mod arena;
 mod call;
+mod came;
 mod counts;
 mod engine;
 mod open;

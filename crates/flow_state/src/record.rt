@@ -15,17 +15,19 @@ ghost use Rattle.flow_state.specs.Released.{released_parts};
 ghost use Rattle.flow_state.specs.Application.{application_of};
 ghost use Rattle.flow_state.specs.Stretches.{entries_of, entries_in, StretchWithin};
 ghost use Rattle.flow_state.specs.declared.call.CallIn.TheVariants as ins;
+ghost use Rattle.flow_state.specs.Arena.{memory_of};
 ghost use Rattle.flow_state.specs.Made.{IsMadeAt};
 ghost use Rattle.flow_state.specs.Views.{seen_entry};
 
 use crate::application::got_by;
 use crate::arena::Arena;
 use crate::call::{Answer, CallIn};
+use crate::came::came_by;
 use crate::counts::CallerCounts;
 use crate::engine::{Clock, Engine, need};
 use crate::open::{connect_parts, passive_parts};
 use crate::parts::Parts;
-use crate::slot::{connect_slot, passive_slot};
+use crate::slot::{CameSlot, connect_slot, passive_slot};
 use crate::stretch::{Stretch, add, add_tick, go_on, goes_on};
 use crate::stretches::Stretches;
 use crate::view::{EntryView, entry_view};
@@ -37,8 +39,9 @@ use tas_num::Seq;
 
 /// The record of one flow, seen as its history.
 ///
-/// The parts hold the present endpoint; the history stands in stretches of one size, whose bytes stand in one piece of
-/// memory: an entry each, or a run of quiet ticks, so that a flow that nothing comes to takes no memory with time.
+/// The parts hold the present endpoint; the history stands in stretches of one size: an entry each, or a run of quiet
+/// ticks, so that a flow that nothing comes to takes no memory with time. Their bytes stand in one piece of memory, and
+/// the segments that came in another.
 #[derive(Drop)]
 pub struct FlowRecord {
     id: FlowId,
@@ -97,9 +100,12 @@ impl FlowRecord {
         ensures entries { IfOk result (λ r. r.entries ≡ first_passive tick frame iss (seg_of seg.now) ∷ []) }
     {
         let parts = passive_parts(alloc, tuple, params, iss, seg)?;
-        let arena = Arena::copy(alloc, seg.payload)?;
+        let arena = Arena::of_segment(alloc, frame, iss, seg)?;
         let mut stretches = Vec::new(alloc);
-        stretches.push(Stretch::One(passive_slot(iss, frame, seg, tick)))?;
+        stretches.push(Stretch::One {
+            tick,
+            slot: passive_slot(seg),
+        })?;
         let counts = CallerCounts::of_first(alloc, Caller::Slow)?;
         Ok(FlowRecord {
             id,
@@ -132,7 +138,10 @@ impl FlowRecord {
     {
         let parts = connect_parts(alloc, tuple, params, iss)?;
         let mut stretches = Vec::new(alloc);
-        stretches.push(Stretch::One(connect_slot(caller, iss, tick)))?;
+        stretches.push(Stretch::One {
+            tick,
+            slot: connect_slot(caller, iss),
+        })?;
         let counts = CallerCounts::of_first(alloc, caller)?;
         Ok(FlowRecord {
             id,
@@ -159,7 +168,7 @@ impl FlowRecord {
     {
         self.stretches.reserve(entries)?;
         self.counts.reserve(entries)?;
-        self.arena.reserve(bytes)
+        self.arena.reserve(entries, bytes)
     }
 
     /// Gives back the memory that a closed flow has no use for: that of each ring that holds no byte, and room that no
@@ -230,7 +239,7 @@ impl FlowRecord {
     pub fn stretches(&self) -> Stretches<'_>
         ensures { flat_map (λ xs. xs) result ≡ self.now.entries }
     {
-        Stretches::new(self.arena.as_slice(), &self.stretches)
+        Stretches::new(self.arena.as_slice(), self.arena.came(), &self.stretches)
     }
 
     /// The `i`-th entry of its history, counted from 0, the oldest first. It looks for it from the first stretch on.
@@ -246,7 +255,7 @@ impl FlowRecord {
         ensures { result.now ≡ reply_bytes (last_reply self.now.entries) }
     {
         match self.stretches.last() {
-            Some(stretch) => last_bytes_of(self.arena.as_slice(), stretch),
+            Some(stretch) => last_bytes_of(self.arena.as_slice(), self.arena.came(), stretch),
             None => &[],
         }
     }
@@ -307,7 +316,7 @@ impl FlowRecord {
         let number = self.counts.number_of(caller);
         self.stretches.reserve(1)?;
         self.counts.reserve(1)?;
-        self.arena.reserve(need(&self.parts, call))?;
+        self.arena.reserve(came_by(call), need(&self.parts, call))?;
         let Some((answer, slot)) = self
             .arena
             .answer(engine, &mut self.parts, caller, number, tick, call)
@@ -319,7 +328,7 @@ impl FlowRecord {
         self.last = tick;
         self.application = self.application.or(got_by(caller, call, &answer));
         self.counts.count_one(caller);
-        add(&mut self.stretches, &slot);
+        add(&mut self.stretches, tick, &slot);
         Ok(Some(answer))
     }
 
@@ -400,12 +409,12 @@ impl FlowRecord {
 }
 
 /// The bytes of the reply of a stretch's last entry.
-fn last_bytes_of<'a>(arena: &'a [u8], stretch: &Stretch) -> &'a [u8]
-    requires { StretchWithin (length arena.now) stretch.now }
-    ensures { result.now ≡ reply_bytes (last_reply (entries_in arena.now stretch.now)) }
+fn last_bytes_of<'a>(arena: &'a [u8], came: &[CameSlot], stretch: &Stretch) -> &'a [u8]
+    requires { StretchWithin (length arena.now) (length came.now) stretch.now }
+    ensures { result.now ≡ reply_bytes (last_reply (entries_in (memory_of arena.now came.now) stretch.now)) }
 {
     match stretch {
-        Stretch::One(slot) => entry_view(arena, slot).reply.bytes(),
+        Stretch::One { tick, slot } => entry_view(arena, came, *tick, slot).reply.bytes(),
         Stretch::Quiet(_) => &[],
     }
 }

@@ -1,9 +1,13 @@
-ghost use Rattle.std.specs.Prelude.{◌≡◌, ℕ, ◌+◌, ◌≤◌, List, take, drop, length, ◌<◌, ◌^◌, vec_len, vec_capacity};
-ghost use Rattle.flow_state.specs.Calls.{call_of, seg_of, head_of as model_head, reply_of, payload_of, answer_len};
+ghost use Rattle.std.specs.Prelude.{◌≡◌, ℕ, ◌+◌, ◌≤◌, List, take, drop, length, ◌<◌, ◌^◌, ◌∷◌, []};
+ghost use Rattle.tas_num.specs.declared.seq.Seq.{Seq};
+ghost use Rattle.tas_model.specs.declared.entry.FrameId.{FrameId};
+ghost use Rattle.flow_state.specs.declared.slot.CameSlot.{CameSlot};
+ghost use Rattle.flow_state.specs.Arena.{Memory, memory_of};
+ghost use Rattle.flow_state.specs.Calls.{call_of, seg_of, reply_of, payload_of, answer_len};
 ghost use Rattle.flow_state.specs.Calls.{IsSmall};
 ghost use Rattle.flow_state.specs.Flow.{first_passive, first_connect};
 ghost use Rattle.flow_state.specs.Slots.{Holds, call_in, reply_part, reply_in, bytes_at, SpanWithin, IsWithin, IsBare};
-ghost use Rattle.flow_state.specs.Slots.{entry_of, head_in};
+ghost use Rattle.flow_state.specs.Slots.{entry_of, head_in, frame_in, came_of, HasCame, CameWithin};
 ghost use Rattle.flow_state.specs.Stretches.{IsTickSlot};
 
 use crate::call::{Answer, CallIn};
@@ -28,61 +32,81 @@ pub struct HeadSlot {
     pub mss: Option<u16>,
 }
 
-/// A call of an entry.
+/// A segment that came, but for its payload. Few entries have one, so that it stands in a list of its own.
+///
+/// The fields of its frame stand in it one by one, so that there is no room between them.
+#[derive(Clone, Copy)]
+pub struct CameSlot {
+    pub number: u64,
+    pub host: u32,
+    pub flow: u32,
+    pub copy: u32,
+    /// The own first number of the flow that it opens; 0 where it opens none.
+    pub iss: Seq,
+    pub head: HeadSlot,
+}
+
+/// A call of an entry. `at` is the place of its segment in the record's list of those that came.
 #[derive(Clone, Copy)]
 pub enum CallSlot {
-    Connect {
-        iss: Seq,
-    },
-    Passive {
-        iss: Seq,
-        frame: FrameId,
-        head: HeadSlot,
-    },
-    Rx {
-        frame: FrameId,
-        head: HeadSlot,
-    },
+    Connect { iss: Seq },
+    Passive { at: u32 },
+    Rx { at: u32 },
     Emit,
     Tick,
     Control,
     Accept,
     Ready,
-    Send {
-        offered: u32,
-    },
-    Recv {
-        most: u32,
-    },
+    Send { offered: u32 },
+    Recv { most: u32 },
     Shut,
     Close,
     Abort,
 }
 
-/// A reply of an entry.
+/// A reply of an entry. The fields of a header stand in it one by one: so the first of them need no room beside the
+/// reply's kind.
 #[derive(Clone, Copy)]
 pub enum ReplySlot {
     Ok,
     Nothing,
-    Sent { head: HeadSlot },
+    Sent {
+        flags: u8,
+        window: u16,
+        seq: Seq,
+        ack: Seq,
+        mss: Option<u16>,
+    },
     Took,
     Got,
     /// Bytes are got, and the window is told anew.
-    Update { head: HeadSlot },
+    Update {
+        flags: u8,
+        window: u16,
+        seq: Seq,
+        ack: Seq,
+        mss: Option<u16>,
+    },
     End,
     NotYet,
     NotOpen,
     Shut,
-    Closed { reason: Reason },
+    Closed {
+        reason: Reason,
+    },
     Quiet,
     Resend,
     Probe,
     Expired,
     TimedOut,
-    Window { cwnd: u32, ssthresh: u32 },
+    Window {
+        cwnd: u32,
+        ssthresh: u32,
+    },
 }
 
-/// An entry whose bytes stand in the record's memory: those of a segment that its call brings, else of its reply.
+/// An entry but for its tick. Its bytes stand in the record's memory: those of a segment that its call brings, else of
+/// its reply.
 ///
 /// The fields stand in this order so that there is little room between them.
 #[derive(Clone, Copy)]
@@ -90,9 +114,23 @@ pub struct Slot {
     pub caller: Caller,
     pub number: u64,
     pub bytes: Span,
-    pub tick: u32,
     pub reply: ReplySlot,
     pub call: CallSlot,
+}
+
+impl CameSlot {
+    /// The frame that it came in.
+    #[inline(always)]
+    pub fn frame(&self) -> FrameId
+        ensures { result ≡ frame_in self.now }
+    {
+        FrameId {
+            host: self.host,
+            flow: self.flow,
+            number: self.number,
+            copy: self.copy,
+        }
+    }
 }
 
 impl HeadSlot {
@@ -110,39 +148,34 @@ impl HeadSlot {
     }
 }
 
-/// The slot of a header.
-fn head_slot(head: Head) -> HeadSlot
-    ensures { head_in result ≡ head }
+/// A segment that came in this frame, with the own first number of the flow that it opens.
+pub fn came_slot(frame: FrameId, iss: Seq, seg: &Segment<'_>) -> CameSlot
+    ensures { result ≡ came_of frame iss seg.now }
 {
-    HeadSlot {
-        seq: head.seq,
-        ack: head.ack,
-        window: head.window,
-        flags: head.flags,
-        mss: head.mss,
-    }
-}
-
-/// The header of a segment.
-fn head_of(seg: &Segment<'_>) -> HeadSlot
-    ensures { head_in result ≡ model_head seg.now }
-{
-    HeadSlot {
-        seq: seg.seq,
-        ack: seg.ack,
-        window: seg.window,
-        flags: seg.flags.0,
-        mss: seg.mss,
+    CameSlot {
+        number: frame.number,
+        host: frame.host,
+        flow: frame.flow,
+        copy: frame.copy,
+        iss,
+        head: HeadSlot {
+            seq: seg.seq,
+            ack: seg.ack,
+            window: seg.window,
+            flags: seg.flags.0,
+            mss: seg.mss,
+        },
     }
 }
 
 /// The call, and where the bytes of its entry stand: the payload that it brings at `end`, or the `n` bytes of its reply
-/// at `start`.
-pub fn call_slot(call: &CallIn<'_>, start: usize, n: usize, end: usize) -> (CallSlot, Span)
+/// at `start`. The segment that it brings is the one at `at` of those that came.
+pub fn call_slot(call: &CallIn<'_>, at: u32, start: usize, n: usize, end: usize) -> (CallSlot, Span)
     requires small { IsSmall call.now }
     requires bare { IsBare call.now n }
-    ensures means { (arena : List ℕ) → Holds arena end (payload_of call.now)
-        → call_in (bytes_at arena result.1) result.0 ≡ call_of call.now }
+    ensures means { (memory : Memory) → Holds memory.bytes end (payload_of call.now) → HasCame memory.came at call.now
+        → call_in memory.came (bytes_at memory.bytes result.1) result.0 ≡ call_of call.now }
+    ensures came { (came : List CameSlot) → HasCame came at call.now → CameWithin (length came) result.0 }
     ensures reply { (arena : List ℕ) → reply_part result.0 (bytes_at arena result.1) ≡ take n (drop start arena) }
     ensures within { (m : ℕ) → start + n ≤ m → end + length (payload_of call.now) ≤ m → SpanWithin m result.1 }
 {
@@ -152,21 +185,8 @@ pub fn call_slot(call: &CallIn<'_>, start: usize, n: usize, end: usize) -> (Call
     };
     match call {
         CallIn::Connect { iss } => (CallSlot::Connect { iss: *iss }, reply),
-        CallIn::Passive { frame, iss, seg } => (
-            CallSlot::Passive {
-                frame: *frame,
-                iss: *iss,
-                head: head_of(seg),
-            },
-            payload_at(seg, end),
-        ),
-        CallIn::Rx { frame, seg } => (
-            CallSlot::Rx {
-                frame: *frame,
-                head: head_of(seg),
-            },
-            payload_at(seg, end),
-        ),
+        CallIn::Passive { seg, .. } => (CallSlot::Passive { at }, payload_at(seg, end)),
+        CallIn::Rx { seg, .. } => (CallSlot::Rx { at }, payload_at(seg, end)),
         CallIn::Emit => (CallSlot::Emit, reply),
         CallIn::Tick => (CallSlot::Tick, reply),
         CallIn::Control => (CallSlot::Control, reply),
@@ -204,7 +224,11 @@ pub fn reply_slot(answer: &Answer) -> ReplySlot
         Answer::Ok => ReplySlot::Ok,
         Answer::Nothing => ReplySlot::Nothing,
         Answer::Sent { head, .. } => ReplySlot::Sent {
-            head: head_slot(head),
+            flags: head.flags,
+            window: head.window,
+            seq: head.seq,
+            ack: head.ack,
+            mss: head.mss,
         },
         Answer::Took { .. } => ReplySlot::Took,
         Answer::Got { update: None, .. } => ReplySlot::Got,
@@ -212,7 +236,11 @@ pub fn reply_slot(answer: &Answer) -> ReplySlot
             update: Some(head),
             ..
         } => ReplySlot::Update {
-            head: head_slot(head),
+            flags: head.flags,
+            window: head.window,
+            seq: head.seq,
+            ack: head.ack,
+            mss: head.mss,
         },
         Answer::End => ReplySlot::End,
         Answer::NotYet => ReplySlot::NotYet,
@@ -229,48 +257,43 @@ pub fn reply_slot(answer: &Answer) -> ReplySlot
 }
 
 /// The slot of a Tick that was answered so, without bytes.
-pub fn tick_slot(caller: Caller, number: u64, tick: u32, answer: &Answer) -> Slot
+pub fn tick_slot(caller: Caller, number: u64, answer: &Answer) -> Slot
     requires { answer_len answer.now ≡ 0 }
-    ensures { IsTickSlot caller number tick answer.now result }
+    ensures { (tick : ℕ) → IsTickSlot caller number tick answer.now result }
 {
     Slot {
         caller,
         number,
-        tick,
         call: CallSlot::Tick,
         bytes: Span { from: 0, len: 0 },
         reply: reply_slot(answer),
     }
 }
 
-/// The slot of the first entry of a passive flow, whose payload is all that stands in memory.
-pub fn passive_slot(iss: Seq, frame: FrameId, seg: &Segment<'_>, tick: u32) -> Slot
-    ensures entry { entry_of seg.now.payload.now result ≡ first_passive tick frame iss (seg_of seg.now) }
-    ensures within { IsWithin (length seg.now.payload.now) result }
+/// The slot of the first entry of a passive flow, whose segment is all that stands in memory.
+pub fn passive_slot(seg: &Segment<'_>) -> Slot
+    ensures entry { (frame : FrameId) (iss : Seq) (tick : ℕ)
+        → entry_of (memory_of seg.now.payload.now (came_of frame iss seg.now ∷ [])) tick result
+        ≡ first_passive tick frame iss (seg_of seg.now) }
+    ensures within { IsWithin (length seg.now.payload.now) 1 result }
 {
     Slot {
         caller: Caller::Slow,
         number: 0,
-        tick,
-        call: CallSlot::Passive {
-            frame,
-            iss,
-            head: head_of(seg),
-        },
+        call: CallSlot::Passive { at: 0 },
         bytes: payload_at(seg, 0),
         reply: ReplySlot::Ok,
     }
 }
 
 /// The slot of the first entry of a flow that its own host opens.
-pub fn connect_slot(caller: Caller, iss: Seq, tick: u32) -> Slot
-    ensures entry { (arena : List ℕ) → entry_of arena result ≡ first_connect caller tick iss }
-    ensures within { (n : ℕ) → IsWithin n result }
+pub fn connect_slot(caller: Caller, iss: Seq) -> Slot
+    ensures entry { (memory : Memory) (tick : ℕ) → entry_of memory tick result ≡ first_connect caller tick iss }
+    ensures within { (n k : ℕ) → IsWithin n k result }
 {
     Slot {
         caller,
         number: 0,
-        tick,
         call: CallSlot::Connect { iss },
         bytes: Span { from: 0, len: 0 },
         reply: ReplySlot::Ok,

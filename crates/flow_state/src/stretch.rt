@@ -1,6 +1,7 @@
 ghost use Rattle.std.specs.Prelude.{◌≡◌, ℕ, ◌+◌, ◌≤◌, ◌<◌, ◌++◌, ◌∷◌, [], List, length, true, false, slice_get, Some};
 ghost use Rattle.std.specs.Prelude.{vec_len, vec_capacity, IsTrue, IsFalse};
 ghost use Rattle.tas_model.specs.LegalHistory.{last_tick};
+ghost use Rattle.flow_state.specs.Arena.{Memory};
 ghost use Rattle.flow_state.specs.Slots.{IsWithin, entry_of};
 ghost use Rattle.flow_state.specs.Stretches.{AllWithin, entries_of, entries_in, StretchWithin, IsRun};
 ghost use Rattle.flow_state.specs.Stretches.{is_quiet_tick as model_quiet, comes_next as model_next};
@@ -28,8 +29,8 @@ pub struct QuietRun {
 /// Entries that stand together in the record's memory.
 #[derive(Clone, Copy)]
 pub enum Stretch {
-    /// One entry.
-    One(Slot),
+    /// One entry. Its tick stands here, where there is room for it before the slot.
+    One { tick: u32, slot: Slot },
     /// Quiet ticks.
     Quiet(QuietRun),
 }
@@ -62,45 +63,42 @@ pub fn goes_on(stretches: &[Stretch], caller: Caller, number: u64, tick: u32) ->
     }
 }
 
+/// Lengthens the last run by this quiet tick, which is its next one.
+#[inline(always)]
+pub fn go_on(stretches: &mut Vec<Stretch>, caller: Caller, number: u64, tick: u32)
+    requires { model_goes_on stretches.old.items caller number tick ≡ true }
+    ensures added { AddedTick stretches.old.items stretches.new.items caller number tick answers.Quiet }
+    ensures next { (memory : Memory) → tick ≡ last_tick 0 (entries_of memory stretches.old.items) + 1 }
+    ensures len { vec_len stretches.new ≡ vec_len stretches.old }
+    ensures capacity { vec_capacity stretches.new ≡ vec_capacity stretches.old }
+{
+    let last = stretches.len() - 1;
+    let Stretch::Quiet(run) = stretches[last] else {
+        unreachable!()
+    };
+    stretches[last] = Stretch::Quiet(QuietRun {
+        more: run.more + 1,
+        ..run
+    });
+}
+
 /// Lengthens the last run by a quiet tick, where it is its next one, and tells whether it is.
 #[inline(always)]
 fn lengthen(stretches: &mut Vec<Stretch>, caller: Caller, number: u64, tick: u32) -> bool
-    ensures entries { (arena : List ℕ) → result ≡ true → entries_of arena stretches.new.items
-        ≡ entries_of arena stretches.old.items ++ quiet_tick caller number tick ∷ [] }
-    ensures tick { (arena : List ℕ) → result ≡ true
-        → tick ≡ last_tick 0 (entries_of arena stretches.old.items) + 1 }
-    ensures within { (n : ℕ) → AllWithin n stretches.old.items → AllWithin n stretches.new.items }
-    ensures goes { model_goes_on stretches.old.items caller number tick ≡ true → result ≡ true }
+    ensures entries { (memory : Memory) → result ≡ true → entries_of memory stretches.new.items
+        ≡ entries_of memory stretches.old.items ++ quiet_tick caller number tick ∷ [] }
+    ensures tick { (memory : Memory) → result ≡ true
+        → tick ≡ last_tick 0 (entries_of memory stretches.old.items) + 1 }
+    ensures within { (n k : ℕ) → AllWithin n k stretches.old.items → AllWithin n k stretches.new.items }
     ensures unmade { result ≡ false → stretches.new ≡ stretches.old }
     ensures len { vec_len stretches.new ≡ vec_len stretches.old }
     ensures capacity { vec_capacity stretches.new ≡ vec_capacity stretches.old }
 {
-    let n = stretches.len();
-    if n == 0 {
+    if !goes_on(stretches, caller, number, tick) {
         return false;
     }
-    let Stretch::Quiet(run) = stretches[n - 1] else {
-        return false;
-    };
-    if !comes_next(&run, caller, number, tick) {
-        return false;
-    }
-    stretches[n - 1] = Stretch::Quiet(QuietRun {
-        more: run.more + 1,
-        ..run
-    });
+    go_on(stretches, caller, number, tick);
     true
-}
-
-/// Lengthens the last run by this quiet tick, which is its next one.
-pub fn go_on(stretches: &mut Vec<Stretch>, caller: Caller, number: u64, tick: u32)
-    requires { model_goes_on stretches.old.items caller number tick ≡ true }
-    ensures added { AddedTick stretches.old.items stretches.new.items caller number tick answers.Quiet }
-    ensures next { (arena : List ℕ) → tick ≡ last_tick 0 (entries_of arena stretches.old.items) + 1 }
-    ensures len { vec_len stretches.new ≡ vec_len stretches.old }
-    ensures capacity { vec_capacity stretches.new ≡ vec_capacity stretches.old }
-{
-    lengthen(stretches, caller, number, tick);
 }
 
 /// Adds a stretch behind the others, which have room for it.
@@ -132,11 +130,11 @@ fn first_of(caller: Caller, number: u64, tick: u32) -> QuietRun
 /// Adds a quiet tick behind the others, which have room for one: to the run before it, where it is the next of that.
 fn add_quiet(stretches: &mut Vec<Stretch>, caller: Caller, number: u64, tick: u32)
     requires { vec_len stretches.old < vec_capacity stretches.old }
-    ensures entries { (arena : List ℕ) → entries_of arena stretches.new.items
-        ≡ entries_of arena stretches.old.items ++ quiet_tick caller number tick ∷ [] }
-    ensures within { (n : ℕ) → AllWithin n stretches.old.items → AllWithin n stretches.new.items }
-    ensures few { (arena : List ℕ) → last_tick 0 (entries_of arena stretches.old.items) ≤ tick
-        → vec_len stretches.old + last_tick 0 (entries_of arena stretches.old.items) + 1 ≤ vec_len stretches.new
+    ensures entries { (memory : Memory) → entries_of memory stretches.new.items
+        ≡ entries_of memory stretches.old.items ++ quiet_tick caller number tick ∷ [] }
+    ensures within { (n k : ℕ) → AllWithin n k stretches.old.items → AllWithin n k stretches.new.items }
+    ensures few { (memory : Memory) → last_tick 0 (entries_of memory stretches.old.items) ≤ tick
+        → vec_len stretches.old + last_tick 0 (entries_of memory stretches.old.items) + 1 ≤ vec_len stretches.new
         + tick }
     ensures len { vec_len stretches.new ≤ vec_len stretches.old + 1 }
     ensures capacity { vec_capacity stretches.old ≤ vec_capacity stretches.new }
@@ -146,23 +144,24 @@ fn add_quiet(stretches: &mut Vec<Stretch>, caller: Caller, number: u64, tick: u3
     }
 }
 
-/// Adds an entry behind the others, which have room for one.
-pub fn add(stretches: &mut Vec<Stretch>, slot: &Slot)
+/// Adds an entry at this tick behind the others, which have room for one.
+pub fn add(stretches: &mut Vec<Stretch>, tick: u32, slot: &Slot)
     requires { vec_len stretches.old < vec_capacity stretches.old }
-    ensures entries { (arena : List ℕ) → entries_of arena stretches.new.items ≡ entries_of arena stretches.old.items
-        ++ entry_of arena slot.now ∷ [] }
-    ensures within { (n : ℕ) → AllWithin n stretches.old.items → IsWithin n slot.now → AllWithin n stretches.new.items }
+    ensures entries { (memory : Memory) → entries_of memory stretches.new.items ≡ entries_of memory stretches.old.items
+        ++ entry_of memory tick slot.now ∷ [] }
+    ensures within { (n k : ℕ) → AllWithin n k stretches.old.items → IsWithin n k slot.now
+        → AllWithin n k stretches.new.items }
     // Where no stretch came to the others, a tick passed.
-    ensures few { (arena : List ℕ) → last_tick 0 (entries_of arena stretches.old.items) ≤ slot.now.tick
-        → vec_len stretches.old + last_tick 0 (entries_of arena stretches.old.items) + 1 ≤ vec_len stretches.new
-        + slot.now.tick }
+    ensures few { (memory : Memory) → last_tick 0 (entries_of memory stretches.old.items) ≤ tick
+        → vec_len stretches.old + last_tick 0 (entries_of memory stretches.old.items) + 1 ≤ vec_len stretches.new
+        + tick }
     ensures len { vec_len stretches.new ≤ vec_len stretches.old + 1 }
     ensures capacity { vec_capacity stretches.old ≤ vec_capacity stretches.new }
 {
     if is_quiet_tick(slot) {
-        add_quiet(stretches, slot.caller, slot.number, slot.tick);
+        add_quiet(stretches, slot.caller, slot.number, tick);
     } else {
-        push(stretches, Stretch::One(*slot));
+        push(stretches, Stretch::One { tick, slot: *slot });
     }
 }
 
@@ -182,6 +181,6 @@ pub fn add_tick(
 {
     match answer {
         Answer::Quiet => add_quiet(stretches, caller, number, tick),
-        _ => add(stretches, &tick_slot(caller, number, tick, answer)),
+        _ => add(stretches, tick, &tick_slot(caller, number, answer)),
     }
 }

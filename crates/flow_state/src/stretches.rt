@@ -1,8 +1,10 @@
 ghost use Rattle.std.specs.Prelude.{◌≡◌, ℕ, ◌+◌, ◌<◌, ◌≤◌, List, length, slice_get, Some, flat_map, IfOk, IfErr};
+ghost use Rattle.flow_state.specs.Arena.{memory_of};
 ghost use Rattle.flow_state.specs.Slots.{IsWithin};
 ghost use Rattle.flow_state.specs.Stretches.{AllWithin, StretchWithin, entries_of, entries_in, run_entries, IsRun};
 ghost use Rattle.flow_state.specs.Views.{seen_entry, seen_stretch, IsFit};
 
+use crate::slot::CameSlot;
 use crate::stretch::{QuietRun, Stretch};
 use crate::view::{CallView, EntryView, ReplyView, entry_view};
 use std::marker::Model;
@@ -20,28 +22,30 @@ pub enum StretchView<'a> {
 #[derive(Drop)]
 pub struct Stretches<'a> {
     arena: &'a [u8],
+    came: &'a [CameSlot],
     items: &'a [Stretch],
 }
 
 impl<'a> Model for Stretches<'a> {
     ghost use Rattle.std.specs.Prelude.{List, length, map};
     ghost use Rattle.tas_model.specs.declared.entry.Entry.{Entry};
+    ghost use Rattle.flow_state.specs.Arena.{memory_of};
     ghost use Rattle.flow_state.specs.Stretches.{AllWithin, entries_in};
 
     ghost Value = { List (List Entry) };
 
-    ghost view = { λ s. map (entries_in s.arena.now) s.items.now };
+    ghost view = { λ s. map (entries_in (memory_of s.arena.now s.came.now)) s.items.now };
 
-    ghost invariant = { λ s. AllWithin (length s.arena.now) s.items.now };
+    ghost invariant = { λ s. AllWithin (length s.arena.now) (length s.came.now) s.items.now };
 }
 
 impl<'a> Stretches<'a> {
-    /// The stretches, whose bytes stand in this memory.
-    pub fn new(arena: &'a [u8], items: &'a [Stretch]) -> Stretches<'a>
-        requires { AllWithin (length arena.now) items.now }
-        ensures { flat_map (λ xs. xs) result ≡ entries_of arena.now items.now }
+    /// The stretches, whose bytes and segments that came stand in this memory.
+    pub fn new(arena: &'a [u8], came: &'a [CameSlot], items: &'a [Stretch]) -> Stretches<'a>
+        requires { AllWithin (length arena.now) (length came.now) items.now }
+        ensures { flat_map (λ xs. xs) result ≡ entries_of (memory_of arena.now came.now) items.now }
     {
-        Stretches { arena, items }
+        Stretches { arena, came, items }
     }
 
     /// How many stretches there are.
@@ -58,7 +62,7 @@ impl<'a> Stretches<'a> {
         ensures entries { slice_get self.now i ≡ Some (seen_stretch result) }
         ensures fits { IsFit result }
     {
-        stretch_view(self.arena, &self.items[i])
+        stretch_view(self.arena, self.came, &self.items[i])
     }
 
     /// The `i`-th entry of all, counted from 0, the oldest first. It looks for its stretch from the first on.
@@ -117,13 +121,13 @@ impl QuietRun {
 
 /// The entries of a stretch.
 #[inline(always)]
-pub fn stretch_view<'a>(arena: &'a [u8], stretch: &Stretch) -> StretchView<'a>
-    requires { StretchWithin (length arena.now) stretch.now }
-    ensures entries { seen_stretch result ≡ entries_in arena.now stretch.now }
+pub fn stretch_view<'a>(arena: &'a [u8], came: &[CameSlot], stretch: &Stretch) -> StretchView<'a>
+    requires { StretchWithin (length arena.now) (length came.now) stretch.now }
+    ensures entries { seen_stretch result ≡ entries_in (memory_of arena.now came.now) stretch.now }
     ensures fits { IsFit result }
 {
     match stretch {
-        Stretch::One(slot) => StretchView::One(entry_view(arena, slot)),
+        Stretch::One { tick, slot } => StretchView::One(entry_view(arena, came, *tick, slot)),
         Stretch::Quiet(run) => StretchView::Quiet(*run),
     }
 }

@@ -1,10 +1,11 @@
 ghost use Rattle.std.specs.Prelude.{◌≡◌, ℕ, ◌+◌, ◌≤◌, List, length, take, drop};
 ghost use Rattle.flow_state.specs.Calls.{reply_bytes};
-ghost use Rattle.flow_state.specs.Slots.{bytes_at, SpanWithin, IsWithin, call_in, reply_in, entry_of};
+ghost use Rattle.flow_state.specs.Arena.{memory_of};
+ghost use Rattle.flow_state.specs.Slots.{bytes_at, SpanWithin, CameWithin, IsWithin, call_in, reply_in, entry_of};
 ghost use Rattle.flow_state.specs.Slots.{reply_part as model_part, head_in};
 ghost use Rattle.flow_state.specs.Views.{seen_seg, seen_call, seen_reply, seen_entry};
 
-use crate::slot::{CallSlot, HeadSlot, ReplySlot, Slot, Span};
+use crate::slot::{CallSlot, CameSlot, ReplySlot, Slot, Span};
 use tas_model::{Caller, FrameId, Head, Reason};
 use tas_num::Seq;
 
@@ -112,30 +113,37 @@ fn bytes_of<'a>(arena: &'a [u8], span: Span) -> &'a [u8]
 }
 
 #[inline(always)]
-fn seg_view<'a>(head: &HeadSlot, bytes: &'a [u8]) -> SegView<'a>
-    ensures { seen_seg result ≡ record { head = head_in head.now; bytes = bytes.now } }
+fn seg_view<'a>(came: &CameSlot, bytes: &'a [u8]) -> SegView<'a>
+    ensures { seen_seg result ≡ record { head = head_in came.now.head; bytes = bytes.now } }
 {
     SegView {
-        head: head.head(),
+        head: came.head.head(),
         bytes,
     }
 }
 
 #[inline(always)]
-fn call_view<'a>(bytes: &'a [u8], call: CallSlot) -> CallView<'a>
-    ensures { seen_call result ≡ call_in bytes.now call }
+fn call_view<'a>(came: &[CameSlot], bytes: &'a [u8], call: CallSlot) -> CallView<'a>
+    requires { CameWithin (length came.now) call }
+    ensures { seen_call result ≡ call_in came.now bytes.now call }
 {
     match call {
         CallSlot::Connect { iss } => CallView::Connect { iss },
-        CallSlot::Passive { frame, iss, head } => CallView::Passive {
-            frame,
-            iss,
-            seg: seg_view(&head, bytes),
-        },
-        CallSlot::Rx { frame, head } => CallView::Rx {
-            frame,
-            seg: seg_view(&head, bytes),
-        },
+        CallSlot::Passive { at } => {
+            let slot = &came[at as usize];
+            CallView::Passive {
+                frame: slot.frame(),
+                iss: slot.iss,
+                seg: seg_view(slot, bytes),
+            }
+        }
+        CallSlot::Rx { at } => {
+            let slot = &came[at as usize];
+            CallView::Rx {
+                frame: slot.frame(),
+                seg: seg_view(slot, bytes),
+            }
+        }
         CallSlot::Emit => CallView::Emit,
         CallSlot::Tick => CallView::Tick,
         CallSlot::Control => CallView::Control,
@@ -167,17 +175,44 @@ fn reply_view<'a>(bytes: &'a [u8], reply: ReplySlot) -> ReplyView<'a>
     match reply {
         ReplySlot::Ok => ReplyView::Ok,
         ReplySlot::Nothing => ReplyView::Nothing,
-        ReplySlot::Sent { head } => ReplyView::Sent {
-            seg: seg_view(&head, bytes),
+        ReplySlot::Sent {
+            flags,
+            window,
+            seq,
+            ack,
+            mss,
+        } => ReplyView::Sent {
+            seg: SegView {
+                head: Head {
+                    flags,
+                    seq,
+                    ack,
+                    window,
+                    mss,
+                },
+                bytes,
+            },
         },
         ReplySlot::Took => ReplyView::Took { bytes },
         ReplySlot::Got => ReplyView::Got {
             bytes,
             update: None,
         },
-        ReplySlot::Update { head } => ReplyView::Got {
+        ReplySlot::Update {
+            flags,
+            window,
+            seq,
+            ack,
+            mss,
+        } => ReplyView::Got {
             bytes,
-            update: Some(head.head()),
+            update: Some(Head {
+                flags,
+                seq,
+                ack,
+                window,
+                mss,
+            }),
         },
         ReplySlot::End => ReplyView::End,
         ReplySlot::NotYet => ReplyView::NotYet,
@@ -193,18 +228,18 @@ fn reply_view<'a>(bytes: &'a [u8], reply: ReplySlot) -> ReplyView<'a>
     }
 }
 
-/// The entry of a slot.
+/// The entry of a slot at this tick.
 #[inline(always)]
-pub fn entry_view<'a>(arena: &'a [u8], slot: &Slot) -> EntryView<'a>
-    requires { IsWithin (length arena.now) slot.now }
-    ensures { seen_entry result ≡ entry_of arena.now slot.now }
+pub fn entry_view<'a>(arena: &'a [u8], came: &[CameSlot], tick: u32, slot: &Slot) -> EntryView<'a>
+    requires { IsWithin (length arena.now) (length came.now) slot.now }
+    ensures { seen_entry result ≡ entry_of (memory_of arena.now came.now) tick slot.now }
 {
     let bytes = bytes_of(arena, slot.bytes);
     EntryView {
         caller: slot.caller,
         number: slot.number,
-        tick: slot.tick,
-        call: call_view(bytes, slot.call),
+        tick,
+        call: call_view(came, bytes, slot.call),
         reply: reply_view(reply_part(bytes, slot.call), slot.reply),
     }
 }

@@ -3,6 +3,7 @@ use Rattle.std.proofs.Common.{length-take, length-drop}
 use Rattle.std.proofs.lemmas.Grind.{common_steps}
 use Rattle.flow_state.specs.Calls.{answer_len, reply_room, payload_of}
 use Rattle.flow_state.specs.Made.{IsMadeAt}
+use Rattle.flow_state.specs.Arena.{memory_of}
 use Rattle.flow_state.specs.Slots.{IsWithin}
 use Rattle.flow_state.proofs.Sending.{bare_reply}
 use Rattle.flow_state.proofs.arena.answer_behind.Goals as goal
@@ -32,7 +33,7 @@ returns-clause-few g c =
     )
 
 pub returns-clause-made : goal.returns-clause-made
-returns-clause-made g c =
+returns-clause-made g c came has =
     let room : answer_len c.in_ok-answer.answer ≤ reply_room c.args.parts.now c.args.call.now =
     c.in_ok-answer.ensures.bytes in
     let all : List ℕ = c.deref_mut.result.now in
@@ -52,14 +53,15 @@ returns-clause-made g c =
     ) in
     let same : end ≡ c.keep_entry.result.1.end + length c.payload.result.now =
     omega (arith, ap length c.payload.ensures) in
-    subst (λ (n : ℕ). IsMadeAt c.args.parts.now c.run.new.parts (take n c.keep_entry.new.bytes.items)
+    subst (λ (n : ℕ). IsMadeAt c.args.parts.now c.run.new.parts (memory_of (take n c.keep_entry.new.bytes.items) came)
     c.args.stamp.caller c.args.stamp.number c.args.stamp.tick c.args.call.now c.in_ok-answer.answer
     c.keep_entry.result.0) same (
       c.run.new.out,
       record {
         makes = c.in_ok-answer.ensures.made;
-        entry = grind (arith, common_steps, c.keep_entry.ensures.entry);
-        within = subst (λ (n : ℕ). IsWithin n c.keep_entry.result.0) (sym kept) c.keep_entry.ensures.within;
+        entry = grind (arith, common_steps, c.keep_entry.ensures.entry came has);
+        within = subst (λ (n : ℕ). IsWithin n (length came) c.keep_entry.result.0) (sym kept)
+            (c.keep_entry.ensures.within came has);
         bytes = omega (
           arith,
           room,

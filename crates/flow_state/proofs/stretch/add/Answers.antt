@@ -6,15 +6,15 @@ use Rattle.flow_state.proofs.Runs.{within_push, quiet_entry}
 use Rattle.flow_state.proofs.stretch.add.Goals as goal
 
 pub returns-then-is_quiet_tick-clause-entries : goal.returns-then-is_quiet_tick-clause-entries
-returns-then-is_quiet_tick-clause-entries c arena =
-    c.add_quiet.ensures.entries arena
-    ∙ ap (λ (x : Entry). entries_of arena c.args.stretches.now.items ++ x ∷ [])
-    (sym (quiet_entry arena c.args.slot.now (sym c.is_quiet_tick.ensures ∙ c.if-is_quiet_tick.true)))
+returns-then-is_quiet_tick-clause-entries c memory =
+    c.add_quiet.ensures.entries memory
+    ∙ ap (λ (x : Entry). entries_of memory c.args.stretches.now.items ++ x ∷ [])
+    (sym (quiet_entry memory c.args.tick c.args.slot.now (sym c.is_quiet_tick.ensures ∙ c.if-is_quiet_tick.true)))
 
 pub returns-then-is_quiet_tick-clause-within : goal.returns-then-is_quiet_tick-clause-within
-returns-then-is_quiet_tick-clause-within c n all is = c.add_quiet.ensures.within n all
+returns-then-is_quiet_tick-clause-within c n k all is = c.add_quiet.ensures.within n k all
 
 pub returns-else-is_quiet_tick-clause-within : goal.returns-else-is_quiet_tick-clause-within
-returns-else-is_quiet_tick-clause-within c n all is =
-    subst (AllWithin n) (sym c.push.ensures.items)
-    (within_push n c.args.stretches.now.items (One c.args.slot.now) is all)
+returns-else-is_quiet_tick-clause-within c n k all is =
+    subst (AllWithin n k) (sym c.push.ensures.items)
+    (within_push n k c.args.stretches.now.items (One c.args.tick c.args.slot.now) is all)

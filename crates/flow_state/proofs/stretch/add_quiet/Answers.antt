@@ -5,10 +5,10 @@ use Rattle.flow_state.proofs.Runs.{within_push}
 use Rattle.flow_state.proofs.stretch.add_quiet.Goals as goal
 
 pub returns-then-not-lengthen-clause-within : goal.returns-then-not-lengthen-clause-within
-returns-then-not-lengthen-clause-within c n all =
-    subst (AllWithin n) (sym c.push.ensures.items)
-    (within_push n c.lengthen.new.stretches.items (Quiet c.first_of.result) c.first_of.ensures.fits
-    (c.lengthen.ensures.within n all))
+returns-then-not-lengthen-clause-within c n k all =
+    subst (AllWithin n k) (sym c.push.ensures.items)
+    (within_push n k c.lengthen.new.stretches.items (Quiet c.first_of.result) c.first_of.ensures.fits
+    (c.lengthen.ensures.within n k all))
 
 pub returns-else-not-lengthen-clause-entries : goal.returns-else-not-lengthen-clause-entries
-returns-else-not-lengthen-clause-entries c arena = c.lengthen.ensures.entries arena c.if-not-lengthen.false
+returns-else-not-lengthen-clause-entries c memory = c.lengthen.ensures.entries memory c.if-not-lengthen.false

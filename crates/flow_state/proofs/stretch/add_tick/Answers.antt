@@ -10,21 +10,20 @@ returns-in-Quiet-clause-added c = (
     caller = c.args.caller;
     number = c.args.number;
     bytes = record { from = 0; len = 0 };
-    tick = c.args.tick;
     reply = rs.Quiet;
     call = cs.Tick;
   },
   record {
-    entry = λ arena. ap (tick_entry c.args.caller c.args.number c.args.tick) (sym c.in-Quiet.is);
-    within = λ n. omega arith;
+    entry = λ memory. ap (tick_entry c.args.caller c.args.number c.args.tick) (sym c.in-Quiet.is);
+    within = λ n k. record { bytes = omega arith; came = tt };
   },
   record {
-    entries = λ arena. c.add_quiet.ensures.entries arena;
-    within = λ n all is. c.add_quiet.ensures.within n all;
-    few = λ arena low.
+    entries = λ memory. c.add_quiet.ensures.entries memory;
+    within = λ n k all is. c.add_quiet.ensures.within n k all;
+    few = λ memory low.
         omega (
           arith,
-          c.add_quiet.ensures.few arena low,
+          c.add_quiet.ensures.few memory low,
           c.args.stretches.now.ok.0,
           c.add_quiet.new.stretches.ok.0,
         );
@@ -36,12 +35,12 @@ returns-in_default c =
     record {
       added = (
         c.tick_slot.result,
-        c.tick_slot.ensures,
+        c.tick_slot.ensures c.args.tick,
         record {
           entries = c.add.ensures.entries;
           within = c.add.ensures.within;
-          few = λ arena low.
-              omega (arith, c.add.ensures.few arena low, c.args.stretches.now.ok.0, c.add.new.stretches.ok.0);
+          few = λ memory low.
+              omega (arith, c.add.ensures.few memory low, c.args.stretches.now.ok.0, c.add.new.stretches.ok.0);
         },
       );
       len = c.add.ensures.len;

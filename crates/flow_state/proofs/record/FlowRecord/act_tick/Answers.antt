@@ -1,4 +1,4 @@
-use Rattle.std.proofs.Common.{◌≡◌, ◌+◌, ◌∙◌, [], cond, ℕ, List, length, ap, sym, subst, arith, take, take_all}
+use Rattle.std.proofs.Common.{◌≡◌, ◌+◌, ◌∙◌, [], cond, ℕ, List, length, ap, sym, subst, arith, take}
 use Rattle.std.proofs.Common.{refl}
 use Rattle.tas_model.specs.declared.entry.Call.TheVariants as calls
 use Rattle.tas_model.specs.declared.entry.Caller.{Caller}
@@ -13,7 +13,9 @@ use Rattle.flow_state.specs.declared.stretch.Stretch.{Stretch}
 use Rattle.flow_state.specs.Flow.{Flow, reply_to}
 use Rattle.flow_state.specs.Calls.{answer_of, answer_len, reply_of}
 use Rattle.flow_state.specs.Counts.{counted_for}
+use Rattle.flow_state.specs.Arena.{Memory}
 use Rattle.flow_state.specs.Stretches.{entries_of, Added, tick_entry}
+use Rattle.flow_state.proofs.Entries.{grows_self}
 use Rattle.flow_state.proofs.Near.{near_of}
 use Rattle.flow_state.proofs.Ready.{rings_of}
 use Rattle.flow_state.proofs.Owning.{kept_by_tick}
@@ -24,29 +26,30 @@ use Rattle.flow_state.proofs.record.FlowRecord.act_tick.Goals.{After-add_tick}
 use Rattle.flow_state.proofs.record.FlowRecord.act_tick.Given
 
 grown : (g : Given.Over) (c : After-add_tick g)
-    → Grown c.self.inside.parts c.run.new.parts c.self.inside.arena.bytes c.self.inside.arena.bytes
+    → Grown c.self.inside.parts c.run.new.parts c.self.inside.arena.memory c.self.inside.arena.memory
     c.self.inside.stretches.items c.add_tick.new.stretches.items c.count_one.new.self.counts
     c.self.inside.application (c.self.inside.made + 1) c.max-tick.result
     (c.self.inside.sent + c.segments.result) c.args.caller c.args.tick ins.Tick
     c.in-Some.answer
 grown g c =
-    let arena : List ℕ = c.self.inside.arena.bytes in
+    let memory : Memory = c.self.inside.arena.memory in
     let out : List ℕ = c.run.new.out in
     let same : c.reserve.new.self.items ≡ c.self.inside.stretches.items = c.in_ok-reserve.ensures.items in
     let s : Slot = c.add_tick.ensures.added.0 in
     let bare : answer_len c.in-Some.answer ≡ 0 = omega (arith, c.in-Some.ensures.bytes) in
     let reply : reply_of c.in-Some.answer [] ≡ reply_of c.in-Some.answer out =
     same_reply c.in-Some.answer [] out (subst (λ (n : ℕ). take n [] ≡ take n out) (sym bare) refl) in
-    kept_after c.self.inside.parts c.run.new.parts arena arena c.self.inside.stretches.items
+    kept_after c.self.inside.parts c.run.new.parts memory memory c.self.inside.stretches.items
     c.add_tick.new.stretches.items s c.self.inside.counts.counts c.count_one.new.self.counts
     c.self.inside.application c.self.inside.application c.self.inside.made c.self.inside.last c.self.inside.sent
     (c.self.inside.sent + c.segments.result) c.args.caller c.args.tick
     c.number_of-number.result c.max-tick.result ins.Tick c.in-Some.answer
-    c.self.invariant c.run.ensures.params (take_all (length arena) arena (omega arith)) (omega arith)
+    c.self.invariant c.run.ensures.params (grows_self memory)
     c.number_of-number.ensures
     (grind arith)
     (omega (arith, c.self.invariant.low, c.max-tick.ensures, c.ranges.tick.fits))
-    (subst (λ (ss : List Stretch). Added ss c.add_tick.new.stretches.items s) same c.add_tick.ensures.added.2)
+    (subst (λ (ss : List Stretch). Added ss c.add_tick.new.stretches.items c.max-tick.result s) same
+    c.add_tick.ensures.added.2)
     (λ (other : Caller). c.count_one.ensures.counted other
     ∙ ap (λ (cs : List CallerCount). counted_for other cs + cond (same_caller c.args.caller other) 1 0)
     c.in_ok-reserve-2.ensures.counts)
@@ -55,10 +58,10 @@ grown g c =
       out,
       record {
         makes = c.in-Some.ensures.made;
-        entry = c.add_tick.ensures.added.1.entry arena
+        entry = c.add_tick.ensures.added.1.entry memory
             ∙ ap (λ r. record (tick_entry c.args.caller c.number_of-number.result c.max-tick.result c.in-Some.answer)
             { reply = r }) reply;
-        within = c.add_tick.ensures.added.1.within (length arena);
+        within = c.add_tick.ensures.added.1.within (length memory.bytes) (length memory.came);
         bytes = omega (arith, bare);
       },
     )
@@ -68,7 +71,7 @@ invariant_of-self-2 g c = (grown g c).kept
 
 pub returns-clause-exact : goal.returns-clause-exact
 returns-clause-exact g c =
-    subst (λ (f : Flow). entries_of c.self.inside.arena.bytes c.add_tick.new.stretches.items
+    subst (λ (f : Flow). entries_of c.self.inside.arena.memory c.add_tick.new.stretches.items
     ≡ extended_by f.params f.entries c.args.caller c.args.tick calls.Tick []) c.self.view_is (grown g c).exact
 
 pub returns-clause-answer : goal.returns-clause-answer
@@ -84,7 +87,7 @@ returns-clause-stands g c = (grown g c).kept.stands
 
 pub run-requires-clause-near : goal.run-requires-clause-near
 run-requires-clause-near g c =
-    let h : List Entry = entries_of c.self.inside.arena.bytes c.self.inside.stretches.items in
+    let h : List Entry = entries_of c.self.inside.arena.memory c.self.inside.stretches.items in
     let p : HostParams = c.self.inside.parts.params in
     near_of c.self.inside.parts (replay p h) (length h) c.self.invariant.stands
     (places_of p h c.self.invariant.fits c.self.invariant.legal)

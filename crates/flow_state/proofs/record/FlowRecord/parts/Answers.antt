@@ -12,7 +12,7 @@ use Rattle.flow_state.proofs.record.FlowRecord.parts.Goals as goal
 
 pub returns-clause-near : goal.returns-clause-near
 returns-clause-near c =
-    let h : List Entry = entries_of c.self.inside.arena.bytes c.self.inside.stretches.items in
+    let h : List Entry = entries_of c.self.inside.arena.memory c.self.inside.stretches.items in
     let p : HostParams = c.self.inside.parts.params in
     let near : IsNear c.self.inside.parts =
     near_of c.self.inside.parts (replay p h) (length h) c.self.invariant.stands

@@ -1,14 +1,14 @@
-use Rattle.std.proofs.Common.{◌≡◌, ◌+◌, ◌∙◌, [], cond, ℕ, List, length, ap, sym, subst, arith, take_all, refl, max}
+use Rattle.std.proofs.Common.{◌≡◌, ◌+◌, [], length, subst, arith}
 use Rattle.tas_model.specs.declared.entry.Call.TheVariants as calls
 use Rattle.tas_model.specs.declared.entry.Caller.TheVariants.{Slow}
-use Rattle.tas_model.specs.declared.entry.Entry.{Entry}
-use Rattle.tas_model.specs.declared.entry.HostParams.{HostParams}
-use Rattle.tas_model.specs.LegalHistory.{extended_by, replay}
+use Rattle.tas_model.specs.LegalHistory.{extended_by}
 use Rattle.flow_state.specs.declared.call.Answer.TheVariants as answers
 use Rattle.flow_state.specs.declared.call.CallIn.TheVariants as ins
 use Rattle.flow_state.specs.declared.slot.Slot.{Slot}
 use Rattle.flow_state.specs.Flow.{Flow}
+use Rattle.flow_state.specs.Arena.{Memory}
 use Rattle.flow_state.specs.Stretches.{entries_of}
+use Rattle.flow_state.proofs.Entries.{grows_self}
 use Rattle.flow_state.proofs.Owning.{kept_by_tick}
 use Rattle.flow_state.specs.Calls.{reply_of}
 use Rattle.flow_state.proofs.Acting.{Grown, kept_after}
@@ -17,21 +17,21 @@ use Rattle.flow_state.proofs.record.FlowRecord.pass_quietly.Goals.{After-go_on}
 use Rattle.flow_state.proofs.record.FlowRecord.pass_quietly.Given
 
 grown : (g : Given.Over) (c : After-go_on g)
-    → Grown c.self.inside.parts c.pass.new.parts c.self.inside.arena.bytes c.self.inside.arena.bytes
+    → Grown c.self.inside.parts c.pass.new.parts c.self.inside.arena.memory c.self.inside.arena.memory
     c.self.inside.stretches.items c.go_on.new.stretches.items c.count_slow.new.self.counts
     c.self.inside.application (c.self.inside.made + 1) c.args.tick
     c.self.inside.sent Slow c.args.tick ins.Tick answers.Quiet
 grown g c =
-    let arena : List ℕ = c.self.inside.arena.bytes in
+    let memory : Memory = c.self.inside.arena.memory in
     let s : Slot = c.go_on.ensures.added.0 in
     let next : c.args.tick ≡ c.self.inside.last + 1 =
-    omega (arith, c.go_on.ensures.next arena, c.self.invariant.last) in
-    kept_after c.self.inside.parts c.pass.new.parts arena arena c.self.inside.stretches.items
+    omega (arith, c.go_on.ensures.next memory, c.self.invariant.last) in
+    kept_after c.self.inside.parts c.pass.new.parts memory memory c.self.inside.stretches.items
     c.go_on.new.stretches.items s c.self.inside.counts.counts c.count_slow.new.self.counts
     c.self.inside.application c.self.inside.application c.self.inside.made c.self.inside.last c.self.inside.sent
     c.self.inside.sent Slow c.args.tick
     c.slow-number.result c.args.tick ins.Tick answers.Quiet
-    c.self.invariant c.pass.ensures.params (take_all (length arena) arena (omega arith)) (omega arith)
+    c.self.invariant c.pass.ensures.params (grows_self memory)
     c.slow-number.ensures
     (omega (arith, next))
     (omega (arith, c.ranges.tick.fits))
@@ -42,8 +42,8 @@ grown g c =
       [],
       record {
         makes = c.pass.ensures.made c.if-not-pass.false;
-        entry = c.go_on.ensures.added.1.entry arena;
-        within = c.go_on.ensures.added.1.within (length arena);
+        entry = c.go_on.ensures.added.1.entry memory;
+        within = c.go_on.ensures.added.1.within (length memory.bytes) (length memory.came);
         bytes = omega arith;
       },
     )
@@ -53,7 +53,7 @@ invariant_of-self-2 g c = (grown g c).kept
 
 pub returns-clause-made : goal.returns-clause-made
 returns-clause-made g c =
-    λ is. subst (λ (f : Flow). entries_of c.self.inside.arena.bytes c.go_on.new.stretches.items
+    λ is. subst (λ (f : Flow). entries_of c.self.inside.arena.memory c.go_on.new.stretches.items
     ≡ extended_by f.params f.entries Slow c.args.tick calls.Tick []) c.self.view_is (grown g c).exact
 
 pub returns-clause-legal : goal.returns-clause-legal
