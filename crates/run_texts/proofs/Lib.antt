@@ -10,3 +10,4 @@ pub mod Sixteen
 pub mod FrameIds
 pub mod Unnamed
 pub mod Quiet
+pub mod LogRuns
