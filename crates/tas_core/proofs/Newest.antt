@@ -14,10 +14,10 @@ use Rattle.tas_core.specs.declared.stretch.LogStretch.TheVariants.{One, Run}
 use Rattle.tas_core.specs.Stretches.{event_by, numbered_line, numbered_lines, run_lines, lines_in, lines_of}
 use Rattle.tas_core.specs.Stretches.{IsOfRun, ComeAfter}
 
-abbrev AreOfRun : List LogLine → Type 0
+abbrev pub AreOfRun : List LogLine → Type 0
 AreOfRun ls = Each (λ (l : LogLine). IsOfRun l.event) ls
 
-lines_are : (r : LogRun) (n k : ℕ) → AreOfRun (numbered_lines r n k)
+pub lines_are : (r : LogRun) (n k : ℕ) → AreOfRun (numbered_lines r n k)
 lines_are r n zero = tt
 lines_are r n (suc k) = (by_kind r.kind, lines_are r (n + 1) k)
   where
