@@ -11,3 +11,4 @@ pub mod FrameIds
 pub mod Unnamed
 pub mod Quiet
 pub mod LogRuns
+pub mod RecordTexts
