@@ -30,9 +30,6 @@ stretches_are names ss = each ss ∙ (lines_by (log_line names) ss ∙ log_is na
     each (s ∷ ss) = ap (λ t. log_text names (lines_in s) ++ t) (each ss)
         ∙ ap (λ t. t ++ flat_map (λ x. flat_map (log_line names) (lines_in x)) ss) (sym (log_is names (lines_in s)))
 
-pub one_line : (names : List (List ℕ)) (l : LogLine) → log_line names l ≡ log_text names (l ∷ [])
-one_line names l = sym (append-nil (log_line names l))
-
 -- ----- a run
 -- one line more
 pub run_more : (names : List (List ℕ)) (r : LogRun) (n k : ℕ)

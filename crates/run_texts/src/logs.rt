@@ -1,4 +1,5 @@
-ghost use Rattle.std.specs.Prelude.{◌≡◌, ℕ, ◌++◌, ◌∷◌, [], List, map, flat_map, codes, decimal, if◌then◌else◌, suc, ◌-◌};
+ghost use Rattle.std.specs.Prelude.{◌≡◌, ℕ, ◌++◌, ◌∷◌, [], List, map, flat_map, codes, decimal, if◌then◌else◌};
+ghost use Rattle.std.specs.Prelude.{suc, ◌-◌};
 ghost use Rattle.host_rounds.specs.declared.log.LogEvent.TheVariants as events;
 ghost use Rattle.tas_runs.specs.Report.{line, event_text, log_text, frame_text, seg_text, answer_text};
 ghost use Rattle.tas_core.specs.Stretches.{lines_in, lines_of, run_lines, event_by};
@@ -7,8 +8,8 @@ ghost use Rattle.run_texts.specs.Writes.{Writes};
 
 use crate::entries::write_segment;
 use crate::frame_ids::write_frame_id;
-use crate::record_lines::RecordLines;
 use crate::line_texts::{AcceptText, ListenText, RefusedConnect, RuleText, TickText};
+use crate::record_lines::RecordLines;
 use crate::texts::{AnswerText, PortText};
 use crate::writer::Writer;
 use host_rounds::{LogEvent, LogLine};
@@ -61,15 +62,11 @@ fn write_run<K: Sink>(
     if run.first.host == CAPTURE {
         return write_records(writer, sink, run);
     }
-    write_frames(writer, sink, names, run)
+    write_host_frames(writer, sink, names, run)
 }
 
 /// Writes the lines of a run of records of a capture.
-fn write_records<K: Sink>(
-    writer: &mut Writer,
-    sink: &mut K,
-    run: &LogRun,
-) -> Result<(), IoFault>
+fn write_records<K: Sink>(writer: &mut Writer, sink: &mut K, run: &LogRun) -> Result<(), IoFault>
     ensures { Writes (K.state sink.old) writer.old result (K.state sink.new) writer.new
         (record_lines run.now.tick run.now.kind run.now.first.number (suc (run.now.last - run.now.first.number))) }
 {
@@ -84,7 +81,7 @@ fn write_records<K: Sink>(
 }
 
 /// Writes the lines of a run of frames of a host.
-fn write_frames<K: Sink>(
+fn write_host_frames<K: Sink>(
     writer: &mut Writer,
     sink: &mut K,
     names: &[&[u8]],
@@ -114,7 +111,16 @@ fn write_run_line<K: Sink>(
         (event_by run.now.kind (record (run.now.first) { number = number })))) }
 {
     writer.put_text(sink, &TickText(run.tick))?;
-    write_fate(writer, sink, names, run.kind, FrameId { number, ..run.first })?;
+    write_fate(
+        writer,
+        sink,
+        names,
+        run.kind,
+        FrameId {
+            number,
+            ..run.first
+        },
+    )?;
     writer.put(sink, b"\n")
 }
 

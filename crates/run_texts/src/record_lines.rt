@@ -44,7 +44,10 @@ impl RecordLines {
             run: LogRun {
                 tick: run.tick,
                 kind: run.kind,
-                first: FrameId { number, ..run.first },
+                first: FrameId {
+                    number,
+                    ..run.first
+                },
                 last,
             },
         }

@@ -1,5 +1,5 @@
 -- Answers to segments of no flow, by the stretches of a log.
-use Rattle.std.proofs.Common.{◌≡◌, ℕ, ◌+◌, ◌≤◌, ◌==◌, eqb, List, [], ◌∷◌, ◌++◌, length, filter, take, drop, Some}
+use Rattle.std.proofs.Common.{◌≡◌, ℕ, ◌+◌, ◌≤◌, eqb, List, [], ◌∷◌, ◌++◌, length, filter, take, drop, Some}
 use Rattle.std.proofs.Common.{None, slice_get, cond, is_some, length-append, append-nil}
 use Rattle.std.proofs.Common.{refl, sym, ap, ◌∙◌, arith, append_assoc, take-append-drop}
 use Rattle.std.proofs.lemmas.List.Concat.{flat_map-append}

@@ -1,6 +1,6 @@
 -- The stretches behind the first lines of a log.
-use Rattle.std.proofs.Common.{◌≡◌, ℕ, zero, suc, ◌+◌, ◌-◌, ◌≤◌, ◌<◌, List, [], ◌∷◌, ◌++◌, length, get_or, refl, sym, ap}
-use Rattle.std.proofs.Common.{◌∙◌, arith, take, drop, append_assoc, append-nil, length-append, take-append-drop, subst}
+use Rattle.std.proofs.Common.{◌≡◌, ℕ, zero, suc, ◌+◌, ◌-◌, ◌≤◌, ◌<◌, List, [], ◌∷◌, ◌++◌, length, get_or, sym, ap}
+use Rattle.std.proofs.Common.{◌∙◌, arith, take, drop, append_assoc, append-nil, length-append, take-append-drop}
 use Rattle.std.proofs.lemmas.List.{take_more, drop-append-le}
 use Rattle.std.proofs.lemmas.List.Concat.{flat_map-append}
 use Rattle.std.proofs.Math.Seq.{drop-append-add}
@@ -11,7 +11,7 @@ use Rattle.tas_core.specs.declared.stretch.RunKind.TheVariants.{Dropped, Refused
 use Rattle.tas_core.specs.declared.stretch.LogRun.{LogRun}
 use Rattle.tas_core.specs.declared.stretch.LogStretch.{LogStretch}
 use Rattle.tas_core.specs.declared.stretch.LogStretch.TheVariants.{One, Run}
-use Rattle.tas_core.specs.Stretches.{event_by, numbered_line, numbered_lines, run_lines, lines_in, lines_of}
+use Rattle.tas_core.specs.Stretches.{event_by, numbered_lines, lines_in, lines_of}
 use Rattle.tas_core.specs.Stretches.{IsOfRun, ComeAfter}
 
 abbrev pub AreOfRun : List LogLine → Type 0

@@ -1,5 +1,5 @@
 -- Runs of lines, and one line more.
-use Rattle.std.proofs.Common.{◌≡◌, ℕ, zero, suc, ◌+◌, ◌-◌, ◌≤◌, List, [], ◌∷◌, ◌++◌, length, get_or, set, refl, sym, ap}
+use Rattle.std.proofs.Common.{◌≡◌, ℕ, zero, suc, ◌+◌, ◌-◌, List, [], ◌∷◌, ◌++◌, length, get_or, set, refl, sym, ap}
 use Rattle.std.proofs.Common.{◌∙◌, arith, append_assoc, append-nil}
 use Rattle.tas_model.specs.declared.entry.FrameId.{FrameId}
 use Rattle.host_rounds.specs.declared.log.LogLine.{LogLine}
@@ -15,7 +15,8 @@ other_end r last n zero = refl
 other_end r last n (suc k) = ap (λ (ls : List LogLine). numbered_line r n ∷ ls) (other_end r last (n + 1) k)
 
 -- the last of so many and one more
-pub lines_push : (r : LogRun) (n k : ℕ) → numbered_lines r n (suc k) ≡ numbered_lines r n k ++ numbered_line r (n + k) ∷ []
+pub lines_push : (r : LogRun) (n k : ℕ)
+    → numbered_lines r n (suc k) ≡ numbered_lines r n k ++ numbered_line r (n + k) ∷ []
 lines_push r n zero =
     let same : n ≡ n + 0 = omega arith in
     ap (λ m. numbered_line r m ∷ []) same

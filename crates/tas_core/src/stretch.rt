@@ -1,5 +1,5 @@
 ghost use Rattle.std.specs.Prelude.{◌≡◌, ◌+◌, ◌-◌, ◌^◌, ◌<◌, ◌++◌, ◌∷◌, [], length, true, false, suc, OnOk, OnErr};
-ghost use Rattle.tas_core.specs.Stretches.{lines_in, lines_of, numbered_line, line_by, ComesNext, event_by};
+ghost use Rattle.tas_core.specs.Stretches.{lines_in, lines_of, line_by, ComesNext};
 
 use host_rounds::{LogEvent, LogLine};
 use std::alloc::AllocError;
@@ -9,13 +9,9 @@ use tas_model::FrameId;
 #[derive(Clone, Copy, Debug)]
 pub enum RunKind {
     /// Each was a SYN that was dropped: for a full backlog where `backlog` is true, and else for want of a slot.
-    Dropped {
-        backlog: bool,
-    },
+    Dropped { backlog: bool },
     /// Each breaks the rule of reading with this number.
-    Refused {
-        number: u8,
-    },
+    Refused { number: u8 },
 }
 
 /// Lines of one tick that differ in the number of their frame alone, which rises by one from line to line.
@@ -46,22 +42,6 @@ impl LogRun {
         ensures fits { self.now.first.number + result < 2 ^ 64 }
     {
         self.last.saturating_sub(self.first.number)
-    }
-
-    /// The line whose frame has this number.
-    #[inline(always)]
-    pub fn line(&self, number: u64) -> LogLine
-        ensures { result ≡ numbered_line self.now number }
-    {
-        let frame = FrameId { number, ..self.first };
-        let event = match self.kind {
-            RunKind::Dropped { backlog } => LogEvent::Dropped { frame, backlog },
-            RunKind::Refused { number } => LogEvent::Refused { frame, number },
-        };
-        LogLine {
-            tick: self.tick,
-            event,
-        }
     }
 
     /// Whether a line of this tick and kind with this frame is the next one.

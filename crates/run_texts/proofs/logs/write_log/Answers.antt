@@ -1,4 +1,4 @@
-use Rattle.std.proofs.Common.{rules, ◌≡◌, map, length, slice_get, Some, List, ℕ, refl}
+use Rattle.std.proofs.Common.{rules, ◌≡◌, map, length, slice_get, Some, refl}
 use Rattle.std.proofs.lemmas.Option.{slice_get_read}
 use Rattle.tas_runs.specs.Report.{log_text}
 use Rattle.tas_core.specs.Stretches.{lines_in}

@@ -1,6 +1,5 @@
 use Rattle.std.proofs.Common.{◌≡◌, ℕ, ◌+◌, ◌-◌, suc, ap, ◌∙◌, rules, arith, List, subst, Result}
 use Rattle.tas_num.specs.declared.outside.IoFault.{IoFault}
-use Rattle.tas_core.specs.declared.stretch.LogRun.{LogRun}
 use Rattle.run_texts.specs.Writes.{Writes}
 use Rattle.run_texts.specs.Records.{record_lines}
 use Rattle.run_texts.proofs.Writing.{wrote_as, wrote_both, stopped_in}

@@ -1,4 +1,4 @@
-use Rattle.std.proofs.Common.{◌≡◌, ◌-◌, ◌^◌, map, suc, arith}
+use Rattle.std.proofs.Common.{◌-◌, map, suc, arith}
 use Rattle.run_texts.proofs.RecordTexts.{lines_are}
 use Rattle.run_texts.proofs.Writing.{wrote_as}
 use Rattle.run_texts.proofs.logs.write_run.Goals as goal

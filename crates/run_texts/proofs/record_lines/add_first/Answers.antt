@@ -1,4 +1,4 @@
-use Rattle.std.proofs.Common.{◌≡◌, ◌+◌, ◌<◌, ◌++◌, List, ℕ, decimal, length, ap, ◌∙◌, arith}
+use Rattle.std.proofs.Common.{◌++◌, List, ℕ, decimal, length, ap, ◌∙◌, arith}
 use Rattle.std.proofs.lemmas.Fmt.{decimal_nonempty}
 use Rattle.std.proofs.lemmas.List.{length-append}
 use Rattle.run_texts.specs.Records.{word_of, end_of}

@@ -1,4 +1,4 @@
-use Rattle.std.proofs.Common.{◌≡◌, ◌+◌, ◌*◌, ◌≤◌, length, ap, ◌∙◌, arith, ℕ, set, ◌-◌, ◌%◌}
+use Rattle.std.proofs.Common.{◌+◌, length, ap, ◌∙◌, arith, ℕ, set, ◌%◌}
 use Rattle.std.proofs.lemmas.List.{length-append, length-set}
 use Rattle.run_texts.proofs.RecordTexts.{line_more, place_inside}
 use Rattle.run_texts.proofs.record_lines.add_others.Goals as goal

@@ -1,9 +1,5 @@
-use Rattle.std.proofs.Common.{◌≡◌, ◌+◌, ◌++◌, ◌≤◌, length, take, slice_get, Some, refl, ap, ◌∙◌, arith}
-use Rattle.std.proofs.lemmas.List.{take_all}
+use Rattle.std.proofs.Common.{◌≡◌, length, slice_get, Some, refl, arith}
 use Rattle.std.proofs.lemmas.Option.{slice_get_read}
-use Rattle.scenario_runs.specs.Worlds.{frames_of_log}
-use Rattle.tas_core.specs.Stretches.{lines_of}
-use Rattle.sent_frames.specs.Sending.{of_tick, answers_in}
 use Rattle.sent_frames.proofs.Answering.{number_more, few_left, answers_more}
 use Rattle.sent_frames.proofs.strays.collect_lines.Goals as goal
 

@@ -1,4 +1,4 @@
-use Rattle.std.proofs.Common.{◌≡◌, ◌+◌, ◌-◌, ◌++◌, suc, sym, ap, ◌∙◌, append-nil, arith}
+use Rattle.std.proofs.Common.{◌≡◌, ◌-◌, ◌++◌, suc, sym, ap, ◌∙◌, append-nil, arith}
 use Rattle.scenario_runs.specs.Worlds.{frames_of_log}
 use Rattle.tas_core.specs.Stretches.{lines_in, run_lines}
 use Rattle.tas_core.proofs.Newest.{lines_are}

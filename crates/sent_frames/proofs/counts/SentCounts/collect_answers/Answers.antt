@@ -1,6 +1,5 @@
 use Rattle.std.proofs.Common.{◌+◌, ◌++◌, take, ap, ◌∙◌, arith, length-take, length-drop}
-use Rattle.scenario_runs.specs.Worlds.{frames_of_log}
-use Rattle.sent_frames.specs.Sending.{of_tick, answers_in}
+use Rattle.sent_frames.specs.Sending.{of_tick}
 use Rattle.sent_frames.proofs.Numbered.{answers_in-le}
 use Rattle.sent_frames.proofs.Answering.{answers_whole, number_whole, newest_number, newest_frames, newest_length}
 use Rattle.sent_frames.proofs.counts.SentCounts.collect_answers.Goals as goal

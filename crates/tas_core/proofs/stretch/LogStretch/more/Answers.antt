@@ -1,4 +1,4 @@
-use Rattle.std.proofs.Common.{◌≡◌, ◌-◌, ◌∙◌, suc, length, sym, ap}
+use Rattle.std.proofs.Common.{◌-◌, ◌∙◌, suc, length, sym, ap}
 use Rattle.tas_core.specs.Stretches.{lines_in}
 use Rattle.tas_core.proofs.Runs.{length_lines}
 use Rattle.tas_core.proofs.stretch.LogStretch.more.Goals as goal

@@ -1,4 +1,4 @@
-use Rattle.std.proofs.Common.{rules, ◌≡◌, ◌+◌, ◌-◌, ◌<◌, ◌≤◌, suc, map, arith, flat_map, subst, Result, ℕ, List}
+use Rattle.std.proofs.Common.{rules, ◌+◌, ◌-◌, ◌<◌, suc, map, arith, flat_map, subst, Result, ℕ, List}
 use Rattle.tas_num.specs.declared.outside.IoFault.{IoFault}
 use Rattle.tas_runs.specs.Report.{log_text}
 use Rattle.tas_core.specs.Stretches.{numbered_line, numbered_lines}
@@ -6,7 +6,7 @@ use Rattle.run_texts.specs.Writes.{Writes}
 use Rattle.run_texts.proofs.Lists.{log_line}
 use Rattle.run_texts.proofs.LogRuns.{run_step, run_left, run_rest, run_whole}
 use Rattle.run_texts.proofs.Writing.{wrote_as, wrote_both, stopped_in, stopped_at}
-use Rattle.run_texts.proofs.logs.write_frames.Goals as goal
+use Rattle.run_texts.proofs.logs.write_host_frames.Goals as goal
 
 pub returns-in_err-write_run_line : goal.returns-in_err-write_run_line
 returns-in_err-write_run_line g c =
