@@ -3,9 +3,9 @@ use tas_core::*;
 use tas_model::FrameId;
 
 #[test]
-fn lines_stand_in_the_order_in_which_they_came(rt: HostRuntime) -> Result<(), Fail> {
+fn lines_of_frames_that_follow_on_each_other_are_one_stretch(rt: HostRuntime) -> Result<(), Fail> {
     let mut log = HostLog::new(rt.alloc());
-    for number in 1..4 {
+    for number in [1, 2, 3, 5] {
         let frame = FrameId {
             host: 4294967295,
             flow: 4294967295,
@@ -17,7 +17,7 @@ fn lines_stand_in_the_order_in_which_they_came(rt: HostRuntime) -> Result<(), Fa
             event: LogEvent::Refused { frame, number: 9 },
         })?;
     }
-    assert_eq!(rt; log.len(), 3);
-    assert_eq!(rt; log.line(2).tick, 7);
+    assert_eq!(rt; log.len(), 4);
+    assert_eq!(rt; log.stretches().len(), 2);
     Ok(())
 }

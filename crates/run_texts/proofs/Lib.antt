@@ -10,3 +10,5 @@ pub mod Sixteen
 pub mod FrameIds
 pub mod Unnamed
 pub mod Quiet
+pub mod LogRuns
+pub mod RecordTexts

@@ -16,6 +16,7 @@ use Rattle.host_rounds.specs.declared.log.LogEvent.{LogEvent}
 use Rattle.host_rounds.specs.declared.log.LogEvent.TheVariants as events
 use Rattle.host_rounds.specs.Logs.{Flow, HostRun}
 use Rattle.tas_runs.specs.SentFrames.{sent_fields}
+use Rattle.tas_core.specs.Stretches.{lines_of}
 use Rattle.run_texts.specs.declared.frames.Frame.{Frame}
 use Rattle.run_texts.specs.declared.frames.HostFrames.{HostFrames}
 
@@ -85,7 +86,7 @@ abbrev pub host_of : List Flow → List LogLine → HostRun
 host_of flows log = record { name = []; addr = 0; log = log; flows = flows }
 
 abbrev pub seen_host : HostFrames → HostRun
-seen_host h = host_of (map history_of h.flows.now) h.log.now
+seen_host h = host_of (map history_of h.flows.now) (lines_of h.log.now)
 
 -- each segment that a flow sent has room in a packet
 abbrev pub AreAllShort : List Seg → Type 0

@@ -1,3 +1,4 @@
 pub mod Decades
 pub mod Frames
 pub mod Writes
+pub mod Records

@@ -6,6 +6,7 @@ ghost use Rattle.host_rounds.specs.Logs.{HostRun};
 ghost use Rattle.tas_model.specs.Segments.{bare as bare_of};
 ghost use Rattle.tas_model.specs.Outputs.{segments_in};
 ghost use Rattle.flow_state.specs.Views.{seen_seg, seen_reply, seen_entry, seen_stretch};
+ghost use Rattle.tas_core.specs.Stretches.{lines_in, lines_of};
 ghost use Rattle.run_texts.specs.Frames.{frame_before, Adds, seen_frame, segments_of, frames_in, entry_frames};
 ghost use Rattle.run_texts.specs.Frames.{flow_frames, answer_frames, host_frames, all_frames, history_of, seen_host};
 ghost use Rattle.run_texts.specs.Frames.{AreShort, IsInOrder};
@@ -18,6 +19,7 @@ use pcap_frames::{write_header, write_record_head};
 use segment_fields::{Flags, Segment, write};
 use std::alloc::{AllocError, Global};
 use std::marker::Model;
+use tas_core::LogStretch;
 use tas_model::{FourTuple, Head};
 use tas_num::{IoFault, Sink};
 
@@ -36,7 +38,7 @@ pub struct Frame<'a> {
 #[derive(Clone, Copy)]
 pub struct HostFrames<'a> {
     pub flows: &'a [FlowRecord],
-    pub log: &'a [LogLine],
+    pub log: &'a [LogStretch],
 }
 
 /// Writes the header of a capture.
@@ -172,13 +174,23 @@ fn add_entry<'a>(
 }
 
 /// Adds the answers that segments of no flow got.
-fn add_answers<'a>(frames: &mut Vec<Frame<'a>>, log: &'a [LogLine]) -> Result<(), AllocError>
-    ensures { OnOk result (Adds frames.old.items frames.new.items (flat_map answer_frames log.now)) }
+fn add_answers<'a>(frames: &mut Vec<Frame<'a>>, log: &'a [LogStretch]) -> Result<(), AllocError>
+    ensures { OnOk result (Adds frames.old.items frames.new.items (flat_map answer_frames (lines_of log.now))) }
 {
-    for entry in log {
-        add_answer(frames, entry)?;
+    for stretch in log {
+        add_answers_in(frames, stretch)?;
     }
     Ok(())
+}
+
+/// Adds the answers that the lines of a stretch show. A run shows none.
+fn add_answers_in<'a>(frames: &mut Vec<Frame<'a>>, stretch: &LogStretch) -> Result<(), AllocError>
+    ensures { OnOk result (Adds frames.old.items frames.new.items (flat_map answer_frames (lines_in stretch.now))) }
+{
+    match stretch {
+        LogStretch::One(line) => add_answer(frames, line),
+        LogStretch::Run(_) => Ok(()),
+    }
 }
 
 /// Adds the answer that a segment of no flow got, where the line is of one.

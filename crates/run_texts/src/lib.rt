@@ -11,6 +11,7 @@ mod laws;
 mod line_texts;
 mod logs;
 mod quiet_lines;
+mod record_lines;
 mod stretches;
 mod summary;
 mod text;

@@ -1,15 +1,20 @@
 ghost use Rattle.std.specs.Prelude.{◌≡◌, ℕ, ◌++◌, ◌∷◌, [], List, map, flat_map, codes, decimal, if◌then◌else◌};
+ghost use Rattle.std.specs.Prelude.{suc, ◌-◌};
 ghost use Rattle.host_rounds.specs.declared.log.LogEvent.TheVariants as events;
 ghost use Rattle.tas_runs.specs.Report.{line, event_text, log_text, frame_text, seg_text, answer_text};
+ghost use Rattle.tas_core.specs.Stretches.{lines_in, lines_of, run_lines, event_by};
+ghost use Rattle.run_texts.specs.Records.{record_lines};
 ghost use Rattle.run_texts.specs.Writes.{Writes};
 
 use crate::entries::write_segment;
 use crate::frame_ids::write_frame_id;
 use crate::line_texts::{AcceptText, ListenText, RefusedConnect, RuleText, TickText};
+use crate::record_lines::RecordLines;
 use crate::texts::{AnswerText, PortText};
 use crate::writer::Writer;
 use host_rounds::{LogEvent, LogLine};
-use tas_model::{FrameId, Head, Seg};
+use tas_core::{LogRun, LogStretch, RunKind};
+use tas_model::{CAPTURE, FrameId, Head, Seg};
 use tas_num::{IoFault, Sink};
 
 /// Writes the lines of a host's log.
@@ -17,15 +22,123 @@ pub fn write_log<K: Sink>(
     writer: &mut Writer,
     sink: &mut K,
     names: &[&[u8]],
-    log: &[LogLine],
+    log: &[LogStretch],
 ) -> Result<(), IoFault>
     ensures { Writes (K.state sink.old) writer.old result (K.state sink.new) writer.new
-        (log_text (map (λ n. n.now) names.now) log.now) }
+        (log_text (map (λ n. n.now) names.now) (lines_of log.now)) }
 {
-    for entry in log {
-        write_line(writer, sink, names, entry)?;
+    for stretch in log {
+        write_stretch(writer, sink, names, stretch)?;
     }
     Ok(())
+}
+
+/// Writes the lines of a stretch of the log.
+fn write_stretch<K: Sink>(
+    writer: &mut Writer,
+    sink: &mut K,
+    names: &[&[u8]],
+    stretch: &LogStretch,
+) -> Result<(), IoFault>
+    ensures { Writes (K.state sink.old) writer.old result (K.state sink.new) writer.new
+        (log_text (map (λ n. n.now) names.now) (lines_in stretch.now)) }
+{
+    match stretch {
+        LogStretch::One(line) => write_line(writer, sink, names, line),
+        LogStretch::Run(run) => write_run(writer, sink, names, run),
+    }
+}
+
+/// Writes the lines of a run. In a replay they are of records.
+fn write_run<K: Sink>(
+    writer: &mut Writer,
+    sink: &mut K,
+    names: &[&[u8]],
+    run: &LogRun,
+) -> Result<(), IoFault>
+    ensures { Writes (K.state sink.old) writer.old result (K.state sink.new) writer.new
+        (log_text (map (λ n. n.now) names.now) (run_lines run.now)) }
+{
+    if run.first.host == CAPTURE {
+        return write_records(writer, sink, run);
+    }
+    write_host_frames(writer, sink, names, run)
+}
+
+/// Writes the lines of a run of records of a capture.
+fn write_records<K: Sink>(writer: &mut Writer, sink: &mut K, run: &LogRun) -> Result<(), IoFault>
+    ensures { Writes (K.state sink.old) writer.old result (K.state sink.new) writer.new
+        (record_lines run.now.tick run.now.kind run.now.first.number (suc (run.now.last - run.now.first.number))) }
+{
+    let more = run.more();
+    let mut done: u128 = 0;
+    while done <= u128::from(more) {
+        let lines = RecordLines::after(run, done as u64);
+        writer.put_text(sink, &lines)?;
+        done += u128::from(lines.count());
+    }
+    Ok(())
+}
+
+/// Writes the lines of a run of frames of a host.
+fn write_host_frames<K: Sink>(
+    writer: &mut Writer,
+    sink: &mut K,
+    names: &[&[u8]],
+    run: &LogRun,
+) -> Result<(), IoFault>
+    ensures { Writes (K.state sink.old) writer.old result (K.state sink.new) writer.new
+        (log_text (map (λ n. n.now) names.now) (run_lines run.now)) }
+{
+    let first = run.first.number;
+    write_run_line(writer, sink, names, run, first)?;
+    for j in 0..run.more() {
+        write_run_line(writer, sink, names, run, first + j + 1)?;
+    }
+    Ok(())
+}
+
+/// Writes the line of a run whose frame has this number.
+fn write_run_line<K: Sink>(
+    writer: &mut Writer,
+    sink: &mut K,
+    names: &[&[u8]],
+    run: &LogRun,
+    number: u64,
+) -> Result<(), IoFault>
+    ensures { Writes (K.state sink.old) writer.old result (K.state sink.new) writer.new
+        (line (decimal run.now.tick ++ codes " " ++ event_text (map (λ n. n.now) names.now)
+        (event_by run.now.kind (record (run.now.first) { number = number })))) }
+{
+    writer.put_text(sink, &TickText(run.tick))?;
+    write_fate(
+        writer,
+        sink,
+        names,
+        run.kind,
+        FrameId {
+            number,
+            ..run.first
+        },
+    )?;
+    writer.put(sink, b"\n")
+}
+
+/// Writes what a run tells of a frame.
+fn write_fate<K: Sink>(
+    writer: &mut Writer,
+    sink: &mut K,
+    names: &[&[u8]],
+    kind: RunKind,
+    frame: FrameId,
+) -> Result<(), IoFault>
+    ensures { Writes (K.state sink.old) writer.old result (K.state sink.new) writer.new
+        (event_text (map (λ n. n.now) names.now) (event_by kind frame)) }
+{
+    match kind {
+        RunKind::Dropped { backlog } => write_dropped(writer, sink, names, frame, backlog),
+        RunKind::Refused { number } => write_refused(writer, sink, names, frame, number),
+    }
 }
 
 /// Writes a line of the log.

@@ -101,7 +101,7 @@ impl SentCounts {
         ensures last { OnOk result (AreUpTo tick sent.new) }
     {
         let lines = log.len();
-        let new = &log.lines()[self.lines..];
+        let new = log.stretches_after(self.lines);
         self.answers = collect_lines(alloc, sender, self.answers, tick, new, sent)?;
         self.lines = lines;
         Ok(())

@@ -1,5 +1,6 @@
 ghost use Rattle.std.specs.Prelude.{◌≡◌, ◌<◌, ◌+◌, ◌^◌, ◌++◌, ◌∷◌, [], length, IfOk, OnOk};
 ghost use Rattle.scenario_runs.specs.Worlds.{World, frames_of_log};
+ghost use Rattle.tas_core.specs.Stretches.{lines_in, lines_of};
 ghost use Rattle.sent_frames.specs.Sending.{addresses_of, of_tick, AreUpTo, answers_in};
 
 use crate::frames::{Origin, Sender, push_segment};
@@ -7,6 +8,7 @@ use host_rounds::{LogEvent, LogLine};
 use link_script::SentList;
 use run_texts::answer_in;
 use std::alloc::{AllocError, Global};
+use tas_core::LogStretch;
 use tas_model::NO_FLOW;
 
 /// Collects the frames of a tick among the answers to segments of no flow that these lines of a host's log show, the
@@ -16,22 +18,45 @@ pub fn collect_lines(
     sender: &Sender<'_>,
     number: u64,
     tick: u32,
-    lines: &[LogLine],
+    stretches: &[LogStretch],
     sent: &mut SentList,
 ) -> Result<u64, AllocError>
     requires hosts { length sender.now.addresses.now < 2 ^ 32 }
-    requires few { number + length lines.now < 2 ^ 64 }
+    requires few { number + length (lines_of stretches.now) < 2 ^ 64 }
     requires last { AreUpTo tick sent.old }
     ensures frames { (world : World) → sender.now.addresses.now ≡ addresses_of world → OnOk result (sent.new
-        ≡ sent.old ++ of_tick tick (frames_of_log world sender.now.host number lines.now)) }
-    ensures number { IfOk result (λ n. n ≡ number + answers_in lines.now) }
+        ≡ sent.old ++ of_tick tick (frames_of_log world sender.now.host number (lines_of stretches.now))) }
+    ensures number { IfOk result (λ n. n ≡ number + answers_in (lines_of stretches.now)) }
     ensures last { OnOk result (AreUpTo tick sent.new) }
 {
     let mut number = number;
-    for line in lines {
-        number = collect_answer(alloc, sender, number, tick, line, sent)?;
+    for stretch in stretches {
+        number = collect_stretch(alloc, sender, number, tick, stretch, sent)?;
     }
     Ok(number)
+}
+
+/// The same of the lines of one stretch. A run shows no answer.
+fn collect_stretch(
+    alloc: Global,
+    sender: &Sender<'_>,
+    number: u64,
+    tick: u32,
+    stretch: &LogStretch,
+    sent: &mut SentList,
+) -> Result<u64, AllocError>
+    requires hosts { length sender.now.addresses.now < 2 ^ 32 }
+    requires few { number + length (lines_in stretch.now) < 2 ^ 64 }
+    requires last { AreUpTo tick sent.old }
+    ensures frames { (world : World) → sender.now.addresses.now ≡ addresses_of world → OnOk result (sent.new
+        ≡ sent.old ++ of_tick tick (frames_of_log world sender.now.host number (lines_in stretch.now))) }
+    ensures number { IfOk result (λ n. n ≡ number + answers_in (lines_in stretch.now)) }
+    ensures last { OnOk result (AreUpTo tick sent.new) }
+{
+    match stretch {
+        LogStretch::One(line) => collect_answer(alloc, sender, number, tick, line, sent),
+        LogStretch::Run(_) => Ok(number),
+    }
 }
 
 /// Collects the answer that a line of the log shows, where there is one and it is of the tick. The answer is the number

@@ -2,6 +2,8 @@
 #![tactic(auto)]
 
 mod log;
+mod stretch;
 
 pub use host_rounds::{KeptSeg, LogEvent, LogLine};
 pub use log::HostLog;
+pub use stretch::{LogRun, LogStretch, RunKind};

@@ -1,22 +1,29 @@
-ghost use Rattle.std.specs.Prelude.{◌≡◌, ◌<◌, ◌++◌, ◌∷◌, [], length, slice_get, Some, OnOk, OnErr};
+ghost use Rattle.std.specs.Prelude.{◌≡◌, ◌≤◌, ◌++◌, ◌∷◌, [], length, OnOk, OnErr};
+ghost use Rattle.tas_core.specs.Stretches.{lines_of, ComeAfter};
 
+use crate::stretch::{LogStretch, add};
 use host_rounds::LogLine;
 use std::alloc::{AllocError, Global};
 use std::marker::Model;
 
-/// The log of a host, seen as the list of its lines in the order in which they came.
+/// The log of a host, seen as the list of its lines in the order in which they came. It keeps lines that differ in the
+/// number of their frame alone as runs, so a flood of such frames takes no memory.
 #[derive(Drop)]
 pub struct HostLog {
-    lines: Vec<LogLine>,
+    stretches: Vec<LogStretch>,
+    lines: usize,
 }
 
 impl Model for HostLog {
-    ghost use Rattle.std.specs.Prelude.{List};
+    ghost use Rattle.std.specs.Prelude.{◌≡◌, List, length};
     ghost use Rattle.host_rounds.specs.declared.log.LogLine.{LogLine};
+    ghost use Rattle.tas_core.specs.Stretches.{lines_of};
 
     ghost Value = { List LogLine };
 
-    ghost view = { λ log. log.lines.items };
+    ghost view = { λ log. lines_of log.stretches.items };
+
+    ghost invariant = { λ log. log.lines ≡ length (lines_of log.stretches.items) };
 }
 
 impl HostLog {
@@ -25,16 +32,20 @@ impl HostLog {
         ensures { result ≡ [] }
     {
         HostLog {
-            lines: Vec::new(alloc),
+            stretches: Vec::new(alloc),
+            lines: 0,
         }
     }
 
     /// Appends a line. The error is want of memory, and leaves the log as it was.
+    #[inline(always)]
     pub fn add(&mut self, line: LogLine) -> Result<(), AllocError>
         ensures ok { OnOk result (self.new ≡ self.old ++ line ∷ []) }
         ensures err { OnErr result (self.new ≡ self.old) }
     {
-        self.lines.push(line)?;
+        let lines = self.lines.checked_add(1).ok_or(AllocError)?;
+        add(&mut self.stretches, line)?;
+        self.lines = lines;
         Ok(())
     }
 
@@ -43,28 +54,42 @@ impl HostLog {
         ensures ok { OnOk result ((self.new ≡ self.old ++ other.old) × (other.new ≡ [])) }
         ensures err { OnErr result ((self.new ≡ self.old) × (other.new ≡ other.old)) }
     {
-        self.lines.append(&mut other.lines)
+        let lines = self.lines.checked_add(other.lines).ok_or(AllocError)?;
+        self.stretches.append(&mut other.stretches)?;
+        self.lines = lines;
+        other.lines = 0;
+        Ok(())
     }
 
     /// How many lines it has.
     pub fn len(&self) -> usize
         ensures { result ≡ length self.now }
     {
-        self.lines.len()
+        self.lines
     }
 
-    /// The line at a place, counted from 0.
-    pub fn line(&self, i: usize) -> &LogLine
-        requires { i < length self.now }
-        ensures { slice_get self.now i ≡ Some result.now }
+    /// All lines in stretches, the oldest first.
+    pub fn stretches(&self) -> &[LogStretch]
+        ensures { lines_of result.now ≡ self.now }
     {
-        &self.lines[i]
+        self.stretches.as_slice()
     }
 
-    /// All lines, the oldest first.
-    pub fn lines(&self) -> &[LogLine]
-        ensures { result.now ≡ self.now }
+    /// The stretches that begin behind the first so many lines, the oldest first. It looks for them from the last on.
+    pub fn stretches_after(&self, lines: usize) -> &[LogStretch]
+        requires { lines ≤ length self.now }
+        ensures { ComeAfter lines self.now result.now }
     {
-        self.lines.as_slice()
+        let mut left = self.lines - lines;
+        let mut i = self.stretches.len();
+        while left > 0 {
+            let more = self.stretches[i - 1].more();
+            if more >= left as u64 {
+                return &self.stretches[i..];
+            }
+            left -= more as usize + 1;
+            i -= 1;
+        }
+        &self.stretches[i..]
     }
 }

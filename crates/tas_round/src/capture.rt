@@ -104,6 +104,6 @@ fn frames_of<'a>(host: &'a HostRun) -> HostFrames<'a>
 {
     HostFrames {
         flows: host.flows.as_slice(),
-        log: host.log.lines(),
+        log: host.log.stretches(),
     }
 }

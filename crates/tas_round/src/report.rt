@@ -133,7 +133,7 @@ fn put_log<K: Sink>(
     ensures { Writes (K.state sink.old) writer.old result (K.state sink.new) writer.new
         (log_text (map (λ n. n.now) names.now) host.now.log) }
 {
-    write_log(writer, sink, names, host.log.lines())
+    write_log(writer, sink, names, host.log.stretches())
 }
 
 /// Writes the lines of all flows of a host.

@@ -1,14 +1,25 @@
-use Rattle.std.proofs.Common.{◌≡◌, map, length, slice_get, Some, refl}
+use Rattle.std.proofs.Common.{rules, ◌≡◌, ◌++◌, map, flat_map, length, slice_get, Some, refl, ap, ◌∙◌}
+use Rattle.std.proofs.lemmas.List.{take_all}
 use Rattle.std.proofs.lemmas.Option.{slice_get_read}
+use Rattle.tas_core.specs.Stretches.{lines_in}
 use Rattle.run_texts.specs.Frames.{seen_frame, answer_frames}
+use Rattle.run_texts.proofs.LogRuns.{lines_by}
 use Rattle.run_texts.proofs.Ordered.{frames_more}
 use Rattle.run_texts.proofs.frames.add_answers.Goals as goal
 
-pub loop-entry-preserved : goal.loop-entry-preserved
-loop-entry-preserved c =
+pub loop-stretch-preserved : goal.loop-stretch-preserved
+loop-stretch-preserved c =
     let log = c.args.log.now in
-    let i = c.loop-entry.entry-index in
-    let here : slice_get log i ≡ Some c.entry-item.result =
-    slice_get_read log (length log) i c.entry-item.result refl c.loop-entry-test.true c.entry-item.is in
-    frames_more answer_frames log i c.entry-item.result (map seen_frame c.args.frames.now.items)
-    (map seen_frame c.loop-entry.frames.items) _ here c.loop-entry.invariant c.in_ok-add_answer.ensures
+    let i = c.loop-stretch.stretch-index in
+    let here : slice_get log i ≡ Some c.stretch-item.result =
+    slice_get_read log (length log) i c.stretch-item.result refl c.loop-stretch-test.true c.stretch-item.is in
+    frames_more (λ s. flat_map answer_frames (lines_in s)) log i c.stretch-item.result
+    (map seen_frame c.args.frames.now.items) (map seen_frame c.loop-stretch.frames.items) _ here
+    c.loop-stretch.invariant c.in_ok-add_answers_in.ensures
+
+pub returns : goal.returns
+returns c =
+    let log = c.args.log.now in
+    c.loop-stretch.invariant ∙ ap (λ t. map seen_frame c.args.frames.now.items ++ t)
+    (ap (flat_map (λ s. flat_map answer_frames (lines_in s))) (take_all c.loop-stretch.stretch-index log (search rules))
+    ∙ lines_by answer_frames log)
