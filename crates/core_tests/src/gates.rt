@@ -3,7 +3,7 @@ ghost use Rattle.std.specs.Prelude.{◌≤◌};
 use flow_state::{CallView, EntryView, FlowRecord};
 use scenario_ranges::what_is_read_is_in_range;
 use scenario_text::read_scenario;
-use std::alloc::Global;
+use std::alloc::{AllocError, Global};
 use std::hint::spin_loop;
 use std::process::Abort;
 use std::sync::Wait;
@@ -17,28 +17,16 @@ use tas_round::{Mode, RunLog, run};
 /// How many turns a worker waits at most.
 const TURNS: u32 = 10_000_000;
 
-/// Two clients of host a say hello to a server each on host b, whose groups are on different ones of two cores.
-const TWO_CLIENTS: &[u8] = b"host a 10.0.0.1 iss 1000 rto 3
-host b 10.0.0.2 iss 5000 rto 3
-app b first
-listen door 80
-accept s door
-recv s 5
-close s
-app b second
-listen door 82
-accept s door
-recv s 5
-close s
-app a one
-connect s b 80
-send s hello
-close s
-app a two
-connect s b 82
-send s hello
-close s
+/// Two hosts whose connections take many frames for few bytes.
+const SMALL_SEGMENTS: &[u8] = b"host a 10.0.0.1 iss 1000 ring 65535 mss 64 rto 9
+host b 10.0.0.2 iss 5000 ring 65535 mss 64 rto 9
 ";
+
+/// The lowest number of a client and its server, which have two digits.
+const FIRST: u8 = 10;
+
+/// How many of them there are.
+const PAIRS: u8 = 80;
 
 /// A client fills the ring of a server that reads late. The flow is of group 19.
 const FULL_RING: &[u8] = b"host a 10.0.0.1 iss 1000 ring 1024 mss 512 rto 20
@@ -117,10 +105,6 @@ impl Gate for Hold {
             self.wait();
         }
     }
-
-    fn is_open(&self) -> bool {
-        false
-    }
 }
 
 /// The log of a scenario's run on so many cores.
@@ -138,7 +122,46 @@ fn run_on<R: Threads + Wait + Sync, G: Gate>(
     Ok(run(rt, alloc, &scenario, Mode::Cores(cores), gate)?)
 }
 
-/// Runs the two clients on two cores, with one worker held at a point until another one has passed its point.
+/// Clients of host a that send to a server each on host b, all at once: thousands of frames are due in a tick, for both
+/// of two cores. The error is want of memory.
+fn crowd(alloc: Global) -> Result<Vec<u8>, AllocError> {
+    let mut text = Vec::new(alloc);
+    text.extend_from_slice(SMALL_SEGMENTS)?;
+    for number in FIRST..FIRST + PAIRS {
+        put_server(&mut text, number)?;
+    }
+    for number in FIRST..FIRST + PAIRS {
+        put_client(&mut text, number)?;
+    }
+    Ok(text)
+}
+
+/// A server at a port of its own, ten times its number.
+fn put_server(text: &mut Vec<u8>, number: u8) -> Result<(), AllocError> {
+    text.extend_from_slice(b"app b s")?;
+    put_digits(text, number)?;
+    text.extend_from_slice(b"\nlisten door ")?;
+    put_digits(text, number)?;
+    text.extend_from_slice(b"0\naccept s door\nrecv s 60000\nclose s\n")
+}
+
+/// The client of the server with this number.
+fn put_client(text: &mut Vec<u8>, number: u8) -> Result<(), AllocError> {
+    text.extend_from_slice(b"app a c")?;
+    put_digits(text, number)?;
+    text.extend_from_slice(b"\nconnect s b ")?;
+    put_digits(text, number)?;
+    text.extend_from_slice(b"0\nfill s 60000\nclose s\n")
+}
+
+/// The last two decimal digits of a number.
+fn put_digits(text: &mut Vec<u8>, number: u8) -> Result<(), AllocError> {
+    text.push(b'0' + number / 10 % 10)?;
+    text.push(b'0' + number % 10)?;
+    Ok(())
+}
+
+/// Runs the crowd on two cores, with one worker held at a point until another one has passed its point.
 fn meets<R: Threads + Wait + Sync + Abort>(
     rt: &R,
     alloc: Global,
@@ -146,7 +169,8 @@ fn meets<R: Threads + Wait + Sync + Abort>(
     until: u32,
 ) -> Result<(), Fail> {
     let gate = Hold::new(held, until);
-    let _log = run_on(rt, alloc, TWO_CLIENTS, 2, &gate)?;
+    let text = crowd(alloc)?;
+    let _log = run_on(rt, alloc, &text, 2, &gate)?;
     assert!(rt; gate.was_held.load(Ordering::SeqCst));
     assert!(rt; !gate.ran_out.load(Ordering::SeqCst));
     Ok(())

@@ -68,10 +68,6 @@ impl Gate for Hold {
             self.wait();
         }
     }
-
-    fn is_open(&self) -> bool {
-        false
-    }
 }
 
 /// All peers open connections, and one piece of each is handled while the applications talk. `None` where it didn't

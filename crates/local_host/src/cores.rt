@@ -39,7 +39,7 @@ pub fn take_on_cores<'a, R: Threads + Sync, G: Gate>(
     ensures { IfOk result (λ rest. TookFrames tick flows.old.items (map arrival_in arrivals.now)
         (map arrival_in rest.items) flows.new.items) }
 {
-    if gate.is_open() && arrivals.len() < FRAMES_FOR_THREADS {
+    if arrivals.len() < FRAMES_FOR_THREADS {
         return take_in_turn(alloc, flows, places, tick, arrivals, steered);
     }
     let mut handing = hand_out(alloc, flows, spare, places, arrivals, steered)?;

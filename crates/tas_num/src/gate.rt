@@ -3,9 +3,6 @@
 pub trait Gate: Sync {
     /// A worker passes this point.
     fn pass(&self, point: u32);
-
-    /// Whether it holds nobody, so that workers need not be at their points at once.
-    fn is_open(&self) -> bool;
 }
 
 /// The gate that holds nobody.
@@ -14,8 +11,4 @@ pub struct NoGate;
 
 impl Gate for NoGate {
     fn pass(&self, _point: u32) {}
-
-    fn is_open(&self) -> bool {
-        true
-    }
 }

@@ -17,11 +17,12 @@ returns-then-branch-clause-took c old frames some =
 flows_are : (c : goal.In_ok-push) → c.match-place.flows ≡ c.args.flows.now
 flows_are c =
     elim c.match-place.branch [
-      in-Some+in_ok-take+else-branch w ↦ w.flows-is
+      | in-Some+in_ok-take+else-branch w ↦ w.flows-is
           ∙ turn_left c.args.core c.args.tick w.in-Some.place c.args.flows.now (arrival_in c.args.arrival)
           w.index-flows-place.result w.take.new.self w.in_ok-take.field-0 (c.requires ∙ w.in-Some.is)
           w.in_ok-take.ensures.taken w.if-branch.false w.in_ok-take.ensures.made
-    | in_default w ↦ w.flows-is ]
+      | in_default w ↦ w.flows-is
+    ]
 
 pub returns-clause-took : goal.returns-clause-took
 returns-clause-took c old frames some =
