@@ -88,7 +88,7 @@ follows params h caller tick call before after memory answer slot out fits legal
     }
 
 stretch_longer : (n m k l : ℕ) (s : Stretch) → n ≤ m → k ≤ l → StretchWithin n k s → StretchWithin m l s
-stretch_longer n m k l (One s) le le' is =
+stretch_longer n m k l (One t s) le le' is =
     record { bytes = omega (arith, is.bytes); came = call_longer k l s.call le' is.came }
 stretch_longer n m k l (Quiet r) le le' is = is
 
@@ -99,12 +99,12 @@ within_longer n m k l (s ∷ stretches) le le' all =
     (stretch_longer n m k l s le le' all.0, within_longer n m k l stretches le le' all.1)
 
 -- their entries in memory that grew
-entries_push : (old new : Memory) (before after : List Stretch) (s : Slot) (x : Entry) → Grows old new
-    → AllStand old before → entry_of new s ≡ x → Added before after s
+entries_push : (old new : Memory) (before after : List Stretch) (t : ℕ) (s : Slot) (x : Entry) → Grows old new
+    → AllStand old before → entry_of new t s ≡ x → Added before after t s
     → entries_of new after ≡ entries_of old before ++ x ∷ []
-entries_push old new before after s x grows within is added =
+entries_push old new before after t s x grows within is added =
     added.entries new
-    ∙ (ap (λ (es : List Entry). es ++ entry_of new s ∷ []) (entries_kept old new before grows within)
+    ∙ (ap (λ (es : List Entry). es ++ entry_of new t s ∷ []) (entries_kept old new before grows within)
     ∙ ap (λ (y : Entry). entries_of old before ++ y ∷ []) is)
 
 -- ----- segments
@@ -167,7 +167,8 @@ pub kept_after : (before after : Parts) (old new : Memory) (stretches stretches'
     (counts counts' : List CallerCount) (app app' : Option ℕ) (made last segments segments' : ℕ) (caller : Caller)
     (tick number t : ℕ) (call : CallIn) (answer : Answer)
     → IsRecord before old stretches counts app made last segments → after.params ≡ before.params
-    → Grows old new → number ≡ counted_for caller counts → t ≡ max tick last → t < 2 ^ 32 → Added stretches stretches' s
+    → Grows old new → number ≡ counted_for caller counts → t ≡ max tick last → t < 2 ^ 32
+    → Added stretches stretches' t s
     → ((other : Caller) → counted_for other counts' ≡ counted_for other counts + cond (same_caller caller other) 1 0)
     → ((out : List ℕ) → app' ≡ option_or app (got_by caller (call_of call) (reply_of answer out)))
     → segments' ≡ segments + segment_count answer
@@ -182,16 +183,15 @@ kept_after before after old new stretches stretches' s counts counts' app app' m
     (max tick (last_tick 0 h)) call answer s done.0 = rw (← n-is', ← t-is) done.1 in
     let x : Entry = next_entry h caller tick (call_of call) (reply_of answer done.0) in
     let grown : entries_of new stretches' ≡ h ++ x ∷ [] =
-    entries_push old new stretches stretches' s x grows is.within done'.entry added in
-    let at : s.tick ≡ t = ap (λ (y : Entry). y.tick) done'.entry ∙ sym t-is in
+    entries_push old new stretches stretches' t s x grows is.within
+    (rw t-is done'.entry) added in
     let all = follows before.params h caller tick call before after new answer s done.0 is.fits is.legal is.stands
     done' in
     let P : HostParams → List Entry → Type 0 = λ p es. Legal p es × Stands after (replay p es) in
     let there : P after.params (entries_of new stretches') =
     subst (λ (p : HostParams). P p (entries_of new stretches')) (sym same)
     (subst (P before.params) (sym grown) (all.legal, all.stands)) in
-    let few : length stretches + last_tick 0 h + 1 ≤ length stretches' + s.tick =
-    added.few old (omega (arith, at, t-is)) in
+    let few : length stretches + last_tick 0 h + 1 ≤ length stretches' + t = added.few old (omega (arith, t-is)) in
     record {
       kept = record {
         fits = subst InRange (sym same) is.fits;
@@ -206,7 +206,7 @@ kept_after before after old new stretches stretches' s counts counts' app app' m
             ∙ (sym (application_push h x) ∙ sym (ap application_of grown)));
         made = omega (arith, is.made, ap (length {A = Entry}) grown, length-append h (x ∷ []));
         last = t-is ∙ sym (ap (last_tick 0) grown ∙ last_push 0 h x);
-        few = omega (arith, few, at, is.few, is.last);
+        few = omega (arith, few, is.few, is.last);
         low = low;
         sent = omega (
           arith,
@@ -222,16 +222,21 @@ kept_after before after old new stretches stretches' s counts counts' app app' m
       answer = all.answer;
     }
 
+pub first_entries : (memory : Memory) (stretches : List Stretch) (t : ℕ) (s : Slot) (x : Entry)
+    → stretches ≡ One t s ∷ [] → entry_of memory t s ≡ x → entries_of memory stretches ≡ x ∷ []
+first_entries memory stretches t s x one is = ap (entries_of memory) one ∙ ap (λ (y : Entry). y ∷ []) is
+
 -- a record with its first entry
 pub opens_record : (p : Parts) (params : HostParams) (memory : Memory) (stretches : List Stretch)
     (counts : List CallerCount) (app : Option ℕ) (s : Slot) (x : Entry)
-    → x.tick < 2 ^ 32 → InRange params → p.params ≡ params → stretches ≡ One s ∷ [] → entry_of memory s ≡ x
+    → x.tick < 2 ^ 32 → InRange params → p.params ≡ params → stretches ≡ One x.tick s ∷ []
+    → entry_of memory x.tick s ≡ x
     → IsWithin (length memory.bytes) (length memory.came) s → IsFirst x
     → ((other : Caller) → counted_for other counts ≡ cond (same_caller x.caller other) 1 0)
     → Stands p (opened params x.call)
     → app ≡ got_by x.caller x.call x.reply → IsRecord p memory stretches counts app 1 x.tick 0
 opens_record p params memory stretches counts app s x low fits same one is within first counted stands got =
-    let entries : entries_of memory stretches ≡ x ∷ [] = ap (entries_of memory) one ∙ ap (λ (y : Entry). y ∷ []) is in
+    let entries : entries_of memory stretches ≡ x ∷ [] = first_entries memory stretches x.tick s x one is in
     let P : HostParams → List Entry → Type 0 = λ q es. Legal q es × Stands p (replay q es) in
     let begun : P params (x ∷ []) = ((first, tt), subst (Stands p) (sym (replay_first params x)) stands) in
     let there : P p.params (entries_of memory stretches) =

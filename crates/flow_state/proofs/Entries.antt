@@ -5,7 +5,6 @@ use lib.Seq.{drop-append-le}
 use Rattle.std.proofs.lemmas.List.{take-append-le}
 use Rattle.tas_model.specs.declared.entry.Call.TheVariants as calls
 use Rattle.tas_model.specs.declared.entry.Entry.{Entry}
-use Rattle.tas_model.specs.declared.entry.FrameId.{FrameId}
 use Rattle.tas_model.specs.declared.entry.Seg.{Seg}
 use Rattle.flow_state.specs.declared.slot.CameSlot.{CameSlot}
 use Rattle.flow_state.specs.declared.slot.CallSlot.{CallSlot}
@@ -15,8 +14,8 @@ use Rattle.flow_state.specs.declared.slot.Span.{Span}
 use Rattle.flow_state.specs.declared.stretch.Stretch.{Stretch}
 use Rattle.flow_state.specs.declared.stretch.Stretch.TheVariants.{One, Quiet}
 use Rattle.flow_state.specs.Arena.{Memory, Grows}
-use Rattle.flow_state.specs.Slots.{entry_of, call_in, call_with, reply_part, reply_in, bytes_at, SpanWithin, CameWithin}
-use Rattle.flow_state.specs.Slots.{IsWithin}
+use Rattle.flow_state.specs.Slots.{entry_of, call_in, call_with, frame_in, reply_part, reply_in, bytes_at, SpanWithin}
+use Rattle.flow_state.specs.Slots.{CameWithin, IsWithin}
 use Rattle.flow_state.specs.Stretches.{entries_in, entries_of, StretchWithin, AllStand}
 
 -- what stands in memory stands there still when it grows
@@ -36,11 +35,11 @@ came_kept (c ∷ old) (d ∷ new) (suc at) same below = came_kept old new at (cc
 
 call_kept : (old new : List CameSlot) (bytes : List ℕ) (c : CallSlot) → take (length old) new ≡ old
     → CameWithin (length old) c → call_in new bytes c ≡ call_in old bytes c
-call_kept old new bytes (cs.Passive iss at) same within =
-    ap (call_with (λ (frame : FrameId) (seg : Seg). calls.Passive frame iss seg) bytes)
+call_kept old new bytes (cs.Passive at) same within =
+    ap (call_with (λ (c : CameSlot) (seg : Seg). calls.Passive (frame_in c) c.iss seg) bytes)
     (came_kept old new at same within)
 call_kept old new bytes (cs.Rx at) same within =
-    ap (call_with (λ (frame : FrameId) (seg : Seg). calls.Rx frame seg) bytes) (came_kept old new at same within)
+    ap (call_with (λ (c : CameSlot) (seg : Seg). calls.Rx (frame_in c) seg) bytes) (came_kept old new at same within)
 call_kept old new bytes (cs.Connect iss) same within = refl
 call_kept old new bytes cs.Emit same within = refl
 call_kept old new bytes cs.Tick same within = refl
@@ -54,7 +53,7 @@ call_kept old new bytes cs.Close same within = refl
 call_kept old new bytes cs.Abort same within = refl
 
 pub call_longer : (k l : ℕ) (c : CallSlot) → k ≤ l → CameWithin k c → CameWithin l c
-call_longer k l (cs.Passive iss at) le is = omega (arith, is)
+call_longer k l (cs.Passive at) le is = omega (arith, is)
 call_longer k l (cs.Rx at) le is = omega (arith, is)
 call_longer k l (cs.Connect iss) le is = tt
 call_longer k l cs.Emit le is = tt
@@ -77,9 +76,9 @@ grows_self memory = record {
   longer_came = omega arith;
 }
 
-entry_kept : (old new : Memory) (s : Slot) → Grows old new → IsWithin (length old.bytes) (length old.came) s
-    → entry_of new s ≡ entry_of old s
-entry_kept old new s grows within =
+entry_kept : (old new : Memory) (t : ℕ) (s : Slot) → Grows old new → IsWithin (length old.bytes) (length old.came) s
+    → entry_of new t s ≡ entry_of old t s
+entry_kept old new t s grows within =
     let whole : old.bytes ++ drop (length old.bytes) new.bytes ≡ new.bytes =
     ap (λ (f : List ℕ). f ++ drop (length old.bytes) new.bytes) (sym grows.bytes)
     ∙ take-append-drop (length old.bytes) new.bytes in
@@ -97,7 +96,7 @@ entry_kept old new s grows within =
 
 stretch_kept : (old new : Memory) (s : Stretch) → Grows old new
     → StretchWithin (length old.bytes) (length old.came) s → entries_in new s ≡ entries_in old s
-stretch_kept old new (One s) grows fits = ap (λ (x : Entry). x ∷ []) (entry_kept old new s grows fits)
+stretch_kept old new (One t s) grows fits = ap (λ (x : Entry). x ∷ []) (entry_kept old new t s grows fits)
 stretch_kept old new (Quiet r) grows fits = refl
 
 -- what stretches mean they mean still when the memory grows

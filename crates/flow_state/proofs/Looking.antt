@@ -119,7 +119,7 @@ last_cut (x ∷ ss) s h =
 
 stretch_behind : (memory : Memory) (h : List Entry) (s : Stretch)
     → last_reply (h ++ (entries_in memory s ++ [])) ≡ last_reply (entries_in memory s)
-stretch_behind memory h (One s) = last_reply_behind h (entry_of memory s) []
+stretch_behind memory h (One t s) = last_reply_behind h (entry_of memory t s) []
 stretch_behind memory h (Quiet r) =
     ap (λ (xs : List Entry). last_reply (h ++ xs)) (append-nil (run_entries r))
     ∙ last_reply_behind h (quiet_tick r.caller r.number r.tick)

@@ -75,9 +75,9 @@ next_is r caller number tick h =
     (eqb tick (r.tick + r.more + 1)) h in
     (caller_is r.caller caller all.0, equal _ _ all.1, equal _ _ all.2)
 
-pub quiet_entry : (memory : Memory) (s : Slot) → is_quiet_tick s ≡ true
-    → entry_of memory s ≡ quiet_tick s.caller s.number s.tick
-quiet_entry memory s h = let is : (s.call ≡ cs.Tick) × (s.reply ≡ rs.Quiet) = pair_is s.call s.reply h in
+pub quiet_entry : (memory : Memory) (t : ℕ) (s : Slot) → is_quiet_tick s ≡ true
+    → entry_of memory t s ≡ quiet_tick s.caller s.number t
+quiet_entry memory t s h = let is : (s.call ≡ cs.Tick) × (s.reply ≡ rs.Quiet) = pair_is s.call s.reply h in
     let bytes : List ℕ = bytes_at memory.bytes s.bytes in
     cc (ap (call_in memory.came bytes) is.0, ap (reply_in (reply_part s.call bytes)) is.1)
 

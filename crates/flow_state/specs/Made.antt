@@ -33,7 +33,7 @@ pub record Makes (e : Endpoint) (tick : ℕ) (call : CallIn) (after : Parts) (ou
 pub record IsMadeWith (before after : Parts) (memory : Memory) (caller : Caller) (number tick : ℕ) (call : CallIn)
     (answer : Answer) (slot : Slot) (out : List ℕ) : Type 0 where
   pub makes : (e : Endpoint) → Valid e → Stands before e → Makes e tick call after out answer
-  pub entry : entry_of memory slot ≡ record {
+  pub entry : entry_of memory tick slot ≡ record {
     caller = caller;
     number = number;
     tick = tick;

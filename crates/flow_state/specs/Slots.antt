@@ -39,10 +39,18 @@ abbrev pub head_in : HeadSlot → Head
 head_in h = record { flags = h.flags; seq = h.seq; ack = h.ack; window = h.window; mss = h.mss }
 
 -- ----- segments that came
--- a segment that came in this frame
-abbrev pub came_of : FrameId → Segment → CameSlot
-came_of frame s = record {
-  frame = frame;
+-- the frame of a segment that came
+abbrev pub frame_in : CameSlot → FrameId
+frame_in c = record { host = c.host; flow = c.flow; number = c.number; copy = c.copy }
+
+-- a segment that came in this frame, with the own first number of the flow that it opens
+abbrev pub came_of : FrameId → (iss : Seq) → Segment → CameSlot
+came_of frame iss s = record {
+  number = frame.number;
+  host = frame.host;
+  flow = frame.flow;
+  copy = frame.copy;
+  iss = iss;
   head = record { seq = s.seq; ack = s.ack; window = s.window; flags = s.flags.0; mss = s.mss };
 }
 
@@ -52,29 +60,33 @@ came_count (ins.Passive frame iss seg) = 1
 came_count (ins.Rx frame seg) = 1
 came_count _ = 0
 
--- where the call brings a segment, it stands in the list at this place
+-- Where the call brings a segment, it stands in the list at this place, and has 0 as own first number if it opens no
+-- flow.
 abbrev pub HasCame : List CameSlot → ℕ → CallIn → Type 0
-HasCame came at (ins.Passive frame iss seg) = (at < length came) × (slice_get came at ≡ Some (came_of frame seg))
-HasCame came at (ins.Rx frame seg) = (at < length came) × (slice_get came at ≡ Some (came_of frame seg))
+HasCame came at (ins.Passive frame iss seg) =
+    (at < length came) × (slice_get came at ≡ Some (came_of frame iss seg))
+HasCame came at (ins.Rx frame seg) =
+    (at < length came) × (slice_get came at ≡ Some (came_of frame (record { 0 = 0 }) seg))
 HasCame came at _ = ⊤
 
 -- where the slot's call brought a segment, that is one of the first n that came
 abbrev pub CameWithin : ℕ → CallSlot → Type 0
-CameWithin n (cs.Passive iss at) = at < n
+CameWithin n (cs.Passive at) = at < n
 CameWithin n (cs.Rx at) = at < n
 CameWithin n _ = ⊤
 
 -- ----- what slots mean
--- a call with the segment that came, with these bytes; there is one (`CameWithin`), so that it isn't Emit
-abbrev pub call_with : (FrameId → Seg → Call) → List ℕ → Option CameSlot → Call
-call_with call bytes (Some c) = call c.frame (record { head = head_in c.head; bytes = bytes })
+-- a call with the segment that came, with these bytes; where none came it's Emit, which `CameWithin` rules out
+abbrev pub call_with : (CameSlot → Seg → Call) → List ℕ → Option CameSlot → Call
+call_with call bytes (Some c) = call c (record { head = head_in c.head; bytes = bytes })
 call_with call bytes None = calls.Emit
 
 -- the call of a slot with these bytes
 abbrev pub call_in : List CameSlot → List ℕ → CallSlot → Call
 call_in came bytes (cs.Connect iss) = calls.Connect iss
-call_in came bytes (cs.Passive iss at) = call_with (λ frame seg. calls.Passive frame iss seg) bytes (slice_get came at)
-call_in came bytes (cs.Rx at) = call_with (λ frame seg. calls.Rx frame seg) bytes (slice_get came at)
+call_in came bytes (cs.Passive at) =
+    call_with (λ c seg. calls.Passive (frame_in c) c.iss seg) bytes (slice_get came at)
+call_in came bytes (cs.Rx at) = call_with (λ c seg. calls.Rx (frame_in c) seg) bytes (slice_get came at)
 call_in came bytes cs.Emit = calls.Emit
 call_in came bytes cs.Tick = calls.Tick
 call_in came bytes cs.Control = calls.Control
@@ -88,7 +100,7 @@ call_in came bytes cs.Abort = calls.Abort
 
 -- the bytes of the reply: those of a received segment are its own
 abbrev pub reply_part : CallSlot → List ℕ → List ℕ
-reply_part (cs.Passive iss at) bytes = []
+reply_part (cs.Passive at) bytes = []
 reply_part (cs.Rx at) bytes = []
 reply_part _ bytes = bytes
 
@@ -117,12 +129,12 @@ reply_in bytes rs.Expired = replies.Expired
 reply_in bytes rs.TimedOut = replies.TimedOut
 reply_in bytes (rs.Window cwnd ssthresh) = replies.Window cwnd ssthresh
 
--- the entry of a slot
-abbrev pub entry_of : Memory → Slot → Entry
-entry_of memory s = record {
+-- the entry of a slot at this tick
+abbrev pub entry_of : Memory → (tick : ℕ) → Slot → Entry
+entry_of memory tick s = record {
   caller = s.caller;
   number = s.number;
-  tick = s.tick;
+  tick = tick;
   call = call_in memory.came (bytes_at memory.bytes s.bytes) s.call;
   reply = reply_in (reply_part s.call (bytes_at memory.bytes s.bytes)) s.reply;
 }

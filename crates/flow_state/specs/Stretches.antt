@@ -40,7 +40,7 @@ run_entries r = quiet_ticks r.caller r.number r.tick (suc r.more)
 
 -- those of a stretch
 abbrev pub entries_in : Memory → Stretch → List Entry
-entries_in memory (One s) = entry_of memory s ∷ []
+entries_in memory (One tick s) = entry_of memory tick s ∷ []
 entries_in memory (Quiet r) = run_entries r
 
 -- the whole history
@@ -55,7 +55,7 @@ pub record IsRun (r : QuietRun) : Type 0 where
 
 -- a stretch names nothing but the first n bytes, and the first k segments that came
 abbrev pub StretchWithin : (n k : ℕ) → Stretch → Type 0
-StretchWithin n k (One s) = IsWithin n k s
+StretchWithin n k (One tick s) = IsWithin n k s
 StretchWithin n k (Quiet r) = IsRun r
 
 -- nor does any of all
@@ -83,7 +83,7 @@ comes_next r caller number tick =
 
 abbrev pub ends_so : Option Stretch → Caller → (number tick : ℕ) → Bool
 ends_so None caller number tick = false
-ends_so (Some (One s)) caller number tick = false
+ends_so (Some (One at s)) caller number tick = false
 ends_so (Some (Quiet r)) caller number tick = comes_next r caller number tick
 
 -- it is the next one of the run that the stretches end with
@@ -91,12 +91,13 @@ abbrev pub goes_on : List Stretch → Caller → (number tick : ℕ) → Bool
 goes_on ss caller number tick = ends_so (slice_get ss (length ss - 1)) caller number tick
 
 -- ----- one entry more
--- The stretches have the entry of this slot behind the others. Where no stretch came to them, a tick passed.
-pub record Added (before after : List Stretch) (s : Slot) : Type 0 where
-  pub entries : (memory : Memory) → entries_of memory after ≡ entries_of memory before ++ entry_of memory s ∷ []
+-- The stretches have the entry of this slot, at this tick, behind the others. Where no stretch came to them, a tick
+-- passed.
+pub record Added (before after : List Stretch) (tick : ℕ) (s : Slot) : Type 0 where
+  pub entries : (memory : Memory) → entries_of memory after ≡ entries_of memory before ++ entry_of memory tick s ∷ []
   pub within : (n k : ℕ) → AllWithin n k before → IsWithin n k s → AllWithin n k after
-  pub few : (memory : Memory) → last_tick 0 (entries_of memory before) ≤ s.tick
-      → length before + last_tick 0 (entries_of memory before) + 1 ≤ length after + s.tick
+  pub few : (memory : Memory) → last_tick 0 (entries_of memory before) ≤ tick
+      → length before + last_tick 0 (entries_of memory before) + 1 ≤ length after + tick
 
 -- the entry of a Tick with an answer that has no bytes
 abbrev pub tick_entry : Caller → (number tick : ℕ) → Answer → Entry
@@ -110,10 +111,10 @@ tick_entry caller number tick answer = record {
 
 -- a slot of that entry, wherever its memory ends
 pub record IsTickSlot (caller : Caller) (number tick : ℕ) (answer : Answer) (s : Slot) : Type 0 where
-  pub entry : (memory : Memory) → entry_of memory s ≡ tick_entry caller number tick answer
+  pub entry : (memory : Memory) → entry_of memory tick s ≡ tick_entry caller number tick answer
   pub within : (n k : ℕ) → IsWithin n k s
 
 -- the stretches have the entry of a Tick more
 abbrev pub AddedTick : (before after : List Stretch) → Caller → (number tick : ℕ) → Answer → Type 0
 AddedTick before after caller number tick answer =
-    (s : Slot) × IsTickSlot caller number tick answer s × Added before after s
+    (s : Slot) × IsTickSlot caller number tick answer s × Added before after tick s

@@ -18,6 +18,7 @@ use segment_fields::Segment;
 use std::alloc::{AllocError, Global};
 use std::marker::Model;
 use tas_model::{Caller, FrameId};
+use tas_num::Seq;
 
 /// The bytes of a record's entries, one after the other, and room behind them; and the segments that came.
 ///
@@ -66,12 +67,18 @@ impl Arena {
         }
     }
 
-    /// That of a segment which came in this frame. The error is want of memory.
-    pub fn of_segment(alloc: Global, frame: FrameId, seg: &Segment<'_>) -> Result<Arena, AllocError>
-        ensures { IfOk result (λ a. a.memory ≡ memory_of seg.now.payload.now (came_of frame seg.now ∷ [])) }
+    /// The memory of a segment that came in this frame, and opens a flow with this own first number. The error is want
+    /// of memory.
+    pub fn of_segment(
+        alloc: Global,
+        frame: FrameId,
+        iss: Seq,
+        seg: &Segment<'_>,
+    ) -> Result<Arena, AllocError>
+        ensures { IfOk result (λ a. a.memory ≡ memory_of seg.now.payload.now (came_of frame iss seg.now ∷ [])) }
     {
         let mut came = Vec::new(alloc);
-        came.push(came_slot(frame, seg))?;
+        came.push(came_slot(frame, iss, seg))?;
         Ok(Arena {
             bytes: Vec::from_slice(alloc, seg.payload)?,
             used: seg.payload.len(),
@@ -235,7 +242,8 @@ fn keep_entry(
     requires room { used + answer_len answer.now + length (payload_of call.now) ≤ vec_len bytes.old }
     ensures kept { take used bytes.new.items ≡ take used bytes.old.items }
     ensures entry { (came : List CameSlot) → HasCame came stamp.at call.now
-        → entry_of (memory_of (take (result.1.end + length (payload_of call.now)) bytes.new.items) came) result.0
+        → entry_of (memory_of (take (result.1.end + length (payload_of call.now)) bytes.new.items) came) stamp.tick
+        result.0
         ≡ record {
           caller = stamp.caller;
           number = stamp.number;
@@ -269,7 +277,7 @@ fn close_entry(
     requires room { kept.end + length (payload_of call.now) ≤ vec_len bytes.old }
     ensures kept { take kept.end bytes.new.items ≡ take kept.end bytes.old.items }
     ensures entry { (came : List CameSlot) → HasCame came stamp.at call.now
-        → entry_of (memory_of (take (kept.end + length (payload_of call.now)) bytes.new.items) came) result
+        → entry_of (memory_of (take (kept.end + length (payload_of call.now)) bytes.new.items) came) stamp.tick result
         ≡ record {
           caller = stamp.caller;
           number = stamp.number;
@@ -287,7 +295,6 @@ fn close_entry(
     Slot {
         caller: stamp.caller,
         number: stamp.number,
-        tick: stamp.tick,
         bytes: span,
         reply: reply_slot(answer),
         call,

@@ -5,6 +5,7 @@ ghost use Rattle.flow_state.specs.Slots.{came_of, came_count, HasCame};
 use crate::call::CallIn;
 use crate::slot::{CameSlot, came_slot};
 use std::alloc::AllocError;
+use tas_num::Seq;
 
 /// How many segments the call brings.
 pub fn came_by(call: &CallIn<'_>) -> usize
@@ -41,9 +42,8 @@ pub fn keep_came(came: &mut Vec<CameSlot>, call: &CallIn<'_>)
     ensures capacity { vec_capacity came.old ≤ vec_capacity came.new }
 {
     match call {
-        CallIn::Passive { frame, seg, .. } | CallIn::Rx { frame, seg } => {
-            push(came, came_slot(*frame, seg));
-        }
+        CallIn::Passive { frame, iss, seg } => push(came, came_slot(*frame, *iss, seg)),
+        CallIn::Rx { frame, seg } => push(came, came_slot(*frame, Seq(0), seg)),
         _ => {}
     }
 }

@@ -100,9 +100,12 @@ impl FlowRecord {
         ensures entries { IfOk result (λ r. r.entries ≡ first_passive tick frame iss (seg_of seg.now) ∷ []) }
     {
         let parts = passive_parts(alloc, tuple, params, iss, seg)?;
-        let arena = Arena::of_segment(alloc, frame, seg)?;
+        let arena = Arena::of_segment(alloc, frame, iss, seg)?;
         let mut stretches = Vec::new(alloc);
-        stretches.push(Stretch::One(passive_slot(iss, seg, tick)))?;
+        stretches.push(Stretch::One {
+            tick,
+            slot: passive_slot(seg),
+        })?;
         let counts = CallerCounts::of_first(alloc, Caller::Slow)?;
         Ok(FlowRecord {
             id,
@@ -135,7 +138,10 @@ impl FlowRecord {
     {
         let parts = connect_parts(alloc, tuple, params, iss)?;
         let mut stretches = Vec::new(alloc);
-        stretches.push(Stretch::One(connect_slot(caller, iss, tick)))?;
+        stretches.push(Stretch::One {
+            tick,
+            slot: connect_slot(caller, iss),
+        })?;
         let counts = CallerCounts::of_first(alloc, caller)?;
         Ok(FlowRecord {
             id,
@@ -322,7 +328,7 @@ impl FlowRecord {
         self.last = tick;
         self.application = self.application.or(got_by(caller, call, &answer));
         self.counts.count_one(caller);
-        add(&mut self.stretches, &slot);
+        add(&mut self.stretches, tick, &slot);
         Ok(Some(answer))
     }
 
@@ -408,7 +414,7 @@ fn last_bytes_of<'a>(arena: &'a [u8], came: &[CameSlot], stretch: &Stretch) -> &
     ensures { result.now ≡ reply_bytes (last_reply (entries_in (memory_of arena.now came.now) stretch.now)) }
 {
     match stretch {
-        Stretch::One(slot) => entry_view(arena, came, slot).reply.bytes(),
+        Stretch::One { tick, slot } => entry_view(arena, came, *tick, slot).reply.bytes(),
         Stretch::Quiet(_) => &[],
     }
 }

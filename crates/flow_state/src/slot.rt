@@ -1,4 +1,5 @@
 ghost use Rattle.std.specs.Prelude.{◌≡◌, ℕ, ◌+◌, ◌≤◌, List, take, drop, length, ◌<◌, ◌^◌, ◌∷◌, []};
+ghost use Rattle.tas_num.specs.declared.seq.Seq.{Seq};
 ghost use Rattle.tas_model.specs.declared.entry.FrameId.{FrameId};
 ghost use Rattle.flow_state.specs.declared.slot.CameSlot.{CameSlot};
 ghost use Rattle.flow_state.specs.Arena.{Memory, memory_of};
@@ -6,7 +7,7 @@ ghost use Rattle.flow_state.specs.Calls.{call_of, seg_of, reply_of, payload_of, 
 ghost use Rattle.flow_state.specs.Calls.{IsSmall};
 ghost use Rattle.flow_state.specs.Flow.{first_passive, first_connect};
 ghost use Rattle.flow_state.specs.Slots.{Holds, call_in, reply_part, reply_in, bytes_at, SpanWithin, IsWithin, IsBare};
-ghost use Rattle.flow_state.specs.Slots.{entry_of, head_in, came_of, HasCame, CameWithin};
+ghost use Rattle.flow_state.specs.Slots.{entry_of, head_in, frame_in, came_of, HasCame, CameWithin};
 ghost use Rattle.flow_state.specs.Stretches.{IsTickSlot};
 
 use crate::call::{Answer, CallIn};
@@ -32,9 +33,16 @@ pub struct HeadSlot {
 }
 
 /// A segment that came, but for its payload. Few entries have one, so that it stands in a list of its own.
+///
+/// The fields of its frame stand in it one by one, so that there is no room between them.
 #[derive(Clone, Copy)]
 pub struct CameSlot {
-    pub frame: FrameId,
+    pub number: u64,
+    pub host: u32,
+    pub flow: u32,
+    pub copy: u32,
+    /// The own first number of the flow that it opens; 0 where it opens none.
+    pub iss: Seq,
     pub head: HeadSlot,
 }
 
@@ -42,7 +50,7 @@ pub struct CameSlot {
 #[derive(Clone, Copy)]
 pub enum CallSlot {
     Connect { iss: Seq },
-    Passive { iss: Seq, at: u32 },
+    Passive { at: u32 },
     Rx { at: u32 },
     Emit,
     Tick,
@@ -97,7 +105,8 @@ pub enum ReplySlot {
     },
 }
 
-/// An entry whose bytes stand in the record's memory: those of a segment that its call brings, else of its reply.
+/// An entry but for its tick. Its bytes stand in the record's memory: those of a segment that its call brings, else of
+/// its reply.
 ///
 /// The fields stand in this order so that there is little room between them.
 #[derive(Clone, Copy)]
@@ -105,9 +114,23 @@ pub struct Slot {
     pub caller: Caller,
     pub number: u64,
     pub bytes: Span,
-    pub tick: u32,
     pub reply: ReplySlot,
     pub call: CallSlot,
+}
+
+impl CameSlot {
+    /// The frame that it came in.
+    #[inline(always)]
+    pub fn frame(&self) -> FrameId
+        ensures { result ≡ frame_in self.now }
+    {
+        FrameId {
+            host: self.host,
+            flow: self.flow,
+            number: self.number,
+            copy: self.copy,
+        }
+    }
 }
 
 impl HeadSlot {
@@ -125,12 +148,16 @@ impl HeadSlot {
     }
 }
 
-/// A segment that came in this frame.
-pub fn came_slot(frame: FrameId, seg: &Segment<'_>) -> CameSlot
-    ensures { result ≡ came_of frame seg.now }
+/// A segment that came in this frame, with the own first number of the flow that it opens.
+pub fn came_slot(frame: FrameId, iss: Seq, seg: &Segment<'_>) -> CameSlot
+    ensures { result ≡ came_of frame iss seg.now }
 {
     CameSlot {
-        frame,
+        number: frame.number,
+        host: frame.host,
+        flow: frame.flow,
+        copy: frame.copy,
+        iss,
         head: HeadSlot {
             seq: seg.seq,
             ack: seg.ack,
@@ -158,9 +185,7 @@ pub fn call_slot(call: &CallIn<'_>, at: u32, start: usize, n: usize, end: usize)
     };
     match call {
         CallIn::Connect { iss } => (CallSlot::Connect { iss: *iss }, reply),
-        CallIn::Passive { iss, seg, .. } => {
-            (CallSlot::Passive { iss: *iss, at }, payload_at(seg, end))
-        }
+        CallIn::Passive { seg, .. } => (CallSlot::Passive { at }, payload_at(seg, end)),
         CallIn::Rx { seg, .. } => (CallSlot::Rx { at }, payload_at(seg, end)),
         CallIn::Emit => (CallSlot::Emit, reply),
         CallIn::Tick => (CallSlot::Tick, reply),
@@ -232,14 +257,13 @@ pub fn reply_slot(answer: &Answer) -> ReplySlot
 }
 
 /// The slot of a Tick that was answered so, without bytes.
-pub fn tick_slot(caller: Caller, number: u64, tick: u32, answer: &Answer) -> Slot
+pub fn tick_slot(caller: Caller, number: u64, answer: &Answer) -> Slot
     requires { answer_len answer.now ≡ 0 }
-    ensures { IsTickSlot caller number tick answer.now result }
+    ensures { (tick : ℕ) → IsTickSlot caller number tick answer.now result }
 {
     Slot {
         caller,
         number,
-        tick,
         call: CallSlot::Tick,
         bytes: Span { from: 0, len: 0 },
         reply: reply_slot(answer),
@@ -247,31 +271,29 @@ pub fn tick_slot(caller: Caller, number: u64, tick: u32, answer: &Answer) -> Slo
 }
 
 /// The slot of the first entry of a passive flow, whose segment is all that stands in memory.
-pub fn passive_slot(iss: Seq, seg: &Segment<'_>, tick: u32) -> Slot
-    ensures entry { (frame : FrameId)
-        → entry_of (memory_of seg.now.payload.now (came_of frame seg.now ∷ [])) result
+pub fn passive_slot(seg: &Segment<'_>) -> Slot
+    ensures entry { (frame : FrameId) (iss : Seq) (tick : ℕ)
+        → entry_of (memory_of seg.now.payload.now (came_of frame iss seg.now ∷ [])) tick result
         ≡ first_passive tick frame iss (seg_of seg.now) }
     ensures within { IsWithin (length seg.now.payload.now) 1 result }
 {
     Slot {
         caller: Caller::Slow,
         number: 0,
-        tick,
-        call: CallSlot::Passive { iss, at: 0 },
+        call: CallSlot::Passive { at: 0 },
         bytes: payload_at(seg, 0),
         reply: ReplySlot::Ok,
     }
 }
 
 /// The slot of the first entry of a flow that its own host opens.
-pub fn connect_slot(caller: Caller, iss: Seq, tick: u32) -> Slot
-    ensures entry { (memory : Memory) → entry_of memory result ≡ first_connect caller tick iss }
+pub fn connect_slot(caller: Caller, iss: Seq) -> Slot
+    ensures entry { (memory : Memory) (tick : ℕ) → entry_of memory tick result ≡ first_connect caller tick iss }
     ensures within { (n k : ℕ) → IsWithin n k result }
 {
     Slot {
         caller,
         number: 0,
-        tick,
         call: CallSlot::Connect { iss },
         bytes: Span { from: 0, len: 0 },
         reply: ReplySlot::Ok,

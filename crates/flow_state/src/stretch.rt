@@ -29,8 +29,8 @@ pub struct QuietRun {
 /// Entries that stand together in the record's memory.
 #[derive(Clone, Copy)]
 pub enum Stretch {
-    /// One entry.
-    One(Slot),
+    /// One entry. Its tick stands here, where there is room for it before the slot.
+    One { tick: u32, slot: Slot },
     /// Quiet ticks.
     Quiet(QuietRun),
 }
@@ -144,24 +144,24 @@ fn add_quiet(stretches: &mut Vec<Stretch>, caller: Caller, number: u64, tick: u3
     }
 }
 
-/// Adds an entry behind the others, which have room for one.
-pub fn add(stretches: &mut Vec<Stretch>, slot: &Slot)
+/// Adds an entry at this tick behind the others, which have room for one.
+pub fn add(stretches: &mut Vec<Stretch>, tick: u32, slot: &Slot)
     requires { vec_len stretches.old < vec_capacity stretches.old }
     ensures entries { (memory : Memory) → entries_of memory stretches.new.items ≡ entries_of memory stretches.old.items
-        ++ entry_of memory slot.now ∷ [] }
+        ++ entry_of memory tick slot.now ∷ [] }
     ensures within { (n k : ℕ) → AllWithin n k stretches.old.items → IsWithin n k slot.now
         → AllWithin n k stretches.new.items }
     // Where no stretch came to the others, a tick passed.
-    ensures few { (memory : Memory) → last_tick 0 (entries_of memory stretches.old.items) ≤ slot.now.tick
+    ensures few { (memory : Memory) → last_tick 0 (entries_of memory stretches.old.items) ≤ tick
         → vec_len stretches.old + last_tick 0 (entries_of memory stretches.old.items) + 1 ≤ vec_len stretches.new
-        + slot.now.tick }
+        + tick }
     ensures len { vec_len stretches.new ≤ vec_len stretches.old + 1 }
     ensures capacity { vec_capacity stretches.old ≤ vec_capacity stretches.new }
 {
     if is_quiet_tick(slot) {
-        add_quiet(stretches, slot.caller, slot.number, slot.tick);
+        add_quiet(stretches, slot.caller, slot.number, tick);
     } else {
-        push(stretches, Stretch::One(*slot));
+        push(stretches, Stretch::One { tick, slot: *slot });
     }
 }
 
@@ -181,6 +181,6 @@ pub fn add_tick(
 {
     match answer {
         Answer::Quiet => add_quiet(stretches, caller, number, tick),
-        _ => add(stretches, &tick_slot(caller, number, tick, answer)),
+        _ => add(stretches, tick, &tick_slot(caller, number, answer)),
     }
 }

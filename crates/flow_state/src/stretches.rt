@@ -127,7 +127,7 @@ pub fn stretch_view<'a>(arena: &'a [u8], came: &[CameSlot], stretch: &Stretch) -
     ensures fits { IsFit result }
 {
     match stretch {
-        Stretch::One(slot) => StretchView::One(entry_view(arena, came, slot)),
+        Stretch::One { tick, slot } => StretchView::One(entry_view(arena, came, *tick, slot)),
         Stretch::Quiet(run) => StretchView::Quiet(*run),
     }
 }

@@ -129,18 +129,18 @@ fn call_view<'a>(came: &[CameSlot], bytes: &'a [u8], call: CallSlot) -> CallView
 {
     match call {
         CallSlot::Connect { iss } => CallView::Connect { iss },
-        CallSlot::Passive { iss, at } => {
+        CallSlot::Passive { at } => {
             let slot = &came[at as usize];
             CallView::Passive {
-                frame: slot.frame,
-                iss,
+                frame: slot.frame(),
+                iss: slot.iss,
                 seg: seg_view(slot, bytes),
             }
         }
         CallSlot::Rx { at } => {
             let slot = &came[at as usize];
             CallView::Rx {
-                frame: slot.frame,
+                frame: slot.frame(),
                 seg: seg_view(slot, bytes),
             }
         }
@@ -228,17 +228,17 @@ fn reply_view<'a>(bytes: &'a [u8], reply: ReplySlot) -> ReplyView<'a>
     }
 }
 
-/// The entry of a slot.
+/// The entry of a slot at this tick.
 #[inline(always)]
-pub fn entry_view<'a>(arena: &'a [u8], came: &[CameSlot], slot: &Slot) -> EntryView<'a>
+pub fn entry_view<'a>(arena: &'a [u8], came: &[CameSlot], tick: u32, slot: &Slot) -> EntryView<'a>
     requires { IsWithin (length arena.now) (length came.now) slot.now }
-    ensures { seen_entry result ≡ entry_of (memory_of arena.now came.now) slot.now }
+    ensures { seen_entry result ≡ entry_of (memory_of arena.now came.now) tick slot.now }
 {
     let bytes = bytes_of(arena, slot.bytes);
     EntryView {
         caller: slot.caller,
         number: slot.number,
-        tick: slot.tick,
+        tick,
         call: call_view(came, bytes, slot.call),
         reply: reply_view(reply_part(bytes, slot.call), slot.reply),
     }

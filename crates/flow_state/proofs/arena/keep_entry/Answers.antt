@@ -23,7 +23,7 @@ returns-clause-entry c came has =
     subst
     (λ (r : Reply). entry_of
     (memory_of (take (kept.end + length (payload_of c.args.call.now)) c.close_entry-slot.new.bytes.items) came)
-    c.close_entry-slot.result
+    c.args.stamp.tick c.close_entry-slot.result
     ≡ record {
       caller = c.args.stamp.caller;
       number = c.args.stamp.number;

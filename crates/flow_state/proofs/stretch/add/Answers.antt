@@ -9,7 +9,7 @@ pub returns-then-is_quiet_tick-clause-entries : goal.returns-then-is_quiet_tick-
 returns-then-is_quiet_tick-clause-entries c memory =
     c.add_quiet.ensures.entries memory
     ∙ ap (λ (x : Entry). entries_of memory c.args.stretches.now.items ++ x ∷ [])
-    (sym (quiet_entry memory c.args.slot.now (sym c.is_quiet_tick.ensures ∙ c.if-is_quiet_tick.true)))
+    (sym (quiet_entry memory c.args.tick c.args.slot.now (sym c.is_quiet_tick.ensures ∙ c.if-is_quiet_tick.true)))
 
 pub returns-then-is_quiet_tick-clause-within : goal.returns-then-is_quiet_tick-clause-within
 returns-then-is_quiet_tick-clause-within c n k all is = c.add_quiet.ensures.within n k all
@@ -17,4 +17,4 @@ returns-then-is_quiet_tick-clause-within c n k all is = c.add_quiet.ensures.with
 pub returns-else-is_quiet_tick-clause-within : goal.returns-else-is_quiet_tick-clause-within
 returns-else-is_quiet_tick-clause-within c n k all is =
     subst (AllWithin n k) (sym c.push.ensures.items)
-    (within_push n k c.args.stretches.now.items (One c.args.slot.now) is all)
+    (within_push n k c.args.stretches.now.items (One c.args.tick c.args.slot.now) is all)

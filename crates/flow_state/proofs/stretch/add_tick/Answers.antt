@@ -10,7 +10,6 @@ returns-in-Quiet-clause-added c = (
     caller = c.args.caller;
     number = c.args.number;
     bytes = record { from = 0; len = 0 };
-    tick = c.args.tick;
     reply = rs.Quiet;
     call = cs.Tick;
   },
@@ -36,7 +35,7 @@ returns-in_default c =
     record {
       added = (
         c.tick_slot.result,
-        c.tick_slot.ensures,
+        c.tick_slot.ensures c.args.tick,
         record {
           entries = c.add.ensures.entries;
           within = c.add.ensures.within;

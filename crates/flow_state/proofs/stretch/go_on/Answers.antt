@@ -25,7 +25,6 @@ returns-clause-added c =
         caller = c.args.caller;
         number = c.args.number;
         bytes = record { from = 0; len = 0 };
-        tick = c.args.tick;
         reply = rs.Quiet;
         call = cs.Tick;
       },

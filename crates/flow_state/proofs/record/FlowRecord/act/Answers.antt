@@ -42,7 +42,8 @@ grown g c =
     (omega (arith, c.self.invariant.low, c.max-tick.ensures, c.ranges.tick.fits))
     (record {
       entries = λ memory. c.add.ensures.entries memory
-          ∙ ap (λ (ss : List Stretch). entries_of memory ss ++ entry_of memory c.in-Some.slot ∷ []) same;
+          ∙ ap (λ (ss : List Stretch). entries_of memory ss ++ entry_of memory c.max-tick.result c.in-Some.slot ∷ [])
+          same;
       within = λ n k all is. c.add.ensures.within n k (subst (AllWithin n k) (sym same) all) is;
       few = λ memory low.
           let end : last_tick 0 (entries_of memory c.reserve.new.self.items)

@@ -48,7 +48,8 @@ grown g c =
     c.number_of-number.ensures
     (grind arith)
     (omega (arith, c.self.invariant.low, c.max-tick.ensures, c.ranges.tick.fits))
-    (subst (λ (ss : List Stretch). Added ss c.add_tick.new.stretches.items s) same c.add_tick.ensures.added.2)
+    (subst (λ (ss : List Stretch). Added ss c.add_tick.new.stretches.items c.max-tick.result s) same
+    c.add_tick.ensures.added.2)
     (λ (other : Caller). c.count_one.ensures.counted other
     ∙ ap (λ (cs : List CallerCount). counted_for other cs + cond (same_caller c.args.caller other) 1 0)
     c.in_ok-reserve-2.ensures.counts)
