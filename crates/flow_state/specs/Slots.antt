@@ -60,7 +60,8 @@ came_count (ins.Passive frame iss seg) = 1
 came_count (ins.Rx frame seg) = 1
 came_count _ = 0
 
--- where the call brings a segment, it stands in the list at this place; one that opens no flow has a 0 there
+-- Where the call brings a segment, it stands in the list at this place, and has 0 as own first number if it opens no
+-- flow.
 abbrev pub HasCame : List CameSlot → ℕ → CallIn → Type 0
 HasCame came at (ins.Passive frame iss seg) =
     (at < length came) × (slice_get came at ≡ Some (came_of frame iss seg))
@@ -75,7 +76,7 @@ CameWithin n (cs.Rx at) = at < n
 CameWithin n _ = ⊤
 
 -- ----- what slots mean
--- a call with the segment that came, with these bytes; there is one (`CameWithin`), so that it isn't Emit
+-- a call with the segment that came, with these bytes; where none came it's Emit, which `CameWithin` rules out
 abbrev pub call_with : (CameSlot → Seg → Call) → List ℕ → Option CameSlot → Call
 call_with call bytes (Some c) = call c (record { head = head_in c.head; bytes = bytes })
 call_with call bytes None = calls.Emit

@@ -67,8 +67,8 @@ impl Arena {
         }
     }
 
-    /// That of a segment which came in this frame, and opens a flow with this own first number. The error is want of
-    /// memory.
+    /// The memory of a segment that came in this frame, and opens a flow with this own first number. The error is want
+    /// of memory.
     pub fn of_segment(
         alloc: Global,
         frame: FrameId,
