@@ -1,5 +1,6 @@
 -- Frames that cores take one after the other.
-use Rattle.std.proofs.Common.{◌≡◌, ℕ, ◌++◌, List, [], ◌∷◌, set, map, fold, All, Bool, true, false, cond, ◌+◌, ◌<◌, take, length}
+use Rattle.std.proofs.Common.{◌≡◌, ℕ, ◌++◌, List, [], ◌∷◌, set, map, Bool, true, false}
+use Rattle.std.proofs.Common.{cond, ◌+◌, ◌<◌, take, length}
 use Rattle.std.proofs.Common.{Some, is_some, slice_get, get_or, refl, sym, ap, subst, ◌∙◌, append_assoc}
 use Rattle.std.proofs.Common.{Result, Ok, Err, IfOk}
 use Rattle.std.specs.Global.{Vec}
@@ -91,7 +92,8 @@ pub turn_left : (core t place : ℕ) (now : List Live) (x : Arrival) (d after : 
     → after ≡ worked_frame core t x (get_or now place d) → set now place after ≡ now
 turn_left core t place now x d after taken led is left made =
     let l : Live = get_or now place d in
-    let same : after ≡ l = made ∙ ap (λ (b : Bool). cond b (packet_taken core t x.frame x.packet l) l) (sym is ∙ left) in
+    let same : after ≡ l =
+    made ∙ ap (λ (b : Bool). cond b (packet_taken core t x.frame x.packet l) l) (sym is ∙ left) in
     ap (set now place) same ∙ set_same now place l (there now place d (place_below x.packet now place led))
 
 -- of the frames that came, the next

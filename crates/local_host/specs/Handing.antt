@@ -102,8 +102,8 @@ taken_packet core t frame (Segment tuple seg) flows =
 abbrev pub flow_taken : (tick : ℕ) → List Live → Taken → List Live
 flow_taken t flows x = taken_packet x.core t x.arrival.frame x.arrival.packet flows
 
--- Some frames came so far, and each was taken or is left. What stands now is what those leave that were taken, each of a
--- flow of the index.
+-- Some frames came so far, and each was taken or is left. What stands now is what those leave that were taken, each of
+-- a flow of the index.
 pub record TookSome (t : ℕ) (before : List Live) (frames rest : List Arrival) (now : List Live) : Type 0 where
   pub order : List Taken
   pub shared : IsPermutation (map (λ (x : Taken). x.arrival) order ++ rest) frames

@@ -12,13 +12,12 @@ use std::alloc::{AllocError, Global};
 use std::thread::Threads;
 use tas_num::Gate;
 
-/// Fewer frames than these are one thread's work: what threads of their own would gain is less than what it costs to
-/// hand the frames out.
+/// Fewer frames than these are one thread's work: to hand flows out costs more than threads gain.
 const FRAMES_FOR_THREADS: usize = 4096;
 
-/// Cores take the frames of flows that stand at these places, side by side where they are many or the gate may hold one.
-/// The answer are the frames that were left, in the order in which they came. `spare` has flows that stand in for those that cores have. The error is want of
-/// memory.
+/// Cores take the frames of flows that stand at these places, side by side where these are many. The answer are the
+/// frames that were left, in the order in which they came. `spare` has flows that stand in for those that cores have.
+/// The error is want of memory.
 pub fn take_on_cores<'a, R: Threads + Sync, G: Gate>(
     rt: &R,
     alloc: Global,
@@ -73,8 +72,8 @@ fn take_in_turn<'a>(
     Ok(rest)
 }
 
-/// A core takes the frame of a flow that stands at this place, where it is for the fast path. Else it is left. The error
-/// is want of memory.
+/// A core takes the frame of a flow that stands at this place, where it is for the fast path. Else it is left. The
+/// error is want of memory.
 fn take_next<'a>(
     flows: &mut [LiveFlow],
     rest: &mut Vec<Arrival<'a>>,

@@ -328,8 +328,8 @@ impl Flows {
         self.table.settle(done)
     }
 
-    /// Cores take frames side by side, each on a thread of its own. The answer are the frames that were left, in the
-    /// order in which they came. The error is want of memory.
+    /// Cores take frames, each on a thread of its own where these are many. The answer are the frames that were left,
+    /// in the order in which they came. The error is want of memory.
     pub fn take_on_cores<'a, R: Threads + Sync, G: Gate>(
         &mut self,
         rt: &R,

@@ -591,10 +591,11 @@ impl LocalHost {
         self.deliver_by(Taking::Slowly, tick, arrival, numbers)
     }
 
-    /// Cores take frames side by side, each on a thread of its own: a segment goes to the core that stands at its place
-    /// in `steered`, which takes it where the index has its flow and it is for the fast path. The answer are all other
-    /// frames, in their order: they are the slow path's. Where a frame comes twice, all are left. The gate's points are
-    /// 64 * `host` + 2 * core before a frame, and one more after it. The error is want of memory.
+    /// Cores take frames, each on a thread of its own where these are many: a segment goes to the core that stands at
+    /// its place in `steered`, which takes it where the index has its flow and it is for the fast path. The answer are
+    /// all other frames, in their order: they are the slow path's. Where a frame comes twice, all are left. A thread
+    /// passes the gate's points, 64 * `host` + 2 * core before a frame and one more after it. The error is want of
+    /// memory.
     pub fn receive_on_cores<'a, R: Threads + Sync, G: Gate>(
         &mut self,
         rt: &R,

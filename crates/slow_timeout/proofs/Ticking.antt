@@ -1,12 +1,11 @@
 -- Facts of ticks.
-use Rattle.std.proofs.Common.{◌≡◌, ℕ, ◌+◌, ◌-◌, ◌≤◌, Bool, true, false, cond, nat_lt, List, length, Option, Some, None}
+use Rattle.std.proofs.Common.{◌≡◌, ℕ, ◌+◌, ◌-◌, Bool, true, false, nat_lt, List, Option, Some, None}
 use Rattle.std.proofs.Common.{refl, sym, ◌∙◌, ap, subst, arith}
 use Rattle.tas_model.specs.declared.entry.Reason.{Reason}
 use Rattle.tas_model.specs.declared.entry.Phase.{Phase}
 use Rattle.tas_model.specs.declared.entry.Phase.TheVariants as phases
 use Rattle.tas_model.specs.Segments.{Outcome}
 use Rattle.tas_model.specs.Endpoint.{Endpoint, Rate, phase, phase_by, is_fin_acked}
-use Rattle.tas_model.specs.ApplicationCalls.{Running, column, column_by}
 use Rattle.tas_model.specs.declared.entry.Reply.TheVariants as replies
 use Rattle.tas_model.specs.Timers.{filled, tick_in, ticked, expired, aged, is_armed, patience, control, controlled}
 use Rattle.tas_model.specs.Valid.{Valid, IsPaced}

@@ -20,6 +20,7 @@ use crate::stop::Stop;
 use crate::telling::tell;
 use program_words::{Input, Request};
 use std::alloc::Global;
+use std::mem::ManuallyDrop;
 use std::sync::Wait;
 use std::thread::Threads;
 use tas_num::{Gate, IoFault, Sink, Source};
@@ -134,7 +135,14 @@ fn serve<R: Threads + Wait + Sync, S: Source, K: Sink, G: Gate>(
     let bytes = read_input(alloc, asked.input, asked.most_bytes(), source)?;
     let log = run_of(rt, alloc, &asked, &bytes, gate)?;
     write_log(alloc, &asked, &log, sink)?;
-    Ok(log.stalled)
+    let stalled = log.stalled;
+    leave(log);
+    Ok(stalled)
+}
+
+/// The program ends, and all that the run holds with it: to give that back piece by piece would only take time.
+fn leave(log: RunLog) {
+    let _log = ManuallyDrop::new(log);
 }
 
 /// Writes what was asked for of its run: its text, or the capture of the frames that it sent.

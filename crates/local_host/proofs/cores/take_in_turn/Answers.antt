@@ -1,7 +1,7 @@
 use Rattle.std.proofs.Common.{◌∙◌, map, take}
 use Rattle.local_host.specs.Arriving.{arrival_in}
 use Rattle.local_host.proofs.HandingOut.{place_told}
-use Rattle.local_host.proofs.InTurn.{led_still, none_yet, some_more}
+use Rattle.local_host.proofs.InTurn.{led_still, some_more}
 use Rattle.local_host.proofs.cores.take_in_turn.Goals as goal
 
 pub take_next-requires : goal.take_next-requires
