@@ -3,6 +3,6 @@ use Rattle.std.specs.Prelude.{ℕ, ◌+◌, ◌-◌, ◌%◌, ◌^◌}
 use Rattle.tas_num.specs.declared.seq.Seq.{Seq}
 use Rattle.flow_state.specs.declared.sharing.Anchor.{Anchor}
 
--- as far behind the known byte as the number is behind its number, modulo 2^32 and the size of memory
+-- as far behind the known byte as the number is behind its number, modulo 2^32
 abbrev pub place_from : Anchor → Seq → ℕ
-place_from a s = (a.at + (s.0 + (2 ^ 32 - a.seq.0)) % 2 ^ 32) % 2 ^ 64
+place_from a s = (a.at + (s.0 + (2 ^ 32 - a.seq.0)) % 2 ^ 32) % 2 ^ 32

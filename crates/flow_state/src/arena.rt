@@ -20,6 +20,13 @@ use std::marker::Model;
 use tas_model::{Caller, FrameId};
 use tas_num::Seq;
 
+/// A record with so many bytes will have many.
+const MANY: usize = 8192;
+
+/// The room in bytes that is taken for many, at once: to move them whenever they have doubled costs more than room
+/// that is never used, which takes no memory.
+const ROOM_FOR_MANY: usize = 131_072;
+
 /// The bytes of a record's entries, one after the other, and room behind them; and the segments that came.
 ///
 /// An engine puts the bytes of its reply there. The room keeps what was written to it, so that it is filled once and
@@ -111,8 +118,7 @@ impl Arena {
         ensures spare { came ≤ self.old.spare_came → bytes ≤ self.old.spare → IsOk result }
     {
         reserve_came(&mut self.came, came)?;
-        let room = self.bytes.len() - self.used;
-        self.bytes.reserve(bytes.saturating_sub(room))
+        reserve_bytes(&mut self.bytes, self.used, bytes)
     }
 
     /// Gives the room back.
@@ -179,6 +185,33 @@ struct Stamp {
     number: u64,
     tick: u32,
     at: u32,
+}
+
+/// Makes room for so many bytes more behind the first `used`. The error is want of memory, and leaves all as it was.
+fn reserve_bytes(bytes: &mut Vec<u8>, used: usize, more: usize) -> Result<(), AllocError>
+    requires within { used ≤ vec_len bytes.old }
+    ensures items { bytes.new.items ≡ bytes.old.items }
+    ensures len { vec_len bytes.new ≡ vec_len bytes.old }
+    ensures room { OnOk result (more ≤ vec_capacity bytes.new - used) }
+    ensures longer { vec_capacity bytes.old ≤ vec_capacity bytes.new }
+    ensures spare { more ≤ vec_capacity bytes.old - used → IsOk result }
+{
+    if more <= bytes.capacity() - used {
+        return Ok(());
+    }
+    let behind = bytes.len() - used;
+    bytes.reserve(room_to_take(used, more).saturating_sub(behind))
+}
+
+/// How much room to take behind the first `used` bytes, where so many more need it.
+fn room_to_take(used: usize, more: usize) -> usize
+    ensures { more ≤ result }
+{
+    if used < MANY && MANY <= used.saturating_add(more) {
+        more.max(ROOM_FOR_MANY)
+    } else {
+        more
+    }
 }
 
 /// Makes the call, and keeps the bytes of its entry behind the first `used`, or its reply's among these. Also gives how

@@ -65,13 +65,13 @@ fn stand_at(bytes: &[u8], used: usize, n: usize, from: usize) -> bool
 
 /// A byte of a stream that is kept, and where. The stream's next ones may stand behind it, as they came.
 ///
-/// It is a guess: whoever looks where it says compares.
+/// It is a guess: whoever looks where it says compares. So its place has 32 bits, and past 4 GiB it guesses wrong.
 #[derive(Clone, Copy)]
 pub struct Anchor {
     /// The byte's sequence number.
     pub seq: Seq,
     /// Where it stands.
-    pub at: usize,
+    pub at: u32,
 }
 
 impl Anchor {
@@ -79,7 +79,7 @@ impl Anchor {
     fn place(self, seq: Seq) -> usize
         ensures { result ≡ place_from self seq }
     {
-        self.at.wrapping_add(seq.minus(self.seq) as usize)
+        self.at.wrapping_add(seq.minus(self.seq)) as usize
     }
 }
 
@@ -111,7 +111,11 @@ impl Runs {
     fn note(&mut self, seq: Seq, at: usize) {
         let [first, second, third, _] = self.firsts;
         if first.place(seq) != at {
-            self.firsts = [Anchor { seq, at }, first, second, third];
+            let newest = Anchor {
+                seq,
+                at: (at % 0x1_0000_0000) as u32,
+            };
+            self.firsts = [newest, first, second, third];
         }
     }
 }
