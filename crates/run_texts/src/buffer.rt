@@ -6,9 +6,9 @@ use std::alloc::{AllocError, Global};
 use std::marker::Model;
 
 /// How many bytes wait at most before they go to the sink.
-pub const ROOM: usize = 4096;
+pub const ROOM: usize = 32_768;
 
-/// Bytes that wait, at most 4,096 of them, seen as their list. All its memory is taken at the start.
+/// Bytes that wait, at most 32,768 of them, seen as their list. All its memory is taken at the start.
 #[derive(Drop)]
 pub struct Buffer {
     room: Vec<u8>,
@@ -23,7 +23,7 @@ impl Model for Buffer {
 
     ghost view = { λ b. take b.filled b.room.items };
 
-    ghost invariant = { λ b. (b.filled ≤ 4096) × (vec_len b.room ≡ 4096) };
+    ghost invariant = { λ b. (b.filled ≤ 32768) × (vec_len b.room ≡ 32768) };
 }
 
 impl Buffer {
@@ -46,7 +46,7 @@ impl Buffer {
 
     /// For how many bytes more there is room.
     pub fn free(&self) -> usize
-        ensures free { result + length self.now ≡ 4096 }
+        ensures free { result + length self.now ≡ 32768 }
     {
         ROOM - self.filled
     }
@@ -68,7 +68,7 @@ impl Buffer {
     /// Puts bytes behind those that wait.
     #[inline(always)]
     pub fn push(&mut self, bytes: &[u8])
-        requires { length self.old + length bytes.now ≤ 4096 }
+        requires { length self.old + length bytes.now ≤ 32768 }
         ensures { self.new ≡ self.old ++ bytes.now }
     {
         let end = self.filled + bytes.len();
@@ -79,7 +79,7 @@ impl Buffer {
     /// Puts bytes behind those that wait, with others in two of their places.
     #[inline(always)]
     pub fn push_with(&mut self, bytes: &[u8], first: usize, one: u8, second: usize, other: u8)
-        requires room { length self.old + length bytes.now ≤ 4096 }
+        requires room { length self.old + length bytes.now ≤ 32768 }
         requires first { first < length bytes.now }
         requires second { second < length bytes.now }
         ensures { self.new ≡ self.old ++ set (set bytes.now first one) second other }
@@ -95,7 +95,7 @@ impl Buffer {
     /// Puts bytes behind those that wait, with another in one of their places.
     #[inline(always)]
     pub fn push_but(&mut self, bytes: &[u8], place: usize, other: u8)
-        requires room { length self.old + length bytes.now ≤ 4096 }
+        requires room { length self.old + length bytes.now ≤ 32768 }
         requires place { place < length bytes.now }
         ensures { self.new ≡ self.old ++ set bytes.now place other }
     {
@@ -108,7 +108,7 @@ impl Buffer {
 
     /// Puts the digits of bytes behind those that wait: two of lower case a byte, the higher one first.
     pub fn push_digits(&mut self, bytes: &[u8])
-        requires { length self.old + 2 * length bytes.now ≤ 4096 }
+        requires { length self.old + 2 * length bytes.now ≤ 32768 }
         ensures { self.new ≡ self.old ++ hex_bytes bytes.now }
     {
         let end = self.filled + 2 * bytes.len();

@@ -93,7 +93,7 @@ impl Text for QuietLines {
 /// Puts the line of the first quiet tick behind the bytes that wait, and says at which of its places the last digit of
 /// the tick stands.
 fn add_first(waiting: &mut Buffer, run: &QuietRun) -> usize
-    requires room { length waiting.old + 57 ≤ 4096 }
+    requires room { length waiting.old + 57 ≤ 32768 }
     requires decade { IsDecade run.now }
     ensures text { waiting.new ≡ waiting.old ++ entry_text [] (quiet_tick run.now.caller run.now.number run.now.tick) }
     ensures place { result + 1 ≡ length (decimal run.now.tick) }
@@ -110,7 +110,7 @@ fn add_first(waiting: &mut Buffer, run: &QuietRun) -> usize
 
 /// Puts the lines of the others behind the bytes that wait, by the first line and the place of its tick's last digit.
 fn add_others(waiting: &mut Buffer, line: &[u8], place: usize, run: &QuietRun)
-    requires room { length waiting.old + 513 ≤ 4096 }
+    requires room { length waiting.old + 513 ≤ 32768 }
     requires line { line.now ≡ entry_text [] (quiet_tick run.now.caller run.now.number run.now.tick) }
     requires place { place + 1 ≡ length (decimal run.now.tick) }
     requires short { length line.now ≤ 57 }
@@ -132,7 +132,7 @@ fn add_others(waiting: &mut Buffer, line: &[u8], place: usize, run: &QuietRun)
 /// Puts a caller between a tick and a number. Mostly it is the slow path.
 #[inline(always)]
 fn add_caller(waiting: &mut Buffer, caller: Caller)
-    requires room { length waiting.old + 13 ≤ 4096 }
+    requires room { length waiting.old + 13 ≤ 32768 }
     ensures text { waiting.new ≡ waiting.old ++ (codes " " ++ caller_text caller ++ codes ".") }
     ensures short { length waiting.new ≤ length waiting.old + 13 }
 {

@@ -81,7 +81,7 @@ impl Text for RecordLines {
 
 /// Puts the first line behind the bytes that wait, and says at which of its places the last digit of the number stands.
 fn add_first(waiting: &mut Buffer, run: &LogRun) -> usize
-    requires room { length waiting.old + 57 ≤ 4096 }
+    requires room { length waiting.old + 57 ≤ 32768 }
     requires ten { AreTen run.now }
     ensures text { waiting.new ≡ waiting.old ++ record_line run.now.tick run.now.kind run.now.first.number }
     ensures place { result + 1
@@ -99,7 +99,7 @@ fn add_first(waiting: &mut Buffer, run: &LogRun) -> usize
 
 /// Puts the other lines behind the bytes that wait, by the first one and the place of its number's last digit.
 fn add_others(waiting: &mut Buffer, line: &[u8], place: usize, run: &LogRun)
-    requires room { length waiting.old + 513 ≤ 4096 }
+    requires room { length waiting.old + 513 ≤ 32768 }
     requires line { line.now ≡ record_line run.now.tick run.now.kind run.now.first.number }
     requires place { place + 1
         ≡ length (decimal run.now.tick) + length (word_of run.now.kind) + length (decimal run.now.first.number) }
@@ -128,7 +128,7 @@ fn word(kind: RunKind) -> &'static [u8]
 
 /// Puts what stands behind the number of a record behind the bytes that wait.
 fn add_end(waiting: &mut Buffer, kind: RunKind)
-    requires room { length waiting.old + 16 ≤ 4096 }
+    requires room { length waiting.old + 16 ≤ 32768 }
     ensures text { waiting.new ≡ waiting.old ++ end_of kind }
     ensures short { length waiting.new ≤ length waiting.old + 16 }
 {

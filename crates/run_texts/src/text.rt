@@ -14,7 +14,7 @@ pub trait Text {
 
     /// Puts it behind the bytes that wait.
     fn add_to(&self, waiting: &mut Buffer)
-        requires room { length waiting.old + most ≤ 4096 }
+        requires room { length waiting.old + most ≤ 32768 }
         ensures text { waiting.new ≡ waiting.old ++ text self.now }
         ensures short { length waiting.new ≤ length waiting.old + most };
 }
@@ -22,7 +22,7 @@ pub trait Text {
 /// Puts bytes behind those that wait.
 #[inline(always)]
 pub fn add(waiting: &mut Buffer, bytes: &[u8])
-    requires room { length waiting.old + length bytes.now ≤ 4096 }
+    requires room { length waiting.old + length bytes.now ≤ 32768 }
     ensures text { waiting.new ≡ waiting.old ++ bytes.now }
     ensures len { length waiting.new ≡ length waiting.old + length bytes.now }
 {
@@ -31,7 +31,7 @@ pub fn add(waiting: &mut Buffer, bytes: &[u8])
 
 /// Puts the decimal digits of a number behind the bytes that wait.
 pub fn add_number<I: Integer>(waiting: &mut Buffer, number: I)
-    requires room { length waiting.old + I.MAX_STR_LEN ≤ 4096 }
+    requires room { length waiting.old + I.MAX_STR_LEN ≤ 32768 }
     ensures text { waiting.new ≡ waiting.old ++ I.text number }
     ensures short { length waiting.new ≤ length waiting.old + I.MAX_STR_LEN }
 {

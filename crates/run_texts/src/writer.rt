@@ -79,9 +79,9 @@ fn flush<K: Sink>(sink: &mut K, waiting: &mut Buffer) -> Result<(), IoFault>
 
 /// Writes all that waits where there is no room for so many bytes more.
 fn make_room<K: Sink>(sink: &mut K, waiting: &mut Buffer, count: usize) -> Result<(), IoFault>
-    requires { count ≤ 4096 }
+    requires { count ≤ 32768 }
     ensures writes { Writes (K.state sink.old) waiting.old result (K.state sink.new) waiting.new [] }
-    ensures room { OnOk result (length waiting.new + count ≤ 4096) }
+    ensures room { OnOk result (length waiting.new + count ≤ 32768) }
 {
     if count > waiting.free() {
         flush(sink, waiting)

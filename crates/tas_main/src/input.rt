@@ -12,7 +12,7 @@ use std::alloc::{AllocError, Global};
 use tas_num::{IoFault, Source};
 
 /// The most bytes that one call of a source is asked for.
-pub const PIECE: usize = 4096;
+pub const PIECE: usize = 32_768;
 
 /// The bytes of the input: nothing for a made scenario, and else all that the source has left, at most `limit` bytes.
 pub fn read_input<S: Source>(

@@ -10,7 +10,7 @@ invariant-loop-buf g l =
       bytes : Consumes before.left now.left l.all.items;
       counts : now.faults ≡ before.faults;
       short : vec_len l.all ≤ l.limit + 1;
-      room : length l.buf ≡ 4096;
+      room : length l.buf ≡ 32768;
     }
 
 abbrev pub decreases-loop-buf : goal.decreases-loop-buf
