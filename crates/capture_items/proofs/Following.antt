@@ -1,6 +1,6 @@
 -- The items of the records of a capture, one record after the other.
 use Rattle.std.proofs.Common.{◌≡◌, ℕ, ◌+◌, Bool, List, [], ◌∷◌, ◌++◌, Option, Some, None, Result, Ok, Err, IsOk, refl}
-use Rattle.std.proofs.Common.{rules, ◌≤◌, ap, sym, ◌∙◌, subst, length, drop, IfSome, IfNone, arith}
+use Rattle.std.proofs.Common.{rules, ◌≤◌, ap, sym, ◌∙◌, subst, length, drop, arith}
 use Rattle.std.specs.List.{cons_option}
 use Rattle.std.proofs.lemmas.List.Elements.{filter_map-append}
 use Rattle.tas_num.specs.Captures.{Fault, Form, Record, Next, first_record, records_from, joined}
@@ -8,9 +8,8 @@ use Rattle.pcap_frames.proofs.Following.{records_from_next, records_from_ends, r
 use Rattle.tas_runs.specs.Records.{Item, item_of, items_of}
 use Rattle.pcap_frames.specs.Views.{form_in, next_in, record_in}
 use Rattle.pcap_frames.specs.declared.capture.RecordView.{RecordView}
-use Rattle.capture_items.specs.Items.{item_in, items_among, items_from, items_with}
+use Rattle.capture_items.specs.Items.{item_in, items_among, items_from}
 use Rattle.capture_items.specs.Reading.{IsReadable}
-use Rattle.capture_items.specs.declared.item.Item as code
 use Rattle.capture_items.specs.declared.reader.ItemReader.TheInside.{Inside}
 
 pub items_of-push : (form : Form) (local : ℕ) (loose : Bool) (xs : List Record) (x : Record)
@@ -91,9 +90,3 @@ pub items_behind : (r : Inside) (view : RecordView) → IsReadable r
 items_behind r view is found o made =
     (left_next (form_in r.header) r.local r.loose (r.records + 1) _ (next_in r.bytes.now view) found is.whole).1
     ∙ ap (λ (p : Option Item). cons_option p (items_at (behind r view))) made
-
--- ----- an item that is read ahead
-pub ahead_is : (o : Option code.Item) (before after : List Item) → IfSome o (λ x. before ≡ item_in x ∷ after)
-    → IfNone o (before ≡ []) → IfNone o (after ≡ []) → items_with o after ≡ before
-ahead_is None before after some none done = done ∙ sym none
-ahead_is (Some x) before after some none done = sym some

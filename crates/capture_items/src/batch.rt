@@ -1,7 +1,7 @@
 ghost use Rattle.std.specs.Prelude.{◌≡◌, ◌<◌, ◌≤◌, [], ◌∷◌, ◌++◌, map, length, OnOk};
 ghost use Rattle.tas_runs.specs.Batches.{batches_of, joins, clashes, is_of};
 ghost use Rattle.std.specs.List.{list_any};
-ghost use Rattle.capture_items.specs.Items.{item_in};
+ghost use Rattle.capture_items.specs.Items.{item_in, items_with};
 
 use crate::item::Item;
 use crate::reader::ItemReader;
@@ -12,21 +12,19 @@ use tas_model::FourTuple;
 /// The items of a capture from a place on, seen as their list, which are taken batch by batch.
 #[derive(Drop)]
 pub struct BatchReader<'a> {
-    /// The first one. It is read before it is known whether it comes in a batch.
+    /// The first one, where it was read already and did not join the batch before.
     ahead: Option<Item<'a>>,
     items: ItemReader<'a>,
 }
 
 impl<'a> Model for BatchReader<'a> {
-    ghost use Rattle.std.specs.Prelude.{◌≡◌, List, [], IfNone};
+    ghost use Rattle.std.specs.Prelude.{List};
     ghost use Rattle.tas_runs.specs.Records.{Item};
     ghost use Rattle.capture_items.specs.Items.{items_with};
 
     ghost Value = { List Item };
 
     ghost view = { λ r. items_with r.ahead r.items };
-
-    ghost invariant = { λ r. IfNone r.ahead (r.items ≡ []) };
 }
 
 impl<'a> BatchReader<'a> {
@@ -34,9 +32,7 @@ impl<'a> BatchReader<'a> {
     pub fn of(items: ItemReader<'a>) -> BatchReader<'a>
         ensures { result ≡ items.entry }
     {
-        let mut items = items;
-        let ahead = items.next_item();
-        BatchReader { ahead, items }
+        BatchReader { ahead: None, items }
     }
 
     /// Puts the next batch into `batch`, in place of what was there: the longest front of at most 64 with no two
@@ -48,16 +44,29 @@ impl<'a> BatchReader<'a> {
         ensures some { OnOk result (0 < length self.old → 0 < length batch.new.items) }
         ensures most { OnOk result (length batch.new.items ≤ 64) }
     {
-        batch.clear();
-        while let Some(item) = self.ahead {
+        begin(batch, self.ahead)?;
+        self.ahead = None;
+        while let Some(item) = self.items.next_item() {
             if !joins(batch, &item) {
+                self.ahead = Some(item);
                 return Ok(());
             }
             batch.push(item)?;
-            self.ahead = self.items.next_item();
         }
         Ok(())
     }
+}
+
+/// Puts the item that was read ahead, if there is one, into `batch`, in place of what was there. The error is want of
+/// memory.
+fn begin<'a>(batch: &mut Vec<Item<'a>>, ahead: Option<Item<'a>>) -> Result<(), AllocError>
+    ensures { OnOk result (map item_in batch.new.items ≡ items_with ahead.entry []) }
+{
+    batch.clear();
+    if let Some(item) = ahead {
+        batch.push(item)?;
+    }
+    Ok(())
 }
 
 /// Whether one more item may come in a batch.
