@@ -3,7 +3,8 @@ use Rattle.std.proofs.Common.{◌≡◌, ℕ, zero, suc, arith, append_assoc, �
 use Rattle.std.proofs.Common.{map, fold, All, Bool, true, false}
 use Rattle.std.proofs.Common.{Option, Some, None, is_some, slice_get, refl, sym, ap, subst, ◌∙◌, true≢false}
 use Rattle.std.specs.Prelude.{IsPermutation}
-use Rattle.std.proofs.lemmas.List.Elements.{All-head, All-tail}
+use Rattle.std.specs.List.{filter}
+use Rattle.std.proofs.lemmas.List.Elements.{All-head, All-tail, All-nil}
 use Rattle.tas_model.specs.declared.entry.FourTuple.{FourTuple}
 use Rattle.tas_model.specs.declared.entry.FrameId.{FrameId}
 use Rattle.tas_model.specs.declared.entry.HostParams.{HostParams}
@@ -12,7 +13,7 @@ use Rattle.tas_model.specs.declared.entry.Caller.TheVariants.{Core}
 use Rattle.host_rounds.specs.Hosts.{Live, Host, Numbers, is_indexed_as, next_number}
 use Rattle.host_rounds.specs.Deliveries.{Packet, Damaged, Segment, Arrival, received, arrived}
 use Rattle.host_rounds.specs.Deliveries.{delivered_packet}
-use Rattle.core_rounds.specs.CoreTicks.{Taken, taken_by_cores, IsCoresPhase}
+use Rattle.core_rounds.specs.CoreTicks.{Taken, taken_by_cores, is_frame, IsCoresPhase}
 use Rattle.local_host.specs.declared.host.Listener as code
 use Rattle.local_host.specs.declared.arrival.Arrival as code_arrival
 use Rattle.local_host.specs.Arriving.{arrival_in}
@@ -32,7 +33,7 @@ use Rattle.local_host.proofs.Ports.{host_change, host_none}
 use Rattle.local_host.proofs.Places.{found_change}
 use Rattle.local_host.proofs.Hosting.{known_is}
 use Rattle.local_host.specs.Lanes.{arrival_of, left_of}
-use Rattle.local_host.specs.Handing.{AreHanded, AreDistinct, AreLanes, put_jobs}
+use Rattle.local_host.specs.Handing.{AreHanded, AreDistinct, AreLanes, put_jobs, IsSteered, IsSteeredPhase}
 use Rattle.local_host.proofs.LaneWork.{taken_shape, place_kept, frame_done, took_frames}
 
 -- ----- lanes that worked
@@ -72,19 +73,20 @@ lanes_worked t (l ∷ ls) (a ∷ rest) len each done fresh =
 
 -- ----- the whole of a tick's frames
 pub cores_took : (t : ℕ) (old now end : List Live) (jobs : List Job) (left gathered rest : List Handed)
-    (frames : List Arrival) (lanes after : List Lane)
-    → AreHanded old now jobs left frames → AreDistinct frames → AreLanes jobs lanes
+    (cores : List ℕ) (frames : List Arrival) (lanes after : List Lane)
+    → AreHanded old now jobs left cores frames → AreDistinct frames → AreLanes jobs lanes
     → length after ≡ length lanes
     → ((i : ℕ) (d : Lane) → i < length lanes → (get_or after i d).failed ≡ false
     → IsWorked t (get_or lanes i d) (get_or after i d))
     → All (λ (l : Lane). l.failed ≡ false) after → end ≡ put_jobs (jobs_in after) now
     → gathered ≡ left ++ left_in after → IsPermutation gathered rest
-    → TookFrames t old frames (map arrival_of rest) end
-cores_took t old now end jobs left gathered rest frames lanes after handed distinct are len each done put more sorted =
+    → TookFrames t old cores frames (map arrival_of rest) end
+cores_took t old now end jobs left gathered rest cores frames lanes after handed distinct are len each done put more
+    sorted =
     let worked = lanes_worked t lanes after len each done are.fresh in
-    subst (TookFrames t old frames (map arrival_of rest))
+    subst (TookFrames t old cores frames (map arrival_of rest))
     (sym (put ∙ ap (λ (js : List Job). put_jobs js now) worked.0))
-    (took_frames t old now jobs (jobs_in lanes) left rest frames handed distinct are.moved are.shuffled
+    (took_frames t old now jobs (jobs_in lanes) left rest cores frames handed distinct are.moved are.shuffled
     (subst (λ (hs : List Handed). IsPermutation hs rest)
     (more ∙ ap (λ (hs : List Handed). left ++ hs) worked.1) sorted))
 
@@ -189,17 +191,17 @@ order_host {params} {listeners} t (x ∷ order) F all is =
     (frame_host x.core t x.arrival.frame x.arrival.packet F (first_known F x order all) is)
 
 pub took_known : {known : FourTuple → Option Openings} {slots : ℕ → Option ℕ} {places : List ℕ} {given : ℕ}
-    {marks : List Bool} {t : ℕ} {old after : List Live} {frames rest : List Arrival}
-    → TookFrames t old frames rest after → IsKnown known slots places given marks old
+    {marks : List Bool} {t : ℕ} {old after : List Live} {cores : List ℕ} {frames rest : List Arrival}
+    → TookFrames t old cores frames rest after → IsKnown known slots places given marks old
     → IsKnown known slots places given marks after
-took_known {known} {slots} {places} {given} {marks} {t} {old} {after} {frames} {rest} took is =
+took_known {known} {slots} {places} {given} {marks} {t} {old} {after} {cores} {frames} {rest} took is =
     subst (IsKnown known slots places given marks) took.made
     (order_known known slots places given marks t took.order old took.known is)
 
 pub took_host : {params : HostParams} {listeners : List code.Listener} {t : ℕ} {old after : List Live}
-    {frames rest : List Arrival} → TookFrames t old frames rest after → IsHost params listeners old
-    → IsHost params listeners after
-took_host {params} {listeners} {t} {old} {after} {frames} {rest} took is =
+    {cores : List ℕ} {frames rest : List Arrival} → TookFrames t old cores frames rest after
+    → IsHost params listeners old → IsHost params listeners after
+took_host {params} {listeners} {t} {old} {after} {cores} {frames} {rest} took is =
     subst (IsHost params listeners) took.made (order_host t took.order old took.known is)
 
 -- ----- the host
@@ -224,54 +226,77 @@ order_done numbers t (x ∷ order) host all =
     ∙ order_done numbers t order (record host { flows = flow_taken t host.flows x })
     (rest_known t host.flows x order all)
 
-pub took_phase : (t : ℕ) (host : Host) (after : List Live) (frames rest : List Arrival)
-    → TookFrames t host.flows frames rest after
-    → IsCoresPhase t host frames rest (record host { flows = after })
-took_phase t host after frames rest took = record {
-  order = took.order;
-  shared = took.shared;
-  made = λ numbers. order_done numbers t took.order host took.known
-      ∙ ap (λ (F : List Live). record host { flows = F }) took.made;
+pub took_phase : (t : ℕ) (host : Host) (after : List Live) (cores : List ℕ) (frames rest : List Arrival)
+    → TookFrames t host.flows cores frames rest after
+    → IsSteeredPhase t host cores frames rest (record host { flows = after })
+took_phase t host after cores frames rest took = record {
+  phase = record {
+    order = took.order;
+    shared = took.shared;
+    made = λ numbers. order_done numbers t took.order host took.known
+        ∙ ap (λ (F : List Live). record host { flows = F }) took.made;
+  };
+  steered = took.steered;
+}
+
+-- cores took none
+pub none_taken : (t : ℕ) (host : Host) (cores : List ℕ) (frames rest : List Arrival) → rest ≡ frames
+    → IsSteeredPhase t host cores frames rest host
+none_taken t host cores frames rest same = record {
+  phase = record {
+    order = [];
+    shared = λ frame. ap (filter (is_frame frame)) same;
+    made = λ numbers. refl;
+  };
+  steered = All-nil (IsSteered cores frames);
 }
 
 -- the frames alone, where memory was enough
-pub if_took : {E : Type 0} {t : ℕ} {old end : List Live} {frames : List Arrival} {shown : List Handed}
+pub if_took : {E : Type 0} {t : ℕ} {old end : List Live} {cores : List ℕ} {frames : List Arrival} {shown : List Handed}
     (r : Result (Vec code_arrival.Arrival) E) (rest : List Handed) → shown ≡ rest
     → IfOk r (λ (v : Vec code_arrival.Arrival). v.items ≡ map (λ (h : Handed). h.arrival) shown)
-    → TookFrames t old frames (map arrival_of rest) end
-    → IfOk r (λ (v : Vec code_arrival.Arrival). TookFrames t old frames (map arrival_in v.items) end)
+    → TookFrames t old cores frames (map arrival_of rest) end
+    → IfOk r (λ (v : Vec code_arrival.Arrival). TookFrames t old cores frames (map arrival_in v.items) end)
 if_took (Err e) rest same told took = tt
-if_took {E} {t} {old} {end} {frames} {shown} (Ok v) rest same told took =
-    subst (λ (xs : List Arrival). TookFrames t old frames xs end)
+if_took {E} {t} {old} {end} {cores} {frames} {shown} (Ok v) rest same told took =
+    subst (λ (xs : List Arrival). TookFrames t old cores frames xs end)
     (sym (ap (map arrival_in) (told ∙ ap (map (λ (h : Handed). h.arrival)) same) ∙ twice rest)) took where
       twice : (hs : List Handed) → map arrival_in (map (λ (h : Handed). h.arrival) hs) ≡ map arrival_of hs
       twice [] = refl
       twice (h ∷ hs) = ap (λ (xs : List Arrival). arrival_of h ∷ xs) (twice hs)
 
 -- ----- what a call gave
-abbrev Given : {E : Type 0} (t : ℕ) (old after : List Live) (frames : List Arrival)
+abbrev Given : {E : Type 0} (t : ℕ) (old after : List Live) (cores : List ℕ) (frames : List Arrival)
     → Result (Vec code_arrival.Arrival) E → Type 0
-Given t old after frames r =
-    IfOk r (λ (v : Vec code_arrival.Arrival). TookFrames t old frames (map arrival_in v.items) after)
+Given t old after cores frames r =
+    IfOk r (λ (v : Vec code_arrival.Arrival). TookFrames t old cores frames (map arrival_in v.items) after)
 
 pub sound_took : {E : Type 0} {known : FourTuple → Option Openings} {slots : ℕ → Option ℕ} {places : List ℕ}
-    {given : ℕ} {marks : List Bool} (t : ℕ) (old after : List Live) (frames : List Arrival)
+    {given : ℕ} {marks : List Bool} (t : ℕ) (old after : List Live) (cores : List ℕ) (frames : List Arrival)
     (r : Result (Vec code_arrival.Arrival) E)
-    → Given t old after frames r → IsKnown known slots places given marks old
+    → Given t old after cores frames r → IsKnown known slots places given marks old
     → OnOk r (IsKnown known slots places given marks after)
-sound_took t old after frames (Ok v) took is = took_known took is
-sound_took t old after frames (Err e) took is = tt
+sound_took t old after cores frames (Ok v) took is = took_known took is
+sound_took t old after cores frames (Err e) took is = tt
 
 pub host_took : {E : Type 0} {params : HostParams} {listeners : List code.Listener} (t : ℕ) (old after : List Live)
-    (frames : List Arrival) (r : Result (Vec code_arrival.Arrival) E) → Given t old after frames r
-    → OnErr r (after ≡ []) → IsHost params listeners old → IsHost params listeners after
-host_took t old after frames (Ok v) took none is = took_host took is
-host_took {E} {params} {listeners} t old after frames (Err e) took none is =
+    (cores : List ℕ) (frames : List Arrival) (r : Result (Vec code_arrival.Arrival) E)
+    → Given t old after cores frames r → OnErr r (after ≡ []) → IsHost params listeners old
+    → IsHost params listeners after
+host_took t old after cores frames (Ok v) took none is = took_host took is
+host_took {E} {params} {listeners} t old after cores frames (Err e) took none is =
     subst (IsHost params listeners) (sym none) (host_none is)
 
-pub phase_took : {E : Type 0} (t : ℕ) (host : Host) (after : List Live) (frames : List Arrival)
-    (r : Result (Vec code_arrival.Arrival) E) → Given t host.flows after frames r
+pub phase_took : {E : Type 0} (t : ℕ) (host : Host) (after : List Live) (cores : List ℕ) (frames : List Arrival)
+    (r : Result (Vec code_arrival.Arrival) E) → Given t host.flows after cores frames r
     → IfOk r (λ (v : Vec code_arrival.Arrival).
-    IsCoresPhase t host frames (map arrival_in v.items) (record host { flows = after }))
-phase_took t host after frames (Ok v) took = took_phase t host after frames (map arrival_in v.items) took
-phase_took t host after frames (Err e) took = tt
+    IsSteeredPhase t host cores frames (map arrival_in v.items) (record host { flows = after }))
+phase_took t host after cores frames (Ok v) took = took_phase t host after cores frames (map arrival_in v.items) took
+phase_took t host after cores frames (Err e) took = tt
+
+pub phase_of : {E : Type 0} (t : ℕ) (host : Host) (after : Host) (cores : List ℕ) (frames : List Arrival)
+    (r : Result (Vec code_arrival.Arrival) E)
+    → IfOk r (λ (v : Vec code_arrival.Arrival). IsSteeredPhase t host cores frames (map arrival_in v.items) after)
+    → IfOk r (λ (v : Vec code_arrival.Arrival). IsCoresPhase t host frames (map arrival_in v.items) after)
+phase_of t host after cores frames (Ok v) is = is.phase
+phase_of t host after cores frames (Err e) is = tt

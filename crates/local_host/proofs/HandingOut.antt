@@ -18,20 +18,24 @@ use Rattle.local_host.specs.Arriving.{arrival_in}
 use Rattle.local_host.specs.Index.{passes_at}
 use Rattle.local_host.specs.Lanes.{arrival_of}
 use Rattle.local_host.specs.Handing.{place_in, joined, frames_of, frames_by, jobs_of, jobs_in, left_in, jobs_at}
-use Rattle.local_host.specs.Handing.{IsJobOf, AreHanded, is_in_index, HasMore, AreLanes, put_jobs}
+use Rattle.local_host.specs.Handing.{IsJobOf, IsSteered, AreSentTo, AreHanded, by_core, is_in_index, HasMore}
+use Rattle.local_host.specs.Handing.{AreLanes, put_jobs}
 use Rattle.local_host.proofs.LaneLists.{set_there, set_elsewhere, length_set, tally, count_cons}
 use Rattle.local_host.proofs.LaneLists.{perm_by, joined_push, joined_more}
+use Rattle.local_host.proofs.OwnCores.{steered_last, jobs_still, job_still, even_more}
 
 -- ----- one frame
 -- it is left
-pub left_one : {old now : List Live} {jobs : List Job} {left : List Handed} {frames : List Arrival}
-    (after : List Handed) (h : Handed) → after ≡ left ++ h ∷ [] → AreHanded old now jobs left frames
-    → AreHanded old now jobs after (frames ++ arrival_of h ∷ [])
-left_one {old} {now} {jobs} {left} {frames} after h made is = record {
+pub left_one : {old now : List Live} {jobs : List Job} {left : List Handed} {cores : List ℕ} {frames : List Arrival}
+    (core : ℕ) (after : List Handed) (h : Handed) → after ≡ left ++ h ∷ [] → AreHanded old now jobs left cores frames
+    → AreHanded old now jobs after (cores ++ core ∷ []) (frames ++ arrival_of h ∷ [])
+left_one {old} {now} {jobs} {left} {cores} {frames} core after h made is = record {
+  even = even_more cores frames core (arrival_of h) is.even;
   len = is.len;
   apart = is.apart;
   away = is.away;
   own = is.own;
+  sent = jobs_still jobs core (arrival_of h) is.sent;
   once = is.once;
   shared = subst (λ (xs : List Arrival). IsPermutation xs (frames ++ arrival_of h ∷ [])) (sym grown)
       (IsPermutation-append_left (arrival_of h ∷ []) (frames_by jobs ++ map arrival_of left) frames is.shared);
@@ -81,15 +85,34 @@ own_more old h before after more led is = record {
       led));
 }
 
-pub added_one : {old now : List Live} {jobs : List Job} {left : List Handed} {frames : List Arrival}
-    (h : Handed) (k : ℕ) (was job : Job) → k < length jobs → was ≡ get_or jobs k was → HasMore h was job
-    → place_in old (arrival_of h).packet ≡ Some was.place → AreHanded old now jobs left frames
-    → AreHanded old now (set jobs k job) left (frames ++ arrival_of h ∷ [])
-added_one {old} {now} {jobs} {left} {frames} h k was job low read more led is = record {
+abbrev IsSentTo : (cores : List ℕ) (frames : List Arrival) (core : ℕ) → Handed → Type 0
+IsSentTo cores frames core g = IsSteered cores frames (by_core core (arrival_of g))
+
+sent_more : {cores : List ℕ} {frames : List Arrival} (h : Handed) (before after : Job) → HasMore h before after
+    → length cores ≡ length frames → AreSentTo cores frames before
+    → AreSentTo (cores ++ before.core ∷ []) (frames ++ arrival_of h ∷ []) after
+sent_more {cores} {frames} h before after more even sent =
+    subst (All (IsSentTo (cores ++ before.core ∷ []) (frames ++ arrival_of h ∷ []) after.core)) (sym more.frames)
+    (subst (λ (n : ℕ). All (IsSentTo (cores ++ before.core ∷ []) (frames ++ arrival_of h ∷ []) n)
+    (before.frames.items ++ h ∷ [])) (sym more.core)
+    (All-push (IsSentTo (cores ++ before.core ∷ []) (frames ++ arrival_of h ∷ []) before.core) before.frames.items h
+    (job_still before before.core (arrival_of h) sent)
+    (steered_last cores frames before.core (arrival_of h) even)))
+
+pub added_one : {old now : List Live} {jobs : List Job} {left : List Handed} {cores : List ℕ} {frames : List Arrival}
+    (core : ℕ) (h : Handed) (k : ℕ) (was job : Job) → k < length jobs → was ≡ get_or jobs k was → HasMore h was job
+    → was.core ≡ core → place_in old (arrival_of h).packet ≡ Some was.place → AreHanded old now jobs left cores frames
+    → AreHanded old now (set jobs k job) left (cores ++ core ∷ []) (frames ++ arrival_of h ∷ [])
+added_one {old} {now} {jobs} {left} {cores} {frames} core h k was job low read more here led is = record {
+  even = even_more cores frames core (arrival_of h) is.even;
   len = is.len;
   apart = λ q none. is.apart q (sym (same q) ∙ none);
   away = λ q l there indexed. same q ∙ is.away q l there indexed;
   own = All-set (IsJobOf old) jobs k job (own_more old h was job more led mine) is.own;
+  sent = All-set (AreSentTo (cores ++ core ∷ []) (frames ++ arrival_of h ∷ [])) jobs k job
+      (subst (λ (n : ℕ). AreSentTo (cores ++ n ∷ []) (frames ++ arrival_of h ∷ []) job) here
+      (sent_more h was job more is.even to_it))
+      (jobs_still jobs core (arrival_of h) is.sent);
   once = λ q. subst (λ (n : ℕ). n ≤ 1) (sym (same q)) (is.once q);
   shared = shared_more (frames_by jobs) (frames_by (set jobs k job)) (map arrival_of left) frames (arrival_of h)
       (joined_more frames_of jobs k job was (arrival_of h ∷ []) low
@@ -102,6 +125,9 @@ added_one {old} {now} {jobs} {left} {frames} h k was job low read more led is = 
 
   mine : IsJobOf old was
   mine = subst (IsJobOf old) (sym read) (All-get_or (IsJobOf old) jobs k was low is.own)
+
+  to_it : AreSentTo cores frames was
+  to_it = subst (AreSentTo cores frames) (sym read) (All-get_or (AreSentTo cores frames) jobs k was low is.sent)
 
 -- it begins a job
 pub passes_there : (flows : List Live) (p : ℕ) (d : Live) → passes_at is_in_index flows p ≡ true
@@ -117,18 +143,25 @@ pub either : (b : Bool) → (b ≡ true) ⊎ (b ≡ false)
 either true = inl refl
 either false = inr refl
 
-pub opened_one : {old now : List Live} {jobs : List Job} {left : List Handed} {frames : List Arrival}
+pub opened_one : {old now : List Live} {jobs : List Job} {left : List Handed} {cores : List ℕ} {frames : List Arrival}
     (h : Handed) (place : ℕ) (was stand : Live) (job : Job) → passes_at is_in_index now place ≡ true
     → was ≡ get_or now place was → stand.indexed ≡ false → job.core < 16 → job.place ≡ place → job.flow ≡ was
     → job.frames.items ≡ h ∷ [] → place_in old (arrival_of h).packet ≡ Some place
-    → AreHanded old now jobs left frames
-    → AreHanded old (set now place stand) (jobs ++ job ∷ []) left (frames ++ arrival_of h ∷ [])
-opened_one {old} {now} {jobs} {left} {frames} h place was stand job passes read standing low at flow one led is =
+    → AreHanded old now jobs left cores frames
+    → AreHanded old (set now place stand) (jobs ++ job ∷ []) left (cores ++ job.core ∷ [])
+    (frames ++ arrival_of h ∷ [])
+opened_one {old} {now} {jobs} {left} {cores} {frames} h place was stand job passes read standing low at flow one led
+    is =
     record {
+      even = even_more cores frames job.core (arrival_of h) is.even;
       len = length_set now place stand ∙ is.len;
       apart = λ q none. set_elsewhere now place q stand (other q none) ∙ is.apart q (before q none);
       away = λ q l there indexed. by_place q l there indexed (either (place == q));
       own = All-push (IsJobOf old) jobs job is.own mine;
+      sent = All-push (AreSentTo (cores ++ job.core ∷ []) (frames ++ arrival_of h ∷ [])) jobs job
+          (jobs_still jobs job.core (arrival_of h) is.sent)
+          (subst (All (IsSentTo (cores ++ job.core ∷ []) (frames ++ arrival_of h ∷ []) job.core)) (sym one)
+          (λ k d below. sent_one k d below));
       once = λ q. few q (either (place == q));
       shared = shared_more (frames_by jobs) (frames_by (jobs ++ job ∷ [])) (map arrival_of left) frames (arrival_of h)
           (perm_by (frames_by (jobs ++ job ∷ [])) (frames_by jobs ++ arrival_of h ∷ [])
@@ -183,6 +216,11 @@ opened_one {old} {now} {jobs} {left} {frames} h place was stand job passes read 
           let once : jobs_at q jobs ≤ 1 = is.once q in
           omega (arith, counted q, no_more, once)
 
+      sent_one : (k : ℕ) (d : Handed) → k < 1
+          → IsSentTo (cores ++ job.core ∷ []) (frames ++ arrival_of h ∷ []) job.core (get_or (h ∷ []) k d)
+      sent_one zero d below = steered_last cores frames job.core (arrival_of h) is.even
+      sent_one (suc k) d below = absurd (omega (arith, below))
+
       mine : IsJobOf old job
       mine = record {
         low = low;
@@ -210,13 +248,17 @@ place_told old places xs k d e low told =
     sym (ap (λ (ps : List (Option ℕ)). get_or ps k e) told
     ∙ mapped_get (λ (x : code.Arrival). place_in old (arrival_in x).packet) xs k d e low)
 
-pub handed_more : {old now : List Live} {jobs : List Job} {left : List Handed} (xs : List code.Arrival) (k : ℕ)
-    (d : code.Arrival) → k < length xs
-    → AreHanded old now jobs left (map arrival_in (take k xs) ++ arrival_in (get_or xs k d) ∷ [])
-    → AreHanded old now jobs left (map arrival_in (take (k + 1) xs))
-handed_more {old} {now} {jobs} {left} xs k d low is =
-    subst (AreHanded old now jobs left)
-    (sym (ap (map arrival_in) (take_more xs k d low) ∙ map-append arrival_in (take k xs) (get_or xs k d ∷ []))) is
+pub handed_more : {old now : List Live} {jobs : List Job} {left : List Handed} (cores : List ℕ)
+    (xs : List code.Arrival) (k : ℕ) (n : ℕ) (d : code.Arrival) → length cores ≡ length xs → k < length xs
+    → AreHanded old now jobs left (take k cores ++ get_or cores k n ∷ [])
+    (map arrival_in (take k xs) ++ arrival_in (get_or xs k d) ∷ [])
+    → AreHanded old now jobs left (take (k + 1) cores) (map arrival_in (take (k + 1) xs))
+handed_more {old} {now} {jobs} {left} cores xs k n d even low is =
+    subst (AreHanded old now jobs left (take (k + 1) cores))
+    (sym (ap (map arrival_in) (take_more xs k d low) ∙ map-append arrival_in (take k xs) (get_or xs k d ∷ [])))
+    (subst (λ (cs : List ℕ). AreHanded old now jobs left cs
+    (map arrival_in (take k xs) ++ arrival_in (get_or xs k d) ∷ []))
+    (sym (take_more cores k n (subst (λ (len : ℕ). k < len) (sym even) low))) is)
 
 -- ----- lanes
 joined_both : {A B : Type 0} (g : A → List B) (xs ys : List A) → joined g (xs ++ ys) ≡ joined g xs ++ joined g ys

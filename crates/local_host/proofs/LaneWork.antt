@@ -22,6 +22,7 @@ use Rattle.local_host.specs.declared.lanes.Job.{Job}
 use Rattle.local_host.specs.Lanes.{worked_job, worked_flow, worked_frame, packet_taken, is_taken, taken_of, left_of}
 use Rattle.local_host.specs.Lanes.{left_by, arrival_of, more_if, more_unless}
 use Rattle.local_host.specs.Handing.{place_in, frames_of, frames_by, jobs_at, IsJobOf, AreHanded, AreDistinct}
+use Rattle.local_host.specs.Handing.{IsSteered, AreSentTo}
 use Rattle.local_host.specs.Handing.{put_jobs, by_core, order_by, taken_packet, flow_taken, TookFrames}
 use Rattle.local_host.proofs.Places.{found_change, set_change}
 use Rattle.local_host.proofs.LaneLists.{set_there, set_elsewhere, set_same, set_twice, length_set, there_below}
@@ -269,41 +270,50 @@ places_worked t q (j ∷ js) =
 abbrev IsKnown : List Live → Arrival → Type 0
 IsKnown F x = is_some (place_in F x.packet) ≡ true
 
-known_more : (F : List Live) (b : Bool) (x : Arrival) (xs : List Arrival) → IsKnown F x → All (IsKnown F) xs
-    → All (IsKnown F) (more_if b x xs)
-known_more F true x xs here rest = All-cons (IsKnown F) x xs here rest
-known_more F false x xs here rest = rest
+-- what holds of all frames of a job holds of those that are taken
+taken_more : (P : Arrival → Type 0) (b : Bool) (x : Arrival) (xs : List Arrival) → P x → All P xs
+    → All P (more_if b x xs)
+taken_more P true x xs here rest = All-cons P x xs here rest
+taken_more P false x xs here rest = rest
 
-known_frames : (core t place : ℕ) (F : List Live) (hs : List Handed) (l : Live) → All (IsLed F place) hs
-    → All (IsKnown F) (taken_of core t hs l)
-known_frames core t place F [] l led = All-nil (IsKnown F)
-known_frames core t place F (h ∷ hs) l led =
-    known_more F (is_taken (arrival_of h).packet l) (arrival_of h)
+taken_keep : (P : Arrival → Type 0) (core t : ℕ) (hs : List Handed) (l : Live)
+    → All (λ (h : Handed). P (arrival_of h)) hs → All P (taken_of core t hs l)
+taken_keep P core t [] l all = All-nil P
+taken_keep P core t (h ∷ hs) l all =
+    taken_more P (is_taken (arrival_of h).packet l) (arrival_of h)
     (taken_of core t hs (worked_frame core t (arrival_of h) l))
-    (ap is_some (All-head (IsLed F place) h hs led))
-    (known_frames core t place F hs (worked_frame core t (arrival_of h) l) (All-tail (IsLed F place) h hs led))
+    (All-head (λ (g : Handed). P (arrival_of g)) h hs all)
+    (taken_keep P core t hs (worked_frame core t (arrival_of h) l)
+    (All-tail (λ (g : Handed). P (arrival_of g)) h hs all))
 
-known_jobs : (t : ℕ) (F : List Live) (js : List Job) → All (IsJobOf F) js
-    → All (λ (x : Taken). IsKnown F x.arrival) (order_by t js)
-known_jobs t F [] own = All-nil (λ (x : Taken). IsKnown F x.arrival)
-known_jobs t F (j ∷ js) own =
+-- and so it is with all jobs
+abbrev HaveAll : (Taken → Type 0) → Job → Type 0
+HaveAll P j = All (λ (h : Handed). P (by_core j.core (arrival_of h))) j.frames.items
+
+order_keeps : (P : Taken → Type 0) (t : ℕ) (js : List Job)
+    → All (HaveAll P) js → All P (order_by t js)
+order_keeps P t [] all = All-nil P
+order_keeps P t (j ∷ js) all =
     let ts : List Arrival = taken_of j.core t j.frames.items j.flow in
-    All-append (λ (x : Taken). IsKnown F x.arrival) (map (by_core j.core) ts) (order_by t js)
-    (All-map (λ (x : Taken). IsKnown F x.arrival) (by_core j.core) ts
-    (known_frames j.core t j.place F j.frames.items j.flow (All-head (IsJobOf F) j js own).led))
-    (known_jobs t F js (All-tail (IsJobOf F) j js own))
+    All-append P (map (by_core j.core) ts) (order_by t js)
+    (All-map P (by_core j.core) ts
+    (taken_keep (λ (x : Arrival). P (by_core j.core x)) j.core t j.frames.items j.flow (All-head (HaveAll P) j js all)))
+    (order_keeps P t js (All-tail (HaveAll P) j js all))
 
 -- ----- all of it
 -- The jobs of lanes, in any order, were worked and put back.
 pub took_frames : (t : ℕ) (old now : List Live) (jobs js : List Job) (left rest : List Handed)
-    (frames : List Arrival) → AreHanded old now jobs left frames → AreDistinct frames → IsPermutation jobs js
-    → IsPermutation (frames_by jobs) (frames_by js) → IsPermutation (left ++ left_by t js) rest
-    → TookFrames t old frames (map arrival_of rest) (put_jobs (map (worked_job t) js) now)
-took_frames t old now jobs js left rest frames handed distinct moved shuffled gathered = record {
+    (cores : List ℕ) (frames : List Arrival) → AreHanded old now jobs left cores frames → AreDistinct frames
+    → IsPermutation jobs js → IsPermutation (frames_by jobs) (frames_by js) → IsPermutation (left ++ left_by t js) rest
+    → TookFrames t old cores frames (map arrival_of rest) (put_jobs (map (worked_job t) js) now)
+took_frames t old now jobs js left rest cores frames handed distinct moved shuffled gathered = record {
   order = order_by t js;
+  steered = order_keeps (IsSteered cores frames) t js
+      (All-permutation (AreSentTo cores frames) jobs js moved handed.sent);
   shared = λ frame. same_filter (is_frame frame) (arrivals_taken (order_by t js) ++ map arrival_of rest) frames whole
       (distinct frame);
-  known = known_jobs t old js own;
+  known = order_keeps (λ (x : Taken). IsKnown old x.arrival) t js
+      (λ k d low. λ i h below. ap is_some ((own k d low).led i h below));
   made = jobs_done t js old own once ∙ sym (put_alike (map (worked_job t) js) now old handed.len
       (λ q none. handed.apart q (sym (moved_at q) ∙ (sym (places_worked t q js) ∙ none)))
       below);

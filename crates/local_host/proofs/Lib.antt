@@ -16,6 +16,7 @@ mod InTurn
 mod CoreRecording
 mod LaneWork
 mod LaneLists
+mod OwnCores
 mod HandingOut
 mod SeenFrames
 mod CoreTaking

@@ -5,9 +5,9 @@ use Rattle.std.specs.Prelude.{Option, Some, None, is_some, position, length, sli
 use Rattle.tas_model.specs.declared.entry.FrameId.{FrameId}
 use Rattle.tas_model.specs.declared.entry.Caller.TheVariants.{Core}
 use Rattle.host_rounds.specs.Lists.{change_first}
-use Rattle.host_rounds.specs.Hosts.{Live, is_indexed_as}
+use Rattle.host_rounds.specs.Hosts.{Host, Live, is_indexed_as}
 use Rattle.host_rounds.specs.Deliveries.{Packet, Damaged, Segment, Arrival, received}
-use Rattle.core_rounds.specs.CoreTicks.{Taken, AreShared, is_frame}
+use Rattle.core_rounds.specs.CoreTicks.{Taken, AreShared, IsCoresPhase, is_frame}
 use Rattle.local_host.specs.declared.lanes.Handed.{Handed}
 use Rattle.local_host.specs.declared.lanes.Job.{Job}
 use Rattle.local_host.specs.declared.lanes.Lane.{Lane}
@@ -21,6 +21,21 @@ AreDistinct frames = (frame : FrameId) → count_by (is_frame frame) frames ≤ 
 abbrev pub place_in : List Live → Packet → Option ℕ
 place_in flows (Damaged rule) = None
 place_in flows (Segment tuple seg) = position (is_indexed_as tuple) flows
+
+-- ----- which core
+-- a frame, and this core
+abbrev pub by_core : (core : ℕ) → Arrival → Taken
+by_core core x = record { core = core; arrival = x }
+
+-- This frame came and was steered to this core: they stand at one place of the frames that came and of their cores.
+pub record IsSteered (cores : List ℕ) (frames : List Arrival) (x : Taken) : Type 0 where
+  pub place : ℕ
+  pub core : slice_get cores place ≡ Some x.core
+  pub frame : slice_get frames place ≡ Some x.arrival
+
+-- each frame that was taken was taken by the core that it was steered to
+abbrev pub AreSteered : (cores : List ℕ) (frames : List Arrival) → List Taken → Type 0
+AreSteered cores frames order = All (IsSteered cores frames) order
 
 -- ----- jobs
 abbrev pub joined : {A B : Type 0} → (A → List B) → List A → List B
@@ -52,14 +67,21 @@ pub record IsJobOf (flows : List Live) (j : Job) : Type 0 where
   pub here : slice_get flows j.place ≡ Some j.flow
   pub led : All (λ (h : Handed). place_in flows (arrival_of h).packet ≡ Some j.place) j.frames.items
 
--- These frames were handed out: each is in a job or left. The flows of the jobs were taken out, each once, and what
--- stands in their places the index has under no four-tuple.
-pub record AreHanded (old now : List Live) (jobs : List Job) (left : List Handed) (frames : List Arrival)
-    : Type 0 where
+-- each of the job's frames was steered to the job's core
+abbrev pub AreSentTo : (cores : List ℕ) (frames : List Arrival) → Job → Type 0
+AreSentTo cores frames j =
+    All (λ (h : Handed). IsSteered cores frames (by_core j.core (arrival_of h))) j.frames.items
+
+-- These frames were handed out, each steered to its core: each is in a job of that core or left. The flows of the jobs
+-- were taken out, each once, and what stands in their places the index has under no four-tuple.
+pub record AreHanded (old now : List Live) (jobs : List Job) (left : List Handed) (cores : List ℕ)
+    (frames : List Arrival) : Type 0 where
+  pub even : length cores ≡ length frames
   pub len : length now ≡ length old
   pub apart : (q : ℕ) → jobs_at q jobs ≡ 0 → slice_get now q ≡ slice_get old q
   pub away : (q : ℕ) (l : Live) → slice_get now q ≡ Some l → l.indexed ≡ true → jobs_at q jobs ≡ 0
   pub own : All (IsJobOf old) jobs
+  pub sent : All (AreSentTo cores frames) jobs
   pub once : (q : ℕ) → jobs_at q jobs ≤ 1
   pub shared : IsPermutation (frames_by jobs ++ map arrival_of left) frames
 
@@ -87,9 +109,6 @@ put_jobs [] flows = flows
 put_jobs (j ∷ js) flows = put_jobs js (set flows j.place j.flow)
 
 -- ----- what cores took
-abbrev pub by_core : (core : ℕ) → Arrival → Taken
-by_core core x = record { core = core; arrival = x }
-
 abbrev pub order_by : (tick : ℕ) → List Job → List Taken
 order_by t [] = []
 order_by t (j ∷ js) = map (by_core j.core) (taken_of j.core t j.frames.items j.flow) ++ order_by t js
@@ -102,17 +121,30 @@ taken_packet core t frame (Segment tuple seg) flows =
 abbrev pub flow_taken : (tick : ℕ) → List Live → Taken → List Live
 flow_taken t flows x = taken_packet x.core t x.arrival.frame x.arrival.packet flows
 
--- Some frames came so far, and each was taken or is left. What stands now is what those leave that were taken, each of
--- a flow of the index.
-pub record TookSome (t : ℕ) (before : List Live) (frames rest : List Arrival) (now : List Live) : Type 0 where
+-- Some frames came so far, each steered to its core, which took it, or it is left. What stands now is what those leave
+-- that were taken, each of a flow of the index.
+pub record TookSome (t : ℕ) (before : List Live) (cores : List ℕ) (frames rest : List Arrival) (now : List Live)
+    : Type 0 where
+  pub even : length cores ≡ length frames
   pub order : List Taken
+  pub steered : AreSteered cores frames order
   pub shared : IsPermutation (map (λ (x : Taken). x.arrival) order ++ rest) frames
   pub known : All (λ (x : Taken). is_some (place_in before x.arrival.packet) ≡ true) order
   pub made : fold (flow_taken t) before order ≡ now
 
--- What cores did to the flows is what one order of the frames leaves that they took, each of a flow of the index.
-pub record TookFrames (t : ℕ) (before : List Live) (frames rest : List Arrival) (after : List Live) : Type 0 where
+-- What cores did to the flows is what one order of the frames leaves that they took, each of a flow of the index, and
+-- each by the core that it was steered to.
+pub record TookFrames (t : ℕ) (before : List Live) (cores : List ℕ) (frames rest : List Arrival) (after : List Live)
+    : Type 0 where
   pub order : List Taken
+  pub steered : AreSteered cores frames order
   pub shared : AreShared frames order rest
   pub known : All (λ (x : Taken). is_some (place_in before x.arrival.packet) ≡ true) order
   pub made : fold (flow_taken t) before order ≡ after
+
+-- The cores' phase of a tick of a host, in which each frame that was taken was taken by the core that it was steered
+-- to.
+pub record IsSteeredPhase (t : ℕ) (before : Host) (cores : List ℕ) (frames rest : List Arrival) (after : Host)
+    : Type 0 where
+  pub phase : IsCoresPhase t before frames rest after
+  pub steered : AreSteered cores frames phase.order

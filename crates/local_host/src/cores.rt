@@ -1,4 +1,4 @@
-ghost use Rattle.std.specs.Prelude.{◌≡◌, ◌<◌, ◌++◌, ◌∷◌, [], List, All, length, map, IfOk, OnOk};
+ghost use Rattle.std.specs.Prelude.{◌≡◌, ℕ, ◌<◌, ◌++◌, ◌∷◌, [], List, All, length, map, IfOk, OnOk};
 ghost use Rattle.host_rounds.specs.Hosts.{Live};
 ghost use Rattle.host_rounds.specs.Deliveries.{Arrival as ModelArrival};
 ghost use Rattle.local_host.specs.Arriving.{arrival_in};
@@ -15,9 +15,9 @@ use tas_num::Gate;
 /// Fewer frames than these are one thread's work: to hand flows out costs more than threads gain.
 const FRAMES_FOR_THREADS: usize = 4096;
 
-/// Cores take the frames of flows that stand at these places, side by side where these are many. The answer are the
-/// frames that were left, in the order in which they came. `spare` has flows that stand in for those that cores have.
-/// The error is want of memory.
+/// Cores take the frames of flows that stand at these places, each the core that it was steered to, side by side where
+/// these are many. The answer are the frames that were left, in the order in which they came. `spare` has flows that
+/// stand in for those that cores have. The error is want of memory.
 pub fn take_on_cores<'a, R: Threads + Sync, G: Gate>(
     rt: &R,
     alloc: Global,
@@ -35,7 +35,7 @@ pub fn take_on_cores<'a, R: Threads + Sync, G: Gate>(
     requires cores { All (λ core. core < 16) steered.now }
     requires host { host < 67108863 }
     requires distinct { AreDistinct (map arrival_in arrivals.now) }
-    ensures { IfOk result (λ rest. TookFrames tick flows.old.items (map arrival_in arrivals.now)
+    ensures { IfOk result (λ rest. TookFrames tick flows.old.items steered.now (map arrival_in arrivals.now)
         (map arrival_in rest.items) flows.new.items) }
 {
     if arrivals.len() < FRAMES_FOR_THREADS {
@@ -50,7 +50,7 @@ pub fn take_on_cores<'a, R: Threads + Sync, G: Gate>(
     arrivals_of_handed(alloc, &handing.left)
 }
 
-/// The same by one thread, frame by frame.
+/// The same by one thread, frame by frame, each by its own core.
 fn take_in_turn<'a>(
     alloc: Global,
     flows: &mut [LiveFlow],
@@ -61,7 +61,7 @@ fn take_in_turn<'a>(
 ) -> Result<Vec<Arrival<'a>>, AllocError>
     requires places { places.now ≡ map (λ x. place_in flows.old (arrival_in x).packet) arrivals.now }
     requires steered { length steered.now ≡ length arrivals.now }
-    ensures took { IfOk result (λ rest. TookSome tick flows.old (map arrival_in arrivals.now)
+    ensures took { IfOk result (λ rest. TookSome tick flows.old steered.now (map arrival_in arrivals.now)
         (map arrival_in rest.items) flows.new) }
     ensures len { length flows.new ≡ length flows.old }
 {
@@ -72,7 +72,7 @@ fn take_in_turn<'a>(
     Ok(rest)
 }
 
-/// A core takes the frame of a flow that stands at this place, where it is for the fast path. Else it is left. The
+/// This core takes the frame of a flow that stands at this place, where it is for the fast path. Else it is left. The
 /// error is want of memory.
 fn take_next<'a>(
     flows: &mut [LiveFlow],
@@ -83,10 +83,10 @@ fn take_next<'a>(
     arrival: Arrival<'a>,
 ) -> Result<(), AllocError>
     requires { place_in flows.old (arrival_in arrival).packet ≡ place }
-    ensures took { (old : List Live) (frames : List ModelArrival)
-        → TookSome tick old frames (map arrival_in rest.old.items) flows.old
-        → OnOk result (TookSome tick old (frames ++ arrival_in arrival.entry ∷ []) (map arrival_in rest.new.items)
-        flows.new) }
+    ensures took { (old : List Live) (cores : List ℕ) (frames : List ModelArrival)
+        → TookSome tick old cores frames (map arrival_in rest.old.items) flows.old
+        → OnOk result (TookSome tick old (cores ++ core ∷ []) (frames ++ arrival_in arrival.entry ∷ [])
+        (map arrival_in rest.new.items) flows.new) }
     ensures len { length flows.new ≡ length flows.old }
 {
     if let Some(place) = place {

@@ -344,7 +344,7 @@ impl Flows {
         requires cores { All (λ core. core < 16) steered.now }
         requires host { host < 67108863 }
         requires distinct { AreDistinct (map arrival_in arrivals.now) }
-        ensures made { IfOk result (λ rest. TookFrames tick self.old (map arrival_in arrivals.now)
+        ensures made { IfOk result (λ rest. TookFrames tick self.old steered.now (map arrival_in arrivals.now)
             (map arrival_in rest.items) self.new) }
         ensures none { OnErr result (self.new ≡ []) }
     {

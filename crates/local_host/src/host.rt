@@ -20,6 +20,7 @@ ghost use Rattle.core_rounds.specs.CoreTicks.{IsCoresPhase};
 ghost use Rattle.tas_runs.specs.Records.{Content, is_remote};
 ghost use Rattle.tas_runs.specs.LocalScript.{resets_here};
 ghost use Rattle.local_host.specs.Arriving.{arrival_in, taking_in};
+ghost use Rattle.local_host.specs.Handing.{IsSteeredPhase};
 ghost use Rattle.local_host.specs.Index.{is_standing, passes_at, standing_places, AreAtRest};
 ghost use Rattle.local_host.specs.Script.{asked_all, asked_live};
 ghost use Rattle.local_host.specs.Live.{flow_in, holder_in, IsLegal, connected_by};
@@ -611,6 +612,8 @@ impl LocalHost {
         requires cores { (0 < cores) × (cores ≤ 16) }
         requires host { host < 67108863 }
         ensures made { IfOk result (λ rest. IsCoresPhase tick self.old (map arrival_in arrivals.now)
+            (map arrival_in rest.items) self.new) }
+        ensures steered { IfOk result (λ rest. IsSteeredPhase tick self.old steered.now (map arrival_in arrivals.now)
             (map arrival_in rest.items) self.new) }
         ensures params { self.new.params ≡ self.old.params }
     {

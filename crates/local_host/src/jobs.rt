@@ -50,6 +50,7 @@ impl<'a> Handing<'a> {
     fn job_of(&self, place: usize, core: u32) -> Option<usize>
         ensures low { IfSome result (λ k. k < length self.now.jobs.items) }
         ensures place { IfSome result (λ k. (d : Job) → (get_or self.now.jobs.items k d).place ≡ place) }
+        ensures core { IfSome result (λ k. (d : Job) → (get_or self.now.jobs.items k d).core ≡ core) }
     {
         let k = *self.known.get(&place)?;
         let job = self.jobs.get(k)?;
@@ -76,7 +77,7 @@ pub fn hand_out<'a>(
     requires steered { length steered.now ≡ length arrivals.now }
     requires cores { All (λ core. core < 16) steered.now }
     ensures { IfOk result (λ handing. AreHanded flows.old.items flows.new.items handing.jobs.items handing.left.items
-        (map arrival_in arrivals.now)) }
+        steered.now (map arrival_in arrivals.now)) }
 {
     let mut handing = Handing::new(alloc);
     for k in 0..arrivals.len() {
@@ -108,11 +109,11 @@ fn hand<'a>(
     handed: Handed<'a>,
 ) -> Result<(), AllocError>
     requires { core < 16 }
-    ensures { (old : List Live) (frames : List ModelArrival)
-        → AreHanded old flows.old.items handing.old.jobs.items handing.old.left.items frames
+    ensures { (old : List Live) (cores : List ℕ) (frames : List ModelArrival)
+        → AreHanded old flows.old.items handing.old.jobs.items handing.old.left.items cores frames
         → place_in old (arrival_in handed.entry.arrival).packet ≡ place
         → OnOk result (AreHanded old flows.new.items handing.new.jobs.items handing.new.left.items
-        (frames ++ arrival_in handed.entry.arrival ∷ [])) }
+        (cores ++ core ∷ []) (frames ++ arrival_in handed.entry.arrival ∷ [])) }
 {
     let Some(place) = place else {
         handing.left.push(handed)?;

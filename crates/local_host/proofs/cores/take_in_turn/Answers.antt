@@ -12,8 +12,8 @@ take_next-requires c =
 
 pub loop-k-preserved : goal.loop-k-preserved
 loop-k-preserved c = (
-  some_more c.args.arrivals.now c.loop-k.k _ c.loop-k-test.true
-      (c.in_ok-take_next.ensures.took c.args.flows.now (map arrival_in (take c.loop-k.k c.args.arrivals.now))
-      c.loop-k.invariant.0),
+  some_more c.args.steered.now c.args.arrivals.now c.loop-k.k _ _ c.requires.steered c.loop-k-test.true
+      (c.in_ok-take_next.ensures.took c.args.flows.now (take c.loop-k.k c.args.steered.now)
+      (map arrival_in (take c.loop-k.k c.args.arrivals.now)) c.loop-k.invariant.0),
   c.in_ok-take_next.ensures.len ∙ c.loop-k.invariant.1,
 )

@@ -1,4 +1,4 @@
-use Rattle.std.proofs.Common.{◌≡◌, ◌++◌, ◌∷◌, [], ◌∙◌, List, map, ap, subst, sym}
+use Rattle.std.proofs.Common.{◌≡◌, ℕ, ◌++◌, ◌∷◌, [], ◌∙◌, List, map, ap, subst, sym}
 use Rattle.std.proofs.lemmas.List.{map-append}
 use Rattle.host_rounds.specs.Hosts.{Live}
 use Rattle.host_rounds.specs.Deliveries.{Arrival}
@@ -9,7 +9,7 @@ use Rattle.local_host.proofs.cores.take_next.Goals.{in-Some+in_ok-take+else-bran
 use Rattle.local_host.proofs.cores.take_next.Goals as goal
 
 pub returns-then-branch-clause-took : goal.returns-then-branch-clause-took
-returns-then-branch-clause-took c old frames some =
+returns-then-branch-clause-took c old cores frames some =
     turn_taken c.args.core c.in-Some.place (arrival_in c.args.arrival) c.index-flows-place.result c.take.new.self
     c.in_ok-take.field-0 (c.requires ∙ c.in-Some.is) c.in_ok-take.ensures.taken c.if-branch.true
     c.in_ok-take.ensures.made some
@@ -25,10 +25,12 @@ flows_are c =
     ]
 
 pub returns-clause-took : goal.returns-clause-took
-returns-clause-took c old frames some =
+returns-clause-took c old cores frames some =
     let x : Arrival = arrival_in c.args.arrival in
-    subst (λ (F : List Live). TookSome c.args.tick old (frames ++ x ∷ []) (map arrival_in c.push.new.self.items) F)
+    let sent : List ℕ = cores ++ c.args.core ∷ [] in
+    subst
+    (λ (F : List Live). TookSome c.args.tick old sent (frames ++ x ∷ []) (map arrival_in c.push.new.self.items) F)
     (sym (flows_are c))
-    (subst (λ (rest : List Arrival). TookSome c.args.tick old (frames ++ x ∷ []) rest c.args.flows.now)
+    (subst (λ (rest : List Arrival). TookSome c.args.tick old sent (frames ++ x ∷ []) rest c.args.flows.now)
     (sym (ap (map arrival_in) c.in_ok-push.ensures.items
-    ∙ map-append arrival_in c.args.rest.now.items (c.args.arrival ∷ []))) (some_left x some))
+    ∙ map-append arrival_in c.args.rest.now.items (c.args.arrival ∷ []))) (some_left c.args.core x some))

@@ -11,21 +11,23 @@ use Rattle.local_host.proofs.HandingOut.{left_one, added_one, opened_one, passes
 use Rattle.local_host.proofs.jobs.hand.Goals as goal
 
 pub returns-in_default : goal.returns-in_default
-returns-in_default c = λ old frames is led. left_one c.push.new.self.items c.args.handed c.in_ok-push.ensures.items is
+returns-in_default c = λ old cores frames is led.
+    left_one c.args.core c.push.new.self.items c.args.handed c.in_ok-push.ensures.items is
 
 pub returns-in-Some-job_of : goal.returns-in-Some-job_of
-returns-in-Some-job_of c = λ old frames is led.
+returns-in-Some-job_of c = λ old cores frames is led.
     ok_by c.add.result
     (λ more.
-    added_one c.args.handed c.in-Some-job_of.k c.index_mut.result.now c.add.new.job c.in-Some-job_of.ensures.low
-    c.index_mut.ensures.value more
+    added_one c.args.core c.args.handed c.in-Some-job_of.k c.index_mut.result.now c.add.new.job
+    c.in-Some-job_of.ensures.low c.index_mut.ensures.value more
+    (ap (λ (j : Job). j.core) c.index_mut.ensures.value ∙ c.in-Some-job_of.ensures.core c.index_mut.result.now)
     (led ∙ (c.in-Some.is ∙ ap (λ (n : ℕ). Some n) (sym (ap (λ (j : Job). j.place) c.index_mut.ensures.value
     ∙ c.in-Some-job_of.ensures.place c.index_mut.result.now)))) is)
     c.add.ensures
 
 pub returns-then-not-is_indexed : goal.returns-then-not-is_indexed
-returns-then-not-is_indexed c = λ old frames is led.
-    left_one c.push-then-not-is_indexed.new.self.items c.args.handed c.in_ok-push-2.ensures.items is
+returns-then-not-is_indexed c = λ old cores frames is led.
+    left_one c.args.core c.push-then-not-is_indexed.new.self.items c.args.handed c.in_ok-push-2.ensures.items is
 
 pub index_mut-requires-2 : goal.index_mut-requires-2
 index_mut-requires-2 c =
@@ -38,7 +40,7 @@ index_mut-requires-2 c =
     omega (arith, low, c.args.flows.now.ok)
 
 pub returns : goal.returns
-returns c = λ old frames is led.
+returns c = λ old cores frames is led.
     let yes : c.is_indexed.result ≡ true = search rules in
     let passes : passes_at is_in_index c.args.flows.now.items c.in-Some.place ≡ true =
     sym (c.is_indexed.ensures
@@ -52,7 +54,7 @@ returns c = λ old frames is led.
     subst
     (λ (js : List Job).
     AreHanded old (set c.args.flows.now.items c.in-Some.place c.replace-flow.new.dest) js
-    c.args.handing.now.left.items (frames ++ arrival_in c.args.handed.arrival ∷ []))
+    c.args.handing.now.left.items (cores ++ c.args.core ∷ []) (frames ++ arrival_in c.args.handed.arrival ∷ []))
     (sym c.in_ok-push-4.ensures.items)
     (opened_one c.args.handed c.in-Some.place c.index_mut-2.result.now c.replace-flow.new.dest job passes
     c.index_mut-2.ensures.value (ap is_in_index c.replace-flow.ensures.after ∙ c.in_ok-stand_in.ensures) c.requires refl

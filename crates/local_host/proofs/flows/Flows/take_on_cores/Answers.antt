@@ -6,4 +6,5 @@ use Rattle.local_host.proofs.flows.Flows.take_on_cores.Goals as goal
 pub settle-requires : goal.settle-requires
 settle-requires g c =
     sound_took c.args.tick c.self.inside.table.flows.items c.take_on_cores-done.new.flows.items
-    (map arrival_in c.args.arrivals.now) c.take_on_cores-done.result c.take_on_cores-done.ensures c.self.invariant
+    c.args.steered.now (map arrival_in c.args.arrivals.now) c.take_on_cores-done.result c.take_on_cores-done.ensures
+    c.self.invariant
