@@ -1,5 +1,5 @@
 -- Numbers that differ in their last digits alone.
-use Rattle.std.specs.Prelude.{ℕ, ◌+◌, ◌%◌, ◌^◌, ◌<◌, ◌≤◌}
+use Rattle.std.specs.Prelude.{◌+◌, ◌%◌, ◌^◌, ◌<◌, ◌≤◌}
 use Rattle.flow_state.specs.declared.stretch.QuietRun.{QuietRun}
 
 -- the ticks and the numbers of a run do

@@ -2,7 +2,7 @@ ghost use Rattle.std.specs.Prelude.{◌≡◌, ℕ, ◌++◌, ◌∷◌, [], Lis
 ghost use Rattle.std.specs.Prelude.{suc, ◌-◌};
 ghost use Rattle.host_rounds.specs.declared.log.LogEvent.TheVariants as events;
 ghost use Rattle.tas_runs.specs.Report.{line, event_text, log_text, frame_text, seg_text, answer_text};
-ghost use Rattle.tas_core.specs.Stretches.{lines_in, lines_of, run_lines, event_by};
+ghost use Rattle.tas_core.specs.Stretches.{lines_in, lines_of, run_lines, numbered_line};
 ghost use Rattle.run_texts.specs.Records.{record_lines};
 ghost use Rattle.run_texts.specs.Writes.{Writes};
 
@@ -91,53 +91,28 @@ fn write_host_frames<K: Sink>(
         (log_text (map (λ n. n.now) names.now) (run_lines run.now)) }
 {
     let first = run.first.number;
-    write_run_line(writer, sink, names, run, first)?;
+    write_line(writer, sink, names, &run_line(run, first))?;
     for j in 0..run.more() {
-        write_run_line(writer, sink, names, run, first + j + 1)?;
+        write_line(writer, sink, names, &run_line(run, first + j + 1))?;
     }
     Ok(())
 }
 
-/// Writes the line of a run whose frame has this number.
-fn write_run_line<K: Sink>(
-    writer: &mut Writer,
-    sink: &mut K,
-    names: &[&[u8]],
-    run: &LogRun,
-    number: u64,
-) -> Result<(), IoFault>
-    ensures { Writes (K.state sink.old) writer.old result (K.state sink.new) writer.new
-        (line (decimal run.now.tick ++ codes " " ++ event_text (map (λ n. n.now) names.now)
-        (event_by run.now.kind (record (run.now.first) { number = number })))) }
+/// The line of a run whose frame has this number.
+fn run_line(run: &LogRun, number: u64) -> LogLine
+    ensures { result ≡ numbered_line run.now number }
 {
-    writer.put_text(sink, &TickText(run.tick))?;
-    write_fate(
-        writer,
-        sink,
-        names,
-        run.kind,
-        FrameId {
-            number,
-            ..run.first
-        },
-    )?;
-    writer.put(sink, b"\n")
-}
-
-/// Writes what a run tells of a frame.
-fn write_fate<K: Sink>(
-    writer: &mut Writer,
-    sink: &mut K,
-    names: &[&[u8]],
-    kind: RunKind,
-    frame: FrameId,
-) -> Result<(), IoFault>
-    ensures { Writes (K.state sink.old) writer.old result (K.state sink.new) writer.new
-        (event_text (map (λ n. n.now) names.now) (event_by kind frame)) }
-{
-    match kind {
-        RunKind::Dropped { backlog } => write_dropped(writer, sink, names, frame, backlog),
-        RunKind::Refused { number } => write_refused(writer, sink, names, frame, number),
+    let frame = FrameId {
+        number,
+        ..run.first
+    };
+    let event = match run.kind {
+        RunKind::Dropped { backlog } => LogEvent::Dropped { frame, backlog },
+        RunKind::Refused { number } => LogEvent::Refused { frame, number },
+    };
+    LogLine {
+        tick: run.tick,
+        event,
     }
 }
 

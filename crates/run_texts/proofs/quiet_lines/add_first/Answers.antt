@@ -1,4 +1,4 @@
-use Rattle.std.proofs.Common.{◌≡◌, ◌+◌, ◌<◌, ◌++◌, List, ℕ, codes, decimal, length, [], ◌∷◌, ap, ◌∙◌, arith}
+use Rattle.std.proofs.Common.{◌++◌, List, ℕ, codes, decimal, length, [], ◌∷◌, ap, ◌∙◌, arith}
 use Rattle.std.proofs.lemmas.Fmt.{decimal_nonempty}
 use Rattle.std.proofs.lemmas.List.{length-append}
 use Rattle.tas_runs.specs.Report.{caller_text}

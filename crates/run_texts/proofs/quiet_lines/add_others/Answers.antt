@@ -1,6 +1,5 @@
-use Rattle.std.proofs.Common.{◌≡◌, ◌+◌, ◌*◌, ◌≤◌, length, ap, ◌∙◌, arith, ℕ, set, ◌-◌, ◌%◌}
+use Rattle.std.proofs.Common.{◌+◌, ◌≤◌, length, ap, ◌∙◌, arith, ℕ, set, ◌-◌, ◌%◌}
 use Rattle.std.proofs.lemmas.List.{length-append, length-set}
-use Rattle.tas_runs.specs.Report.{entry_text}
 use Rattle.run_texts.proofs.Decades.{line_more, line_size}
 use Rattle.run_texts.proofs.quiet_lines.add_others.Goals as goal
 
