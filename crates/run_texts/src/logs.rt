@@ -1,15 +1,12 @@
 ghost use Rattle.std.specs.Prelude.{◌≡◌, ℕ, ◌++◌, ◌∷◌, [], List, map, flat_map, codes, decimal, if◌then◌else◌};
-ghost use Rattle.std.specs.Prelude.{suc, ◌-◌};
 ghost use Rattle.host_rounds.specs.declared.log.LogEvent.TheVariants as events;
 ghost use Rattle.tas_runs.specs.Report.{line, event_text, log_text, frame_text, seg_text, answer_text};
 ghost use Rattle.tas_core.specs.Stretches.{lines_in, lines_of, run_lines, numbered_line};
-ghost use Rattle.run_texts.specs.Records.{record_lines};
 ghost use Rattle.run_texts.specs.Writes.{Writes};
 
 use crate::entries::write_segment;
 use crate::frame_ids::write_frame_id;
 use crate::line_texts::{AcceptText, ListenText, RefusedConnect, RuleText, TickText};
-use crate::record_lines::RecordLines;
 use crate::texts::{AnswerText, PortText};
 use crate::writer::Writer;
 use host_rounds::{LogEvent, LogLine};
@@ -60,24 +57,9 @@ fn write_run<K: Sink>(
         (log_text (map (λ n. n.now) names.now) (run_lines run.now)) }
 {
     if run.first.host == CAPTURE {
-        return write_records(writer, sink, run);
+        return writer.put_lines(sink, run);
     }
     write_host_frames(writer, sink, names, run)
-}
-
-/// Writes the lines of a run of records of a capture.
-fn write_records<K: Sink>(writer: &mut Writer, sink: &mut K, run: &LogRun) -> Result<(), IoFault>
-    ensures { Writes (K.state sink.old) writer.old result (K.state sink.new) writer.new
-        (record_lines run.now.tick run.now.kind run.now.first.number (suc (run.now.last - run.now.first.number))) }
-{
-    let more = run.more();
-    let mut done: u128 = 0;
-    while done <= u128::from(more) {
-        let lines = RecordLines::after(run, done as u64);
-        writer.put_text(sink, &lines)?;
-        done += u128::from(lines.count());
-    }
-    Ok(())
 }
 
 /// Writes the lines of a run of frames of a host.
