@@ -1,4 +1,4 @@
-ghost use Rattle.std.specs.Prelude.{◌≡◌, ℕ, ◌++◌, ◌∷◌, [], List, map, flat_map, codes, decimal, if◌then◌else◌};
+ghost use Rattle.std.specs.Prelude.{◌≡◌, ◌≤◌, ℕ, ◌++◌, ◌∷◌, [], List, map, flat_map, codes, decimal, if◌then◌else◌};
 ghost use Rattle.host_rounds.specs.declared.log.LogEvent.TheVariants as events;
 ghost use Rattle.tas_runs.specs.Report.{line, event_text, log_text, frame_text, seg_text, answer_text};
 ghost use Rattle.tas_core.specs.Stretches.{lines_in, lines_of, run_lines, numbered_line};
@@ -6,7 +6,8 @@ ghost use Rattle.run_texts.specs.Writes.{Writes};
 
 use crate::entries::write_segment;
 use crate::frame_ids::write_frame_id;
-use crate::line_texts::{AcceptText, ListenText, RefusedConnect, RuleText, TickText};
+use crate::line_texts::{AcceptText, ListenText, RefusedConnect, RuleText, TickText, WantText};
+use crate::text::Text;
 use crate::texts::{AnswerText, PortText};
 use crate::writer::Writer;
 use host_rounds::{LogEvent, LogLine};
@@ -138,10 +139,22 @@ fn write_event<K: Sink>(
             seg,
             answer,
         } => { write_stray(writer, sink, names, *frame, seg.get(), *answer) }
-        LogEvent::Dropped { frame, backlog } => write_dropped(
-            writer, sink, names, *frame, *backlog,
+        LogEvent::Dropped { frame, backlog } => write_fate(
+            writer,
+            sink,
+            names,
+            b"dropped ",
+            *frame,
+            &WantText(*backlog),
         ),
-        LogEvent::Refused { frame, number } => write_refused(writer, sink, names, *frame, *number),
+        LogEvent::Refused { frame, number } => write_fate(
+            writer,
+            sink,
+            names,
+            b"refused ",
+            *frame,
+            &RuleText(*number),
+        ),
     }
 }
 
@@ -226,45 +239,20 @@ fn write_seg<K: Sink>(writer: &mut Writer, sink: &mut K, seg: &Seg) -> Result<()
     write_segment(writer, sink, seg.head, seg.bytes.as_slice())
 }
 
-/// Writes for want of what a SYN was dropped.
-fn write_dropped<K: Sink>(
+/// Writes what became of a frame, and why.
+fn write_fate<K: Sink, T: Text>(
     writer: &mut Writer,
     sink: &mut K,
     names: &[&[u8]],
+    fate: &[u8],
     frame: FrameId,
-    backlog: bool,
+    why: &T,
 ) -> Result<(), IoFault>
+    requires { T.most ≤ 570 }
     ensures { Writes (K.state sink.old) writer.old result (K.state sink.new) writer.new
-        (event_text (map (λ n. n.now) names.now) (events.Dropped frame backlog)) }
+        (fate.now ++ frame_text (map (λ n. n.now) names.now) frame ++ T.text why.now) }
 {
-    writer.put(sink, b"dropped ")?;
+    writer.put(sink, fate)?;
     write_frame_id(writer, sink, names, frame)?;
-    writer.put(sink, want_text(backlog))
-}
-
-/// What was wanting for a SYN: room in the listener's backlog, or a slot for the flow.
-fn want_text(backlog: bool) -> &'static [u8]
-    ensures { result.now ≡ codes " = " ++ (if backlog then codes "backlogfull" else codes "noflowslot") }
-{
-    if backlog {
-        b" = backlogfull"
-    } else {
-        b" = noflowslot"
-    }
-}
-
-/// Writes which rule of reading a packet breaks.
-fn write_refused<K: Sink>(
-    writer: &mut Writer,
-    sink: &mut K,
-    names: &[&[u8]],
-    frame: FrameId,
-    number: u8,
-) -> Result<(), IoFault>
-    ensures { Writes (K.state sink.old) writer.old result (K.state sink.new) writer.new
-        (event_text (map (λ n. n.now) names.now) (events.Refused frame number)) }
-{
-    writer.put(sink, b"refused ")?;
-    write_frame_id(writer, sink, names, frame)?;
-    writer.put_text(sink, &RuleText(number))
+    writer.put_text(sink, why)
 }
