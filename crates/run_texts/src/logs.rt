@@ -1,4 +1,4 @@
-ghost use Rattle.std.specs.Prelude.{◌≡◌, ◌≤◌, ℕ, ◌++◌, ◌∷◌, [], List, map, flat_map, codes, decimal, if◌then◌else◌};
+ghost use Rattle.std.specs.Prelude.{◌≡◌, ◌≤◌, ℕ, ◌++◌, ◌∷◌, [], List, map, flat_map, codes, decimal};
 ghost use Rattle.host_rounds.specs.declared.log.LogEvent.TheVariants as events;
 ghost use Rattle.tas_runs.specs.Report.{line, event_text, log_text, frame_text, seg_text, answer_text};
 ghost use Rattle.tas_core.specs.Stretches.{lines_in, lines_of, run_lines, numbered_line};
