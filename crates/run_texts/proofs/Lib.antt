@@ -1,3 +1,4 @@
+pub mod Counting
 pub mod Decades
 pub mod Writing
 pub mod Lists

@@ -6,7 +6,7 @@ use Rattle.tas_model.specs.declared.entry.Entry.{Entry}
 use Rattle.tas_model.specs.declared.entry.FourTuple.{FourTuple}
 use Rattle.tas_model.specs.Outputs.{bytes_read, given_bytes}
 use Rattle.tas_runs.specs.Report.{entry_text, entries_text}
-use Rattle.flow_state.specs.Stretches.{quiet_tick, quiet_ticks}
+use Rattle.flow_state.specs.Stretches.{quiet_ticks}
 use Rattle.run_texts.specs.Frames.{entry_frames}
 use Rattle.run_texts.proofs.Lists.{entries_are}
 
@@ -38,13 +38,6 @@ pub quiet_sends_none : (tuple : FourTuple) (c : Caller) (n t k : ℕ)
     → flat_map (entry_frames tuple) (quiet_ticks c n t k) ≡ []
 quiet_sends_none tuple c n t zero = refl
 quiet_sends_none tuple c n t (suc k) = quiet_sends_none tuple c (n + 1) (t + 1) k
-
--- whatever the names of hosts
-pub quiet_text : (names : List (List ℕ)) (c : Caller) (n t k : ℕ)
-    → flat_map (entry_text []) (quiet_ticks c n t k) ≡ entries_text names (quiet_ticks c n t k)
-quiet_text names c n t zero = refl
-quiet_text names c n t (suc k) = ap (λ (xs : List ℕ). entry_text [] (quiet_tick c n t)
-    ++ xs) (quiet_text names c (n + 1) (t + 1) k)
 
 -- the pieces of a line behind a text
 pub line_behind : (w t s k p n s' a b c d : List ℕ)

@@ -1,4 +1,4 @@
-pub mod Decades
+pub mod Counting
 pub mod Frames
 pub mod Writes
 pub mod Records

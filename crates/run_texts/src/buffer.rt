@@ -92,20 +92,6 @@ impl Buffer {
         self.filled = end;
     }
 
-    /// Puts bytes behind those that wait, with another in one of their places.
-    #[inline(always)]
-    pub fn push_but(&mut self, bytes: &[u8], place: usize, other: u8)
-        requires room { length self.old + length bytes.now ≤ 32768 }
-        requires place { place < length bytes.now }
-        ensures { self.new ≡ self.old ++ set bytes.now place other }
-    {
-        let end = self.filled + bytes.len();
-        let room = &mut self.room[self.filled..end];
-        room.copy_from_slice(bytes);
-        room[place] = other;
-        self.filled = end;
-    }
-
     /// Puts the digits of bytes behind those that wait: two of lower case a byte, the higher one first.
     pub fn push_digits(&mut self, bytes: &[u8])
         requires { length self.old + 2 * length bytes.now ≤ 32768 }

@@ -2,6 +2,7 @@
 #![tactic(auto)]
 
 mod buffer;
+mod counted_lines;
 mod entries;
 mod flows;
 mod frame_ids;

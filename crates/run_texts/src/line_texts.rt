@@ -287,6 +287,26 @@ fn connect_want(no_port: bool) -> &'static [u8]
     if no_port { b"noport" } else { b"noflowslot" }
 }
 
+/// What was wanting for a SYN: room in the listener's backlog where it is true, and else a slot for the flow.
+#[derive(Clone, Copy)]
+pub struct WantText(pub bool);
+
+impl Text for WantText {
+    ghost use Rattle.std.specs.Prelude.{◌++◌, codes, if◌then◌else◌};
+
+    ghost text = { λ t. codes " = " ++ (if t.0 then codes "backlogfull" else codes "noflowslot") };
+
+    ghost most = { 14 };
+
+    fn add_to(&self, waiting: &mut Buffer) {
+        if self.0 {
+            add(waiting, b" = backlogfull");
+        } else {
+            add(waiting, b" = noflowslot");
+        }
+    }
+}
+
 /// The rule of reading that a packet breaks.
 #[derive(Clone, Copy)]
 pub struct RuleText(pub u8);

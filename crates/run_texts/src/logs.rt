@@ -1,15 +1,13 @@
-ghost use Rattle.std.specs.Prelude.{◌≡◌, ℕ, ◌++◌, ◌∷◌, [], List, map, flat_map, codes, decimal, if◌then◌else◌};
-ghost use Rattle.std.specs.Prelude.{suc, ◌-◌};
+ghost use Rattle.std.specs.Prelude.{◌≡◌, ◌≤◌, ℕ, ◌++◌, ◌∷◌, [], List, map, flat_map, codes, decimal};
 ghost use Rattle.host_rounds.specs.declared.log.LogEvent.TheVariants as events;
 ghost use Rattle.tas_runs.specs.Report.{line, event_text, log_text, frame_text, seg_text, answer_text};
-ghost use Rattle.tas_core.specs.Stretches.{lines_in, lines_of, run_lines, event_by};
-ghost use Rattle.run_texts.specs.Records.{record_lines};
+ghost use Rattle.tas_core.specs.Stretches.{lines_in, lines_of, run_lines, numbered_line};
 ghost use Rattle.run_texts.specs.Writes.{Writes};
 
 use crate::entries::write_segment;
 use crate::frame_ids::write_frame_id;
-use crate::line_texts::{AcceptText, ListenText, RefusedConnect, RuleText, TickText};
-use crate::record_lines::RecordLines;
+use crate::line_texts::{AcceptText, ListenText, RefusedConnect, RuleText, TickText, WantText};
+use crate::text::Text;
 use crate::texts::{AnswerText, PortText};
 use crate::writer::Writer;
 use host_rounds::{LogEvent, LogLine};
@@ -60,24 +58,9 @@ fn write_run<K: Sink>(
         (log_text (map (λ n. n.now) names.now) (run_lines run.now)) }
 {
     if run.first.host == CAPTURE {
-        return write_records(writer, sink, run);
+        return writer.put_lines(sink, run);
     }
     write_host_frames(writer, sink, names, run)
-}
-
-/// Writes the lines of a run of records of a capture.
-fn write_records<K: Sink>(writer: &mut Writer, sink: &mut K, run: &LogRun) -> Result<(), IoFault>
-    ensures { Writes (K.state sink.old) writer.old result (K.state sink.new) writer.new
-        (record_lines run.now.tick run.now.kind run.now.first.number (suc (run.now.last - run.now.first.number))) }
-{
-    let more = run.more();
-    let mut done: u128 = 0;
-    while done <= u128::from(more) {
-        let lines = RecordLines::after(run, done as u64);
-        writer.put_text(sink, &lines)?;
-        done += u128::from(lines.count());
-    }
-    Ok(())
 }
 
 /// Writes the lines of a run of frames of a host.
@@ -91,53 +74,28 @@ fn write_host_frames<K: Sink>(
         (log_text (map (λ n. n.now) names.now) (run_lines run.now)) }
 {
     let first = run.first.number;
-    write_run_line(writer, sink, names, run, first)?;
+    write_line(writer, sink, names, &run_line(run, first))?;
     for j in 0..run.more() {
-        write_run_line(writer, sink, names, run, first + j + 1)?;
+        write_line(writer, sink, names, &run_line(run, first + j + 1))?;
     }
     Ok(())
 }
 
-/// Writes the line of a run whose frame has this number.
-fn write_run_line<K: Sink>(
-    writer: &mut Writer,
-    sink: &mut K,
-    names: &[&[u8]],
-    run: &LogRun,
-    number: u64,
-) -> Result<(), IoFault>
-    ensures { Writes (K.state sink.old) writer.old result (K.state sink.new) writer.new
-        (line (decimal run.now.tick ++ codes " " ++ event_text (map (λ n. n.now) names.now)
-        (event_by run.now.kind (record (run.now.first) { number = number })))) }
+/// The line of a run whose frame has this number.
+fn run_line(run: &LogRun, number: u64) -> LogLine
+    ensures { result ≡ numbered_line run.now number }
 {
-    writer.put_text(sink, &TickText(run.tick))?;
-    write_fate(
-        writer,
-        sink,
-        names,
-        run.kind,
-        FrameId {
-            number,
-            ..run.first
-        },
-    )?;
-    writer.put(sink, b"\n")
-}
-
-/// Writes what a run tells of a frame.
-fn write_fate<K: Sink>(
-    writer: &mut Writer,
-    sink: &mut K,
-    names: &[&[u8]],
-    kind: RunKind,
-    frame: FrameId,
-) -> Result<(), IoFault>
-    ensures { Writes (K.state sink.old) writer.old result (K.state sink.new) writer.new
-        (event_text (map (λ n. n.now) names.now) (event_by kind frame)) }
-{
-    match kind {
-        RunKind::Dropped { backlog } => write_dropped(writer, sink, names, frame, backlog),
-        RunKind::Refused { number } => write_refused(writer, sink, names, frame, number),
+    let frame = FrameId {
+        number,
+        ..run.first
+    };
+    let event = match run.kind {
+        RunKind::Dropped { backlog } => LogEvent::Dropped { frame, backlog },
+        RunKind::Refused { number } => LogEvent::Refused { frame, number },
+    };
+    LogLine {
+        tick: run.tick,
+        event,
     }
 }
 
@@ -181,10 +139,22 @@ fn write_event<K: Sink>(
             seg,
             answer,
         } => { write_stray(writer, sink, names, *frame, seg.get(), *answer) }
-        LogEvent::Dropped { frame, backlog } => write_dropped(
-            writer, sink, names, *frame, *backlog,
+        LogEvent::Dropped { frame, backlog } => write_fate(
+            writer,
+            sink,
+            names,
+            b"dropped ",
+            *frame,
+            &WantText(*backlog),
         ),
-        LogEvent::Refused { frame, number } => write_refused(writer, sink, names, *frame, *number),
+        LogEvent::Refused { frame, number } => write_fate(
+            writer,
+            sink,
+            names,
+            b"refused ",
+            *frame,
+            &RuleText(*number),
+        ),
     }
 }
 
@@ -269,45 +239,20 @@ fn write_seg<K: Sink>(writer: &mut Writer, sink: &mut K, seg: &Seg) -> Result<()
     write_segment(writer, sink, seg.head, seg.bytes.as_slice())
 }
 
-/// Writes for want of what a SYN was dropped.
-fn write_dropped<K: Sink>(
+/// Writes what became of a frame, and why.
+fn write_fate<K: Sink, T: Text>(
     writer: &mut Writer,
     sink: &mut K,
     names: &[&[u8]],
+    fate: &[u8],
     frame: FrameId,
-    backlog: bool,
+    why: &T,
 ) -> Result<(), IoFault>
+    requires { T.most ≤ 570 }
     ensures { Writes (K.state sink.old) writer.old result (K.state sink.new) writer.new
-        (event_text (map (λ n. n.now) names.now) (events.Dropped frame backlog)) }
+        (fate.now ++ frame_text (map (λ n. n.now) names.now) frame ++ T.text why.now) }
 {
-    writer.put(sink, b"dropped ")?;
+    writer.put(sink, fate)?;
     write_frame_id(writer, sink, names, frame)?;
-    writer.put(sink, want_text(backlog))
-}
-
-/// What was wanting for a SYN: room in the listener's backlog, or a slot for the flow.
-fn want_text(backlog: bool) -> &'static [u8]
-    ensures { result.now ≡ codes " = " ++ (if backlog then codes "backlogfull" else codes "noflowslot") }
-{
-    if backlog {
-        b" = backlogfull"
-    } else {
-        b" = noflowslot"
-    }
-}
-
-/// Writes which rule of reading a packet breaks.
-fn write_refused<K: Sink>(
-    writer: &mut Writer,
-    sink: &mut K,
-    names: &[&[u8]],
-    frame: FrameId,
-    number: u8,
-) -> Result<(), IoFault>
-    ensures { Writes (K.state sink.old) writer.old result (K.state sink.new) writer.new
-        (event_text (map (λ n. n.now) names.now) (events.Refused frame number)) }
-{
-    writer.put(sink, b"refused ")?;
-    write_frame_id(writer, sink, names, frame)?;
-    writer.put_text(sink, &RuleText(number))
+    writer.put_text(sink, why)
 }

@@ -1,8 +1,10 @@
 ghost use Rattle.std.specs.Prelude.{◌≡◌, ℕ, ◌+◌, ◌*◌, ◌<◌, ◌≤◌, ◌++◌, [], List, length, IfOk, OnOk, IfSome};
 ghost use Rattle.tas_runs.specs.Report.{hex_bytes};
+ghost use Rattle.run_texts.specs.Counting.{lines_from};
 ghost use Rattle.run_texts.specs.Writes.{Writes};
 
 use crate::buffer::Buffer;
+use crate::counted_lines::{CountedLines, LINES, add_lines};
 use crate::text::Text;
 use std::alloc::{AllocError, Global};
 use std::marker::Model;
@@ -65,6 +67,19 @@ impl Writer {
     {
         push_text(sink, &mut self.waiting, text)
     }
+
+    /// Writes all of these lines.
+    pub fn put_lines<K: Sink, L: CountedLines>(
+        &mut self,
+        sink: &mut K,
+        lines: &L,
+    ) -> Result<(), IoFault>
+        requires { L.is_run lines.now }
+        ensures { Writes (K.state sink.old) self.old result (K.state sink.new) self.new
+            (lines_from (L.line lines.now) 0 (L.more lines.now + 1)) }
+    {
+        push_lines(sink, &mut self.waiting, lines)
+    }
 }
 
 /// Writes all that waits. After Ok nothing waits.
@@ -97,6 +112,25 @@ fn push_text<K: Sink, T: Text>(sink: &mut K, waiting: &mut Buffer, text: &T) -> 
 {
     make_room(sink, waiting, TEXT)?;
     text.add_to(waiting);
+    Ok(())
+}
+
+/// Writes lines behind all that waits, as many at a time as differ in their last digits alone.
+fn push_lines<K: Sink, L: CountedLines>(
+    sink: &mut K,
+    waiting: &mut Buffer,
+    lines: &L,
+) -> Result<(), IoFault>
+    requires { L.is_run lines.now }
+    ensures { Writes (K.state sink.old) waiting.old result (K.state sink.new) waiting.new
+        (lines_from (L.line lines.now) 0 (L.more lines.now + 1)) }
+{
+    let followers = lines.followers();
+    let mut done: u128 = 0;
+    while done <= u128::from(followers) {
+        make_room(sink, waiting, LINES)?;
+        done += u128::from(add_lines(waiting, lines, done as u64));
+    }
     Ok(())
 }
 
