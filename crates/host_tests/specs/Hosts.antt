@@ -42,6 +42,13 @@ pub record IsSlow (c : cores.Common) (w : slow.Worker) : Type 0 where
   pub senders : slow.HasSenders c w
   pub kickers : CanKick c w.kickers
 
+-- it may have a turn in some tick
+pub record MayTurn (c : cores.Common) (tick : ℕ) (w : slow.Worker) : Type 0 where
+  pub sound : slow.IsSound c.table (slow.sight_of w)
+  pub few : has_passed tick w ≡ true → slow.HasFew w.pass.view
+  pub senders : slow.HasSenders c w
+  pub kickers : CanKick c w.kickers
+
 -- no application was added, and two may be
 pub record IsFresh (c : cores.Common) (w : slow.Worker) : Type 0 where
   pub slow : IsSlow c w

@@ -18,4 +18,6 @@ mod starting;
 #[cfg(test)]
 mod threads;
 #[cfg(test)]
+mod timers;
+#[cfg(test)]
 mod workers;

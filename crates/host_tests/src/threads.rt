@@ -198,7 +198,7 @@ fn run<R: Threads + Wait + Sync>(
 }
 
 /// What the history of the flow in this slot is.
-fn look_at(shared: &Shared, cores: &mut Cores, slot: u32) -> Option<Summary>
+pub fn look_at(shared: &Shared, cores: &mut Cores, slot: u32) -> Option<Summary>
     requires { AreCores shared.now cores.old.steer cores.old.workers.items }
     ensures { AreCores shared.now cores.new.steer cores.new.workers.items }
 {

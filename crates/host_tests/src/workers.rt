@@ -1,8 +1,8 @@
 //! What one worker of a host, or an application, does.
-ghost use Rattle.std.specs.Prelude.{◌≡◌, ◌≤◌, ◌<◌, length, IfSome};
+ghost use Rattle.std.specs.Prelude.{◌≡◌, ◌≤◌, ◌<◌, suc, length, IsTrue, IfSome};
 ghost use Rattle.libtas_sockets.specs.Apps.{IsSocket};
 ghost use Rattle.libtas_sockets.specs.declared.socket.Socket.{Socket};
-ghost use Rattle.host_tests.specs.Hosts.{IsCore, IsSlow, IsApp, KeepsSockets};
+ghost use Rattle.host_tests.specs.Hosts.{IsCore, IsSlow, MayTurn, IsApp, KeepsSockets};
 
 use crate::flows::WORDS;
 use context_queue::Note;
@@ -13,7 +13,7 @@ use std::sync::Wait;
 use tas_model::{Bytes, FlowId, FrameId};
 use tas_num::Gate;
 
-/// The one tick of the slow path.
+/// The tick in which flows are opened.
 pub const TICK: u32 = 1;
 
 /// Hands a frame to a core.
@@ -57,6 +57,14 @@ pub fn serve<R: Wait>(rt: &R, shared: &Shared, slow: &mut SlowWorker) -> bool
     ensures { IsSlow shared.now slow.new }
 {
     slow.turn(rt, shared, TICK).is_ok()
+}
+
+/// The slow path's turn in some tick, which may be the first of that tick.
+pub fn serve_in<R: Wait>(rt: &R, shared: &Shared, slow: &mut SlowWorker, tick: u32) -> bool
+    requires { MayTurn shared.now tick slow.old }
+    ensures { IsTrue result → MayTurn shared.now (suc tick) slow.new }
+{
+    slow.turn(rt, shared, tick).is_ok()
 }
 
 /// Whether the slow path has opened the flow and not freed it.
