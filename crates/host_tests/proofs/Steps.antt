@@ -1,7 +1,7 @@
 -- What the slow path, cores and applications may do after a call.
 use Rattle.std.proofs.Common.{◌≡◌, ℕ, ◌+◌, ◌<◌, ◌≤◌, Bool, true, false, List, [], ◌∷◌, ◌++◌, length, refl, sym, ap, ◌∙◌}
-use Rattle.std.proofs.Common.{subst, cond, eq-eqb, append-nil}
-use Rattle.std.specs.Prelude.{Result, Ok, Err, OnOk, OnErr, IfOk, Option, Some, None, IfSome, ◌||◌}
+use Rattle.std.proofs.Common.{suc, subst, cond, eq-eqb, append-nil, arith, tests}
+use Rattle.std.specs.Prelude.{◌==◌, Result, Ok, Err, OnOk, OnErr, IfOk, Option, Some, None, IfSome, ◌||◌}
 use Rattle.std.specs.List.{list_any}
 use Rattle.std.proofs.lemmas.List.Folds.{list_any-append}
 use Rattle.atomic_table.specs.Seated.{TableId}
@@ -28,7 +28,7 @@ use Rattle.libtas_sockets.specs.Accepting.{IsAcceptance}
 use Rattle.libtas_sockets.specs.Calling.{HasCalled}
 use Rattle.libtas_sockets.specs.declared.socket.Socket.{Socket}
 use Rattle.libtas_sockets.specs.declared.socket_error.SocketError.{SocketError}
-use Rattle.host_tests.specs.Hosts.{IsCore, IsSlow, IsApp, IsClient, KeepsSockets}
+use Rattle.host_tests.specs.Hosts.{IsCore, IsSlow, MayTurn, IsApp, IsClient, KeepsSockets}
 
 -- ----- a history that grows by nothing
 pub longer_nil : (h : History) → longer h [] ≡ h
@@ -36,15 +36,15 @@ longer_nil h = λ i. record h { entries = append-nil h.entries i }
 
 -- ----- the slow path's turn
 -- once the tick's time has passed, it stays so
-still_passed : (c : cores.Common) (v w m : slow.Worker) → has_passed 1 v ≡ true → IsSame v m → AreKicksPosted c m w
-    → has_passed 1 w ≡ true
-still_passed c v w m was same posted =
-    ap (is_tick 1) (ap (λ (x : slow.Worker). x.ticked) posted.rest ∙ ap (λ (s : Standing). s.ticked) same) ∙ was
+still_passed : (tick : ℕ) (c : cores.Common) (v w m : slow.Worker) → has_passed tick v ≡ true → IsSame v m
+    → AreKicksPosted c m w → has_passed tick w ≡ true
+still_passed tick c v w m was same posted =
+    ap (is_tick tick) (ap (λ (x : slow.Worker). x.ticked) posted.rest ∙ ap (λ (s : Standing). s.ticked) same) ∙ was
 
 passed_after : {T E : Type 0} (c : cores.Common) (v w : slow.Worker) (r : Result T E) → has_passed 1 v ≡ true
     → OnOk r (IsTurn true c 1 v w) → OnErr r (IsTurnStopped true c 1 v w) → has_passed 1 w ≡ true
-passed_after c v w (Ok x) was turn stopped = still_passed c v w turn.0 was turn.1.same turn.2
-passed_after c v w (Err e) was turn stopped = still_passed c v w stopped.0 was stopped.1.same stopped.2
+passed_after c v w (Ok x) was turn stopped = still_passed 1 c v w turn.0 was turn.1.same turn.2
+passed_after c v w (Err e) was turn stopped = still_passed 1 c v w stopped.0 was stopped.1.same stopped.2
 
 pub slow_turns : {T E : Type 0} (c : cores.Common) (v w : slow.Worker) (r : Result T E) (later : Bool)
     → has_passed 1 v ≡ later → IsSlow c v → slow.IsSound c.table (slow.sight_of w) → slow.HasSenders c w
@@ -62,6 +62,36 @@ slow_turns c v w r true was is sound senders kickers few slots turn stopped = re
   sound = sound;
   few = few is.few;
   yet = λ n. let now = passed_after c v w r was turn stopped in absurd (cc (n, now));
+  senders = senders;
+  kickers = kickers;
+}
+
+-- ----- the slow path's turns in later ticks
+-- after its turn the time of the tick has passed
+passed_by_turn : (tick : ℕ) (c : cores.Common) (v w : slow.Worker) (later : Bool) → has_passed tick v ≡ later
+    → IsTurn later c tick v w → has_passed tick w ≡ true
+passed_by_turn tick c v w false was turn =
+    ap (is_tick tick) (ap (λ (x : slow.Worker). x.ticked) turn.2.rest ∙ turn.1.ticked) ∙ eq-eqb tick tick refl
+passed_by_turn tick c v w true was turn = still_passed tick c v w turn.0 was turn.1.same turn.2
+
+-- and that of the next one hasn't
+later_number : (t tick : ℕ) → (t == tick) ≡ true → (t == suc tick) ≡ false
+later_number t tick is = grind (arith, tests, is)
+
+next_is_ahead : (tick : ℕ) (o : Option ℕ) → is_tick tick o ≡ true → is_tick (suc tick) o ≡ false
+next_is_ahead tick None is = absurd (cc (is))
+next_is_ahead tick (Some t) is = later_number t tick is
+
+pub may_turn : (c : cores.Common) (tick : ℕ) (w : slow.Worker) → IsSlow c w → MayTurn c tick w
+may_turn c tick w is = record { sound = is.sound; few = λ h. is.few; senders = is.senders; kickers = is.kickers }
+
+pub turns_next : (c : cores.Common) (tick : ℕ) (v w : slow.Worker) (later : Bool) → has_passed tick v ≡ later
+    → IsTurn later c tick v w → slow.IsSound c.table (slow.sight_of w) → slow.HasSenders c w → CanKick c w.kickers
+    → MayTurn c (suc tick) w
+turns_next c tick v w later was turn sound senders kickers = record {
+  sound = sound;
+  few = λ is. let ahead = next_is_ahead tick w.ticked (passed_by_turn tick c v w later was turn) in
+      absurd (cc (is, ahead));
   senders = senders;
   kickers = kickers;
 }
