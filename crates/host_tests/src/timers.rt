@@ -31,6 +31,20 @@ fn sent_so_far(shared: &Shared, cores: &mut Cores) -> Option<Sent>
     Some([first.sent, second.sent])
 }
 
+/// All cores have their turns. What was sent then.
+fn sent_by_turns<R: Threads + Wait + Sync>(
+    rt: &R,
+    shared: &Shared,
+    cores: &mut Cores,
+    tick: u32,
+) -> Option<Sent>
+    requires { AreCores shared.now cores.old }
+    ensures { AreCores shared.now cores.new }
+{
+    work_all(rt, shared, &mut cores.workers, 1, tick, &NoGate);
+    sent_so_far(shared, cores)
+}
+
 /// In one tick the cores have their turns before the slow path has its own and after it: what was sent then, and in the
 /// end.
 fn pass_tick<R: Threads + Wait + Sync>(
@@ -45,11 +59,9 @@ fn pass_tick<R: Threads + Wait + Sync>(
     ensures slow { IfSome result (λ _. MayTurn shared.now (suc tick) slow.new) }
     ensures cores { AreCores shared.now cores.new }
 {
-    work_all(rt, shared, &mut cores.workers, 1, tick, &NoGate);
-    let before = sent_so_far(shared, cores)?;
+    let before = sent_by_turns(rt, shared, cores, tick)?;
     serve_in(rt, shared, slow, tick)?;
-    work_all(rt, shared, &mut cores.workers, 1, tick, &NoGate);
-    let after = sent_so_far(shared, cores)?;
+    let after = sent_by_turns(rt, shared, cores, tick)?;
     Some([before, after])
 }
 
