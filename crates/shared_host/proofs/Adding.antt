@@ -69,7 +69,8 @@ one_core host t n ks more ws grown q w pass v known kicks are room is none split
       workers = sym (length_push n ws w (sym are.workers));
       rooms = each_more HasRoom ks q are.rooms room;
       numbers = numbered_more 0 ws w are.numbers numbered;
-      new = each_more (IsNew host) ws w are.new (subst (λ (k : ℕ). w ≡ new_worker host k w.pass [] w.kicks) (sym core) new);
+      new = each_more (IsNew host) ws w are.new
+          (subst (λ (k : ℕ). w ≡ new_worker host k w.pass [] w.kicks) (sym core) new);
       free = each_more (IsGuestOf t) ws w are.free guest;
       own = each_more (TakesFrom (ks ++ q ∷ [])) ws w
           (each_map (TakesFrom ks) (TakesFrom (ks ++ q ∷ [])) ws
