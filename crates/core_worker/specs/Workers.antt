@@ -1,5 +1,5 @@
 -- What contracts see of a worker, and of what the workers of a host share.
-use Rattle.std.specs.Prelude.{◌≡◌, ℕ, Bool, true, List, [], slice_get, Some}
+use Rattle.std.specs.Prelude.{◌≡◌, ℕ, ◌+◌, ◌*◌, Bool, true, List, [], slice_get, Some}
 use Rattle.atomic_table.specs.Seated.{TableId}
 use Rattle.tas_model.specs.declared.entry.FrameId.{FrameId}
 use Rattle.host_rounds.specs.declared.log.LogLine.{LogLine}
@@ -22,11 +22,12 @@ pub record Common : Type 0 where
   pub kicks : List Place
   pub queues : List AppQueue
 
--- The worker of a core: its pass and whether it looks at checksums, the published changes of the index that it has seen
--- and the lines that it wrote, the frames that were handed to it and those that it passed on, the kicks taken, and what
--- its senders posted to applications.
+-- The worker of a core: the gate's point before each of its frames, its pass and whether it looks at checksums, the
+-- published changes of the index that it has seen and the lines that it wrote, the frames that were handed to it and
+-- those that it passed on, the kicks taken, and what its senders posted to applications.
 pub record Worker : Type 0 where
   pub core : ℕ
+  pub point : ℕ
   pub pass : Seen
   pub check_sums : Bool
   pub known : List Change
@@ -77,10 +78,15 @@ with_kicks kicks w = record w { kicks = kicks }
 abbrev pub with_senders : List AppSender → Worker → Worker
 with_senders senders w = record w { senders = senders }
 
+-- the gate's points of a host are 64, and two of them are a core's
+abbrev pub point_of : (host core : ℕ) → ℕ
+point_of host core = 64 * host + 2 * core
+
 -- a worker to which nothing was handed yet
-abbrev pub new_worker : (core : ℕ) → Seen → (known : List Change) → Receiver → Worker
-new_worker core pass known kicks = record {
+abbrev pub new_worker : (host core : ℕ) → Seen → (known : List Change) → Receiver → Worker
+new_worker host core pass known kicks = record {
   core = core;
+  point = point_of host core;
   pass = pass;
   check_sums = true;
   known = known;

@@ -109,7 +109,7 @@ impl KickList {
 
     /// Takes the first kick out. There is then room for one more.
     pub fn take_first(&mut self) -> Option<Kick>
-        ensures none { IfNone result (self.old.list ≡ []) }
+        ensures none { IfNone result ((self.old.list ≡ []) × (self.new.list ≡ [])) }
         ensures first { IfSome result (λ k. self.old.list ≡ k ∷ self.new.list) }
         ensures room { IfSome result (λ _. 0 < self.new.spare) }
     {

@@ -45,6 +45,7 @@ impl Model for CoreWorker {
 
     ghost view = { λ w. record {
       core = w.core;
+      point = w.point;
       pass = w.pass;
       check_sums = w.check_sums;
       known = w.reader;
@@ -71,7 +72,7 @@ impl CoreWorker {
     ) -> CoreWorker
         requires host { host < 67108863 }
         requires core { core < 16 }
-        ensures { result ≡ new_worker core pass reader kicks }
+        ensures { result ≡ new_worker host core pass reader kicks }
     {
         CoreWorker {
             pass,

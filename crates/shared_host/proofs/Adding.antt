@@ -31,20 +31,20 @@ numbered_more first (x ∷ ws) w numbered is =
     let next : first + suc (length ws) ≡ suc first + length ws = omega arith in
     (numbered.0, numbered_more (suc first) ws w numbered.1 (is ∙ next))
 
-pub one_core : (t : TableId) (n : ℕ) (ks more : List Place) (ws grown : List Worker) (q : Place) (w : Worker)
+pub one_core : (host : ℕ) (t : TableId) (n : ℕ) (ks more : List Place) (ws grown : List Worker) (q : Place) (w : Worker)
     (pass : Seen) (v : View) (known : List Change) (kicks : Receiver)
-    → AreCores t n ks ws → HasRoom q → w ≡ new_worker n pass known kicks → known ≡ []
+    → AreCores host t n ks ws → HasRoom q → w ≡ new_worker host n pass known kicks → known ≡ []
     → (pass.table ≡ t) × (pass.view ≡ right v) → kicks.line ≡ q.line → kicks.senders ≡ 1
-    → more ≡ ks ++ q ∷ [] → grown ≡ ws ++ w ∷ [] → AreCores t (n + 1) more grown
-one_core t n ks more ws grown q w pass v known kicks are room is none split of sole is-more is-grown =
-    subst (λ (xs : List Place). AreCores t (n + 1) xs grown) (sym is-more)
-    (subst (λ (ys : List Worker). AreCores t (n + 1) (ks ++ q ∷ []) ys) (sym is-grown) grew)
+    → more ≡ ks ++ q ∷ [] → grown ≡ ws ++ w ∷ [] → AreCores host t (n + 1) more grown
+one_core host t n ks more ws grown q w pass v known kicks are room is none split of sole is-more is-grown =
+    subst (λ (xs : List Place). AreCores host t (n + 1) xs grown) (sym is-more)
+    (subst (λ (ys : List Worker). AreCores host t (n + 1) (ks ++ q ∷ []) ys) (sym is-grown) grew)
   where
-    made : w ≡ new_worker n pass [] kicks
-    made = is ∙ ap (λ (cs : List Change). new_worker n pass cs kicks) none
+    made : w ≡ new_worker host n pass [] kicks
+    made = is ∙ ap (λ (cs : List Change). new_worker host n pass cs kicks) none
 
-    new : w ≡ new_worker n w.pass [] w.kicks
-    new = subst (λ (x : Worker). x ≡ new_worker n x.pass [] x.kicks) (sym made) refl
+    new : w ≡ new_worker host n w.pass [] w.kicks
+    new = subst (λ (x : Worker). x ≡ new_worker host n x.pass [] x.kicks) (sym made) refl
 
     guest : IsGuest t w.pass
     guest = subst (λ (x : Worker). IsGuest t x.pass) (sym made) (split_guest t v pass split.0 split.1)
@@ -63,13 +63,14 @@ one_core t n ks more ws grown q w pass v known kicks are room is none split of s
         let none : length ws ≡ 0 + length ws = omega arith in
         core ∙ (sym are.workers ∙ none)
 
-    grew : AreCores t (n + 1) (ks ++ q ∷ []) (ws ++ w ∷ [])
+    grew : AreCores host t (n + 1) (ks ++ q ∷ []) (ws ++ w ∷ [])
     grew = record {
       queues = sym (length_push n ks q (sym are.queues));
       workers = sym (length_push n ws w (sym are.workers));
       rooms = each_more HasRoom ks q are.rooms room;
       numbers = numbered_more 0 ws w are.numbers numbered;
-      new = each_more IsNew ws w are.new (subst (λ (k : ℕ). w ≡ new_worker k w.pass [] w.kicks) (sym core) new);
+      new = each_more (IsNew host) ws w are.new
+          (subst (λ (k : ℕ). w ≡ new_worker host k w.pass [] w.kicks) (sym core) new);
       free = each_more (IsGuestOf t) ws w are.free guest;
       own = each_more (TakesFrom (ks ++ q ∷ [])) ws w
           (each_map (TakesFrom ks) (TakesFrom (ks ++ q ∷ [])) ws
@@ -79,8 +80,8 @@ one_core t n ks more ws grown q w pass v known kicks are room is none split of s
     }
 
 -- none at first
-none_yet : (t : TableId) → AreCores t 0 [] []
-none_yet t = record {
+none_yet : (host : ℕ) (t : TableId) → AreCores host t 0 [] []
+none_yet host t = record {
   queues = refl;
   workers = refl;
   rooms = tt;
@@ -91,10 +92,11 @@ none_yet t = record {
   sole = tt;
 }
 
-pub no_cores : (t : TableId) (ks : List Place) (ws : List Worker) → ks ≡ [] → ws ≡ [] → AreCores t 0 ks ws
-no_cores t ks ws no-queue no-worker =
-    subst (λ (xs : List Place). AreCores t 0 xs ws) (sym no-queue)
-    (subst (λ (ys : List Worker). AreCores t 0 [] ys) (sym no-worker) (none_yet t))
+pub no_cores : (host : ℕ) (t : TableId) (ks : List Place) (ws : List Worker) → ks ≡ [] → ws ≡ []
+    → AreCores host t 0 ks ws
+no_cores host t ks ws no-queue no-worker =
+    subst (λ (xs : List Place). AreCores host t 0 xs ws) (sym no-queue)
+    (subst (λ (ys : List Worker). AreCores host t 0 [] ys) (sym no-worker) (none_yet host t))
 
 -- ----- what their turns ask
 pub each_free : (c d : Common) (ws : List Worker) → d ≡ c → Each (IsGuestOf c.table) ws → Each (IsFree d) ws
@@ -106,9 +108,9 @@ each_own c d ws is own =
     subst (λ (x : Common). Each (HasQueue x) ws) (sym is)
     (each_map (TakesFrom c.kicks) (HasQueue c) ws (λ w o. o) own)
 
-pub each_silent : (d : Common) (ws : List Worker) → Each IsNew ws → Each (HasSenders d) ws
-each_silent d ws new =
-    each_map IsNew (HasSenders d) ws (λ w is. subst (λ (x : Worker). HasSenders d x) (sym is) tt) new
+pub each_silent : (host : ℕ) (d : Common) (ws : List Worker) → Each (IsNew host) ws → Each (HasSenders d) ws
+each_silent host d ws new =
+    each_map (IsNew host) (HasSenders d) ws (λ w is. subst (λ (x : Worker). HasSenders d x) (sym is) tt) new
 
 -- ----- who posts kicks
 -- the queue's first sender was added

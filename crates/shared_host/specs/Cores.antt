@@ -21,8 +21,8 @@ AreNumbered first [] = ⊤
 AreNumbered first (w ∷ ws) = (w.core ≡ first) × AreNumbered (suc first) ws
 
 -- The worker looks at checksums. It has no frames and no lines, knows no flow, and tells no application.
-abbrev pub IsNew : Worker → Type 0
-IsNew w = w ≡ new_worker w.core w.pass [] w.kicks
+abbrev pub IsNew : (host : ℕ) → Worker → Type 0
+IsNew host w = w ≡ new_worker host w.core w.pass [] w.kicks
 
 -- ----- while cores are added
 abbrev pub IsGuestOf : TableId → Worker → Type 0
@@ -36,13 +36,13 @@ TakesFrom kicks w = (place : Place) × (slice_get kicks w.core ≡ Some place) �
 abbrev pub HasOneSender : Worker → Type 0
 HasOneSender w = w.kicks.senders ≡ 1
 
--- So many cores of this table, each with its queue of kicks and its worker.
-pub record AreCores (t : TableId) (count : ℕ) (kicks : List Place) (ws : List Worker) : Type 0 where
+-- So many cores of this table, on a host by its place in the scenario, each with its queue of kicks and its worker.
+pub record AreCores (host : ℕ) (t : TableId) (count : ℕ) (kicks : List Place) (ws : List Worker) : Type 0 where
   pub queues : length kicks ≡ count
   pub workers : length ws ≡ count
   pub rooms : Each HasRoom kicks
   pub numbers : AreNumbered 0 ws
-  pub new : Each IsNew ws
+  pub new : Each (IsNew host) ws
   pub free : Each (IsGuestOf t) ws
   pub own : Each (TakesFrom kicks) ws
   pub sole : Each HasOneSender ws

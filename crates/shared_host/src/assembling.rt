@@ -45,7 +45,7 @@ pub fn assemble<R: Wait>(
     requires cores { (0 < cores) × (cores ≤ 16) }
     ensures count { IfOk result (λ a. length a.cores.items ≡ cores) }
     ensures numbers { IfOk result (λ a. AreNumbered 0 a.cores.items) }
-    ensures new { IfOk result (λ a. Each IsNew a.cores.items) }
+    ensures new { IfOk result (λ a. Each (IsNew host) a.cores.items) }
     ensures free { IfOk result (λ a. Each (IsFree a.shared) a.cores.items) }
     ensures queues { IfOk result (λ a. Each (HasQueue a.shared) a.cores.items) }
     ensures senders { IfOk result (λ a. Each (HasSenders a.shared) a.cores.items) }

@@ -35,7 +35,7 @@ pub(crate) fn make_cores<R: Wait>(
     requires cores { cores ≤ 16 }
     requires slow { IsNewSlow slow.old.path.params table.now 0 cores slow.old }
     requires none { slow.old.kickers.senders ≡ [] }
-    ensures made { IfOk result (λ made. AreCores table.now cores made.kicks.items made.workers.items) }
+    ensures made { IfOk result (λ made. AreCores host table.now cores made.kicks.items made.workers.items) }
     ensures slow { OnOk result (IsNewSlow slow.old.path.params table.now cores 0 slow.new) }
     ensures kickers { IfOk result (λ made. slow.new.kickers ≡ kicking_on slow.old.kickers.steer made.kicks.items) }
 {
@@ -64,9 +64,9 @@ fn add_core<R: Wait>(
     requires table { slow.old.pass.table ≡ table.now }
     requires split { (1 < slow.old.pass.view.parts) × (slow.old.pass.view.baton ≡ true) }
     requires reader { 0 < slow.old.index.left }
-    requires cores { AreCores table.now core cores.old.kicks.items cores.old.workers.items }
+    requires cores { AreCores host table.now core cores.old.kicks.items cores.old.workers.items }
     requires kickers { slow.old.kickers.senders ≡ map first_sender cores.old.kicks.items }
-    ensures cores { OnOk result (AreCores table.now (core + 1) cores.new.kicks.items cores.new.workers.items) }
+    ensures cores { OnOk result (AreCores host table.now (core + 1) cores.new.kicks.items cores.new.workers.items) }
     ensures pass { OnOk result (slow.new.pass ≡ with_split slow.old.pass) }
     ensures reader { OnOk result (slow.new.index.left + 1 ≡ slow.old.index.left) }
     ensures index { OnOk result ((slow.new.index.published ≡ slow.old.index.published)

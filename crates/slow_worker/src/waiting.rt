@@ -66,7 +66,7 @@ impl WaitingFrames {
 
     /// Takes the first frame out. There is then room for one more.
     pub(crate) fn take_first(&mut self) -> Option<PassedFrame>
-        ensures none { IfNone result (self.old.list ≡ []) }
+        ensures none { IfNone result ((self.old.list ≡ []) × (self.new.list ≡ [])) }
         ensures first { IfSome result (λ f. self.old.list ≡ f ∷ self.new.list) }
         ensures room { IfSome result (λ _. 0 < self.new.spare) }
     {

@@ -20,7 +20,7 @@ returns-in-Ok-clause-queues g c =
 
 pub returns-in-Ok-clause-senders : goal.returns-in-Ok-clause-senders
 returns-in-Ok-clause-senders g c =
-    each_silent c.new-in-Ok.result c.in-Ok.made.workers.items c.in-Ok.ensures.made.new
+    each_silent c.args.host c.new-in-Ok.result c.in-Ok.made.workers.items c.in-Ok.ensures.made.new
 
 pub returns-in-Ok-clause-kept : goal.returns-in-Ok-clause-kept
 returns-in-Ok-clause-kept g c =

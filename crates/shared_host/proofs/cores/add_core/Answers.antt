@@ -5,7 +5,7 @@ use Rattle.shared_host.proofs.cores.add_core.Goals as goal
 
 pub returns-clause-cores : goal.returns-clause-cores
 returns-clause-cores g c =
-    one_core c.args.table.now c.args.core c.args.cores.now.kicks.items c.push.new.self.items
+    one_core c.args.host c.args.table.now c.args.core c.args.cores.now.kicks.items c.push.new.self.items
     c.args.cores.now.workers.items c.push-2.new.self.items c.in_ok-queue.queue c.new-worker.result _
     c.slow.inside.pass.view _ _
     c.requires.cores c.in_ok-queue.ensures.room c.new-worker.ensures c.in_ok-reader.ensures.new

@@ -7,7 +7,8 @@ use Rattle.shared_host.proofs.cores.make_cores.Goals as goal
 pub loop-core-init : goal.loop-core-init
 loop-core-init g c = record {
   slow = all_left c.args.slow.now.path.params c.args.table.now c.args.cores c.args.slow.now c.requires.slow;
-  made = no_cores c.args.table.now c.new.result.items c.new-2.result.items c.new.ensures.items c.new-2.ensures.items;
+  made = no_cores c.args.host c.args.table.now c.new.result.items c.new-2.result.items c.new.ensures.items
+      c.new-2.ensures.items;
   kickers = c.requires.none ∙ sym (ap (map first_sender) c.new.ensures.items);
   steer = refl;
 }
