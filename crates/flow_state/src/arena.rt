@@ -207,8 +207,8 @@ fn reserve_bytes(bytes: &mut Vec<u8>, used: usize, more: usize) -> Result<(), Al
 fn room_to_take(used: usize, more: usize) -> usize
     ensures { more ≤ result }
 {
-    if used < MANY && MANY <= used.saturating_add(more) {
-        more.max(ROOM_FOR_MANY)
+    if MANY <= used.saturating_add(more) {
+        more.max(ROOM_FOR_MANY.saturating_sub(used))
     } else {
         more
     }
