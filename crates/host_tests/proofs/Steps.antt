@@ -1,7 +1,7 @@
 -- What the slow path, cores and applications may do after a call.
 use Rattle.std.proofs.Common.{◌≡◌, ℕ, ◌+◌, ◌<◌, ◌≤◌, Bool, true, false, List, [], ◌∷◌, ◌++◌, length, refl, sym, ap, ◌∙◌}
 use Rattle.std.proofs.Common.{suc, subst, cond, eq-eqb, append-nil, arith, tests}
-use Rattle.std.specs.Prelude.{Result, Ok, Err, OnOk, OnErr, IfOk, Option, Some, None, IfSome, ◌||◌}
+use Rattle.std.specs.Prelude.{◌==◌, Result, Ok, Err, OnOk, OnErr, IfOk, Option, Some, None, IfSome, ◌||◌}
 use Rattle.std.specs.List.{list_any}
 use Rattle.std.proofs.lemmas.List.Folds.{list_any-append}
 use Rattle.atomic_table.specs.Seated.{TableId}
@@ -75,9 +75,15 @@ passed_by_turn tick c v w false was turn =
 passed_by_turn tick c v w true was turn = still_passed tick c v w turn.0 was turn.1.same turn.2
 
 -- and that of the next one hasn't
+later_number : (t tick : ℕ) → (t == tick) ≡ true → (t == suc tick) ≡ false
+later_number t tick is = grind (arith, tests, is)
+
 next_is_ahead : (tick : ℕ) (o : Option ℕ) → is_tick tick o ≡ true → is_tick (suc tick) o ≡ false
 next_is_ahead tick None is = absurd (cc (is))
-next_is_ahead tick (Some t) is = grind (arith, tests, is)
+next_is_ahead tick (Some t) is = later_number t tick is
+
+pub may_turn : (c : cores.Common) (tick : ℕ) (w : slow.Worker) → IsSlow c w → MayTurn c tick w
+may_turn c tick w is = record { sound = is.sound; few = λ h. is.few; senders = is.senders; kickers = is.kickers }
 
 pub turns_next : (c : cores.Common) (tick : ℕ) (v w : slow.Worker) (later : Bool) → has_passed tick v ≡ later
     → IsTurn later c tick v w → slow.IsSound c.table (slow.sight_of w) → slow.HasSenders c w → CanKick c w.kickers
@@ -85,7 +91,7 @@ pub turns_next : (c : cores.Common) (tick : ℕ) (v w : slow.Worker) (later : Bo
 turns_next c tick v w later was turn sound senders kickers = record {
   sound = sound;
   few = λ is. let ahead = next_is_ahead tick w.ticked (passed_by_turn tick c v w later was turn) in
-  absurd (cc (is, ahead));
+      absurd (cc (is, ahead));
   senders = senders;
   kickers = kickers;
 }

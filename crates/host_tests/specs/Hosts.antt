@@ -9,9 +9,12 @@ use Rattle.core_worker.specs.Workers as cores
 use Rattle.slow_worker.specs.Kicking.{CanKick}
 use Rattle.slow_worker.specs.Turns.{has_passed}
 use Rattle.slow_worker.specs.Workers as slow
-use Rattle.steering.specs.Tables as tables
 use Rattle.libtas_sockets.specs.Apps.{Application, IsSocket}
 use Rattle.libtas_sockets.specs.declared.socket.Socket.{Socket}
+use Rattle.host_tests.specs.declared.hosts.Client.{Client}
+use Rattle.host_tests.specs.declared.hosts.Clients.{Clients}
+use Rattle.host_tests.specs.declared.hosts.Cores.{Cores}
+use Rattle.host_tests.specs.declared.hosts.Host.{Host}
 
 -- ----- cores
 abbrev pub IsCore : cores.Common → cores.Worker → Type 0
@@ -26,8 +29,8 @@ pub record AreWorking (c : cores.Common) (ws : List cores.Worker) : Type 0 where
   pub each : All (IsCore c) ws
 
 -- all of a host, with a pass to its steering
-abbrev pub AreCores : cores.Common → tables.Sight → List cores.Worker → Type 0
-AreCores c steer ws = (steer.place ≡ c.steering) × All (IsCore c) ws
+abbrev pub AreCores : cores.Common → Cores → Type 0
+AreCores c x = (x.steer.place ≡ c.steering) × All (IsCore c) x.workers.items
 
 -- ----- the slow path
 -- the one tick of the slow path in these tests
@@ -67,6 +70,26 @@ IsApp c number a =
 abbrev pub IsClient : cores.Common → (number : ℕ) → Application → Socket × Socket → Type 0
 IsClient c number a sockets = IsApp c number a × IsSocket a sockets.0 × IsSocket a sockets.1
 
+-- so it has, of its own
+abbrev pub IsTalking : cores.Common → (number : ℕ) → Client → Type 0
+IsTalking c number x = IsClient c number x.app x.sockets
+
+-- both are so
+abbrev pub AreApps : cores.Common → Clients → Type 0
+AreApps c x = IsApp c 0 x.first.app × IsApp c 1 x.second.app
+
+abbrev pub AreTalking : cores.Common → Clients → Type 0
+AreTalking c x = IsTalking c 0 x.first × IsTalking c 1 x.second
+
 -- what was a socket still is one
 abbrev pub KeepsSockets : Application → Application → Type 0
 KeepsSockets a b = (s : Socket) → IsSocket a s → IsSocket b s
+
+-- ----- a host
+-- the slow path and all cores may have their turns
+abbrev pub AreReady : cores.Common → slow.Worker → Cores → Type 0
+AreReady c w x = IsSlow c w × AreCores c x
+
+-- and both applications are there
+abbrev pub IsHost : cores.Common → Host → Type 0
+IsHost c h = AreReady c h.slow h.cores × AreApps c h.clients

@@ -1,9 +1,10 @@
 //! Applications that write and read on two sockets each, beside cores that have their turns.
 ghost use Rattle.std.specs.Prelude.{◌≡◌, IfSome};
-ghost use Rattle.host_tests.specs.Hosts.{AreCores, AreWorking, IsApp, IsClient, IsSlow};
+ghost use Rattle.host_tests.specs.Hosts.{AreCores, AreTalking, AreWorking, IsApp, IsClient, IsSlow, IsTalking};
 
-use crate::host::{Cores, work_all};
-use crate::workers::{accept, read, write};
+use crate::host::work_all;
+use crate::hosts::{Client, Clients, Cores};
+use crate::workers::{SocketCall, accept, call};
 use core_worker::{CoreWorker, Shared};
 use libtas_sockets::{App, Socket};
 use slow_worker::SlowWorker;
@@ -13,20 +14,6 @@ use tas_num::Gate;
 
 /// How often an application reads from each of its sockets in one go.
 const READS: u32 = 16;
-
-/// An application with two sockets.
-#[derive(Drop)]
-pub struct Client {
-    pub app: App,
-    pub sockets: (Socket, Socket),
-}
-
-/// Both applications, 0 and 1.
-#[derive(Drop)]
-pub struct Clients {
-    pub first: Client,
-    pub second: Client,
-}
 
 /// The application accepts two flows of a port. Whether it has.
 pub fn accept_two(
@@ -38,7 +25,7 @@ pub fn accept_two(
 ) -> Option<()>
     requires { IsSlow shared.now slow.old × IsApp shared.now number client.old.app }
     ensures slow { IfSome result (λ _. IsSlow shared.now slow.new) }
-    ensures client { IfSome result (λ _. IsClient shared.now number client.new.app client.new.sockets) }
+    ensures client { IfSome result (λ _. IsTalking shared.now number client.new) }
 {
     let one = accept(shared, slow, &mut client.app, number, port)?;
     let two = accept(shared, slow, &mut client.app, number, port)?;
@@ -46,22 +33,20 @@ pub fn accept_two(
     Some(())
 }
 
-/// The application writes on both sockets.
-fn write_both(shared: &Shared, app: &mut App, number: u32, sockets: (Socket, Socket), tick: u32)
+/// The application makes the same call on both sockets.
+fn call_both(
+    shared: &Shared,
+    app: &mut App,
+    number: u32,
+    sockets: (Socket, Socket),
+    tick: u32,
+    what: SocketCall,
+)
     requires { IsClient shared.now number app.old sockets }
     ensures { IsClient shared.now number app.new sockets }
 {
-    write(shared, app, number, sockets.0, tick);
-    write(shared, app, number, sockets.1, tick);
-}
-
-/// The application reads from both sockets.
-fn read_both(shared: &Shared, app: &mut App, number: u32, sockets: (Socket, Socket), tick: u32)
-    requires { IsClient shared.now number app.old sockets }
-    ensures { IsClient shared.now number app.new sockets }
-{
-    read(shared, app, number, sockets.0, tick);
-    read(shared, app, number, sockets.1, tick);
+    call(shared, app, number, sockets.0, tick, what);
+    call(shared, app, number, sockets.1, tick, what);
 }
 
 /// The application reads from both sockets, so often from each.
@@ -70,19 +55,26 @@ fn read_often(shared: &Shared, app: &mut App, number: u32, sockets: (Socket, Soc
     ensures { IsClient shared.now number app.new sockets }
 {
     for _ in 0..READS {
-        read_both(shared, app, number, sockets, tick);
+        call_both(shared, app, number, sockets, tick, SocketCall::Read);
     }
 }
 
 /// The application passes the point that is twice its number, writes on both sockets and reads from them, and passes
 /// the next point.
 fn talk<G: Gate>(shared: &Shared, client: &mut Client, number: u32, tick: u32, gate: &G)
-    requires { IsClient shared.now number client.old.app client.old.sockets }
-    ensures { IsClient shared.now number client.new.app client.new.sockets }
+    requires { IsTalking shared.now number client.old }
+    ensures { IsTalking shared.now number client.new }
 {
     let point = number.saturating_mul(2);
     gate.pass(point);
-    write_both(shared, &mut client.app, number, client.sockets, tick);
+    call_both(
+        shared,
+        &mut client.app,
+        number,
+        client.sockets,
+        tick,
+        SocketCall::Write,
+    );
     read_often(shared, &mut client.app, number, client.sockets, tick);
     gate.pass(point.saturating_add(1));
 }
@@ -96,18 +88,18 @@ pub fn both_talk<R: Threads + Sync, G: Gate>(
     tick: u32,
     gate: &G,
 )
-    requires first { IsClient shared.now 0 first.old.app first.old.sockets }
-    requires second { IsClient shared.now 1 second.old.app second.old.sockets }
-    ensures first { IsClient shared.now 0 first.new.app first.new.sockets }
-    ensures second { IsClient shared.now 1 second.new.app second.new.sockets }
+    requires first { IsTalking shared.now 0 first.old }
+    requires second { IsTalking shared.now 1 second.old }
+    ensures first { IsTalking shared.now 0 first.new }
+    ensures second { IsTalking shared.now 1 second.new }
 {
     let mut one = ||
-        requires { IsClient shared.now 0 first.now.app first.now.sockets }
-        ensures { IsClient shared.entry.now 0 first.exit.now.app first.exit.now.sockets }
+        requires { IsTalking shared.now 0 first.now }
+        ensures { IsTalking shared.entry.now 0 first.exit.now }
     { talk(shared, first, 0, tick, gate) };
     let mut two = ||
-        requires { IsClient shared.now 1 second.now.app second.now.sockets }
-        ensures { IsClient shared.entry.now 1 second.exit.now.app second.exit.now.sockets }
+        requires { IsTalking shared.now 1 second.now }
+        ensures { IsTalking shared.entry.now 1 second.exit.now }
     { talk(shared, second, 1, tick, gate) };
     join_mut(rt, &mut one, &mut two);
 }
@@ -137,11 +129,11 @@ fn beside<R: Threads + Wait + Sync, G: Gate>(
     gate: &G,
 )
     requires cores { AreWorking shared.now workers.old }
-    requires first { IsClient shared.now 0 first.old.app first.old.sockets }
-    requires second { IsClient shared.now 1 second.old.app second.old.sockets }
+    requires first { IsTalking shared.now 0 first.old }
+    requires second { IsTalking shared.now 1 second.old }
     ensures cores { AreWorking shared.now workers.new }
-    ensures first { IsClient shared.now 0 first.new.app first.new.sockets }
-    ensures second { IsClient shared.now 1 second.new.app second.new.sockets }
+    ensures first { IsTalking shared.now 0 first.new }
+    ensures second { IsTalking shared.now 1 second.new }
 {
     let next = tick.saturating_add(1);
     let mut turns = ||
@@ -149,10 +141,8 @@ fn beside<R: Threads + Wait + Sync, G: Gate>(
         ensures { AreWorking shared.entry.now workers.exit.now }
     { take_turns(rt, shared, workers, tick, gate) };
     let mut talks = ||
-        requires { IsClient shared.now 0 first.now.app first.now.sockets
-            × IsClient shared.now 1 second.now.app second.now.sockets }
-        ensures { IsClient shared.entry.now 0 first.exit.now.app first.exit.now.sockets
-            × IsClient shared.entry.now 1 second.exit.now.app second.exit.now.sockets }
+        requires { IsTalking shared.now 0 first.now × IsTalking shared.now 1 second.now }
+        ensures { IsTalking shared.entry.now 0 first.exit.now × IsTalking shared.entry.now 1 second.exit.now }
     { both_talk(rt, shared, first, second, next, gate) };
     join_mut(rt, &mut turns, &mut talks);
 }
@@ -166,12 +156,10 @@ pub fn side_by_side<R: Threads + Wait + Sync, G: Gate>(
     tick: u32,
     gate: &G,
 )
-    requires cores { AreCores shared.now cores.old.steer cores.old.workers.items }
-    requires first { IsClient shared.now 0 clients.old.first.app clients.old.first.sockets }
-    requires second { IsClient shared.now 1 clients.old.second.app clients.old.second.sockets }
-    ensures cores { AreCores shared.now cores.new.steer cores.new.workers.items }
-    ensures first { IsClient shared.now 0 clients.new.first.app clients.new.first.sockets }
-    ensures second { IsClient shared.now 1 clients.new.second.app clients.new.second.sockets }
+    requires cores { AreCores shared.now cores.old }
+    requires clients { AreTalking shared.now clients.old }
+    ensures cores { AreCores shared.now cores.new }
+    ensures clients { AreTalking shared.now clients.new }
 {
     beside(
         rt,

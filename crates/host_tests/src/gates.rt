@@ -1,14 +1,14 @@
 //! A core is in the middle of its turn while an application calls, and the other way round.
 ghost use Rattle.std.specs.Prelude.{◌≡◌, IfSome};
-ghost use Rattle.host_tests.specs.Hosts.{AreCores, IsApp, IsSlow};
+ghost use Rattle.host_tests.specs.Hosts.{IsHost};
 
-use crate::clients::{Clients, side_by_side};
-use crate::host::{Cores, deliver_all, end};
+use crate::clients::side_by_side;
+use crate::host::{deliver_all, end};
+use crate::hosts::Host;
 use crate::starting::started;
 use crate::threads::connect_all;
 use crate::workers::TICK;
 use core_worker::Shared;
-use slow_worker::SlowWorker;
 use std::alloc::Global;
 use std::hint::spin_loop;
 use std::sync::Wait;
@@ -76,20 +76,16 @@ fn run_gated<R: Threads + Wait + Sync, G: Gate>(
     rt: &R,
     alloc: Global,
     shared: &Shared,
-    slow: &mut SlowWorker,
-    cores: &mut Cores,
-    clients: &mut Clients,
+    host: &mut Host,
     gate: &G,
 ) -> Option<()>
-    requires slow { IsSlow shared.now slow.old }
-    requires cores { AreCores shared.now cores.old.steer cores.old.workers.items }
-    requires apps { IsApp shared.now 0 clients.old.first.app × IsApp shared.now 1 clients.old.second.app }
+    requires { IsHost shared.now host.old }
 {
-    connect_all(rt, alloc, shared, slow, cores, clients)?;
-    if !deliver_all(rt, alloc, shared, cores, 2) {
+    connect_all(rt, alloc, shared, host)?;
+    if !deliver_all(rt, alloc, shared, &mut host.cores, 2) {
         return None;
     }
-    side_by_side(rt, shared, cores, clients, TICK, gate);
+    side_by_side(rt, shared, &mut host.cores, &mut host.clients, TICK, gate);
     Some(())
 }
 
@@ -98,16 +94,7 @@ fn is_run<R: Threads + Wait + Sync, G: Gate>(rt: &R, alloc: Global, gate: &G) ->
     let Some((shared, mut host)) = started(rt, alloc) else {
         return false;
     };
-    let slow = &mut host.slow;
-    let done = run_gated(
-        rt,
-        alloc,
-        &shared,
-        slow,
-        &mut host.cores,
-        &mut host.clients,
-        gate,
-    );
+    let done = run_gated(rt, alloc, &shared, &mut host, gate);
     end(rt, host);
     done.is_some()
 }

@@ -1,9 +1,9 @@
 //! A host with two cores and two applications, and its steps.
 ghost use Rattle.std.specs.Prelude.{◌≡◌, ◌<◌, All};
-ghost use Rattle.host_tests.specs.Hosts.{AreCores, IsCore, IsSlow};
+ghost use Rattle.host_tests.specs.Hosts.{AreCores, AreReady, IsCore, IsSlow};
 
-use crate::clients::Clients;
 use crate::flows::{Summary, look_by};
+use crate::hosts::{Cores, Host};
 use crate::packets::{PEERS, frame_of, packet_of};
 use crate::workers::{TICK, collect, hand, passed_on, serve, work};
 use core_worker::{CoreWorker, PassedFrame, Shared, core_for};
@@ -12,25 +12,8 @@ use std::alloc::Global;
 use std::sync::Wait;
 use std::thread;
 use std::thread::Threads;
-use steering::SteerPass;
 use tas_model::{Bytes, FlowId, FrameId};
 use tas_num::{Gate, NoGate};
-
-/// The workers of all cores, and the way of frames to them.
-#[derive(Drop)]
-pub struct Cores {
-    pub steer: SteerPass,
-    /// That of core 0 first.
-    pub workers: Vec<CoreWorker>,
-}
-
-/// The workers of a host and its applications, without what they share. It is no `Drop`, since the slow path's
-/// worker is none.
-pub struct Host {
-    pub slow: SlowWorker,
-    pub cores: Cores,
-    pub clients: Clients,
-}
 
 /// Ends the host.
 pub fn end<R: Wait>(rt: &R, host: Host) {
@@ -50,8 +33,8 @@ pub fn deliver<R: Wait>(
     id: FrameId,
     packet: Bytes,
 ) -> Option<u32>
-    requires { AreCores shared.now cores.old.steer cores.old.workers.items }
-    ensures { AreCores shared.now cores.new.steer cores.new.workers.items }
+    requires { AreCores shared.now cores.old }
+    ensures { AreCores shared.now cores.new }
 {
     let core = core_for(rt, &shared.steering, &mut cores.steer, packet.as_slice());
     if hand_to(shared, &mut cores.workers, core as usize, id, packet) {
@@ -86,8 +69,8 @@ pub fn deliver_all<R: Wait>(
     cores: &mut Cores,
     number: u32,
 ) -> bool
-    requires { AreCores shared.now cores.old.steer cores.old.workers.items }
-    ensures { AreCores shared.now cores.new.steer cores.new.workers.items }
+    requires { AreCores shared.now cores.old }
+    ensures { AreCores shared.now cores.new }
 {
     for peer in PEERS {
         let Some(packet) = packet_of(alloc, peer, number) else {
@@ -122,8 +105,8 @@ pub fn work_all<R: Threads + Wait + Sync, G: Gate>(
 
 /// All cores have their turns, one after the other.
 pub fn work_in_turn<R: Threads + Wait + Sync>(rt: &R, shared: &Shared, cores: &mut Cores)
-    requires { AreCores shared.now cores.old.steer cores.old.workers.items }
-    ensures { AreCores shared.now cores.new.steer cores.new.workers.items }
+    requires { AreCores shared.now cores.old }
+    ensures { AreCores shared.now cores.new }
 {
     work_all(rt, shared, &mut cores.workers, 1, TICK, &NoGate);
 }
@@ -145,18 +128,16 @@ fn collect_all(shared: &Shared, slow: &mut SlowWorker, workers: &mut [CoreWorker
 
 /// The slow path collects what all cores passed on, and has its turn. Whether there was memory for it.
 pub fn settle<R: Wait>(rt: &R, shared: &Shared, slow: &mut SlowWorker, cores: &mut Cores) -> bool
-    requires slow { IsSlow shared.now slow.old }
-    requires cores { AreCores shared.now cores.old.steer cores.old.workers.items }
-    ensures slow { IsSlow shared.now slow.new }
-    ensures cores { AreCores shared.now cores.new.steer cores.new.workers.items }
+    requires { AreReady shared.now slow.old cores.old }
+    ensures { AreReady shared.now slow.new cores.new }
 {
     collect_all(shared, slow, &mut cores.workers) && serve(rt, shared, slow)
 }
 
 /// What the history of the flow is, by the pass of core 0.
 pub fn look(shared: &Shared, cores: &mut Cores, id: FlowId) -> Option<Summary>
-    requires { AreCores shared.now cores.old.steer cores.old.workers.items }
-    ensures { AreCores shared.now cores.new.steer cores.new.workers.items }
+    requires { AreCores shared.now cores.old }
+    ensures { AreCores shared.now cores.new }
 {
     if cores.workers.is_empty() {
         return None;
@@ -166,8 +147,8 @@ pub fn look(shared: &Shared, cores: &mut Cores, id: FlowId) -> Option<Summary>
 
 /// Takes the frame out that a core passed on, as the only one. `None` where it passed on another number of frames.
 pub fn passed_by(shared: &Shared, cores: &mut Cores, core: u32) -> Option<PassedFrame>
-    requires { AreCores shared.now cores.old.steer cores.old.workers.items }
-    ensures { AreCores shared.now cores.new.steer cores.new.workers.items }
+    requires { AreCores shared.now cores.old }
+    ensures { AreCores shared.now cores.new }
 {
     passed_from(shared, &mut cores.workers, core as usize)
 }

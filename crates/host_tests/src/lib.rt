@@ -1,4 +1,5 @@
-//! Tests of a host put together, whose cores, slow path and applications run on one table. This crate has tests alone.
+//! Tests of a host put together, whose cores, slow path and applications run on one table. This crate has tests alone,
+//! beside the types that its definitions speak of.
 #![tactic(auto)]
 
 #[cfg(test)]
@@ -9,6 +10,7 @@ mod flows;
 mod gates;
 #[cfg(test)]
 mod host;
+pub mod hosts;
 #[cfg(test)]
 mod opening;
 #[cfg(test)]

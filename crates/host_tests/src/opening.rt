@@ -1,9 +1,10 @@
 //! A peer opens a connection, and its bytes come to the application that accepted it.
 ghost use Rattle.std.specs.Prelude.{◌≤◌, length};
-ghost use Rattle.host_tests.specs.Hosts.{AreCores, IsApp, IsSlow};
+ghost use Rattle.host_tests.specs.Hosts.{AreCores, AreReady, IsHost};
 
 use crate::flows::{Act, Summary};
-use crate::host::{Cores, Host, deliver, end, look, passed_by, settle, work_in_turn};
+use crate::host::{deliver, end, look, passed_by, settle, work_in_turn};
+use crate::hosts::{Cores, Host};
 use crate::packets::{Peer, frame_of, packet, packet_of};
 use crate::starting::{listen_both, started};
 use crate::workers::{accept, is_open, next_note};
@@ -38,8 +39,8 @@ fn greet<R: Threads + Wait + Sync>(
     shared: &Shared,
     cores: &mut Cores,
 ) -> Option<(u32, Passed)>
-    requires { AreCores shared.now cores.old.steer cores.old.workers.items }
-    ensures { AreCores shared.now cores.new.steer cores.new.workers.items }
+    requires { AreCores shared.now cores.old }
+    ensures { AreCores shared.now cores.new }
 {
     let core = deliver(
         rt,
@@ -65,10 +66,8 @@ fn is_open_after_turns<R: Threads + Wait + Sync>(
     slow: &mut SlowWorker,
     cores: &mut Cores,
 ) -> Option<bool>
-    requires slow { IsSlow shared.now slow.old }
-    requires cores { AreCores shared.now cores.old.steer cores.old.workers.items }
-    ensures slow { IsSlow shared.now slow.new }
-    ensures cores { AreCores shared.now cores.new.steer cores.new.workers.items }
+    requires { AreReady shared.now slow.old cores.old }
+    ensures { AreReady shared.now slow.new cores.new }
 {
     work_in_turn(rt, shared, cores);
     if settle(rt, shared, slow, cores) {
@@ -88,8 +87,8 @@ fn receive<R: Threads + Wait + Sync>(
     payload: &[u8],
 ) -> Option<(u32, Summary)>
     requires payload { length payload.now ≤ 100 }
-    requires cores { AreCores shared.now cores.old.steer cores.old.workers.items }
-    ensures cores { AreCores shared.now cores.new.steer cores.new.workers.items }
+    requires cores { AreCores shared.now cores.old }
+    ensures cores { AreCores shared.now cores.new }
 {
     let packet = packet(alloc, PEER, 1, Flags::ACK, payload)?;
     let core = deliver(rt, shared, cores, frame_of(PEER, number), packet)?;
@@ -122,10 +121,8 @@ fn connect<R: Threads + Wait + Sync>(
     slow: &mut SlowWorker,
     cores: &mut Cores,
 ) -> Option<Connecting>
-    requires slow { IsSlow shared.now slow.old }
-    requires cores { AreCores shared.now cores.old.steer cores.old.workers.items }
-    ensures slow { IsSlow shared.now slow.new }
-    ensures cores { AreCores shared.now cores.new.steer cores.new.workers.items }
+    requires { AreReady shared.now slow.old cores.old }
+    ensures { AreReady shared.now slow.new cores.new }
 {
     let syn = greet(rt, alloc, shared, cores)?;
     let is_open_first = is_open_after_turns(rt, shared, slow, cores)?;
@@ -151,8 +148,7 @@ fn greet_application<R: Threads + Wait + Sync>(
     shared: &Shared,
     host: &mut Host,
 ) -> Option<Hearing>
-    requires slow { IsSlow shared.now host.old.slow × IsApp shared.now 0 host.old.clients.first.app }
-    requires cores { AreCores shared.now host.old.cores.steer host.old.cores.workers.items }
+    requires { IsHost shared.now host.old }
 {
     let socket = accept(
         shared,
@@ -178,16 +174,9 @@ fn open<R: Threads + Wait + Sync>(
     shared: &Shared,
     host: &mut Host,
 ) -> Option<(Connecting, Hearing)>
-    requires slow { IsSlow shared.now host.old.slow }
-    requires apps { IsApp shared.now 0 host.old.clients.first.app × IsApp shared.now 1 host.old.clients.second.app }
-    requires cores { AreCores shared.now host.old.cores.steer host.old.cores.workers.items }
+    requires { IsHost shared.now host.old }
 {
-    if !listen_both(
-        shared,
-        &mut host.slow,
-        &mut host.clients.first.app,
-        &mut host.clients.second.app,
-    ) {
+    if !listen_both(shared, &mut host.slow, &mut host.clients) {
         return None;
     }
     let connecting = connect(rt, alloc, shared, &mut host.slow, &mut host.cores)?;

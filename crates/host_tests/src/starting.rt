@@ -1,9 +1,8 @@
 //! A host is put together, with applications that listen.
 ghost use Rattle.std.specs.Prelude.{◌≡◌, ◌≤◌, All, IfSome};
-ghost use Rattle.host_tests.specs.Hosts.{AreCores, AreEach, IsApp, IsCore, IsFresh, IsSlow};
+ghost use Rattle.host_tests.specs.Hosts.{AreApps, AreCores, AreEach, IsApp, IsCore, IsFresh, IsSlow};
 
-use crate::clients::{Client, Clients};
-use crate::host::{Cores, Host};
+use crate::hosts::{Client, Clients, Cores, Host};
 use crate::packets::HOST;
 use core_worker::{CoreWorker, Shared};
 use libtas_sockets::{App, Socket};
@@ -60,24 +59,18 @@ fn listen(shared: &Shared, slow: &mut SlowWorker, app: &mut App, number: u32, po
 }
 
 /// Application 0 listens on port 80, and application 1 on 81. Whether they do.
-pub fn listen_both(
-    shared: &Shared,
-    slow: &mut SlowWorker,
-    first: &mut App,
-    second: &mut App,
-) -> bool
-    requires slow { IsSlow shared.now slow.old }
-    requires apps { IsApp shared.now 0 first.old × IsApp shared.now 1 second.old }
-    ensures slow { IsSlow shared.now slow.new }
-    ensures apps { IsApp shared.now 0 first.new × IsApp shared.now 1 second.new }
+pub fn listen_both(shared: &Shared, slow: &mut SlowWorker, clients: &mut Clients) -> bool
+    requires { IsSlow shared.now slow.old × AreApps shared.now clients.old }
+    ensures { IsSlow shared.now slow.new × AreApps shared.now clients.new }
 {
-    listen(shared, slow, first, 0, 80) && listen(shared, slow, second, 1, 81)
+    listen(shared, slow, &mut clients.first.app, 0, 80)
+        && listen(shared, slow, &mut clients.second.app, 1, 81)
 }
 
 /// What the workers of an assembled host share, and the host.
 pub fn started<R: Wait>(rt: &R, alloc: Global) -> Option<(Shared, Host)>
     ensures slow { IfSome result (λ h. IsSlow h.0 h.1.slow) }
-    ensures cores { IfSome result (λ h. AreCores h.0 h.1.cores.steer h.1.cores.workers.items) }
+    ensures cores { IfSome result (λ h. AreCores h.0 h.1.cores) }
     ensures first { IfSome result (λ h. IsApp h.0 0 h.1.clients.first.app) }
     ensures second { IfSome result (λ h. IsApp h.0 1 h.1.clients.second.app) }
 {

@@ -1,10 +1,11 @@
 //! Two cores and two applications share four flows, each on a thread of its own.
 ghost use Rattle.std.specs.Prelude.{◌≡◌, All, IfSome};
-ghost use Rattle.host_tests.specs.Hosts.{AreCores, IsApp, IsClient, IsSlow};
+ghost use Rattle.host_tests.specs.Hosts.{AreCores, AreReady, AreTalking, IsHost};
 
-use crate::clients::{Clients, accept_two, both_talk, side_by_side};
+use crate::clients::{accept_two, both_talk, side_by_side};
 use crate::flows::Summary;
-use crate::host::{Cores, Host, deliver_all, end, look, settle, work_in_turn};
+use crate::host::{deliver_all, end, look, settle, work_in_turn};
+use crate::hosts::{Cores, Host};
 use crate::packets::{LAST, PIECES};
 use crate::starting::{listen_both, started};
 use core_worker::Shared;
@@ -29,10 +30,8 @@ fn exchange<R: Threads + Wait + Sync>(
     cores: &mut Cores,
     number: u32,
 ) -> bool
-    requires slow { IsSlow shared.now slow.old }
-    requires cores { AreCores shared.now cores.old.steer cores.old.workers.items }
-    ensures slow { IsSlow shared.now slow.new }
-    ensures cores { AreCores shared.now cores.new.steer cores.new.workers.items }
+    requires { AreReady shared.now slow.old cores.old }
+    ensures { AreReady shared.now slow.new cores.new }
 {
     if !deliver_all(rt, alloc, shared, cores, number) {
         return false;
@@ -52,10 +51,8 @@ fn open_all<R: Threads + Wait + Sync>(
     slow: &mut SlowWorker,
     cores: &mut Cores,
 ) -> bool
-    requires slow { IsSlow shared.now slow.old }
-    requires cores { AreCores shared.now cores.old.steer cores.old.workers.items }
-    ensures slow { IsSlow shared.now slow.new }
-    ensures cores { AreCores shared.now cores.new.steer cores.new.workers.items }
+    requires { AreReady shared.now slow.old cores.old }
+    ensures { AreReady shared.now slow.new cores.new }
 {
     // The first turn of the slow path is for the time alone.
     if !settle(rt, shared, slow, cores) {
@@ -72,37 +69,28 @@ pub fn connect_all<R: Threads + Wait + Sync>(
     rt: &R,
     alloc: Global,
     shared: &Shared,
-    slow: &mut SlowWorker,
-    cores: &mut Cores,
-    clients: &mut Clients,
+    host: &mut Host,
 ) -> Option<()>
-    requires slow { IsSlow shared.now slow.old }
-    requires cores { AreCores shared.now cores.old.steer cores.old.workers.items }
-    requires apps { IsApp shared.now 0 clients.old.first.app × IsApp shared.now 1 clients.old.second.app }
-    ensures slow { IfSome result (λ _. IsSlow shared.now slow.new) }
-    ensures cores { AreCores shared.now cores.new.steer cores.new.workers.items }
-    ensures first { IfSome result (λ _. IsClient shared.now 0 clients.new.first.app clients.new.first.sockets) }
-    ensures second { IfSome result (λ _. IsClient shared.now 1 clients.new.second.app clients.new.second.sockets) }
+    requires { IsHost shared.now host.old }
+    ensures ready { IfSome result (λ _. AreReady shared.now host.new.slow host.new.cores) }
+    ensures cores { AreCores shared.now host.new.cores }
+    ensures clients { IfSome result (λ _. AreTalking shared.now host.new.clients) }
 {
-    if !listen_both(
-        shared,
-        slow,
-        &mut clients.first.app,
-        &mut clients.second.app,
-    ) {
+    if !listen_both(shared, &mut host.slow, &mut host.clients) {
         return None;
     }
-    if !open_all(rt, alloc, shared, slow, cores) {
+    if !open_all(rt, alloc, shared, &mut host.slow, &mut host.cores) {
         return None;
     }
-    accept_two(shared, slow, &mut clients.first, 0, 80)?;
-    accept_two(shared, slow, &mut clients.second, 1, 81)
+    accept_two(shared, &mut host.slow, &mut host.clients.first, 0, 80)?;
+    accept_two(shared, &mut host.slow, &mut host.clients.second, 1, 81)?;
+    Some(())
 }
 
 /// All pieces of all streams are handed to the cores.
 fn deliver_pieces<R: Wait>(rt: &R, alloc: Global, shared: &Shared, cores: &mut Cores) -> bool
-    requires { AreCores shared.now cores.old.steer cores.old.workers.items }
-    ensures { AreCores shared.now cores.new.steer cores.new.workers.items }
+    requires { AreCores shared.now cores.old }
+    ensures { AreCores shared.now cores.new }
 {
     for number in 2..LAST {
         if !deliver_all(rt, alloc, shared, cores, number) {
@@ -117,47 +105,37 @@ fn round<R: Threads + Wait + Sync>(
     rt: &R,
     alloc: Global,
     shared: &Shared,
-    slow: &mut SlowWorker,
-    cores: &mut Cores,
-    clients: &mut Clients,
+    host: &mut Host,
     tick: u32,
 ) -> bool
-    requires slow { IsSlow shared.now slow.old }
-    requires cores { AreCores shared.now cores.old.steer cores.old.workers.items }
-    requires first { IsClient shared.now 0 clients.old.first.app clients.old.first.sockets }
-    requires second { IsClient shared.now 1 clients.old.second.app clients.old.second.sockets }
-    ensures slow { IsSlow shared.now slow.new }
-    ensures cores { AreCores shared.now cores.new.steer cores.new.workers.items }
-    ensures first { IsClient shared.now 0 clients.new.first.app clients.new.first.sockets }
-    ensures second { IsClient shared.now 1 clients.new.second.app clients.new.second.sockets }
+    requires ready { AreReady shared.now host.old.slow host.old.cores }
+    requires clients { AreTalking shared.now host.old.clients }
+    ensures ready { AreReady shared.now host.new.slow host.new.cores }
+    ensures clients { AreTalking shared.now host.new.clients }
 {
-    if !deliver_pieces(rt, alloc, shared, cores) {
+    if !deliver_pieces(rt, alloc, shared, &mut host.cores) {
         return false;
     }
-    side_by_side(rt, shared, cores, clients, tick, &NoGate);
-    settle(rt, shared, slow, cores)
+    side_by_side(
+        rt,
+        shared,
+        &mut host.cores,
+        &mut host.clients,
+        tick,
+        &NoGate,
+    );
+    settle(rt, shared, &mut host.slow, &mut host.cores)
 }
 
 /// All rounds.
-fn rounds<R: Threads + Wait + Sync>(
-    rt: &R,
-    alloc: Global,
-    shared: &Shared,
-    slow: &mut SlowWorker,
-    cores: &mut Cores,
-    clients: &mut Clients,
-) -> bool
-    requires slow { IsSlow shared.now slow.old }
-    requires cores { AreCores shared.now cores.old.steer cores.old.workers.items }
-    requires first { IsClient shared.now 0 clients.old.first.app clients.old.first.sockets }
-    requires second { IsClient shared.now 1 clients.old.second.app clients.old.second.sockets }
-    ensures slow { IsSlow shared.now slow.new }
-    ensures cores { AreCores shared.now cores.new.steer cores.new.workers.items }
-    ensures first { IsClient shared.now 0 clients.new.first.app clients.new.first.sockets }
-    ensures second { IsClient shared.now 1 clients.new.second.app clients.new.second.sockets }
+fn rounds<R: Threads + Wait + Sync>(rt: &R, alloc: Global, shared: &Shared, host: &mut Host) -> bool
+    requires ready { AreReady shared.now host.old.slow host.old.cores }
+    requires clients { AreTalking shared.now host.old.clients }
+    ensures ready { AreReady shared.now host.new.slow host.new.cores }
+    ensures clients { AreTalking shared.now host.new.clients }
 {
     for tick in 0..ROUNDS {
-        if !round(rt, alloc, shared, slow, cores, clients, tick) {
+        if !round(rt, alloc, shared, host, tick) {
             return false;
         }
     }
@@ -170,27 +148,23 @@ fn run<R: Threads + Wait + Sync>(
     rt: &R,
     alloc: Global,
     shared: &Shared,
-    slow: &mut SlowWorker,
-    cores: &mut Cores,
-    clients: &mut Clients,
+    host: &mut Host,
 ) -> Option<()>
-    requires slow { IsSlow shared.now slow.old }
-    requires cores { AreCores shared.now cores.old.steer cores.old.workers.items }
-    requires apps { IsApp shared.now 0 clients.old.first.app × IsApp shared.now 1 clients.old.second.app }
-    ensures cores { AreCores shared.now cores.new.steer cores.new.workers.items }
+    requires { IsHost shared.now host.old }
+    ensures cores { AreCores shared.now host.new.cores }
 {
-    connect_all(rt, alloc, shared, slow, cores, clients)?;
-    if !rounds(rt, alloc, shared, slow, cores, clients) {
+    connect_all(rt, alloc, shared, host)?;
+    if !rounds(rt, alloc, shared, host) {
         return None;
     }
-    if !exchange(rt, alloc, shared, slow, cores, LAST) {
+    if !exchange(rt, alloc, shared, &mut host.slow, &mut host.cores, LAST) {
         return None;
     }
     both_talk(
         rt,
         shared,
-        &mut clients.first,
-        &mut clients.second,
+        &mut host.clients.first,
+        &mut host.clients.second,
         ROUNDS,
         &NoGate,
     );
@@ -199,8 +173,8 @@ fn run<R: Threads + Wait + Sync>(
 
 /// What the history of the flow in this slot is.
 pub fn look_at(shared: &Shared, cores: &mut Cores, slot: u32) -> Option<Summary>
-    requires { AreCores shared.now cores.old.steer cores.old.workers.items }
-    ensures { AreCores shared.now cores.new.steer cores.new.workers.items }
+    requires { AreCores shared.now cores.old }
+    ensures { AreCores shared.now cores.new }
 {
     let id = FlowId {
         slot,
@@ -211,7 +185,7 @@ pub fn look_at(shared: &Shared, cores: &mut Cores, slot: u32) -> Option<Summary>
 
 /// What all histories are.
 fn look_at_all(shared: &Shared, cores: &mut Cores) -> Option<[Summary; 4]>
-    requires { AreCores shared.now cores.old.steer cores.old.workers.items }
+    requires { AreCores shared.now cores.old }
 {
     let first = look_at(shared, cores, 0)?;
     let second = look_at(shared, cores, 1)?;
@@ -223,14 +197,7 @@ fn look_at_all(shared: &Shared, cores: &mut Cores) -> Option<[Summary; 4]>
 /// The four histories of a host of its own.
 fn histories<R: Threads + Wait + Sync>(rt: &R, alloc: Global) -> Option<[Summary; 4]> {
     let (shared, mut host) = started(rt, alloc)?;
-    let done = run(
-        rt,
-        alloc,
-        &shared,
-        &mut host.slow,
-        &mut host.cores,
-        &mut host.clients,
-    );
+    let done = run(rt, alloc, &shared, &mut host);
     let seen = look_at_all(&shared, &mut host.cores);
     end(rt, host);
     match done {

@@ -1,9 +1,9 @@
 //! An application writes, and time passes: the slow path has the flow's core send, and send again as no ACK comes.
 ghost use Rattle.std.specs.Prelude.{◌≡◌, suc, IfSome};
-ghost use Rattle.host_tests.specs.Hosts.{AreCores, IsApp, IsClient, IsSlow, MayTurn};
+ghost use Rattle.host_tests.specs.Hosts.{AreCores, IsHost, MayTurn};
 
-use crate::clients::Clients;
-use crate::host::{Cores, end, work_all};
+use crate::host::{end, work_all};
+use crate::hosts::{Cores, Host};
 use crate::starting::started;
 use crate::threads::{connect_all, look_at};
 use crate::workers::{TICK, serve_in, write};
@@ -23,12 +23,26 @@ const NEXT: u32 = TICK + 1;
 type Sent = [u64; 2];
 
 fn sent_so_far(shared: &Shared, cores: &mut Cores) -> Option<Sent>
-    requires { AreCores shared.now cores.old.steer cores.old.workers.items }
-    ensures { AreCores shared.now cores.new.steer cores.new.workers.items }
+    requires { AreCores shared.now cores.old }
+    ensures { AreCores shared.now cores.new }
 {
     let first = look_at(shared, cores, 0)?;
     let second = look_at(shared, cores, 1)?;
     Some([first.sent, second.sent])
+}
+
+/// All cores have their turns. What was sent then.
+fn sent_by_turns<R: Threads + Wait + Sync>(
+    rt: &R,
+    shared: &Shared,
+    cores: &mut Cores,
+    tick: u32,
+) -> Option<Sent>
+    requires { AreCores shared.now cores.old }
+    ensures { AreCores shared.now cores.new }
+{
+    work_all(rt, shared, &mut cores.workers, 1, tick, &NoGate);
+    sent_so_far(shared, cores)
 }
 
 /// In one tick the cores have their turns before the slow path has its own and after it: what was sent then, and in the
@@ -41,17 +55,13 @@ fn pass_tick<R: Threads + Wait + Sync>(
     tick: u32,
 ) -> Option<[Sent; 2]>
     requires slow { MayTurn shared.now tick slow.old }
-    requires cores { AreCores shared.now cores.old.steer cores.old.workers.items }
+    requires cores { AreCores shared.now cores.old }
     ensures slow { IfSome result (λ _. MayTurn shared.now (suc tick) slow.new) }
-    ensures cores { AreCores shared.now cores.new.steer cores.new.workers.items }
+    ensures cores { AreCores shared.now cores.new }
 {
-    work_all(rt, shared, &mut cores.workers, 1, tick, &NoGate);
-    let before = sent_so_far(shared, cores)?;
-    if !serve_in(rt, shared, slow, tick) {
-        return None;
-    }
-    work_all(rt, shared, &mut cores.workers, 1, tick, &NoGate);
-    let after = sent_so_far(shared, cores)?;
+    let before = sent_by_turns(rt, shared, cores, tick)?;
+    serve_in(rt, shared, slow, tick)?;
+    let after = sent_by_turns(rt, shared, cores, tick)?;
     Some([before, after])
 }
 
@@ -63,7 +73,7 @@ fn pass_ticks<R: Threads + Wait + Sync>(
     cores: &mut Cores,
 ) -> Option<[[Sent; 2]; 4]>
     requires slow { MayTurn shared.now 2 slow.old }
-    requires cores { AreCores shared.now cores.old.steer cores.old.workers.items }
+    requires cores { AreCores shared.now cores.old }
 {
     let first = pass_tick(rt, shared, slow, cores, NEXT)?;
     let second = pass_tick(rt, shared, slow, cores, NEXT + 1)?;
@@ -77,31 +87,20 @@ fn write_and_wait<R: Threads + Wait + Sync>(
     rt: &R,
     alloc: Global,
     shared: &Shared,
-    slow: &mut SlowWorker,
-    cores: &mut Cores,
-    clients: &mut Clients,
+    host: &mut Host,
 ) -> Option<[[Sent; 2]; 4]>
-    requires slow { IsSlow shared.now slow.old }
-    requires cores { AreCores shared.now cores.old.steer cores.old.workers.items }
-    requires apps { IsApp shared.now 0 clients.old.first.app × IsApp shared.now 1 clients.old.second.app }
+    requires { IsHost shared.now host.old }
 {
-    connect_all(rt, alloc, shared, slow, cores, clients)?;
-    let socket = clients.first.sockets.0;
-    write(shared, &mut clients.first.app, 0, socket, TICK);
-    pass_ticks(rt, shared, slow, cores)
+    connect_all(rt, alloc, shared, host)?;
+    let socket = host.clients.first.sockets.0;
+    write(shared, &mut host.clients.first.app, 0, socket, TICK);
+    pass_ticks(rt, shared, &mut host.slow, &mut host.cores)
 }
 
 /// What was sent on a host of its own.
 fn sent_in_time<R: Threads + Wait + Sync>(rt: &R, alloc: Global) -> Option<[[Sent; 2]; 4]> {
     let (shared, mut host) = started(rt, alloc)?;
-    let sent = write_and_wait(
-        rt,
-        alloc,
-        &shared,
-        &mut host.slow,
-        &mut host.cores,
-        &mut host.clients,
-    );
+    let sent = write_and_wait(rt, alloc, &shared, &mut host);
     end(rt, host);
     sent
 }
@@ -109,7 +108,7 @@ fn sent_in_time<R: Threads + Wait + Sync>(rt: &R, alloc: Global) -> Option<[[Sen
 /// What was written goes after the slow path's first turn in which time passes, and again after that in which the
 /// flow's timer runs out: no core sends before it was kicked. The other flow has nothing to send at any time.
 #[test]
-fn a_timer_that_runs_out_has_the_flow_s_core_send_again(rt: HostRuntime) -> Result<(), Fail> {
+fn a_flow_whose_timer_runs_out_is_sent_again_by_its_core(rt: HostRuntime) -> Result<(), Fail> {
     let Some(ticks) = sent_in_time(&rt, rt.alloc()) else {
         panic!(rt; "a step of the host failed")
     };

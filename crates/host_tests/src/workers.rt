@@ -1,5 +1,5 @@
 //! What one worker of a host, or an application, does.
-ghost use Rattle.std.specs.Prelude.{◌≡◌, ◌≤◌, ◌<◌, suc, length, IsTrue, IfSome};
+ghost use Rattle.std.specs.Prelude.{◌≡◌, ◌≤◌, ◌<◌, suc, length, IfSome};
 ghost use Rattle.libtas_sockets.specs.Apps.{IsSocket};
 ghost use Rattle.libtas_sockets.specs.declared.socket.Socket.{Socket};
 ghost use Rattle.host_tests.specs.Hosts.{IsCore, IsSlow, MayTurn, IsApp, KeepsSockets};
@@ -60,11 +60,14 @@ pub fn serve<R: Wait>(rt: &R, shared: &Shared, slow: &mut SlowWorker) -> bool
 }
 
 /// The slow path's turn in some tick, which may be the first of that tick.
-pub fn serve_in<R: Wait>(rt: &R, shared: &Shared, slow: &mut SlowWorker, tick: u32) -> bool
+pub fn serve_in<R: Wait>(rt: &R, shared: &Shared, slow: &mut SlowWorker, tick: u32) -> Option<()>
     requires { MayTurn shared.now tick slow.old }
-    ensures { IsTrue result → MayTurn shared.now (suc tick) slow.new }
+    ensures { IfSome result (λ _. MayTurn shared.now (suc tick) slow.new) }
 {
-    slow.turn(rt, shared, tick).is_ok()
+    let Ok(()) = slow.turn(rt, shared, tick) else {
+        return None;
+    };
+    Some(())
 }
 
 /// Whether the slow path has opened the flow and not freed it.
@@ -101,7 +104,7 @@ pub fn accept(
 }
 
 /// An application reads from a socket.
-pub fn read(shared: &Shared, app: &mut App, number: u32, s: Socket, tick: u32)
+fn read(shared: &Shared, app: &mut App, number: u32, s: Socket, tick: u32)
     requires { IsApp shared.now number app.old × IsSocket app.old s }
     ensures { IsApp shared.now number app.new × (app.new.sockets ≡ app.old.sockets) }
 {
@@ -115,6 +118,24 @@ pub fn write(shared: &Shared, app: &mut App, number: u32, s: Socket, tick: u32)
     ensures { IsApp shared.now number app.new × (app.new.sockets ≡ app.old.sockets) }
 {
     drop(app.send(&shared.table, s, tick, WORDS));
+}
+
+/// A call of an application on a socket.
+#[derive(Clone, Copy)]
+pub enum SocketCall {
+    Read,
+    Write,
+}
+
+/// An application makes a call on a socket.
+pub fn call(shared: &Shared, app: &mut App, number: u32, s: Socket, tick: u32, what: SocketCall)
+    requires { IsApp shared.now number app.old × IsSocket app.old s }
+    ensures { IsApp shared.now number app.new × (app.new.sockets ≡ app.old.sockets) }
+{
+    match what {
+        SocketCall::Read => read(shared, app, number, s, tick),
+        SocketCall::Write => write(shared, app, number, s, tick),
+    }
 }
 
 /// The next note of an application.

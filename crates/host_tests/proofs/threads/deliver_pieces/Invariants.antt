@@ -2,4 +2,4 @@ use Rattle.host_tests.specs.Hosts.{AreCores}
 use Rattle.host_tests.proofs.threads.deliver_pieces.Given as goal
 
 abbrev pub invariant-loop-number : goal.invariant-loop-number
-invariant-loop-number g l = AreCores l.shared l.cores.steer l.cores.workers.items
+invariant-loop-number g l = AreCores l.shared l.cores
