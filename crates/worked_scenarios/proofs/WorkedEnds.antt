@@ -15,13 +15,14 @@ use Rattle.scenario_text.specs.Statements.{reading}
 use Rattle.scenario_text.specs.Reads.{reads}
 use Rattle.scenario_runs.specs.Runs.{serial_world, serial_from}
 use Rattle.scenario_runs.specs.WorkedParts.{reported}
-use Rattle.worked_scenarios.specs.WorkedEnds.{unanswered, unanswered_report, killed_late, killed_late_report}
-use Rattle.worked_scenarios.specs.WorkedEnds.{killed_after, killed_after_report, slot_kept, slot_kept_report, stalled}
+use Rattle.scenario_runs.specs.WorkedRuns.{hello_report}
+use Rattle.worked_scenarios.specs.WorkedTalks.{nobody_report}
+use Rattle.worked_scenarios.specs.WorkedEnds.{unanswered, killed_late, killed_late_report}
+use Rattle.worked_scenarios.specs.WorkedEnds.{killed_after, slot_kept, slot_kept_report, stalled}
 use Rattle.worked_scenarios.specs.WorkedEnds.{stalled_report, cut_short, cut_short_report, open_flows}
-use Rattle.worked_scenarios.specs.WorkedEnds.{open_flows_report, no_such_byte, no_such_byte_report, all_steps}
-use Rattle.worked_scenarios.specs.WorkedEnds.{all_steps_report}
+use Rattle.worked_scenarios.specs.WorkedEnds.{open_flows_report, no_such_byte, all_steps, all_steps_report}
 
-pub unanswered_is : reported unanswered ≡ unanswered_report
+pub unanswered_is : reported unanswered ≡ nobody_report
 unfolding reads reading digits nearest ip_header tcp_fixed refusal mss_of rx rx_later rx_syn_sent going ticks control
     step replay serial_tick report serial_world serial_from
 unanswered_is = refl
@@ -31,7 +32,7 @@ unfolding reads reading digits nearest ip_header tcp_fixed refusal mss_of rx rx_
     step replay serial_tick report serial_world serial_from
 killed_late_is = refl
 
-pub killed_after_is : reported killed_after ≡ killed_after_report
+pub killed_after_is : reported killed_after ≡ hello_report
 unfolding reads reading digits nearest ip_header tcp_fixed refusal mss_of rx rx_later rx_syn_sent going ticks control
     step replay serial_tick report serial_world serial_from
 killed_after_is = refl
@@ -56,7 +57,7 @@ unfolding reads reading digits nearest ip_header tcp_fixed refusal mss_of rx rx_
     step replay serial_tick report serial_world serial_from
 open_flows_is = refl
 
-pub no_such_byte_is : reported no_such_byte ≡ no_such_byte_report
+pub no_such_byte_is : reported no_such_byte ≡ hello_report
 unfolding reads reading digits nearest ip_header tcp_fixed refusal mss_of rx rx_later rx_syn_sent going ticks control
     step replay serial_tick report serial_world serial_from
 no_such_byte_is = refl

@@ -16,9 +16,10 @@ use Rattle.scenario_text.specs.declared.reading.ScenarioFault.TheVariants.{Refus
 use Rattle.scenario_text.specs.Reads.{reads}
 use Rattle.scenario_runs.specs.Runs.{serial_world, serial_from}
 use Rattle.scenario_runs.specs.WorkedParts.{reported}
-use Rattle.worked_scenarios.specs.WorkedForms.{spaced_text, spaced_text_report, spaced_lines, spaced_lines_report}
-use Rattle.worked_scenarios.specs.WorkedForms.{between_steps, between_steps_report, blank_text, blank_text_report}
-use Rattle.worked_scenarios.specs.WorkedForms.{killed_at_once, killed_at_once_report, strange_byte, bare_return}
+use Rattle.scenario_runs.specs.WorkedRuns.{hello_report}
+use Rattle.worked_scenarios.specs.WorkedForms.{spaced_text, spaced_text_report, spaced_lines}
+use Rattle.worked_scenarios.specs.WorkedForms.{idle_report, between_steps, blank_text, blank_text_report}
+use Rattle.worked_scenarios.specs.WorkedForms.{killed_at_once, strange_byte, bare_return}
 use Rattle.worked_scenarios.specs.WorkedForms.{wrong_name, unknown_name, many_options, unknown_option, half_option}
 
 pub spaced_text_is : reported spaced_text ≡ spaced_text_report
@@ -26,12 +27,12 @@ unfolding reads reading digits nearest ip_header tcp_fixed refusal mss_of rx rx_
     step replay serial_tick report serial_world serial_from
 spaced_text_is = refl
 
-pub spaced_lines_is : reported spaced_lines ≡ spaced_lines_report
+pub spaced_lines_is : reported spaced_lines ≡ idle_report
 unfolding reads reading digits nearest ip_header tcp_fixed refusal mss_of rx rx_later rx_syn_sent going ticks control
     step replay serial_tick report serial_world serial_from
 spaced_lines_is = refl
 
-pub between_steps_is : reported between_steps ≡ between_steps_report
+pub between_steps_is : reported between_steps ≡ hello_report
 unfolding reads reading digits nearest ip_header tcp_fixed refusal mss_of rx rx_later rx_syn_sent going ticks control
     step replay serial_tick report serial_world serial_from
 between_steps_is = refl
@@ -41,7 +42,7 @@ unfolding reads reading digits nearest ip_header tcp_fixed refusal mss_of rx rx_
     step replay serial_tick report serial_world serial_from
 blank_text_is = refl
 
-pub killed_at_once_is : reported killed_at_once ≡ killed_at_once_report
+pub killed_at_once_is : reported killed_at_once ≡ idle_report
 unfolding reads reading digits nearest ip_header tcp_fixed refusal mss_of rx rx_later rx_syn_sent going ticks control
     step replay serial_tick report serial_world serial_from
 killed_at_once_is = refl

@@ -1,19 +1,19 @@
 ghost use Rattle.std.specs.Prelude.{◌≡◌, Err};
 ghost use Rattle.scenario_runs.specs.WorkedParts.{reported};
+ghost use Rattle.scenario_runs.specs.WorkedRuns.{hello_report};
 ghost use Rattle.worked_scenarios.specs.WorkedTalks.{lost, lost_report, doubled, doubled_report, wrapped};
 ghost use Rattle.worked_scenarios.specs.WorkedTalks.{wrapped_report, nobody, nobody_report, lone, lone_report};
-ghost use Rattle.worked_scenarios.specs.WorkedEnds.{unanswered, unanswered_report, killed_late, killed_late_report};
-ghost use Rattle.worked_scenarios.specs.WorkedEnds.{killed_after, killed_after_report, slot_kept, slot_kept_report};
+ghost use Rattle.worked_scenarios.specs.WorkedEnds.{unanswered, killed_late, killed_late_report, killed_after};
+ghost use Rattle.worked_scenarios.specs.WorkedEnds.{slot_kept, slot_kept_report};
 ghost use Rattle.worked_scenarios.specs.WorkedEnds.{stalled, stalled_report, cut_short, cut_short_report, open_flows};
-ghost use Rattle.worked_scenarios.specs.WorkedEnds.{open_flows_report, no_such_byte, no_such_byte_report, all_steps};
-ghost use Rattle.worked_scenarios.specs.WorkedEnds.{all_steps_report};
+ghost use Rattle.worked_scenarios.specs.WorkedEnds.{open_flows_report, no_such_byte, all_steps, all_steps_report};
 ghost use Rattle.worked_scenarios.specs.WorkedLinks.{own_host, own_host_report, silent, silent_report, one_waits};
 ghost use Rattle.worked_scenarios.specs.WorkedLinks.{one_waits_report};
 ghost use Rattle.worked_scenarios.specs.WorkedHoles.{late_middle, late_middle_report, two_holes, two_holes_report};
 ghost use Rattle.worked_scenarios.specs.WorkedForms.{spaced_text, spaced_text_report, spaced_lines};
-ghost use Rattle.worked_scenarios.specs.WorkedForms.{spaced_lines_report, between_steps, between_steps_report};
+ghost use Rattle.worked_scenarios.specs.WorkedForms.{idle_report, between_steps};
 ghost use Rattle.worked_scenarios.specs.WorkedForms.{blank_text, blank_text_report, killed_at_once};
-ghost use Rattle.worked_scenarios.specs.WorkedForms.{killed_at_once_report, strange_byte, bare_return, wrong_name};
+ghost use Rattle.worked_scenarios.specs.WorkedForms.{strange_byte, bare_return, wrong_name};
 ghost use Rattle.worked_scenarios.specs.WorkedForms.{unknown_name, many_options, unknown_option, half_option};
 ghost use Rattle.scenario_text.specs.declared.reading.ScenarioFault.TheVariants.{Refused};
 ghost use Rattle.scenario_text.specs.Reads.{reads};
@@ -30,14 +30,14 @@ pub fn worked_talks()
 
 /// The same of kills, slots, refused connects and limits.
 pub fn worked_ends()
-    ensures unanswered { reported unanswered ≡ unanswered_report }
+    ensures unanswered { reported unanswered ≡ nobody_report }
     ensures killed_late { reported killed_late ≡ killed_late_report }
-    ensures killed_after { reported killed_after ≡ killed_after_report }
+    ensures killed_after { reported killed_after ≡ hello_report }
     ensures slot_kept { reported slot_kept ≡ slot_kept_report }
     ensures stalled { reported stalled ≡ stalled_report }
     ensures cut_short { reported cut_short ≡ cut_short_report }
     ensures open_flows { reported open_flows ≡ open_flows_report }
-    ensures no_such_byte { reported no_such_byte ≡ no_such_byte_report }
+    ensures no_such_byte { reported no_such_byte ≡ hello_report }
     ensures all_steps { reported all_steps ≡ all_steps_report }
 {}
 
@@ -54,10 +54,10 @@ pub fn worked_links()
 /// kind.
 pub fn worked_forms()
     ensures spaced_text { reported spaced_text ≡ spaced_text_report }
-    ensures spaced_lines { reported spaced_lines ≡ spaced_lines_report }
-    ensures between_steps { reported between_steps ≡ between_steps_report }
+    ensures spaced_lines { reported spaced_lines ≡ idle_report }
+    ensures between_steps { reported between_steps ≡ hello_report }
     ensures blank_text { reported blank_text ≡ blank_text_report }
-    ensures killed_at_once { reported killed_at_once ≡ killed_at_once_report }
+    ensures killed_at_once { reported killed_at_once ≡ idle_report }
     ensures strange_byte { reads strange_byte ≡ Err (Refused 2 2) }
     ensures bare_return { reads bare_return ≡ Err (Refused 1 2) }
     ensures wrong_name { reads wrong_name ≡ Err (Refused 4 6) }
