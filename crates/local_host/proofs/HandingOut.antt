@@ -19,7 +19,7 @@ use Rattle.local_host.specs.Index.{passes_at}
 use Rattle.local_host.specs.Lanes.{arrival_of}
 use Rattle.local_host.specs.Handing.{place_in, joined, frames_of, frames_by, jobs_of, jobs_in, left_in, jobs_at}
 use Rattle.local_host.specs.Handing.{IsJobOf, IsSteered, AreSentTo, AreHanded, by_core, is_in_index, HasMore}
-use Rattle.local_host.specs.Handing.{AreLanes, put_jobs}
+use Rattle.local_host.specs.Handing.{AreLanes, IsOfOneCore, put_jobs}
 use Rattle.local_host.proofs.LaneLists.{set_there, set_elsewhere, length_set, tally, count_cons}
 use Rattle.local_host.proofs.LaneLists.{perm_by, joined_push, joined_more}
 use Rattle.local_host.proofs.OwnCores.{steered_last, jobs_still, job_still, even_more}
@@ -278,9 +278,9 @@ lanes_frames (l ∷ ls) = joined_both frames_of (jobs_of l) (jobs_in ls)
 lanes_more : {jobs : List Job} {lanes : List Lane} (job : Job) (after : List Lane)
     → IsPermutation (jobs_in after) (jobs_in lanes ++ job ∷ [])
     → IsPermutation (frames_by (jobs_in after)) (frames_by (jobs_in lanes) ++ frames_of job)
-    → All (λ (l : Lane). l.core < 16) after → All (λ (l : Lane). l.left.items ≡ []) after → AreLanes jobs lanes
-    → AreLanes (jobs ++ job ∷ []) after
-lanes_more {jobs} {lanes} job after gained seen low fresh is = record {
+    → All (λ (l : Lane). l.core < 16) after → All IsOfOneCore after → All (λ (l : Lane). l.left.items ≡ []) after
+    → AreLanes jobs lanes → AreLanes (jobs ++ job ∷ []) after
+lanes_more {jobs} {lanes} job after gained seen low own fresh is = record {
   moved = IsPermutation-trans (jobs ++ job ∷ []) (jobs_in lanes ++ job ∷ []) (jobs_in after)
       (IsPermutation-append_left (job ∷ []) jobs (jobs_in lanes) is.moved)
       (IsPermutation-sym (jobs_in after) (jobs_in lanes ++ job ∷ []) gained);
@@ -291,14 +291,23 @@ lanes_more {jobs} {lanes} job after gained seen low fresh is = record {
       (IsPermutation-append_left (frames_of job) (frames_by jobs) (frames_by (jobs_in lanes)) is.shuffled)
       (IsPermutation-sym (frames_by (jobs_in after)) (frames_by (jobs_in lanes) ++ frames_of job) seen));
   low = low;
+  own = own;
   fresh = fresh;
 }
 
+-- a lane with one job more of its core
+one_more : (job : Job) (was lane : Lane) → IsOfOneCore was → lane.core ≡ was.core → was.core ≡ job.core
+    → lane.jobs.items ≡ was.jobs.items ++ job ∷ [] → IsOfOneCore lane
+one_more job was lane own core same more =
+    subst (All (λ (j : Job). j.core ≡ lane.core)) (sym more)
+    (subst (λ (n : ℕ). All (λ (j : Job). j.core ≡ n) (was.jobs.items ++ job ∷ [])) (sym core)
+    (All-push (λ (j : Job). j.core ≡ was.core) was.jobs.items job own (sym same)))
+
 pub given_lane : {jobs : List Job} {lanes : List Lane} (job : Job) (i : ℕ) (was lane : Lane) → i < length lanes
-    → was ≡ get_or lanes i was → lane.core ≡ was.core → lane.left.items ≡ was.left.items
+    → was ≡ get_or lanes i was → lane.core ≡ was.core → was.core ≡ job.core → lane.left.items ≡ was.left.items
     → lane.jobs.items ≡ was.jobs.items ++ job ∷ [] → AreLanes jobs lanes
     → AreLanes (jobs ++ job ∷ []) (set lanes i lane)
-given_lane {jobs} {lanes} job i was lane low read core left more is =
+given_lane {jobs} {lanes} job i was lane low read core same left more is =
     lanes_more job (set lanes i lane)
     (joined_more jobs_of lanes i lane was (job ∷ []) low
     (perm_by (jobs_of lane) (jobs_of (get_or lanes i was) ++ job ∷ [])
@@ -314,21 +323,26 @@ given_lane {jobs} {lanes} job i was lane low read core left more is =
     (All-set (λ (l : Lane). l.core < 16) lanes i lane
     (subst (λ (n : ℕ). n < 16) (sym (core ∙ ap (λ (l : Lane). l.core) read))
     (All-get_or (λ (l : Lane). l.core < 16) lanes i was low is.low)) is.low)
+    (All-set IsOfOneCore lanes i lane
+    (one_more job was lane (subst IsOfOneCore (sym read) (All-get_or IsOfOneCore lanes i was low is.own)) core same
+    more) is.own)
     (All-set (λ (l : Lane). l.left.items ≡ []) lanes i lane
     (left ∙ (ap (λ (l : Lane). l.left.items) read
     ∙ All-get_or (λ (l : Lane). l.left.items ≡ []) lanes i was low is.fresh)) is.fresh)
     is
 
 pub new_lane : {jobs : List Job} {lanes : List Lane} (job : Job) (lane : Lane) (after : List Lane)
-    → after ≡ lanes ++ lane ∷ [] → lane.core < 16
+    → after ≡ lanes ++ lane ∷ [] → lane.core < 16 → job.core ≡ lane.core
     → lane.left.items ≡ [] → lane.jobs.items ≡ job ∷ [] → AreLanes jobs lanes → AreLanes (jobs ++ job ∷ []) after
-new_lane {jobs} {lanes} job lane after made low left one is =
+new_lane {jobs} {lanes} job lane after made low same left one is =
     subst (AreLanes (jobs ++ job ∷ [])) (sym made)
     (lanes_more job (lanes ++ lane ∷ [])
     (perm_by (jobs_in (lanes ++ lane ∷ [])) (jobs_in lanes ++ job ∷ []) gained)
     (perm_by (frames_by (jobs_in (lanes ++ lane ∷ []))) (frames_by (jobs_in lanes) ++ frames_of job)
     (ap frames_by gained ∙ joined_push frames_of (jobs_in lanes) job))
     (All-push (λ (l : Lane). l.core < 16) lanes lane is.low low)
+    (All-push IsOfOneCore lanes lane is.own (subst (All (λ (j : Job). j.core ≡ lane.core)) (sym one)
+    (All-push (λ (j : Job). j.core ≡ lane.core) [] job (λ k d low. absurd (omega (arith, low))) same)))
     (All-push (λ (l : Lane). l.left.items ≡ []) lanes lane is.fresh left)
     is) where
       gained : jobs_in (lanes ++ lane ∷ []) ≡ jobs_in lanes ++ job ∷ []

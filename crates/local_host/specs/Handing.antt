@@ -96,11 +96,16 @@ pub record HasMore (h : Handed) (before after : Job) : Type 0 where
   pub frames : after.frames.items ≡ before.frames.items ++ h ∷ []
 
 -- ----- lanes
--- The lanes have these jobs, and have left nothing yet.
+-- a lane has jobs of its own core alone
+abbrev pub IsOfOneCore : Lane → Type 0
+IsOfOneCore l = All (λ (j : Job). j.core ≡ l.core) l.jobs.items
+
+-- The lanes have these jobs, each lane those of its core, and have left nothing yet.
 pub record AreLanes (jobs : List Job) (lanes : List Lane) : Type 0 where
   pub moved : IsPermutation jobs (jobs_in lanes)
   pub shuffled : IsPermutation (frames_by jobs) (frames_by (jobs_in lanes))
   pub low : All (λ (l : Lane). l.core < 16) lanes
+  pub own : All IsOfOneCore lanes
   pub fresh : All (λ (l : Lane). l.left.items ≡ []) lanes
 
 -- the flows of jobs are put back
