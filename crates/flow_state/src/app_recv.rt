@@ -73,9 +73,22 @@ fn recv_some(parts: &mut Parts, most: u32, out: &mut [u8]) -> Answer
     let before = parts.rx.room();
     copy_front(&parts.rx, count, out);
     parts.rx.drop_front(count);
+    rewind_empty(parts);
     Answer::Got {
         len: count,
         update: update(parts, before),
+    }
+}
+
+/// Where all was read and nothing stands past a gap, what comes next goes to the ring's first cells again.
+fn rewind_empty(parts: &mut Parts)
+    ensures same { (e : Endpoint) → Stands parts.old e → Stands parts.new e }
+    ensures len { parts.new.rx.bytes ≡ parts.old.rx.bytes }
+    ensures params { parts.new.params ≡ parts.old.params }
+    ensures tuple { parts.new.tuple ≡ parts.old.tuple }
+{
+    if parts.rx.len() == 0 && parts.island.is_none() {
+        parts.rx.rewind();
     }
 }
 

@@ -32,3 +32,19 @@ fn bytes_are_kept_round_the_end(rt: HostRuntime) -> Result<(), Fail> {
     assert_eq!(rt; read, *b"defgh");
     Ok(())
 }
+
+#[test]
+fn a_ring_that_was_emptied_and_rewound_goes_on_at_its_place(rt: HostRuntime) -> Result<(), Fail> {
+    let mut ring = Ring::new(rt.alloc(), 4)?;
+    ring.append(b"abc");
+    ring.drop_front(3);
+    ring.rewind();
+    ring.put_at(4, b"ef");
+    ring.append(b"d");
+    ring.advance(2);
+    let mut read = [0; 3];
+    ring.copy_out(3, &mut read);
+    assert_eq!(rt; read, *b"def");
+    assert_eq!(rt; (ring.base(), ring.end()), (3, 6));
+    Ok(())
+}

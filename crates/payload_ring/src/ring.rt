@@ -1,7 +1,7 @@
 ghost use Rattle.std.specs.Prelude.{◌≡◌, ℕ, ◌+◌, ◌-◌, ◌^◌, ◌<◌, ◌≤◌, ◌++◌, [], true, length, take, drop, replicate};
 ghost use Rattle.std.specs.Prelude.{IfOk};
 ghost use Rattle.payload_ring.specs.Window.{Window, IsWindow, end_of, cells_of, room_of, overlaid, with_cells};
-ghost use Rattle.payload_ring.specs.Window.{released};
+ghost use Rattle.payload_ring.specs.Window.{released, Holds};
 
 use crate::cells::{Cells, index_of};
 use std::alloc::{AllocError, Global};
@@ -111,6 +111,17 @@ impl Ring {
         ensures { self.new ≡ released self.old }
     {
         self.cells.release();
+        self.start = 0;
+        self.len = 0;
+    }
+
+    /// Where no byte stands in order, the next one goes to the first cell again: a ring that is emptied often touches few
+    /// cells then. What stands ahead is lost.
+    pub fn rewind(&mut self)
+        requires empty { self.old.bytes ≡ [] }
+        ensures same { Holds self.new self.old.size self.old.base [] }
+        ensures ready { self.new.ready ≡ self.old.ready }
+    {
         self.start = 0;
         self.len = 0;
     }

@@ -17,15 +17,16 @@ returns-clause-made c e v s =
     let count : c.min-count.result ≡ n = grind (arith, c.len.ensures.len, unread) in
     let after : Stands (record (c.args.parts.now) { rx = c.drop_front.new.self }) (after_recv e n) =
     stands_recv c.args.parts.now e n c.drop_front.new.self s (rw (← count) c.drop_front.ensures) in
+    let left : Stands c.rewind_empty.new.parts (after_recv e n) = c.rewind_empty.ensures.same (after_recv e n) after in
     let bytes : take c.min-count.result c.copy_front.new.out ≡ take n (drop e.rx.read e.rx.got) =
     c.copy_front.ensures ∙ (ap (λ (k : ℕ). take k c.args.parts.now.rx.bytes) count ∙ ap (take n) s.rx.bytes) in
     let room : c.room-before.result ≡ free e = grind (arith, unread, s.rx.size) in
     let fits : n ≤ length e.rx.got - e.rx.read = omega arith in
     let tells : c.update.result ≡ update_of e (after_recv e n) =
-    c.update.ensures (after_recv e n) (read_keeps e n fits v) after
+    c.update.ensures (after_recv e n) (read_keeps e n fits v) left
     ∙ ap (λ (k : ℕ). update_from k (after_recv e n)) room in
     record {
       reply = sym (ap (λ (bs : List ℕ). replies.Got bs c.update.result) bytes
           ∙ ap (λ (u : Option Head). replies.Got (take n (drop e.rx.read e.rx.got)) u) tells);
-      state = after;
+      state = left;
     }
