@@ -22,6 +22,7 @@ mod SeenFrames
 mod CoreTaking
 mod Halves
 pub mod Timing
+pub mod Sleeping
 pub mod Ports
 pub mod Holding
 pub mod Given

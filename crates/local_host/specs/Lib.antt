@@ -1,4 +1,6 @@
 pub mod Live
+pub mod Sleep
+pub mod Lacking
 pub mod Inside
 pub mod Marks
 pub mod Index

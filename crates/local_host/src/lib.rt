@@ -17,6 +17,7 @@ mod pending;
 mod reading;
 mod replay;
 mod script;
+mod sleep;
 mod slot_marks;
 mod steer;
 

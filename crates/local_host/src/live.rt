@@ -22,6 +22,7 @@ ghost use Rattle.local_host.specs.Ports.{MayAsk};
 use crate::arrival::{Arrival, Packet, Taking};
 use crate::calls::{make, pass_one, taken};
 use crate::reading::{first_number, is_closed, is_control_tick, sent_count, stage_of};
+use crate::sleep::{AWAKE, Sleep, rest, wake};
 use capture_items::is_same_tuple;
 use fast_rx::FastRx;
 use fast_tx::{FastTx, next_out};
@@ -60,6 +61,8 @@ const SMALLEST: HostParams = HostParams {
 /// A flow of the host, seen as that flow in the middle of a run.
 #[derive(Drop)]
 pub struct LiveFlow {
+    /// The ticks that its record lacks.
+    sleep: Sleep,
     history: FlowRecord,
     /// The index leads frames of its four-tuple to it.
     indexed: bool,
@@ -73,9 +76,11 @@ impl Model for LiveFlow {
 
     ghost Value = { Live };
 
-    ghost use Rattle.local_host.specs.Inside.{live_of};
+    ghost use Rattle.local_host.specs.Inside.{live_of, IsLive};
 
     ghost view = { live_of };
+
+    ghost invariant = { IsLive };
 }
 
 impl LiveFlow {
@@ -122,6 +127,7 @@ impl LiveFlow {
     {
         LiveFlow {
             history,
+            sleep: AWAKE,
             indexed: true,
             holder,
             filed: false,
@@ -181,7 +187,7 @@ impl LiveFlow {
     pub fn is_over(&self) -> bool
         ensures { result ≡ is_over self.now }
     {
-        is_closed(&self.history)
+        !self.sleep.is_asleep() && is_closed(&self.history)
     }
 
     /// Whether it has this port, and nobody has its socket yet.
@@ -257,11 +263,19 @@ impl LiveFlow {
     pub fn tick(&mut self, tick: u32) -> Result<(), AllocError>
         ensures { OnOk result (self.new ≡ timed Slow tick self.old) }
     {
+        if self.sleep.pass(tick) {
+            return Ok(());
+        }
+        let slept = self.sleep;
+        self.sleep = AWAKE;
+        wake(&mut self.history, &slept)?;
         if is_closed(&self.history) {
             return Ok(());
         }
         pass_one(&mut self.history, tick)?;
-        self.control(tick)
+        self.control(tick)?;
+        self.sleep = rest(&self.history);
+        Ok(())
     }
 
     /// Its rate is controlled where that is due. The error is want of memory.
@@ -297,6 +311,9 @@ impl LiveFlow {
                 return Ok(());
             }
         }
+        let slept = self.sleep;
+        self.sleep = AWAKE;
+        wake(&mut self.history, &slept)?;
         let call = CallIn::Rx { frame, seg: *seg };
         make(&mut self.history, Caller::Slow, tick, &call, &SlowRx)?;
         Ok(())
@@ -315,6 +332,9 @@ impl LiveFlow {
             ≡ (if taken then received (Core core) tick frame (seg_of seg.now) self.old else self.old)) }
         ensures taken { IfOk result (λ taken. taken ≡ is_fast (endpoint self.old) (seg_of seg.now)) }
     {
+        let slept = self.sleep;
+        self.sleep = AWAKE;
+        wake(&mut self.history, &slept)?;
         // Its phase is that of its history.
         let _parts = self.history.parts();
         let call = CallIn::Rx { frame, seg: *seg };
@@ -413,6 +433,9 @@ impl LiveFlow {
         ensures answer { IfOk result (λ a. a ≡ answer_of
             (reply_to self.old.flow.params self.old.flow.entries tick (call_of call.now) (offer_of call.now))) }
     {
+        let slept = self.sleep;
+        self.sleep = AWAKE;
+        wake(&mut self.history, &slept)?;
         // Whether an Accept is a step is told by the column of the table of calls.
         let _stage = stage_of(&self.history);
         make(&mut self.history, caller, tick, call, &AppCalls)
@@ -436,10 +459,13 @@ impl LiveFlow {
         Ok(())
     }
 
-    /// Whether a segment may go. Most flows have none in most ticks, and a look at their parts tells.
+    /// Whether a segment may go, which a look at the parts of a flow tells that is awake.
     fn may_send(&self) -> bool
         ensures { result ≡ is_some (going (endpoint self.now)) }
     {
+        if self.sleep.is_asleep() {
+            return false;
+        }
         next_out(self.history.parts()).is_some()
     }
 
@@ -448,6 +474,9 @@ impl LiveFlow {
         ensures next { IfOk result (λ sent. sent ≡ true → IsNext tick self.old self.new) }
         ensures done { IfOk result (λ sent. sent ≡ false → self.new ≡ quieted tick self.old) }
     {
+        let slept = self.sleep;
+        self.sleep = AWAKE;
+        wake(&mut self.history, &slept)?;
         // Its parts stand for the endpoint of its history.
         let _parts = self.history.parts();
         let answer = self
@@ -458,7 +487,7 @@ impl LiveFlow {
 
     /// Its record.
     pub fn record(&self) -> &FlowRecord
-        ensures flow { flow_in result.now ≡ self.now.flow }
+        ensures lacks { LacksTicks result.now self.now.flow }
         ensures legal { IsLegal result.now }
     {
         // Its history is legal, with parameters in their ranges.
@@ -466,13 +495,15 @@ impl LiveFlow {
         &self.history
     }
 
-    /// Its record, which is all that it leaves.
-    pub fn into_record(self) -> FlowRecord
-        ensures flow { flow_in result ≡ self.flow }
-        ensures legal { IsLegal result }
+    /// Its record, which is all that it leaves. The error is want of memory.
+    pub fn into_record(self) -> Result<FlowRecord, AllocError>
+        ensures flow { IfOk result (λ r. flow_in r ≡ self.flow) }
+        ensures legal { IfOk result IsLegal }
     {
+        let mut history = self.history;
+        wake(&mut history, &self.sleep)?;
         // Its history is legal, with parameters in their ranges.
-        let _parts = self.history.parts();
-        self.history
+        let _parts = history.parts();
+        Ok(history)
     }
 }

@@ -1,0 +1,28 @@
+use Rattle.std.proofs.Common.{◌≡◌, ◌<◌, ◌+◌, arith, sym, subst, ap, ◌∙◌}
+use Rattle.tas_model.specs.declared.entry.HostParams.{HostParams}
+use Rattle.tas_model.specs.Endpoint.{Endpoint}
+use Rattle.tas_model.specs.Timers.{patience}
+use Rattle.tas_model.specs.LegalHistory.{replay}
+use Rattle.tas_model.specs.Valid.{Valid}
+use Rattle.tas_model.proofs.ValidCalls.{valid_replay}
+use Rattle.flow_state.specs.declared.parts.Parts.{Parts}
+use Rattle.flow_state.specs.Stands.{Stands}
+use Rattle.local_host.proofs.Sleeping.{patience_least}
+use Rattle.local_host.proofs.sleep.rest.Goals as goal
+
+pub returns-clause-rested : goal.returns-clause-rested
+returns-clause-rested c =
+    let f = c.args.history.now in
+    let e : Endpoint = replay f.params f.entries in
+    let p = c.parts-parts.ensures in
+    let valid : Valid e = valid_replay f.params f.entries p.ranges p.legal in
+    let stands : Stands c.parts-parts.result.now e = subst (λ (q : Parts). Stands q e) (sym p.parts) p.stands in
+    let least = patience_least e in
+    record {
+      far = omega arith;
+      fixed = λ some. ap (λ (q : Parts). q.params.fixed) (sym p.parts) ∙ c.if-not-parts.false;
+      rests = λ some. record {
+        still = c.is_still.ensures e valid stands c.if-not-is_still.false;
+        early = grind (arith, least, stands.age, stands.params, some, c.saturating_sub.ensures, c.saturating_add.ensures);
+      };
+    }
