@@ -115,8 +115,8 @@ impl Ring {
         self.len = 0;
     }
 
-    /// Where no byte stands in order, the next one goes to the first cell again: a ring that is emptied often touches few
-    /// cells then. What stands ahead is lost.
+    /// Where no byte stands in order, the next one goes to the first cell again: a ring that is emptied often touches
+    /// few cells then. What stands ahead is lost.
     pub fn rewind(&mut self)
         requires empty { self.old.bytes ≡ [] }
         ensures same { Holds self.new self.old.size self.old.base [] }
