@@ -1,5 +1,6 @@
 pub mod Live
 pub mod Inside
+pub mod Lacking
 pub mod Marks
 pub mod Index
 pub mod Script
