@@ -2,6 +2,7 @@ ghost use Rattle.std.specs.Prelude.{◌≡◌, ℕ, ◌∷◌, [], ◌==◌, ◌
 ghost use Rattle.std.specs.Prelude.{take, if◌then◌else◌, is_some, OnOk, IfOk};
 ghost use Rattle.tas_model.specs.declared.entry.Call.TheVariants as calls;
 ghost use Rattle.tas_model.specs.declared.entry.Caller.TheVariants.{Slow, Core, App};
+ghost use Rattle.tas_model.specs.LegalHistory.{Legal};
 ghost use Rattle.tas_model.specs.NextSegment.{going};
 ghost use Rattle.tas_model.specs.Valid.{InRange};
 ghost use Rattle.flow_state.specs.Calls.{seg_of, answer_of, call_of, offer_of, IsSmall};
@@ -15,6 +16,7 @@ ghost use Rattle.host_rounds.specs.Upkeep.{swept, timed, controlled, quieted};
 ghost use Rattle.local_host.specs.Arriving.{arrival_in, taking_in};
 ghost use Rattle.local_host.specs.Lanes.{is_taken, worked_frame};
 ghost use Rattle.local_host.specs.Index.{is_standing, is_settled};
+ghost use Rattle.local_host.specs.Lacking.{LacksTicks};
 ghost use Rattle.local_host.specs.declared.live.Holder.TheVariants as Holder;
 ghost use Rattle.local_host.specs.Live.{flow_in, holder_in, IsLegal, opened_live, IsNext};
 ghost use Rattle.local_host.specs.Ports.{MayAsk};
@@ -412,11 +414,18 @@ impl LiveFlow {
         ensures few { IfOk result (λ n. n ≤ length bytes.now) }
         ensures out { IfOk result (λ n. (endpoint self.new).tx.out ≡ (endpoint self.old).tx.out ++ take n bytes.now) }
     {
-        // Its history is legal, with parameters in their ranges, before the call and after it.
-        let _before = self.record();
+        // Its history is legal before the call and after it.
+        self.know_legal();
         let answer = self.ask(Caller::App(app), tick, &CallIn::Send { bytes })?;
-        let _after = self.record();
+        self.know_legal();
         Ok(taken(answer))
+    }
+
+    /// Its history is legal, with parameters in their ranges.
+    fn know_legal(&self)
+        ensures legal { InRange self.now.flow.params × Legal self.now.flow.params self.now.flow.entries }
+    {
+        let _parts = self.history.parts();
     }
 
     /// It makes a call, by an application or where one was killed by the slow path. The error is want of memory.
@@ -485,7 +494,7 @@ impl LiveFlow {
         Ok(answer.is_some())
     }
 
-    /// Its record.
+    /// Its record, which may lack quiet ticks at the end of its history.
     pub fn record(&self) -> &FlowRecord
         ensures lacks { LacksTicks result.now self.now.flow }
         ensures legal { IsLegal result.now }

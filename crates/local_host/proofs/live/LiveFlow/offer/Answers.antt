@@ -1,4 +1,4 @@
-use Rattle.std.proofs.Common.{◌≡◌, ◌≤◌, ◌++◌, length, take, ap, subst}
+use Rattle.std.proofs.Common.{◌≡◌, ◌≤◌, ◌++◌, length, take, ap}
 use Rattle.tas_model.specs.declared.entry.Caller.TheVariants.{App}
 use Rattle.tas_model.specs.Valid.{InRange}
 use Rattle.tas_model.specs.LegalHistory.{Legal}
@@ -15,10 +15,8 @@ both : (c : After-taken)
     → (c.taken.result ≤ length c.args.bytes.now)
     × ((endpoint c.ask.new.self).tx.out ≡ (endpoint c.args.self.now).tx.out ++ take c.taken.result c.args.bytes.now)
 both c =
-    let before : HasHistory c.args.self.now.flow = subst HasHistory c.record-before.ensures.flow
-    c.record-before.ensures.legal in
-    let after : HasHistory c.ask.new.self.flow = subst HasHistory c.record-after.ensures.flow
-    c.record-after.ensures.legal in
+    let before : HasHistory c.args.self.now.flow = c.know_legal.ensures.legal in
+    let after : HasHistory c.ask.new.self.flow = c.know_legal-2.ensures.legal in
     out_sent c.args.self.now.flow.params c.ask.new.self.flow.params c.args.self.now.flow.entries
     c.ask.new.self.flow.entries (App c.args.app) c.args.tick (length c.args.bytes.now) c.taken.result c.args.bytes.now
     c.in_ok-answer.answer (ap (λ (l : Live). l.flow.params) c.in_ok-answer.ensures.made)
