@@ -23,6 +23,7 @@ mod CoreTaking
 mod Halves
 pub mod Timing
 pub mod Sleeping
+pub mod Waking
 pub mod Ports
 pub mod Holding
 pub mod Given

@@ -1,7 +1,7 @@
 -- What ticks do to a flow of which nothing comes in them: they are quiet, and leave it as it is but for the timer's age
 -- and the bucket.
 use Rattle.std.proofs.Common.{◌≡◌, ℕ, zero, suc, ◌+◌, ◌-◌, ◌*◌, ◌^◌, ◌<◌, ◌≤◌, ◌==◌, ◌&&◌, not, Bool, true, false}
-use Rattle.std.proofs.Common.{List, [], ◌∷◌, ◌++◌, length, min, max, nat_lt, Option, Some, None, IsSome}
+use Rattle.std.proofs.Common.{List, [], ◌∷◌, ◌++◌, length, min, max, nat_lt, Option, Some, None, IsSome, is_some, if◌then◌else◌}
 use Rattle.std.proofs.Common.{refl, sym, ap, subst, ◌∙◌, true≢false, arith, append_assoc, append-nil}
 use Rattle.std.proofs.lemmas.Bool.Decides.{nat_tests}
 use Rattle.std.proofs.lemmas.Nat.{pow_pos}
@@ -18,16 +18,21 @@ use Rattle.tas_model.specs.Endpoint.{Endpoint, Rate, phase, phase_by, is_fin_ack
 use Rattle.tas_model.specs.Segments.{Outcome}
 use Rattle.tas_model.specs.ApplicationCalls.{Column, Opening, Over, Running, column, column_by}
 use Rattle.tas_model.specs.NextSegment.{Going, going, going_in, going_opening, going_running, data_len, waiting}
-use Rattle.tas_model.specs.Timers.{ticks, filled, ticked, aged, is_armed, patience}
+use Rattle.tas_model.specs.Timers.{ticks, tick_in, filled, ticked as timer, is_armed, patience}
 use Rattle.tas_model.specs.LegalHistory.{Legal, replay, step, extended_by, last_tick, next_number, shown, state_or}
 use Rattle.tas_model.specs.LegalHistory.{reply_or}
 use Rattle.host_rounds.specs.Lists.{Each}
 use Rattle.local_host.specs.Lacking.{IsQuietTick}
 use Rattle.tas_model.proofs.Grows.{legal_by}
 use Rattle.tas_model.proofs.Histories.{replay_push}
-use Rattle.slow_timeout.proofs.Ticking.{ticked_in}
 use Rattle.flow_state.specs.Calls.{is_closed_phase}
-use Rattle.local_host.specs.Sleep.{is_still_by, is_still, MaySleep, ticked_entries}
+use Rattle.host_rounds.specs.Logs.{Flow}
+use Rattle.host_rounds.specs.Hosts.{Live, endpoint, is_over, with_call}
+use Rattle.host_rounds.specs.Upkeep.{timed, controlled}
+use Rattle.local_host.specs.declared.sleep.Sleep.{Sleep}
+use Rattle.local_host.specs.Live.{called}
+use Rattle.local_host.specs.Sleep.{is_still_by, is_still, MaySleep, IsRested, ticked_entries, with_ticks, ticked_flow}
+use Rattle.local_host.proofs.Timing.{ticked}
 
 -- ----- nothing may go
 and_last : (a b c : Bool) → (a && b && c && false) ≡ false
@@ -66,7 +71,21 @@ none_of_still e still = by_column (column e) still where
       none_running e (grind (arith, nat_tests, both.0)) (not_true e.tx.shut both.1)
 
 -- ----- one tick
--- a phase whose ticks are those of the timer
+-- the tick of a phase that is neither TIME-WAIT nor CLOSED is the timer's
+timer_ticks : (ph : Phase) (e : Endpoint) (tick : ℕ) → (ph ≡ phases.TimeWait → ⊥) → is_closed_phase ph ≡ false
+    → tick_in ph e tick ≡ Some (timer e)
+timer_ticks phases.SynSent e tick other live = refl
+timer_ticks phases.SynReceived e tick other live = refl
+timer_ticks phases.Established e tick other live = refl
+timer_ticks phases.FinWait1 e tick other live = refl
+timer_ticks phases.FinWait2 e tick other live = refl
+timer_ticks phases.CloseWait e tick other live = refl
+timer_ticks phases.Closing e tick other live = refl
+timer_ticks phases.LastAck e tick other live = refl
+timer_ticks phases.TimeWait e tick other live = absurd (other refl)
+timer_ticks phases.Closed e tick other live = absurd (cc (live))
+
+-- a phase with such ticks
 abbrev Ticks : Phase → Type 0
 Ticks ph = (ph ≡ phases.TimeWait → ⊥) × (is_closed_phase ph ≡ false)
 
@@ -108,10 +127,10 @@ QuietAt e age = record {
 }
 
 timer_quiet : (e : Endpoint) → e.tx.age + 1 < patience e
-    → (age : ℕ) × (age ≤ e.tx.age + 1) × (ticked (record e { rate = filled e.rate }) ≡ QuietAt e age)
+    → (age : ℕ) × (age ≤ e.tx.age + 1) × (timer (record e { rate = filled e.rate }) ≡ QuietAt e age)
 timer_quiet e early = by_armed (is_armed e.tx) refl where
   by_armed : (armed : Bool) → is_armed e.tx ≡ armed
-      → (age : ℕ) × (age ≤ e.tx.age + 1) × (ticked (record e { rate = filled e.rate }) ≡ QuietAt e age)
+      → (age : ℕ) × (age ≤ e.tx.age + 1) × (timer (record e { rate = filled e.rate }) ≡ QuietAt e age)
   by_armed false is = (0, omega arith, rw is refl)
   by_armed true is =
       let before : nat_lt (e.tx.age + 1) (patience e) ≡ true = grind (arith, nat_tests, early) in
@@ -119,14 +138,14 @@ timer_quiet e early = by_armed (is_armed e.tx) refl where
 
 tick_quiet : (e : Endpoint) (t : ℕ) (reply : Reply) → is_still e ≡ true → e.tx.age + 1 < patience e
     → (age : ℕ) × (age ≤ e.tx.age + 1) × (step e t calls.Tick reply ≡ Some (QuietAt e age))
-unfolding step, ticks
+unfolding step ticks
 tick_quiet e t reply still early =
     let in_phase = still_ticks e.reason e.peer e.tx.una e.tx.shut (is_fin_acked e.tx) e.rx.ended e.rx.ended_first
     e.tx.nxt (waiting e.tx) still in
     let timer = timer_quiet e early in
-    (timer.0, timer.1.0,
-      ticked_in (phase e) (record e { rate = filled e.rate }) t in_phase.0 in_phase.1
-      ∙ ap (λ (o : Outcome). Some o) timer.1.1)
+    (timer.0, timer.1,
+      timer_ticks (phase e) (record e { rate = filled e.rate }) t in_phase.0 in_phase.1
+      ∙ ap (λ (o : Outcome). Some o) timer.2)
 
 -- ----- many ticks
 -- What is left of an endpoint by so many ticks of which nothing comes.
@@ -170,21 +189,21 @@ one_more params h before t n still early so =
       call = calls.Tick;
       reply = reply_or (step s tick calls.Tick (shown s [])) replies.Nothing;
     } in
-    let reply : x.reply ≡ replies.Quiet = ap (λ (o : Option Outcome). reply_or o replies.Nothing) told.1.1 in
+    let reply : x.reply ≡ replies.Quiet = ap (λ (o : Option Outcome). reply_or o replies.Nothing) told.2 in
     let state : replay params (before ++ x ∷ []) ≡ (QuietAt s made.0).state =
     replay_push params before x so.legal
     ∙ (ap (λ (r : Reply). state_or s (step s tick calls.Tick r)) reply
-    ∙ ap (λ (o : Option Outcome). state_or s o) made.1.1) in
+    ∙ ap (λ (o : Option Outcome). state_or s o) made.2) in
     record {
-      legal = legal_by params before Slow t calls.Tick [] so.legal tt (rw told.1.1 refl);
+      legal = legal_by params before Slow t calls.Tick [] so.legal tt (rw told.2 refl);
       slept = subst (Slept e (suc n)) (sym state)
           (record {
             same = ap (λ (y : Endpoint). record y { tx = record (y.tx) { age = made.0 }; rate = filled s.rate })
                 so.slept.same;
-            age = omega (arith, made.1.0, so.slept.age);
+            age = omega (arith, made.1, so.slept.age);
           });
       ticks = so.ticks ++ x ∷ [];
-      entries = ap (λ (xs : List Entry). xs ++ x ∷ []) so.entries ∙ append_assoc;
+      entries = ap (λ (xs : List Entry). xs ++ x ∷ []) so.entries ∙ append_assoc h so.ticks (x ∷ []);
       quiet = each_push IsQuietTick so.ticks x so.quiet (record { call = refl; reply = reply });
     }
 
@@ -214,3 +233,88 @@ mul_least x (suc y) some = omega arith
 -- the timer runs one timeout at least
 pub patience_least : (e : Endpoint) → e.params.rto ≤ patience e
 patience_least e = mul_least e.params.rto (2 ^ min e.tx.tries 4) (pow_pos (min e.tx.tries 4))
+
+-- ----- a flow's record, and what it lacks
+-- a flow that lacks no tick is as its record
+pub none_missed : (s : Sleep) (f : Flow) → s.missed ≡ 0 → ticked_flow s f ≡ f
+none_missed s f none = by_missed s.missed none where
+  by_missed : (n : ℕ) → n ≡ 0 → with_ticks f s.next n ≡ f
+  by_missed n is = rw is refl
+
+pub awake_flow : (s : Sleep) (f : Flow) → s.missed + s.left ≡ 0 → ticked_flow s f ≡ f
+awake_flow s f none = none_missed s f (omega (arith, none))
+
+pub lags : (s : Sleep) (f : Flow) → Legal f.params f.entries → IsRested s f
+    → SleptOn f.params f.entries s.missed (ticked_flow s f).entries
+lags s f legal rested = by_missed s.missed (omega arith) (λ some. rested.rests (omega (arith, some))) where
+  by_missed : (n : ℕ) → n ≤ s.missed + s.left
+      → (0 < n → MaySleep (replay f.params f.entries) (s.missed + s.left))
+      → SleptOn f.params f.entries n (ticked_entries f.params f.entries s.next n)
+  by_missed zero few may = record {
+    legal = legal;
+    slept = record { same = refl; age = omega arith };
+    ticks = [];
+    entries = sym (append-nil f.entries);
+    quiet = tt;
+  }
+  by_missed (suc n) few may =
+      slept_on f.params f.entries s.next (s.missed + s.left) (suc n) legal (may (omega arith)) few
+
+-- one that sleeps has nothing to send, and is not closed
+pub still_asleep : (s : Sleep) (f : Flow) → Legal f.params f.entries → IsRested s f → 0 < s.missed + s.left
+    → is_still (replay f.params (ticked_flow s f).entries) ≡ true
+still_asleep s f legal rested some =
+    still_on f.params f.entries (ticked_flow s f).entries s.missed (rested.rests some).still (lags s f legal rested)
+
+-- one tick more is slept through
+pub one_passed : (old new : Sleep) (f : Flow) (t : ℕ) → new.next + old.missed ≡ t
+    → (0 < old.missed → new.next ≡ old.next) → new.missed ≡ old.missed + 1
+    → ticked_flow new f ≡ called (ticked_flow old f) Slow t calls.Tick []
+one_passed old new f t tick first more =
+    let missed : new.missed ≡ suc old.missed = omega (arith, more) in
+    let before : ticked_entries f.params f.entries new.next old.missed
+        ≡ ticked_entries f.params f.entries old.next old.missed = by_missed old.missed first in
+    rw (missed, tick, before) refl
+  where
+    by_missed : (n : ℕ) → (0 < n → new.next ≡ old.next)
+        → ticked_entries f.params f.entries new.next n ≡ ticked_entries f.params f.entries old.next n
+    by_missed zero same = refl
+    by_missed (suc n) same =
+        ap (λ (k : ℕ). ticked_entries f.params f.entries k (suc n)) (same (omega arith))
+
+pub rested_on : (old new : Sleep) (f : Flow) → IsRested old f → 0 < old.left → new.next + new.missed ≤ 2 ^ 32
+    → new.missed ≡ old.missed + 1 → new.left + 1 ≡ old.left → IsRested new f
+rested_on old new f rested some far more less =
+    let same : new.missed + new.left ≡ old.missed + old.left = omega (arith, more, less) in
+    record {
+      far = far;
+      fixed = λ h. rested.fixed (omega (arith, some));
+      rests = λ h. subst (MaySleep (replay f.params f.entries)) (sym same) (rested.rests (omega (arith, some)));
+    }
+
+uncontrolled : (l : Live) (t : ℕ) → l.flow.params.fixed ≡ true → controlled Slow t l ≡ l
+uncontrolled l t fixed = rw fixed refl
+
+-- the tick of a replay's flow that is not closed
+pub timed_fixed : (l : Live) (t : ℕ) → is_over l ≡ false → l.flow.params.fixed ≡ true
+    → with_call l Slow t calls.Tick [] ≡ timed Slow t l
+timed_fixed l t runs fixed =
+    sym (uncontrolled (with_call l Slow t calls.Tick []) t fixed)
+    ∙ ticked l (called l.flow Slow t calls.Tick []) t refl runs
+
+-- what ticks leave as it was
+pub column_slept : (e s : Endpoint) (n : ℕ) → Slept e n s → column s ≡ column e
+column_slept e s n slept = ap (λ (x : Endpoint). column x) slept.same
+
+pub iss_slept : (e s : Endpoint) (n : ℕ) → Slept e n s → s.iss ≡ e.iss
+iss_slept e s n slept = ap (λ (x : Endpoint). x.iss) slept.same
+
+pub out_slept : (e s : Endpoint) (n : ℕ) → Slept e n s → s.tx.out ≡ e.tx.out
+out_slept e s n slept = ap (λ (x : Endpoint). x.tx.out) slept.same
+
+-- a flow that sleeps is not over, and nothing of it may go
+pub not_over : (l : Live) → is_still (endpoint l) ≡ true → is_over l ≡ false
+not_over l still = open_of_still (endpoint l) still
+
+pub none_goes : (l : Live) → is_still (endpoint l) ≡ true → is_some (going (endpoint l)) ≡ false
+none_goes l still = ap is_some (none_of_still (endpoint l) still)

@@ -2,7 +2,6 @@ pub mod Live
 pub mod Sleep
 pub mod Lacking
 pub mod Inside
-pub mod Lacking
 pub mod Marks
 pub mod Index
 pub mod Script

@@ -9,7 +9,7 @@ ghost use Rattle.flow_state.specs.Calls.{seg_of, answer_of, call_of, offer_of, I
 ghost use Rattle.flow_state.specs.App.{column_of, IsAppCall};
 ghost use Rattle.flow_state.specs.Flow.{reply_to};
 ghost use Rattle.tas_model.specs.ApplicationCalls.{column};
-ghost use Rattle.host_rounds.specs.Hosts.{same_tuple, is_indexed_as, is_in_slot, endpoint, with_call, is_over};
+ghost use Rattle.host_rounds.specs.Hosts.{Live, same_tuple, is_indexed_as, is_in_slot, endpoint, with_call, is_over};
 ghost use Rattle.host_rounds.specs.Hosts.{is_running, is_held, first_entry, is_ready, waits_at, is_waiting_by};
 ghost use Rattle.host_rounds.specs.Deliveries.{received, is_fast};
 ghost use Rattle.host_rounds.specs.Upkeep.{swept, timed, controlled, quieted};
@@ -189,6 +189,7 @@ impl LiveFlow {
     pub fn is_over(&self) -> bool
         ensures { result ≡ is_over self.now }
     {
+        let _parts = self.history.parts();
         !self.sleep.is_asleep() && is_closed(&self.history)
     }
 
@@ -217,6 +218,8 @@ impl LiveFlow {
     pub fn stage(&self) -> Stage
         ensures { column_of result ≡ column (endpoint self.now) }
     {
+        // What ticks leave as it was is told of a legal history.
+        let _parts = self.history.parts();
         stage_of(&self.history)
     }
 
@@ -224,6 +227,7 @@ impl LiveFlow {
     pub fn iss(&self) -> Seq
         ensures { result.0 ≡ (endpoint self.now).iss }
     {
+        let _parts = self.history.parts();
         first_number(&self.history)
     }
 
@@ -232,6 +236,7 @@ impl LiveFlow {
         ensures count { result ≡ length (endpoint self.now).tx.out }
         ensures near { result < 2 ^ 127 }
     {
+        let _parts = self.history.parts();
         sent_count(&self.history)
     }
 
@@ -265,6 +270,8 @@ impl LiveFlow {
     pub fn tick(&mut self, tick: u32) -> Result<(), AllocError>
         ensures { OnOk result (self.new ≡ timed Slow tick self.old) }
     {
+        // What ticks leave as it was is told of a legal history.
+        let _parts = self.history.parts();
         if self.sleep.pass(tick) {
             return Ok(());
         }
@@ -275,25 +282,8 @@ impl LiveFlow {
             return Ok(());
         }
         pass_one(&mut self.history, tick)?;
-        self.control(tick)?;
+        control(&mut self.history, tick)?;
         self.sleep = rest(&self.history);
-        Ok(())
-    }
-
-    /// Its rate is controlled where that is due. The error is want of memory.
-    fn control(&mut self, tick: u32) -> Result<(), AllocError>
-        ensures { OnOk result (self.new ≡ controlled Slow tick self.old) }
-    {
-        let fixed = self.history.params().fixed;
-        if is_control_tick(fixed, tick) && matches!(stage_of(&self.history), Stage::Running) {
-            make(
-                &mut self.history,
-                Caller::Slow,
-                tick,
-                &CallIn::Control,
-                &TimerWork,
-            )?;
-        }
         Ok(())
     }
 
@@ -472,10 +462,8 @@ impl LiveFlow {
     fn may_send(&self) -> bool
         ensures { result ≡ is_some (going (endpoint self.now)) }
     {
-        if self.sleep.is_asleep() {
-            return false;
-        }
-        next_out(self.history.parts()).is_some()
+        let parts = self.history.parts();
+        !self.sleep.is_asleep() && next_out(parts).is_some()
     }
 
     /// Sends the next segment by core 0, where one may go, and says whether. The error is want of memory.
@@ -515,4 +503,16 @@ impl LiveFlow {
         let _parts = history.parts();
         Ok(history)
     }
+}
+
+/// The rate of the record's flow is controlled where that is due. The error is want of memory.
+fn control(history: &mut FlowRecord, tick: u32) -> Result<(), AllocError>
+    ensures { (l : Live) → l.flow ≡ flow_in history.old
+        → OnOk result (record l { flow = flow_in history.new } ≡ controlled Slow tick l) }
+{
+    let fixed = history.params().fixed;
+    if is_control_tick(fixed, tick) && matches!(stage_of(history), Stage::Running) {
+        make(history, Caller::Slow, tick, &CallIn::Control, &TimerWork)?;
+    }
+    Ok(())
 }

@@ -20,7 +20,8 @@ returns-clause-rested c =
     let least = patience_least e in
     record {
       far = omega arith;
-      fixed = λ some. ap (λ (q : Parts). q.params.fixed) (sym p.parts) ∙ c.if-not-parts.false;
+      fixed = λ some. ap (λ (q : HostParams). q.fixed) (sym p.params)
+          ∙ (ap (λ (q : Parts). q.params.fixed) (sym p.parts) ∙ c.if-not-parts.false);
       rests = λ some. record {
         still = c.is_still.ensures e valid stands c.if-not-is_still.false;
         early = grind (arith, least, stands.age, stands.params, some, c.saturating_sub.ensures, c.saturating_add.ensures);

@@ -1,0 +1,12 @@
+use Rattle.std.proofs.Common.{ap, sym, ◌∙◌}
+use Rattle.tas_model.specs.ApplicationCalls.{column}
+use Rattle.host_rounds.specs.Hosts.{Live, endpoint}
+use Rattle.local_host.specs.Live.{flow_in}
+use Rattle.local_host.proofs.Sleeping.{lags, column_slept}
+use Rattle.local_host.proofs.live.LiveFlow.stage.Goals as goal
+
+pub returns : goal.returns
+returns c =
+    let so = lags c.self.inside.sleep (flow_in c.self.inside.history) c.parts-parts.ensures.legal c.self.invariant in
+    c.stage_of.ensures.column
+    ∙ (sym (column_slept _ _ _ so.slept) ∙ ap (λ (l : Live). column (endpoint l)) c.self.view_is)
