@@ -142,10 +142,12 @@ unfolding step ticks
 tick_quiet e t reply still early =
     let in_phase = still_ticks e.reason e.peer e.tx.una e.tx.shut (is_fin_acked e.tx) e.rx.ended e.rx.ended_first
     e.tx.nxt (waiting e.tx) still in
-    let timer = timer_quiet e early in
-    (timer.0, timer.1,
+    let timer = timer_quiet e early in (
+      timer.0,
+      timer.1,
       timer_ticks (phase e) (record e { rate = filled e.rate }) t in_phase.0 in_phase.1
-      ∙ ap (λ (o : Outcome). Some o) timer.2)
+          ∙ ap (λ (o : Outcome). Some o) timer.2,
+    )
 
 -- ----- many ticks
 -- What is left of an endpoint by so many ticks of which nothing comes.
@@ -273,7 +275,7 @@ pub one_passed : (old new : Sleep) (f : Flow) (t : ℕ) → new.next + old.misse
 one_passed old new f t tick first more =
     let missed : new.missed ≡ suc old.missed = omega (arith, more) in
     let before : ticked_entries f.params f.entries new.next old.missed
-        ≡ ticked_entries f.params f.entries old.next old.missed = by_missed old.missed first in
+    ≡ ticked_entries f.params f.entries old.next old.missed = by_missed old.missed first in
     rw (missed, tick, before) refl
   where
     by_missed : (n : ℕ) → (0 < n → new.next ≡ old.next)

@@ -139,7 +139,8 @@ impl Flows {
         flows.reverse();
         let mut records = Vec::with_capacity(alloc, flows.len())?;
         'moving: while let Some(flow) = flows.pop() {
-            records.push(flow.into_record()?)?;
+            let record = flow.into_record()?;
+            records.push(record)?;
             give_room_back(&mut flows);
         }
         Ok(records)

@@ -109,10 +109,7 @@ pub fn rest(history: &FlowRecord) -> Sleep
     Sleep {
         next: 0,
         missed: 0,
-        left: parts
-            .params
-            .rto
-            .saturating_sub(parts.age.saturating_add(1)),
+        left: parts.params.rto.saturating_sub(parts.age.saturating_add(1)),
     }
 }
 

@@ -6,10 +6,10 @@ use Rattle.local_host.proofs.flows.Flows.into_records.Goals as goal
 
 pub moving-preserved : goal.moving-preserved
 moving-preserved c = record {
-  flows = rw c.give_room_back.ensures (record_moved c.moving.records.items c.push.new.self.items c.into_record.result
-      c.moving.flows.items c.pop.new.self.items c.in-Some.flow _ c.in_ok-push.ensures.items c.into_record.ensures.flow
+  flows = rw c.give_room_back.ensures (record_moved c.moving.records.items c.push.new.self.items c.in_ok-record.record
+      c.moving.flows.items c.pop.new.self.items c.in-Some.flow _ c.in_ok-push.ensures.items c.in_ok-record.ensures.flow
       (rw c.in-Some.is at c.pop.ensures.items) c.moving.invariant.flows);
   legal = subst (Each IsLegal) (sym c.in_ok-push.ensures.items)
-      (each_push IsLegal c.moving.records.items c.into_record.result c.moving.invariant.legal
-      c.into_record.ensures.legal);
+      (each_push IsLegal c.moving.records.items c.in_ok-record.record c.moving.invariant.legal
+      c.in_ok-record.ensures.legal);
 }

@@ -37,6 +37,6 @@ returns c =
     let runs : is_over l ≡ false = sym c.is_closed.ensures.closed ∙ c.if-is_closed.false in
     let next : Flow = flow_in c.pass_one.new.flow in
     ap (λ (g : Flow). record l { flow = g })
-    (none_missed c.rest.result (flow_in c.control.new.history) c.rest.ensures.missed)
+    (none_missed c.rest-self-inside.result (flow_in c.control.new.history) c.rest-self-inside.ensures.missed)
     ∙ (c.in_ok-control.ensures (record l { flow = next }) refl
     ∙ (ticked l next t c.in_ok-pass_one.ensures.made runs ∙ ap (timed Slow t) is))
