@@ -24,6 +24,14 @@ returns-clause-rested c =
           ∙ (ap (λ (q : Parts). q.params.fixed) (sym p.parts) ∙ c.if-not-parts.false);
       rests = λ some. record {
         still = c.is_still.ensures e valid stands c.if-not-is_still.false;
-        early = grind (arith, least, stands.age, stands.params, some, c.saturating_sub.ensures, c.saturating_add.ensures);
+        early = grind (
+          arith,
+          least,
+          stands.age,
+          stands.params,
+          some,
+          c.saturating_sub.ensures,
+          c.saturating_add.ensures,
+        );
       };
     }
