@@ -5,20 +5,20 @@ use Rattle.std.proofs.Common.{arith, append_assoc, append-nil}
 use Rattle.std.proofs.lemmas.List.{length-map, set_at, map-append, take_at}
 use Rattle.std.proofs.lemmas.List.Elements.{filter-append}
 use Rattle.std.proofs.Math.Seq.{get_or-append_seam}
-use Rattle.host_rounds.specs.Logs.{Flow}
 use Rattle.host_rounds.specs.Hosts.{Live, Host}
 use Rattle.host_rounds.specs.Scripts.{Site}
 use Rattle.host_rounds.specs.Passing.{AllGrew}
 use Rattle.scenario_runs.specs.Applications.{Script}
 use Rattle.link_script.specs.declared.frames.Sent.{Sent}
 use Rattle.flow_state.specs.Flow as records
-use Rattle.local_host.specs.Live.{flow_in}
+use Rattle.local_host.specs.Lacking.{LacksTicks}
 use Rattle.scenario_runs.specs.Worlds.{World, host_at, frames_of_entries, frames_of_flows, frames_of_hosts}
 use Rattle.sent_frames.specs.declared.counts.SentCounts.{SentCounts}
 use Rattle.sent_frames.specs.Sending.{of_tick, sent_by, sent_before, answers_in, LinesBefore}
 use Rattle.scenario_world.specs.Playing.{IsCounted, IsCountedBefore, AreCounted, AreCountedBefore, AreEarly}
 use Rattle.scenario_world.proofs.Grown.{live_frames, counts_of, counts_before, counts_grown}
 use Rattle.scenario_world.proofs.WorldTicks.{AreTicked, host_frames}
+use Rattle.scenario_world.proofs.Lacking.{lacking_frames}
 use Rattle.scenario_world.proofs.Lists.{cut_at, taken_more, taken_len}
 
 -- ----- a flow more
@@ -76,22 +76,20 @@ piece_more t old before after front piece all was more is =
     ∙ ap (λ fs. old ++ fs) (sym (ap (of_tick t) is ∙ filter-append (λ (f : Sent). eqb f.tick t) front piece))))
 
 -- the frames of a record are those of its flow
-pub record_frames : (w : World) (h f i : ℕ) (r : records.Flow) (l : Live) → f ≡ i → flow_in r ≡ l.flow
+pub record_frames : (w : World) (h f i : ℕ) (r : records.Flow) (l : Live) → f ≡ i → LacksTicks r l.flow
     → frames_of_entries h f 0 (host_at w r.tuple.raddr) r.tuple r.entries ≡ live_frames w h i l
-record_frames w h f i r l same is =
-    ap (λ (fl : Flow). frames_of_entries h f 0 (host_at w fl.tuple.raddr) fl.tuple fl.entries) is
-    ∙ ap (λ k. live_frames w h k l) same
+record_frames w h f i r l same lacks = lacking_frames w h f r l.flow lacks ∙ ap (λ k. live_frames w h k l) same
 
 pub flows_more : (w : World) (h t f : ℕ) (ls : List Live) (i : ℕ) (l : Live) (r : records.Flow)
-    (old before after : List Sent) → slice_get ls i ≡ Some l → f ≡ i → flow_in r ≡ l.flow
+    (old before after : List Sent) → slice_get ls i ≡ Some l → f ≡ i → LacksTicks r l.flow
     → before ≡ old ++ of_tick t (frames_of_flows w h 0 (take i ls))
     → after ≡ before ++ of_tick t (frames_of_entries h f 0 (host_at w r.tuple.raddr) r.tuple r.entries)
     → after ≡ old ++ of_tick t (frames_of_flows w h 0 (take (i + 1) ls))
-flows_more w h t f ls i l r old before after e same is was more =
+flows_more w h t f ls i l r old before after e same lacks was more =
     let front : List Sent = frames_of_flows w h 0 (take i ls) in
     let place : 0 + length (take i ls) ≡ i = omega (arith, taken_len ls i l e) in
     piece_more t old before after front (live_frames w h i l) (frames_of_flows w h 0 (take (i + 1) ls)) was
-    (more ∙ ap (λ fs. before ++ of_tick t fs) (record_frames w h f i r l same is))
+    (more ∙ ap (λ fs. before ++ of_tick t fs) (record_frames w h f i r l same lacks))
     (ap (frames_of_flows w h 0) (taken_more ls i l e)
     ∙ (frames_of_flows-push w h 0 (take i ls) l ∙ ap (λ k. front ++ live_frames w h k l) place))
 

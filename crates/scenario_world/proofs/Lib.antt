@@ -3,6 +3,7 @@ pub mod Kept
 pub mod Grown
 pub mod ByTick
 pub mod WorldTicks
+pub mod Lacking
 pub mod Counted
 pub mod Ended
 pub mod Starts
