@@ -3,6 +3,7 @@
 
 one-6.pcap, one-60.pcap: one upload of 6 and of 60 MB in segments of 1,460 bytes.
 many-60.pcap: 1,000 uploads of 60 MB in all, a segment of each in turn.
+large-60.pcap: the same in segments of 20,000 bytes, as a network card that merges segments hands them up.
 short-100k.pcap: 100,000 connections, each a SYN and a reset.
 idle.pcap: 1,000 connections, and then 23,000 ticks in which only one of them gets anything.
 syns.pcap: 1,190,000 SYNs, each from another end.
@@ -51,10 +52,10 @@ class Capture:
         self.file.write(struct.pack("<IIII", 0, 0, len(data), len(data)) + data)
 
 
-def uploads(path, flows, size):
+def uploads(path, flows, size, segment=MSS):
     """So many uploads of `size` bytes in all, a segment of each in turn."""
     capture = Capture(path)
-    payload = bytes((i * 7 + i // 251) % 256 for i in range(MSS))
+    payload = bytes((i * 7 + i // 251) % 256 for i in range(segment))
     payload_total = total(payload)
     # The host's n-th flow begins at the sequence number 64,000 n.
     flow_acks = [(20000 + i, (64000 * i + 1) % 2**32) for i in range(flows)]
@@ -62,9 +63,9 @@ def uploads(path, flows, size):
         capture.add(packet(port, 100, 0, 2, b"", 0))
     for port, ack in flow_acks:
         capture.add(packet(port, 101, ack, 16, b"", 0))
-    for turn in range(size // (MSS * flows)):
+    for turn in range(size // (segment * flows)):
         for port, ack in flow_acks:
-            capture.add(packet(port, 101 + turn * MSS, ack, 24, payload, payload_total))
+            capture.add(packet(port, 101 + turn * segment, ack, 24, payload, payload_total))
 
 
 def resets(path, count):
@@ -148,6 +149,7 @@ def main():
     uploads(os.path.join(folder, "one-6.pcap"), 1, 6_000_000)
     uploads(os.path.join(folder, "one-60.pcap"), 1, 60_000_000)
     uploads(os.path.join(folder, "many-60.pcap"), 1000, 60_000_000)
+    uploads(os.path.join(folder, "large-60.pcap"), 1000, 60_000_000, 20_000)
     resets(os.path.join(folder, "short-100k.pcap"), 100_000)
     idle(os.path.join(folder, "idle.pcap"), 1000, 23_000)
     syns(os.path.join(folder, "syns.pcap"), 1_190_000)

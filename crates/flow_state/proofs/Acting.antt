@@ -51,14 +51,14 @@ outcome_of e after answer out None is = absurd is
 outcome_of e after answer out (Some p) is = (p, refl, is.reply, is.state)
 
 -- what was made: the entry may follow, it is the one that the step makes, and the answer is its reply
-record Follows (params : HostParams) (h : List Entry) (caller : Caller) (tick : ℕ) (call : CallIn) (after : Parts)
+pub record Follows (params : HostParams) (h : List Entry) (caller : Caller) (tick : ℕ) (call : CallIn) (after : Parts)
     (a : Answer) (x : Entry) : Type 0 where
-  legal : Legal params (h ++ x ∷ [])
-  stands : Stands after (replay params (h ++ x ∷ []))
-  exact : h ++ x ∷ [] ≡ extended_by params h caller tick (call_of call) (offer_of call)
-  answer : a ≡ answer_of (reply_to params h tick (call_of call) (offer_of call))
+  pub legal : Legal params (h ++ x ∷ [])
+  pub stands : Stands after (replay params (h ++ x ∷ []))
+  pub exact : h ++ x ∷ [] ≡ extended_by params h caller tick (call_of call) (offer_of call)
+  pub answer : a ≡ answer_of (reply_to params h tick (call_of call) (offer_of call))
 
-follows : (params : HostParams) (h : List Entry) (caller : Caller) (tick : ℕ) (call : CallIn) (before after : Parts)
+pub follows : (params : HostParams) (h : List Entry) (caller : Caller) (tick : ℕ) (call : CallIn) (before after : Parts)
     (memory : Memory) (answer : Answer) (slot : Slot) (out : List ℕ)
     → InRange params → Legal params h → Stands before (replay params h)
     → IsMadeWith before after memory caller (next_number caller h) (max tick (last_tick 0 h)) call answer slot out
@@ -146,7 +146,7 @@ segments_few answers.Expired = omega arith
 segments_few answers.TimedOut = omega arith
 segments_few (answers.Window cwnd ssthresh) = omega arith
 
-sent_push : (h : List Entry) (x : Entry)
+pub sent_push : (h : List Entry) (x : Entry)
     → length (outputs.sent (h ++ x ∷ [])) ≡ length (outputs.sent h) + length (segments_in x.reply)
 sent_push h x =
     ap length (flat_map-append (λ (y : Entry). segments_in y.reply) h (x ∷ []))

@@ -9,3 +9,4 @@ pub mod Near
 pub mod Ready
 pub mod Looking
 pub mod Acting
+pub mod Ticking

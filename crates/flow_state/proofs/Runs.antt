@@ -112,6 +112,56 @@ longer memory (x ∷ y ∷ ss) (suc i) d r caller n t len is next =
     (longer memory (y ∷ ss) i d r caller n t (omega (arith, len)) is next)
     ∙ sym (append_assoc (entries_in memory x) (entries_of memory (y ∷ ss)) (quiet_tick caller n t ∷ []))
 
+-- so many, and so many behind them
+pub ticks_then : (c : Caller) (n t j k : ℕ) → quiet_ticks c n t (j + k)
+    ≡ quiet_ticks c n t j ++ quiet_ticks c (n + j) (t + j) k
+ticks_then c n t zero k =
+    let number : n ≡ n + 0 = omega arith in
+    let tick : t ≡ t + 0 = omega arith in
+    let count : 0 + k ≡ k = omega arith in
+    ap (quiet_ticks c n t) count ∙ (ap (λ (m : ℕ). quiet_ticks c m t k) number
+    ∙ ap (λ (m : ℕ). quiet_ticks c (n + 0) m k) tick)
+ticks_then c n t (suc j) k =
+    let number : n + 1 + j ≡ n + suc j = omega arith in
+    let tick : t + 1 + j ≡ t + suc j = omega arith in
+    let count : suc j + k ≡ suc (j + k) = omega arith in
+    ap (quiet_ticks c n t) count
+    ∙ ap (λ (xs : List Entry). quiet_tick c n t ∷ xs) (ticks_then c (n + 1) (t + 1) j k
+    ∙ (ap (λ (m : ℕ). quiet_ticks c (n + 1) (t + 1) j ++ quiet_ticks c m (t + 1 + j) k) number
+    ∙ ap (λ (m : ℕ). quiet_ticks c (n + 1) (t + 1) j ++ quiet_ticks c (n + suc j) m k) tick))
+
+run_longer_for : (r : QuietRun) (caller : Caller) (n t k : ℕ) → comes_next r caller n t ≡ true
+    → run_entries (record r { more = r.more + k }) ≡ run_entries r ++ quiet_ticks caller n t k
+run_longer_for r caller n t k next =
+    let is : (r.caller ≡ caller) × (n ≡ r.number + r.more + 1) × (t ≡ r.tick + r.more + 1) =
+    next_is r caller n t next in
+    let number : r.number + suc r.more ≡ n = omega (arith, is.1) in
+    let tick : r.tick + suc r.more ≡ t = omega (arith, is.2) in
+    let count : suc (r.more + k) ≡ suc r.more + k = omega arith in
+    ap (quiet_ticks r.caller r.number r.tick) count
+    ∙ (ticks_then r.caller r.number r.tick (suc r.more) k
+    ∙ ap (λ (xs : List Entry). run_entries r ++ xs)
+    (ap (λ (m : ℕ). quiet_ticks r.caller m (r.tick + suc r.more) k) number
+    ∙ (ap (λ (m : ℕ). quiet_ticks r.caller n m k) tick ∙ ap (λ (c : Caller). quiet_ticks c n t k) is.0)))
+
+-- the history with its last run lengthened by so many
+pub longer_for : (memory : Memory) (ss : List Stretch) (i : ℕ) (d : Stretch) (r : QuietRun) (caller : Caller)
+    (n t k : ℕ) → length ss ≡ suc i → get_or ss i d ≡ Quiet r → comes_next r caller n t ≡ true
+    → entries_of memory (set ss i (Quiet (record r { more = r.more + k }))) ≡ entries_of memory ss
+    ++ quiet_ticks caller n t k
+longer_for memory [] i d r caller n t k len is next = absurd (omega (arith, len))
+longer_for memory (x ∷ []) zero d r caller n t k len is next =
+    let run : entries_in memory x ≡ run_entries r = ap (entries_in memory) is in
+    append-nil (run_entries (record r { more = r.more + k }))
+    ∙ (run_longer_for r caller n t k next
+    ∙ ap (λ (xs : List Entry). xs ++ quiet_ticks caller n t k) (sym run ∙ sym (append-nil (entries_in memory x))))
+longer_for memory (x ∷ []) (suc i) d r caller n t k len is next = absurd (omega (arith, len))
+longer_for memory (x ∷ y ∷ ss) zero d r caller n t k len is next = absurd (omega (arith, len))
+longer_for memory (x ∷ y ∷ ss) (suc i) d r caller n t k len is next =
+    ap (λ (xs : List Entry). entries_in memory x ++ xs)
+    (longer_for memory (y ∷ ss) i d r caller n t k (omega (arith, len)) is next)
+    ∙ sym (append_assoc (entries_in memory x) (entries_of memory (y ∷ ss)) (quiet_ticks caller n t k))
+
 -- what goes on has a last stretch
 pub goes_somewhere : (ss : List Stretch) (caller : Caller) (n t : ℕ) → goes_on ss caller n t ≡ true
     → length ss ≡ suc (length ss - 1)

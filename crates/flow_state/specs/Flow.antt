@@ -1,5 +1,5 @@
 -- What contracts see of a record: its flow's history.
-use Rattle.std.specs.Prelude.{ℕ, List, [], ◌∷◌, max}
+use Rattle.std.specs.Prelude.{ℕ, zero, suc, ◌+◌, List, [], ◌∷◌, max}
 use Rattle.tas_num.specs.declared.seq.Seq.{Seq}
 use Rattle.tas_model.specs.declared.entry.FlowId.{FlowId}
 use Rattle.tas_model.specs.declared.entry.FourTuple.{FourTuple}
@@ -14,7 +14,7 @@ use Rattle.tas_model.specs.declared.entry.Reply.{Reply}
 use Rattle.tas_model.specs.declared.entry.Reply.TheVariants as replies
 use Rattle.tas_model.specs.declared.entry.Entry.{Entry}
 use Rattle.tas_model.specs.Endpoint.{Endpoint}
-use Rattle.tas_model.specs.LegalHistory.{step, replay, reply_or, shown, next_number, last_tick}
+use Rattle.tas_model.specs.LegalHistory.{step, replay, reply_or, shown, next_number, last_tick, extended_by}
 use Rattle.flow_state.specs.declared.parts.Parts.{Parts}
 
 -- a flow's record
@@ -42,6 +42,11 @@ abbrev pub reply_to : HostParams → List Entry → ℕ → Call → (offer : Li
 reply_to params h tick call offer =
     let e : Endpoint = replay params h in
     reply_or (step e (max tick (last_tick 0 h)) call (shown e offer)) replies.Nothing
+
+-- the history with so many Ticks more by the slow path, from this tick on
+abbrev pub ticked_on : HostParams → List Entry → (tick n : ℕ) → List Entry
+ticked_on params h tick zero = h
+ticked_on params h tick (suc n) = extended_by params (ticked_on params h tick n) Slow (tick + n) calls.Tick []
 
 -- the reply of the last entry
 abbrev pub last_reply : List Entry → Reply

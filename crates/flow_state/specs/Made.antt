@@ -1,5 +1,5 @@
 -- When a call was made: the parts stand for the model's next endpoint, and the answer is the model's reply.
-use Rattle.std.specs.Prelude.{◌≡◌, ◌≤◌, ℕ, List, length, Option, Some, None}
+use Rattle.std.specs.Prelude.{◌≡◌, ◌≤◌, ◌+◌, ℕ, zero, suc, List, [], length, Option, Some, None}
 use Rattle.tas_model.specs.declared.entry.Caller.{Caller}
 use Rattle.tas_model.specs.Endpoint.{Endpoint}
 use Rattle.tas_model.specs.Segments.{Outcome}
@@ -7,7 +7,9 @@ use Rattle.tas_model.specs.LegalHistory.{step, shown}
 use Rattle.tas_model.specs.Valid.{Valid}
 use Rattle.flow_state.specs.declared.parts.Parts.{Parts}
 use Rattle.flow_state.specs.declared.call.CallIn.{CallIn}
+use Rattle.flow_state.specs.declared.call.CallIn.TheVariants as ins
 use Rattle.flow_state.specs.declared.call.Answer.{Answer}
+use Rattle.flow_state.specs.declared.call.Answer.TheVariants as answers
 use Rattle.flow_state.specs.declared.slot.Slot.{Slot}
 use Rattle.flow_state.specs.Calls.{call_of, offer_of, reply_of, answer_len}
 use Rattle.flow_state.specs.Arena.{Memory}
@@ -48,3 +50,14 @@ abbrev pub IsMadeAt : (before after : Parts) (memory : Memory) (caller : Caller)
     (answer : Answer) (slot : Slot) → Type 0
 IsMadeAt before after memory caller number tick call answer slot = (out : List ℕ)
     × IsMadeWith before after memory caller number tick call answer slot out
+
+-- a tick of which nothing comes leads from parts to parts
+pub record IsQuietTick (before : Parts) (tick : ℕ) (after : Parts) : Type 0 where
+  pub makes : (e : Endpoint) → Valid e → Stands before e → Makes e tick ins.Tick after [] answers.Quiet
+  pub params : after.params ≡ before.params
+
+-- and so do so many, from this one on
+abbrev pub AreQuietTicks : (before : Parts) → (tick n : ℕ) → (after : Parts) → Type 0
+AreQuietTicks before tick zero after = after ≡ before
+AreQuietTicks before tick (suc n) after =
+    (between : Parts) × AreQuietTicks before tick n between × IsQuietTick between (tick + n) after

@@ -118,3 +118,11 @@ pub record IsTickSlot (caller : Caller) (number tick : ℕ) (answer : Answer) (s
 abbrev pub AddedTick : (before after : List Stretch) → Caller → (number tick : ℕ) → Answer → Type 0
 AddedTick before after caller number tick answer =
     (s : Slot) × IsTickSlot caller number tick answer s × Added before after tick s
+
+-- the stretches, as many as they were, have so many quiet ticks more, from the one after their last
+pub record AddedTicks (before after : List Stretch) (caller : Caller) (number tick n : ℕ) : Type 0 where
+  pub entries : (memory : Memory)
+      → entries_of memory after ≡ entries_of memory before ++ quiet_ticks caller number tick n
+  pub within : (b k : ℕ) → AllWithin b k before → AllWithin b k after
+  pub next : (memory : Memory) → tick ≡ last_tick 0 (entries_of memory before) + 1
+  pub same : length after ≡ length before

@@ -145,6 +145,17 @@ impl CallerCounts {
         self.slow += 1;
     }
 
+    /// Counts so many entries more of the slow path.
+    pub fn count_slow_for(&mut self, count: u32)
+        requires small { counted_for Slow self.old.counts + count < 2 ^ 64 }
+        ensures counted { (other : Caller)
+            → counted_for other self.new.counts ≡ counted_for other self.old.counts + (if same_caller Slow other then
+            count else 0) }
+        ensures spare { self.new.spare ≡ self.old.spare }
+    {
+        self.slow += u64::from(count);
+    }
+
     /// Counts one entry more of the caller.
     pub fn count_one(&mut self, caller: Caller)
         requires small { counted_for caller self.old.counts < 2 ^ 64 - 1 }

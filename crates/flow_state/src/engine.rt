@@ -4,7 +4,7 @@ ghost use Rattle.tas_model.specs.Endpoint.{Endpoint};
 ghost use Rattle.tas_model.specs.Valid.{Valid};
 ghost use Rattle.flow_state.specs.Stands.{Stands, IsNear, HasRings};
 ghost use Rattle.flow_state.specs.Calls.{answer_len, reply_room, need_of, cost_of, IsSmall, IsTimely};
-ghost use Rattle.flow_state.specs.Made.{Makes};
+ghost use Rattle.flow_state.specs.Made.{Makes, AreQuietTicks};
 ghost use Rattle.flow_state.specs.declared.call.CallIn.TheVariants as ins;
 ghost use Rattle.flow_state.specs.declared.call.Answer.TheVariants as answers;
 
@@ -76,6 +76,16 @@ pub trait Clock {
         ensures made { result ≡ true → (e : Endpoint) → Valid e → Stands parts.old e
             → Makes e tick ins.Tick parts.new [] answers.Quiet }
         ensures unmade { result ≡ false → parts.new ≡ parts.old }
+        ensures tuple { parts.new.tuple ≡ parts.old.tuple }
+        ensures params { parts.new.params ≡ parts.old.params };
+
+    /// Ticks of a flow that is not closed, from this one on, as long as nothing comes of them, and at most so many.
+    /// Answers how many passed.
+    fn pass_for(&self, parts: &mut Parts, tick: u32, count: u32) -> u32
+        requires timely { IsTimely parts.old.phase ins.Tick }
+        requires room { tick + count ≤ 2 ^ 32 }
+        ensures made { AreQuietTicks parts.old tick result parts.new }
+        ensures most { result ≤ count }
         ensures tuple { parts.new.tuple ≡ parts.old.tuple }
         ensures params { parts.new.params ≡ parts.old.params };
 }

@@ -10,7 +10,7 @@ ghost use Rattle.tas_model.specs.Valid.{InRange};
 ghost use Rattle.flow_state.specs.Stands.{Stands, IsNear, HasRings};
 ghost use Rattle.flow_state.specs.Calls.{call_of, offer_of, answer_of, reply_bytes, payload_of, seg_of, cost_of};
 ghost use Rattle.flow_state.specs.Calls.{IsSmall, IsTimely};
-ghost use Rattle.flow_state.specs.Flow.{Flow, reply_to, last_reply, first_passive, first_connect};
+ghost use Rattle.flow_state.specs.Flow.{Flow, reply_to, last_reply, first_passive, first_connect, ticked_on};
 ghost use Rattle.flow_state.specs.Released.{released_parts};
 ghost use Rattle.flow_state.specs.Application.{application_of};
 ghost use Rattle.flow_state.specs.Stretches.{entries_of, entries_in, StretchWithin};
@@ -28,7 +28,7 @@ use crate::engine::{Clock, Engine, need};
 use crate::open::{connect_parts, passive_parts};
 use crate::parts::Parts;
 use crate::slot::{CameSlot, connect_slot, passive_slot};
-use crate::stretch::{Stretch, add, add_tick, go_on, goes_on};
+use crate::stretch::{Stretch, add, add_tick, go_on, go_on_for, goes_on};
 use crate::stretches::Stretches;
 use crate::view::{EntryView, entry_view};
 use segment_fields::Segment;
@@ -360,6 +360,33 @@ impl FlowRecord {
         self.counts.count_slow();
         go_on(&mut self.stretches, Caller::Slow, number, tick);
         true
+    }
+
+    /// Ticks by the slow path, from this one on, as long as each lengthens the run of quiet ticks that the history ends
+    /// with, and at most so many. Answers how many passed. It takes no memory.
+    pub fn pass_quietly_for<C: Clock>(&mut self, tick: u32, count: u32, clock: &C) -> u32
+        requires timely { IsTimely self.old.parts.phase ins.Tick }
+        requires room { tick + count ≤ 2 ^ 32 }
+        ensures made { self.new.entries ≡ ticked_on self.old.params self.old.entries tick result }
+        ensures most { result ≤ count }
+        ensures spare_entries { self.new.spare_entries ≡ self.old.spare_entries }
+        ensures spare_bytes { self.new.spare_bytes ≡ self.old.spare_bytes }
+        ensures legal { Legal self.new.params self.new.entries }
+        ensures stands { Stands self.new.parts (replay self.new.params self.new.entries) }
+        ensures id { self.new.id ≡ self.old.id }
+        ensures tuple { self.new.tuple ≡ self.old.tuple }
+        ensures params { self.new.params ≡ self.old.params }
+    {
+        let first = self.counts.slow();
+        if !goes_on(&self.stretches, Caller::Slow, first, tick) {
+            return 0;
+        }
+        let done = clock.pass_for(&mut self.parts, tick, count);
+        go_on_for(&mut self.stretches, Caller::Slow, first, tick, done);
+        self.counts.count_slow_for(done);
+        self.made += done as usize;
+        self.last += done;
+        done
     }
 
     /// `act` of a Tick. It has no bytes, and most are quiet: these lengthen the last run.

@@ -1,11 +1,11 @@
-ghost use Rattle.std.specs.Prelude.{◌≡◌, ℕ, ◌+◌, ◌≤◌, ◌<◌, ◌++◌, ◌∷◌, [], List, length, true, false, slice_get, Some};
-ghost use Rattle.std.specs.Prelude.{vec_len, vec_capacity, IsTrue, IsFalse};
+ghost use Rattle.std.specs.Prelude.{◌≡◌, ℕ, ◌+◌, ◌^◌, ◌≤◌, ◌<◌, ◌++◌, ◌∷◌, [], List, length, true, false};
+ghost use Rattle.std.specs.Prelude.{slice_get, Some, vec_len, vec_capacity, IsTrue, IsFalse};
 ghost use Rattle.tas_model.specs.LegalHistory.{last_tick};
 ghost use Rattle.flow_state.specs.Arena.{Memory};
 ghost use Rattle.flow_state.specs.Slots.{IsWithin, entry_of};
 ghost use Rattle.flow_state.specs.Stretches.{AllWithin, entries_of, entries_in, StretchWithin, IsRun};
 ghost use Rattle.flow_state.specs.Stretches.{is_quiet_tick as model_quiet, comes_next as model_next};
-ghost use Rattle.flow_state.specs.Stretches.{quiet_tick, AddedTick, goes_on as model_goes_on};
+ghost use Rattle.flow_state.specs.Stretches.{quiet_tick, AddedTick, AddedTicks, goes_on as model_goes_on};
 ghost use Rattle.flow_state.specs.declared.call.Answer.TheVariants as answers;
 ghost use Rattle.flow_state.specs.Calls.{answer_len};
 
@@ -78,6 +78,25 @@ pub fn go_on(stretches: &mut Vec<Stretch>, caller: Caller, number: u64, tick: u3
     };
     stretches[last] = Stretch::Quiet(QuietRun {
         more: run.more + 1,
+        ..run
+    });
+}
+
+/// Lengthens the last run by so many quiet ticks, of which the first has this caller, number and tick.
+pub fn go_on_for(stretches: &mut Vec<Stretch>, caller: Caller, number: u64, tick: u32, count: u32)
+    requires next { model_goes_on stretches.old.items caller number tick ≡ true }
+    requires number { number + count ≤ 2 ^ 64 }
+    requires tick { tick + count ≤ 2 ^ 32 }
+    ensures added { AddedTicks stretches.old.items stretches.new.items caller number tick count }
+    ensures len { vec_len stretches.new ≡ vec_len stretches.old }
+    ensures capacity { vec_capacity stretches.new ≡ vec_capacity stretches.old }
+{
+    let last = stretches.len() - 1;
+    let Stretch::Quiet(run) = stretches[last] else {
+        unreachable!()
+    };
+    stretches[last] = Stretch::Quiet(QuietRun {
+        more: run.more + count,
         ..run
     });
 }

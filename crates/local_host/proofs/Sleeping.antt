@@ -1,8 +1,8 @@
 -- What ticks do to a flow of which nothing comes in them: they are quiet, and leave it as it is but for the timer's age
 -- and the bucket.
 use Rattle.std.proofs.Common.{◌≡◌, ℕ, zero, suc, ◌+◌, ◌-◌, ◌*◌, ◌^◌, ◌<◌, ◌≤◌, ◌==◌, ◌&&◌, not, Bool, true, false}
-use Rattle.std.proofs.Common.{List, [], ◌∷◌, ◌++◌, length, min, max}
-use Rattle.std.proofs.Common.{nat_lt, Option, Some, None, IsSome, is_some, if◌then◌else◌}
+use Rattle.std.proofs.Common.{List, [], ◌∷◌, ◌++◌, min, max}
+use Rattle.std.proofs.Common.{nat_lt, Option, Some, None, is_some, if◌then◌else◌}
 use Rattle.std.proofs.Common.{refl, sym, ap, subst, ◌∙◌, true≢false, arith, append_assoc, append-nil}
 use Rattle.std.proofs.lemmas.Bool.Decides.{nat_tests}
 use Rattle.std.proofs.lemmas.Nat.{pow_pos}
@@ -15,10 +15,10 @@ use Rattle.tas_model.specs.declared.entry.Reply.{Reply}
 use Rattle.tas_model.specs.declared.entry.Reply.TheVariants as replies
 use Rattle.tas_model.specs.declared.entry.Caller.TheVariants.{Slow}
 use Rattle.tas_model.specs.declared.entry.Call.TheVariants as calls
-use Rattle.tas_model.specs.Endpoint.{Endpoint, Rate, phase, phase_by, is_fin_acked, is_closed}
+use Rattle.tas_model.specs.Endpoint.{Endpoint, phase, phase_by, is_fin_acked, is_closed}
 use Rattle.tas_model.specs.Segments.{Outcome}
 use Rattle.tas_model.specs.ApplicationCalls.{Column, Opening, Over, Running, column, column_by}
-use Rattle.tas_model.specs.NextSegment.{Going, going, going_in, going_opening, going_running, data_len, waiting}
+use Rattle.tas_model.specs.NextSegment.{going, going_in, going_opening, going_running, data_len, waiting}
 use Rattle.tas_model.specs.Timers.{ticks, tick_in, filled, ticked as timer, is_armed, patience}
 use Rattle.tas_model.specs.LegalHistory.{Legal, replay, step, extended_by, last_tick, next_number, shown, state_or}
 use Rattle.tas_model.specs.LegalHistory.{reply_or}
@@ -27,12 +27,13 @@ use Rattle.local_host.specs.Lacking.{IsQuietTick}
 use Rattle.tas_model.proofs.Grows.{legal_by}
 use Rattle.tas_model.proofs.Histories.{replay_push}
 use Rattle.flow_state.specs.Calls.{is_closed_phase}
+use Rattle.flow_state.specs.Flow.{ticked_on}
 use Rattle.host_rounds.specs.Logs.{Flow}
 use Rattle.host_rounds.specs.Hosts.{Live, endpoint, is_over, with_call}
 use Rattle.host_rounds.specs.Upkeep.{timed, controlled}
 use Rattle.local_host.specs.declared.sleep.Sleep.{Sleep}
 use Rattle.local_host.specs.Live.{called}
-use Rattle.local_host.specs.Sleep.{is_still_by, is_still, MaySleep, IsRested, ticked_entries, with_ticks, ticked_flow}
+use Rattle.local_host.specs.Sleep.{is_still_by, is_still, MaySleep, IsRested, with_ticks, ticked_flow}
 use Rattle.local_host.proofs.Timing.{ticked}
 
 -- ----- nothing may go
@@ -212,7 +213,7 @@ one_more params h before t n still early so =
 
 -- where so many ticks may be slept through, the first of them leave all as it is
 pub slept_on : (params : HostParams) (h : List Entry) (t most n : ℕ) → Legal params h
-    → MaySleep (replay params h) most → n ≤ most → SleptOn params h n (ticked_entries params h t n)
+    → MaySleep (replay params h) most → n ≤ most → SleptOn params h n (ticked_on params h t n)
 slept_on params h t most zero legal may few = record {
   legal = legal;
   slept = record { same = refl; age = omega arith };
@@ -221,8 +222,21 @@ slept_on params h t most zero legal may few = record {
   quiet = tt;
 }
 slept_on params h t most (suc n) legal may few =
-    one_more params h (ticked_entries params h t n) (t + n) n may.still (omega (arith, may.early, few))
+    one_more params h (ticked_on params h t n) (t + n) n may.still (omega (arith, may.early, few))
     (slept_on params h t most n legal may (omega (arith, few)))
+
+-- ticks behind ticks
+pub ticks_behind : (params : HostParams) (h : List Entry) (t n k : ℕ)
+    → ticked_on params (ticked_on params h t n) (t + n) k ≡ ticked_on params h t (n + k)
+ticks_behind params h t n zero =
+    let none : n ≡ n + 0 = omega arith in
+    ap (ticked_on params h t) none
+ticks_behind params h t n (suc k) =
+    let more : suc (n + k) ≡ n + suc k = omega arith in
+    let at : (t + n) + k ≡ t + (n + k) = omega arith in
+    ap (λ (es : List Entry). extended_by params es Slow ((t + n) + k) calls.Tick []) (ticks_behind params h t n k)
+    ∙ (ap (λ (j : ℕ). extended_by params (ticked_on params h t (n + k)) Slow j calls.Tick []) at
+    ∙ ap (ticked_on params h t) more)
 
 pub still_on : (params : HostParams) (h after : List Entry) (n : ℕ) → is_still (replay params h) ≡ true
     → SleptOn params h n after → is_still (replay params after) ≡ true
@@ -252,7 +266,7 @@ pub lags : (s : Sleep) (f : Flow) → Legal f.params f.entries → IsRested s f
 lags s f legal rested = by_missed s.missed (omega arith) (λ some. rested.rests (omega (arith, some))) where
   by_missed : (n : ℕ) → n ≤ s.missed + s.left
       → (0 < n → MaySleep (replay f.params f.entries) (s.missed + s.left))
-      → SleptOn f.params f.entries n (ticked_entries f.params f.entries s.next n)
+      → SleptOn f.params f.entries n (ticked_on f.params f.entries s.next n)
   by_missed zero few may = record {
     legal = legal;
     slept = record { same = refl; age = omega arith };
@@ -275,15 +289,15 @@ pub one_passed : (old new : Sleep) (f : Flow) (t : ℕ) → new.next + old.misse
     → ticked_flow new f ≡ called (ticked_flow old f) Slow t calls.Tick []
 one_passed old new f t tick first more =
     let missed : new.missed ≡ suc old.missed = omega (arith, more) in
-    let before : ticked_entries f.params f.entries new.next old.missed
-    ≡ ticked_entries f.params f.entries old.next old.missed = by_missed old.missed first in
+    let before : ticked_on f.params f.entries new.next old.missed
+    ≡ ticked_on f.params f.entries old.next old.missed = by_missed old.missed first in
     rw (missed, tick, before) refl
   where
     by_missed : (n : ℕ) → (0 < n → new.next ≡ old.next)
-        → ticked_entries f.params f.entries new.next n ≡ ticked_entries f.params f.entries old.next n
+        → ticked_on f.params f.entries new.next n ≡ ticked_on f.params f.entries old.next n
     by_missed zero same = refl
     by_missed (suc n) same =
-        ap (λ (k : ℕ). ticked_entries f.params f.entries k (suc n)) (same (omega arith))
+        ap (λ (k : ℕ). ticked_on f.params f.entries k (suc n)) (same (omega arith))
 
 pub rested_on : (old new : Sleep) (f : Flow) → IsRested old f → 0 < old.left → new.next + new.missed ≤ 2 ^ 32
     → new.missed ≡ old.missed + 1 → new.left + 1 ≡ old.left → IsRested new f

@@ -1,14 +1,11 @@
 -- Flows that sleep through ticks of which nothing comes: their records get these once the flow wakes.
-use Rattle.std.specs.Prelude.{◌≡◌, ℕ, zero, suc, ◌+◌, ◌^◌, ◌<◌, ◌≤◌, ◌==◌, ◌&&◌, not, Bool, true, false, List, []}
-use Rattle.tas_model.specs.declared.entry.HostParams.{HostParams}
-use Rattle.tas_model.specs.declared.entry.Entry.{Entry}
-use Rattle.tas_model.specs.declared.entry.Caller.TheVariants.{Slow}
-use Rattle.tas_model.specs.declared.entry.Call.TheVariants as calls
+use Rattle.std.specs.Prelude.{◌≡◌, ℕ, ◌+◌, ◌^◌, ◌<◌, ◌≤◌, ◌==◌, ◌&&◌, not, Bool, true, false}
 use Rattle.tas_model.specs.Endpoint.{Endpoint}
 use Rattle.tas_model.specs.ApplicationCalls.{Column, Opening, Over, Running, column}
 use Rattle.tas_model.specs.NextSegment.{waiting}
 use Rattle.tas_model.specs.Timers.{patience}
-use Rattle.tas_model.specs.LegalHistory.{replay, extended_by}
+use Rattle.tas_model.specs.LegalHistory.{replay}
+use Rattle.flow_state.specs.Flow.{ticked_on}
 use Rattle.host_rounds.specs.Logs.{Flow}
 use Rattle.local_host.specs.declared.sleep.Sleep.{Sleep}
 
@@ -29,13 +26,8 @@ pub record MaySleep (e : Endpoint) (n : ℕ) : Type 0 where
   pub early : e.tx.age + n < patience e
 
 -- ----- what they lack
--- the history with so many Ticks more, from this tick on
-abbrev pub ticked_entries : HostParams → List Entry → (next missed : ℕ) → List Entry
-ticked_entries params h t zero = h
-ticked_entries params h t (suc n) = extended_by params (ticked_entries params h t n) Slow (t + n) calls.Tick []
-
 abbrev pub with_ticks : Flow → (next missed : ℕ) → Flow
-with_ticks f t n = record f { entries = ticked_entries f.params f.entries t n }
+with_ticks f t n = record f { entries = ticked_on f.params f.entries t n }
 
 -- the flow with the Ticks that its record lacks
 abbrev pub ticked_flow : Sleep → Flow → Flow

@@ -1,4 +1,4 @@
-ghost use Rattle.std.specs.Prelude.{◌≡◌, ◌+◌, ◌^◌, ◌<◌, ◌≤◌, true, false, [], OnOk};
+ghost use Rattle.std.specs.Prelude.{◌≡◌, ◌+◌, ◌^◌, ◌<◌, ◌≤◌, true, false, [], IfOk, OnOk};
 ghost use Rattle.tas_model.specs.declared.entry.Call.TheVariants as calls;
 ghost use Rattle.tas_model.specs.declared.entry.Caller.TheVariants.{Slow};
 ghost use Rattle.tas_model.specs.Endpoint.{Endpoint, is_closed};
@@ -11,6 +11,7 @@ ghost use Rattle.local_host.specs.Sleep.{IsRested, MaySleep, is_still as model_s
 use crate::calls::pass_one;
 use crate::reading::is_closed;
 use flow_state::{FlowRecord, Parts, Stage};
+use slow_timeout::TimerWork;
 use std::alloc::AllocError;
 
 /// Ticks that a flow sleeps through. Its record gets them when it wakes.
@@ -81,10 +82,29 @@ fn pass_all(history: &mut FlowRecord, next: u32, missed: u32) -> Result<(), Allo
     let _parts = history.parts();
     let mut done = 0;
     while done < missed {
-        pass_next(history, next + done)?;
-        done += 1;
+        done += pass_some(history, next + done, missed - done)?;
     }
     Ok(())
+}
+
+/// So many ticks at most, and one at least, pass from this one on for a flow that is not closed: all that lengthen a
+/// run, and else one. Answers how many passed. The error is want of memory.
+fn pass_some(history: &mut FlowRecord, next: u32, most: u32) -> Result<u32, AllocError>
+    requires some { 0 < most }
+    requires far { next + most ≤ 2 ^ 32 }
+    requires open { is_closed (replay history.old.params history.old.entries) ≡ false }
+    ensures made { IfOk result (λ n. flow_in history.new ≡ with_ticks (flow_in history.old) next n) }
+    ensures some { IfOk result (λ n. 0 < n) }
+    ensures most { IfOk result (λ n. n ≤ most) }
+{
+    // Its phase tells that it is not.
+    let _closed = is_closed(history);
+    let passed = history.pass_quietly_for(next, most, &TimerWork);
+    if passed > 0 {
+        return Ok(passed);
+    }
+    pass_next(history, next)?;
+    Ok(1)
 }
 
 /// A tick passes for a flow that is not closed. The error is want of memory.

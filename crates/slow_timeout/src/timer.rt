@@ -6,7 +6,7 @@ ghost use Rattle.tas_model.specs.Timers.{patience as model_patience, probes as m
 ghost use Rattle.tas_model.specs.Valid.{Valid};
 ghost use Rattle.flow_state.specs.Stands.{Stands};
 ghost use Rattle.flow_state.specs.Calls.{answer_len, is_closed_phase};
-ghost use Rattle.flow_state.specs.Made.{IsOutcome, IsStep};
+ghost use Rattle.flow_state.specs.Made.{IsOutcome, IsStep, IsQuietTick, AreQuietTicks};
 ghost use Rattle.flow_state.specs.declared.call.Answer.TheVariants as answers;
 ghost use Rattle.slow_timeout.specs.Age.{next_age as model_next_age};
 
@@ -38,6 +38,7 @@ pub fn pass_quietly(parts: &mut Parts, now: u32) -> bool
     ensures made { result ≡ true → (out : List ℕ) (e : Endpoint) → Valid e → Stands parts.old e
         → IsStep parts.new answers.Quiet out (ticks e now) }
     ensures unmade { result ≡ false → parts.new ≡ parts.old }
+    ensures phase { parts.new.phase ≡ parts.old.phase }
     ensures tuple { parts.new.tuple ≡ parts.old.tuple }
     ensures params { parts.new.params ≡ parts.old.params }
 {
@@ -50,6 +51,41 @@ pub fn pass_quietly(parts: &mut Parts, now: u32) -> bool
     fill(parts);
     set_age(parts, age);
     true
+}
+
+/// Ticks of a flow that is not closed, from this one on, as long as nothing comes of them but the bucket's fill and the
+/// timer's age, and at most so many. Answers how many passed.
+#[inline(always)]
+pub fn pass_quietly_for(parts: &mut Parts, from: u32, count: u32) -> u32
+    requires open { is_closed_phase parts.old.phase ≡ false }
+    requires room { from + count ≤ 2 ^ 32 }
+    ensures made { AreQuietTicks parts.old from result parts.new }
+    ensures most { result ≤ count }
+    ensures tuple { parts.new.tuple ≡ parts.old.tuple }
+    ensures params { parts.new.params ≡ parts.old.params }
+{
+    let mut done = 0;
+    while done < count {
+        if !pass_one(parts, from + done) {
+            return done;
+        }
+        done += 1;
+    }
+    done
+}
+
+/// One tick, where nothing comes of it. Else nothing changes.
+#[tactic(auto, unfolding(tas_model::specs::LegalHistory::step))]
+#[inline(always)]
+fn pass_one(parts: &mut Parts, now: u32) -> bool
+    requires { is_closed_phase parts.old.phase ≡ false }
+    ensures made { result ≡ true → IsQuietTick parts.old now parts.new }
+    ensures unmade { result ≡ false → parts.new ≡ parts.old }
+    ensures phase { parts.new.phase ≡ parts.old.phase }
+    ensures tuple { parts.new.tuple ≡ parts.old.tuple }
+    ensures params { parts.new.params ≡ parts.old.params }
+{
+    pass_quietly(parts, now)
 }
 
 /// The bucket gets its fill.
@@ -123,6 +159,7 @@ fn next_age(parts: &Parts) -> Option<u32>
 /// The timer has run for so many ticks.
 fn set_age(parts: &mut Parts, age: u32)
     ensures after { (e : Endpoint) → Stands parts.old e → Stands parts.new (aged e age) }
+    ensures phase { parts.new.phase ≡ parts.old.phase }
     ensures tuple { parts.new.tuple ≡ parts.old.tuple }
     ensures params { parts.new.params ≡ parts.old.params }
 {
