@@ -5,7 +5,6 @@ use Rattle.std.proofs.Common.{List, [], ◌∷◌, ◌++◌, min, max}
 use Rattle.std.proofs.Common.{nat_lt, Option, Some, None, is_some, if◌then◌else◌}
 use Rattle.std.proofs.Common.{refl, sym, ap, subst, ◌∙◌, true≢false, arith, append_assoc, append-nil}
 use Rattle.std.proofs.lemmas.Bool.Decides.{nat_tests}
-use Rattle.std.proofs.lemmas.Nat.{pow_pos}
 use Rattle.tas_model.specs.declared.entry.HostParams.{HostParams}
 use Rattle.tas_model.specs.declared.entry.Entry.{Entry}
 use Rattle.tas_model.specs.declared.entry.Phase.{Phase}
@@ -31,6 +30,7 @@ use Rattle.flow_state.specs.Flow.{ticked_on}
 use Rattle.host_rounds.specs.Logs.{Flow}
 use Rattle.host_rounds.specs.Hosts.{Live, endpoint, is_over, with_call}
 use Rattle.host_rounds.specs.Upkeep.{timed, controlled}
+use Rattle.slow_timeout.specs.Age.{early_ticks}
 use Rattle.local_host.specs.declared.sleep.Sleep.{Sleep}
 use Rattle.local_host.specs.Live.{called}
 use Rattle.local_host.specs.Sleep.{is_still_by, is_still, MaySleep, IsRested, with_ticks, ticked_flow}
@@ -128,17 +128,18 @@ QuietAt e age = record {
   reply = replies.Quiet;
 }
 
-timer_quiet : (e : Endpoint) → e.tx.age + 1 < patience e
+timer_quiet : (e : Endpoint) → (is_armed e.tx ≡ true → e.tx.age + 1 < patience e)
     → (age : ℕ) × (age ≤ e.tx.age + 1) × (timer (record e { rate = filled e.rate }) ≡ QuietAt e age)
 timer_quiet e early = by_armed (is_armed e.tx) refl where
   by_armed : (armed : Bool) → is_armed e.tx ≡ armed
       → (age : ℕ) × (age ≤ e.tx.age + 1) × (timer (record e { rate = filled e.rate }) ≡ QuietAt e age)
   by_armed false is = (0, omega arith, rw is refl)
   by_armed true is =
-      let before : nat_lt (e.tx.age + 1) (patience e) ≡ true = grind (arith, nat_tests, early) in
+      let before : nat_lt (e.tx.age + 1) (patience e) ≡ true = grind (arith, nat_tests, early is) in
       (e.tx.age + 1, omega arith, rw (is, before) refl)
 
-tick_quiet : (e : Endpoint) (t : ℕ) (reply : Reply) → is_still e ≡ true → e.tx.age + 1 < patience e
+tick_quiet : (e : Endpoint) (t : ℕ) (reply : Reply) → is_still e ≡ true
+    → (is_armed e.tx ≡ true → e.tx.age + 1 < patience e)
     → (age : ℕ) × (age ≤ e.tx.age + 1) × (step e t calls.Tick reply ≡ Some (QuietAt e age))
 unfolding step ticks
 tick_quiet e t reply still early =
@@ -175,15 +176,21 @@ still_slept e s n slept still = subst (λ (x : Endpoint). is_still x ≡ true) (
 patience_slept : (e s : Endpoint) (n : ℕ) → Slept e n s → patience s ≡ patience e
 patience_slept e s n slept = ap (λ (x : Endpoint). patience x) slept.same
 
+armed_slept : (e s : Endpoint) (n : ℕ) → Slept e n s → is_armed s.tx ≡ is_armed e.tx
+armed_slept e s n slept = ap (λ (x : Endpoint). is_armed x.tx) slept.same
+
 one_more : (params : HostParams) (h before : List Entry) (t n : ℕ) → is_still (replay params h) ≡ true
-    → (replay params h).tx.age + suc n < patience (replay params h) → SleptOn params h n before
+    → (is_armed (replay params h).tx ≡ true → (replay params h).tx.age + suc n < patience (replay params h))
+    → SleptOn params h n before
     → SleptOn params h (suc n) (extended_by params before Slow t calls.Tick [])
 one_more params h before t n still early so =
     let e : Endpoint = replay params h in
     let s : Endpoint = replay params before in
     let tick : ℕ = max t (last_tick 0 before) in
     let still' : is_still s ≡ true = still_slept e s n so.slept still in
-    let early' : s.tx.age + 1 < patience s = omega (arith, early, so.slept.age, patience_slept e s n so.slept) in
+    let early' : is_armed s.tx ≡ true → s.tx.age + 1 < patience s =
+    λ armed. omega (arith, early (sym (armed_slept e s n so.slept) ∙ armed), so.slept.age,
+    patience_slept e s n so.slept) in
     let told = tick_quiet s tick (shown s []) still' early' in
     let made = tick_quiet s tick replies.Quiet still' early' in
     let x : Entry = record {
@@ -222,7 +229,8 @@ slept_on params h t most zero legal may few = record {
   quiet = tt;
 }
 slept_on params h t most (suc n) legal may few =
-    one_more params h (ticked_on params h t n) (t + n) n may.still (omega (arith, may.early, few))
+    one_more params h (ticked_on params h t n) (t + n) n may.still
+    (λ armed. omega (arith, may.early armed, few))
     (slept_on params h t most n legal may (omega (arith, few)))
 
 -- ticks behind ticks
@@ -243,13 +251,12 @@ pub still_on : (params : HostParams) (h after : List Entry) (n : ℕ) → is_sti
 still_on params h after n still so = still_slept (replay params h) (replay params after) n so.slept still
 
 -- ----- how long
-mul_least : (x y : ℕ) → 0 < y → x ≤ x * y
-mul_least x zero some = absurd (omega (arith, some))
-mul_least x (suc y) some = omega arith
-
--- the timer runs one timeout at least
-pub patience_least : (e : Endpoint) → e.params.rto ≤ patience e
-patience_least e = mul_least e.params.rto (2 ^ min e.tx.tries 4) (pow_pos (min e.tx.tries 4))
+-- the timer doesn't run out in the ticks that are left of it
+pub before_timeout : (e : Endpoint) (n : ℕ) → n ≡ early_ticks e → 0 < n → is_armed e.tx ≡ true
+    → e.tx.age + n < patience e
+before_timeout e n is some armed =
+    let left : n ≡ patience e - (e.tx.age + 1) = is ∙ rw armed refl in
+    omega (arith, left, some)
 
 -- ----- a flow's record, and what it lacks
 -- a flow that lacks no tick is as its record

@@ -3,7 +3,7 @@ use Rattle.std.specs.Prelude.{◌≡◌, ℕ, ◌+◌, ◌^◌, ◌<◌, ◌≤�
 use Rattle.tas_model.specs.Endpoint.{Endpoint}
 use Rattle.tas_model.specs.ApplicationCalls.{Column, Opening, Over, Running, column}
 use Rattle.tas_model.specs.NextSegment.{waiting}
-use Rattle.tas_model.specs.Timers.{patience}
+use Rattle.tas_model.specs.Timers.{is_armed, patience}
 use Rattle.tas_model.specs.LegalHistory.{replay}
 use Rattle.flow_state.specs.Flow.{ticked_on}
 use Rattle.host_rounds.specs.Logs.{Flow}
@@ -20,10 +20,10 @@ is_still_by Running nxt left shut = left == 0 && not shut
 abbrev pub is_still : Endpoint → Bool
 is_still e = is_still_by (column e) e.tx.nxt (waiting e.tx) e.tx.shut
 
--- Nothing comes of so many ticks: nothing is left to send, and the timer doesn't run out in them.
+-- Nothing comes of so many ticks: nothing is left to send, and the timer, where it runs, doesn't run out in them.
 pub record MaySleep (e : Endpoint) (n : ℕ) : Type 0 where
   pub still : is_still e ≡ true
-  pub early : e.tx.age + n < patience e
+  pub early : is_armed e.tx ≡ true → e.tx.age + n < patience e
 
 -- ----- what they lack
 abbrev pub with_ticks : Flow → (next missed : ℕ) → Flow

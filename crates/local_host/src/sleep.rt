@@ -11,7 +11,7 @@ ghost use Rattle.local_host.specs.Sleep.{IsRested, MaySleep, is_still as model_s
 use crate::calls::pass_one;
 use crate::reading::is_closed;
 use flow_state::{FlowRecord, Parts, Stage};
-use slow_timeout::TimerWork;
+use slow_timeout::{TimerWork, early_ticks};
 use std::alloc::AllocError;
 
 /// Ticks that a flow sleeps through. Its record gets them when it wakes.
@@ -129,7 +129,7 @@ pub fn rest(history: &FlowRecord) -> Sleep
     Sleep {
         next: 0,
         missed: 0,
-        left: parts.params.rto.saturating_sub(parts.age.saturating_add(1)),
+        left: early_ticks(parts),
     }
 }
 

@@ -1,5 +1,5 @@
 ghost use Rattle.std.specs.Prelude.{true, false, ◌≡◌, ℕ, ◌<◌, ◌≤◌, ◌==◌, ◌||◌, [], List, length, get_or};
-ghost use Rattle.std.specs.Prelude.{OnOk};
+ghost use Rattle.std.specs.Prelude.{OnErr, OnOk};
 ghost use Rattle.std.specs.List.{list_any};
 ghost use Rattle.host_rounds.specs.Hosts.{Live, is_in_slot, free_from};
 ghost use Rattle.local_host.specs.Index.{passes_at, standing_places, AreMarked};
@@ -51,9 +51,9 @@ impl SlotMarks {
     pub fn take(&mut self, slot: u32) -> Result<(), AllocError>
         ensures { OnOk result ((q : ℕ) → get_or self.new q false ≡ (get_or self.old q false || slot == q)) }
     {
-        let done = take_slot(&mut self.marks, slot);
-        self.lowest = first_unmarked(&self.marks, 0);
-        done
+        take_slot(&mut self.marks, slot)?;
+        self.lowest = first_unmarked(&self.marks, self.lowest);
+        Ok(())
     }
 
     /// Marks the slots, of those that there are marks for, that a flow's record stands in.
@@ -92,20 +92,23 @@ fn first_unmarked(marks: &[bool], from: usize) -> usize
     marks.len()
 }
 
-/// A flow's record stands in the slot. The error is want of memory.
+/// A flow's record stands in the slot. The error is want of memory, and leaves all as it was.
 fn take_slot(taken: &mut Vec<bool>, slot: u32) -> Result<(), AllocError>
-    ensures { OnOk result ((q : ℕ) → get_or taken.new.items q false
+    ensures taken { OnOk result ((q : ℕ) → get_or taken.new.items q false
         ≡ (get_or taken.old.items q false || slot == q)) }
+    ensures err { OnErr result (taken.new.items ≡ taken.old.items) }
 {
     reach(taken, slot as usize + 1)?;
     taken[slot as usize] = true;
     Ok(())
 }
 
-/// There are marks for so many slots at least; no slot is taken by that. The error is want of memory.
+/// There are marks for so many slots at least; no slot is taken by that. The error is want of memory, and leaves all as
+/// it was.
 fn reach(taken: &mut Vec<bool>, slots: usize) -> Result<(), AllocError>
     ensures len { OnOk result (slots ≤ length taken.new.items) }
     ensures same { OnOk result ((q : ℕ) → get_or taken.new.items q false ≡ get_or taken.old.items q false) }
+    ensures err { OnErr result (taken.new.items ≡ taken.old.items) }
 {
     if taken.len() < slots {
         taken.resize(slots, false)?;

@@ -1,7 +1,10 @@
-ghost use Rattle.std.specs.Prelude.{◌≡◌, ◌+◌, ◌-◌, ◌≤◌, ◌++◌, replicate, vec_len, vec_capacity};
+ghost use Rattle.std.specs.Prelude.{◌≡◌, ◌+◌, ◌-◌, ◌≤◌, ◌++◌, length, replicate, vec_len, vec_capacity};
 
 /// How many zeros are written at a time.
 const PIECE: usize = 4096;
+
+/// How many there are in a piece of few: mostly no more are wanted, and a whole piece costs more to set up.
+const FEW: usize = 64;
 
 /// Writes zeros behind the bytes until there are `end` bytes, for which there is room. Where there are as many already,
 /// nothing changes.
@@ -25,8 +28,22 @@ fn add_zeros(bytes: &mut Vec<u8>, count: usize)
     ensures items { bytes.new.items ≡ bytes.old.items ++ replicate count 0 }
     ensures capacity { vec_capacity bytes.old ≤ vec_capacity bytes.new }
 {
-    let zeros = [0; PIECE];
-    match bytes.extend_from_slice(&zeros[..count]) {
+    if count <= FEW {
+        let zeros = [0; FEW];
+        add(bytes, &zeros[..count]);
+    } else {
+        let zeros = [0; PIECE];
+        add(bytes, &zeros[..count]);
+    }
+}
+
+/// Writes a piece behind the bytes, which have room for it.
+fn add(bytes: &mut Vec<u8>, piece: &[u8])
+    requires { vec_len bytes.old + length piece.now ≤ vec_capacity bytes.old }
+    ensures items { bytes.new.items ≡ bytes.old.items ++ piece.now }
+    ensures capacity { vec_capacity bytes.old ≤ vec_capacity bytes.new }
+{
+    match bytes.extend_from_slice(piece) {
         Ok(()) => {}
         Err(_) => unreachable!(),
     }

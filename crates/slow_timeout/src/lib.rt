@@ -6,3 +6,4 @@ mod engine;
 mod timer;
 
 pub use engine::TimerWork;
+pub use timer::early_ticks;

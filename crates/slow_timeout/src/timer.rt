@@ -8,7 +8,7 @@ ghost use Rattle.flow_state.specs.Stands.{Stands};
 ghost use Rattle.flow_state.specs.Calls.{answer_len, is_closed_phase};
 ghost use Rattle.flow_state.specs.Made.{IsOutcome, IsStep, IsQuietTick, AreQuietTicks};
 ghost use Rattle.flow_state.specs.declared.call.Answer.TheVariants as answers;
-ghost use Rattle.slow_timeout.specs.Age.{next_age as model_next_age};
+ghost use Rattle.slow_timeout.specs.Age.{next_age as model_next_age, early_ticks as model_early_ticks};
 
 use flow_state::{Answer, Parts};
 use tas_model::{Phase, Reason};
@@ -154,6 +154,17 @@ fn next_age(parts: &Parts) -> Option<u32>
     } else {
         None
     }
+}
+
+/// In how many ticks more the timer doesn't run out; where it doesn't run, in as many as can be told.
+pub fn early_ticks(parts: &Parts) -> u32
+    ensures { (e : Endpoint) → Valid e → Stands parts.now e → result ≡ model_early_ticks e }
+{
+    if !is_armed(parts) {
+        return u32::MAX;
+    }
+    let left = patience(parts).saturating_sub(u64::from(parts.age) + 1);
+    left.min(u64::from(u32::MAX)) as u32
 }
 
 /// The timer has run for so many ticks.

@@ -1,13 +1,12 @@
 use Rattle.std.proofs.Common.{◌≡◌, ◌<◌, ◌+◌, arith, sym, subst, ap, ◌∙◌}
 use Rattle.tas_model.specs.declared.entry.HostParams.{HostParams}
 use Rattle.tas_model.specs.Endpoint.{Endpoint}
-use Rattle.tas_model.specs.Timers.{patience}
 use Rattle.tas_model.specs.LegalHistory.{replay}
 use Rattle.tas_model.specs.Valid.{Valid}
 use Rattle.tas_model.proofs.ValidCalls.{valid_replay}
 use Rattle.flow_state.specs.declared.parts.Parts.{Parts}
 use Rattle.flow_state.specs.Stands.{Stands}
-use Rattle.local_host.proofs.Sleeping.{patience_least}
+use Rattle.local_host.proofs.Sleeping.{before_timeout}
 use Rattle.local_host.proofs.sleep.rest.Goals as goal
 
 pub returns-clause-rested : goal.returns-clause-rested
@@ -17,21 +16,14 @@ returns-clause-rested c =
     let p = c.parts-parts.ensures in
     let valid : Valid e = valid_replay f.params f.entries p.ranges p.legal in
     let stands : Stands c.parts-parts.result.now e = subst (λ (q : Parts). Stands q e) (sym p.parts) p.stands in
-    let least = patience_least e in
     record {
       far = omega arith;
       fixed = λ some. ap (λ (q : HostParams). q.fixed) (sym p.params)
           ∙ (ap (λ (q : Parts). q.params.fixed) (sym p.parts) ∙ c.if-not-parts.false);
       rests = λ some. record {
         still = c.is_still.ensures e valid stands c.if-not-is_still.false;
-        early = grind (
-          arith,
-          least,
-          stands.age,
-          stands.params,
-          some,
-          c.saturating_sub.ensures,
-          c.saturating_add.ensures,
-        );
+        early = λ armed.
+            let left : 0 < c.early_ticks.result = omega (arith, some) in
+            omega (arith, before_timeout e c.early_ticks.result (c.early_ticks.ensures e valid stands) left armed);
       };
     }
