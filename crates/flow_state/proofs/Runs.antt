@@ -81,37 +81,6 @@ quiet_entry memory t s h = let is : (s.call ≡ cs.Tick) × (s.reply ≡ rs.Quie
     let bytes : List ℕ = bytes_at memory.bytes s.bytes in
     cc (ap (call_in memory.came bytes) is.0, ap (reply_in (reply_part s.call bytes)) is.1)
 
-run_longer : (r : QuietRun) (caller : Caller) (n t : ℕ) → comes_next r caller n t ≡ true
-    → run_entries (record r { more = r.more + 1 }) ≡ run_entries r ++ quiet_tick caller n t ∷ []
-run_longer r caller n t next =
-    let is : (r.caller ≡ caller) × (n ≡ r.number + r.more + 1) × (t ≡ r.tick + r.more + 1) =
-    next_is r caller n t next in
-    let number : r.number + suc r.more ≡ n = omega (arith, is.1) in
-    let tick : r.tick + suc r.more ≡ t = omega (arith, is.2) in
-    let same : quiet_tick r.caller (r.number + suc r.more) (r.tick + suc r.more) ≡ quiet_tick caller n t =
-    cc (is.0, number, tick) in
-    let count : suc (r.more + 1) ≡ suc (suc r.more) = omega arith in
-    ap (quiet_ticks r.caller r.number r.tick) count
-    ∙ (ticks_push r.caller r.number r.tick (suc r.more) ∙ ap (λ (x : Entry). run_entries r ++ x ∷ []) same)
-
--- the history with its last run lengthened
-pub longer : (memory : Memory) (ss : List Stretch) (i : ℕ) (d : Stretch) (r : QuietRun) (caller : Caller) (n t : ℕ)
-    → length ss ≡ suc i → get_or ss i d ≡ Quiet r → comes_next r caller n t ≡ true
-    → entries_of memory (set ss i (Quiet (record r { more = r.more + 1 }))) ≡ entries_of memory ss
-    ++ quiet_tick caller n t ∷ []
-longer memory [] i d r caller n t len is next = absurd (omega (arith, len))
-longer memory (x ∷ []) zero d r caller n t len is next =
-    let run : entries_in memory x ≡ run_entries r = ap (entries_in memory) is in
-    append-nil (run_entries (record r { more = r.more + 1 }))
-    ∙ (run_longer r caller n t next
-    ∙ ap (λ (xs : List Entry). xs ++ quiet_tick caller n t ∷ []) (sym run ∙ sym (append-nil (entries_in memory x))))
-longer memory (x ∷ []) (suc i) d r caller n t len is next = absurd (omega (arith, len))
-longer memory (x ∷ y ∷ ss) zero d r caller n t len is next = absurd (omega (arith, len))
-longer memory (x ∷ y ∷ ss) (suc i) d r caller n t len is next =
-    ap (λ (xs : List Entry). entries_in memory x ++ xs)
-    (longer memory (y ∷ ss) i d r caller n t (omega (arith, len)) is next)
-    ∙ sym (append_assoc (entries_in memory x) (entries_of memory (y ∷ ss)) (quiet_tick caller n t ∷ []))
-
 -- so many, and so many behind them
 pub ticks_then : (c : Caller) (n t j k : ℕ) → quiet_ticks c n t (j + k)
     ≡ quiet_ticks c n t j ++ quiet_ticks c (n + j) (t + j) k
@@ -130,9 +99,9 @@ ticks_then c n t (suc j) k =
     ∙ (ap (λ (m : ℕ). quiet_ticks c (n + 1) (t + 1) j ++ quiet_ticks c m (t + 1 + j) k) number
     ∙ ap (λ (m : ℕ). quiet_ticks c (n + 1) (t + 1) j ++ quiet_ticks c (n + suc j) m k) tick))
 
-run_longer_for : (r : QuietRun) (caller : Caller) (n t k : ℕ) → comes_next r caller n t ≡ true
+run_longer : (r : QuietRun) (caller : Caller) (n t k : ℕ) → comes_next r caller n t ≡ true
     → run_entries (record r { more = r.more + k }) ≡ run_entries r ++ quiet_ticks caller n t k
-run_longer_for r caller n t k next =
+run_longer r caller n t k next =
     let is : (r.caller ≡ caller) × (n ≡ r.number + r.more + 1) × (t ≡ r.tick + r.more + 1) =
     next_is r caller n t next in
     let number : r.number + suc r.more ≡ n = omega (arith, is.1) in
@@ -145,21 +114,21 @@ run_longer_for r caller n t k next =
     ∙ (ap (λ (m : ℕ). quiet_ticks r.caller n m k) tick ∙ ap (λ (c : Caller). quiet_ticks c n t k) is.0)))
 
 -- the history with its last run lengthened by so many
-pub longer_for : (memory : Memory) (ss : List Stretch) (i : ℕ) (d : Stretch) (r : QuietRun) (caller : Caller)
+pub longer : (memory : Memory) (ss : List Stretch) (i : ℕ) (d : Stretch) (r : QuietRun) (caller : Caller)
     (n t k : ℕ) → length ss ≡ suc i → get_or ss i d ≡ Quiet r → comes_next r caller n t ≡ true
     → entries_of memory (set ss i (Quiet (record r { more = r.more + k }))) ≡ entries_of memory ss
     ++ quiet_ticks caller n t k
-longer_for memory [] i d r caller n t k len is next = absurd (omega (arith, len))
-longer_for memory (x ∷ []) zero d r caller n t k len is next =
+longer memory [] i d r caller n t k len is next = absurd (omega (arith, len))
+longer memory (x ∷ []) zero d r caller n t k len is next =
     let run : entries_in memory x ≡ run_entries r = ap (entries_in memory) is in
     append-nil (run_entries (record r { more = r.more + k }))
-    ∙ (run_longer_for r caller n t k next
+    ∙ (run_longer r caller n t k next
     ∙ ap (λ (xs : List Entry). xs ++ quiet_ticks caller n t k) (sym run ∙ sym (append-nil (entries_in memory x))))
-longer_for memory (x ∷ []) (suc i) d r caller n t k len is next = absurd (omega (arith, len))
-longer_for memory (x ∷ y ∷ ss) zero d r caller n t k len is next = absurd (omega (arith, len))
-longer_for memory (x ∷ y ∷ ss) (suc i) d r caller n t k len is next =
+longer memory (x ∷ []) (suc i) d r caller n t k len is next = absurd (omega (arith, len))
+longer memory (x ∷ y ∷ ss) zero d r caller n t k len is next = absurd (omega (arith, len))
+longer memory (x ∷ y ∷ ss) (suc i) d r caller n t k len is next =
     ap (λ (xs : List Entry). entries_in memory x ++ xs)
-    (longer_for memory (y ∷ ss) i d r caller n t k (omega (arith, len)) is next)
+    (longer memory (y ∷ ss) i d r caller n t k (omega (arith, len)) is next)
     ∙ sym (append_assoc (entries_in memory x) (entries_of memory (y ∷ ss)) (quiet_ticks caller n t k))
 
 -- what goes on has a last stretch

@@ -134,19 +134,8 @@ impl CallerCounts {
         self.slow
     }
 
-    /// Counts one entry more of the slow path, whose count has its place.
-    pub fn count_slow(&mut self)
-        requires small { counted_for Slow self.old.counts < 2 ^ 64 - 1 }
-        ensures counted { (other : Caller)
-            → counted_for other self.new.counts ≡ counted_for other self.old.counts + (if same_caller Slow other then
-            1 else 0) }
-        ensures spare { self.new.spare ≡ self.old.spare }
-    {
-        self.slow += 1;
-    }
-
-    /// Counts so many entries more of the slow path.
-    pub fn count_slow_for(&mut self, count: u32)
+    /// Counts so many entries more of the slow path, whose count has its place.
+    pub fn count_slow(&mut self, count: u32)
         requires small { counted_for Slow self.old.counts + count < 2 ^ 64 }
         ensures counted { (other : Caller)
             → counted_for other self.new.counts ≡ counted_for other self.old.counts + (if same_caller Slow other then

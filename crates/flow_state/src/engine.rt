@@ -1,4 +1,4 @@
-ghost use Rattle.std.specs.Prelude.{◌≡◌, ℕ, ◌+◌, ◌-◌, ◌^◌, ◌<◌, ◌≤◌, ◌↔◌, length, true, false, [], IfSome, IfNone};
+ghost use Rattle.std.specs.Prelude.{◌≡◌, ℕ, ◌+◌, ◌-◌, ◌^◌, ◌<◌, ◌≤◌, ◌↔◌, length, IfSome, IfNone};
 ghost use Rattle.std.specs.Prelude.{IsSome};
 ghost use Rattle.tas_model.specs.Endpoint.{Endpoint};
 ghost use Rattle.tas_model.specs.Valid.{Valid};
@@ -6,7 +6,6 @@ ghost use Rattle.flow_state.specs.Stands.{Stands, IsNear, HasRings};
 ghost use Rattle.flow_state.specs.Calls.{answer_len, reply_room, need_of, cost_of, IsSmall, IsTimely};
 ghost use Rattle.flow_state.specs.Made.{Makes, AreQuietTicks};
 ghost use Rattle.flow_state.specs.declared.call.CallIn.TheVariants as ins;
-ghost use Rattle.flow_state.specs.declared.call.Answer.TheVariants as answers;
 
 use crate::call::{Answer, CallIn};
 use crate::parts::Parts;
@@ -69,19 +68,9 @@ pub trait Engine {
 
 /// What time alone does to a flow.
 pub trait Clock {
-    /// One tick of a flow that is not closed, where nothing comes of it: then the parts stand for the next endpoint,
-    /// and the answer is true. Else nothing changes.
-    fn pass(&self, parts: &mut Parts, tick: u32) -> bool
-        requires timely { IsTimely parts.old.phase ins.Tick }
-        ensures made { result ≡ true → (e : Endpoint) → Valid e → Stands parts.old e
-            → Makes e tick ins.Tick parts.new [] answers.Quiet }
-        ensures unmade { result ≡ false → parts.new ≡ parts.old }
-        ensures tuple { parts.new.tuple ≡ parts.old.tuple }
-        ensures params { parts.new.params ≡ parts.old.params };
-
     /// Ticks of a flow that is not closed, from this one on, as long as nothing comes of them, and at most so many.
     /// Answers how many passed.
-    fn pass_for(&self, parts: &mut Parts, tick: u32, count: u32) -> u32
+    fn pass(&self, parts: &mut Parts, tick: u32, count: u32) -> u32
         requires timely { IsTimely parts.old.phase ins.Tick }
         requires room { tick + count ≤ 2 ^ 32 }
         ensures made { AreQuietTicks parts.old tick result parts.new }

@@ -1,6 +1,6 @@
 ghost use Rattle.std.specs.Prelude.{◌≡◌, ℕ, ◌+◌, ◌-◌, ◌^◌, ◌<◌, ◌≤◌, ◌++◌, ◌∷◌, ◌↔◌, [], List, length, take, slice_get};
 ghost use Rattle.std.specs.Prelude.{Some, replicate, max, vec_len, vec_capacity, flat_map, IfOk, IfSome, IfNone};
-ghost use Rattle.std.specs.Prelude.{IsSome, OnErr, OnOk, IsOk, None, true, false};
+ghost use Rattle.std.specs.Prelude.{IsSome, OnErr, OnOk, IsOk, None};
 ghost use Rattle.tas_model.specs.declared.entry.Call.TheVariants as calls;
 ghost use Rattle.tas_model.specs.declared.entry.Caller.TheVariants.{Slow};
 ghost use Rattle.tas_model.specs.Endpoint.{phase};
@@ -28,7 +28,7 @@ use crate::engine::{Clock, Engine, need};
 use crate::open::{connect_parts, passive_parts};
 use crate::parts::Parts;
 use crate::slot::{CameSlot, connect_slot, passive_slot};
-use crate::stretch::{Stretch, add, add_tick, go_on, go_on_for, goes_on};
+use crate::stretch::{Stretch, add, add_tick, go_on, goes_on};
 use crate::stretches::Stretches;
 use crate::view::{EntryView, entry_view};
 use segment_fields::Segment;
@@ -332,43 +332,14 @@ impl FlowRecord {
         Ok(Some(answer))
     }
 
-    /// One tick more by the slow path, where it lengthens the run of quiet ticks that the history ends with, and says
-    /// whether it does. It takes no memory. Where not, nothing changes, and the call is to be made by `act`.
-    pub fn pass_quietly<C: Clock>(&mut self, tick: u32, clock: &C) -> bool
-        requires timely { IsTimely self.old.parts.phase ins.Tick }
-        ensures made { result ≡ true → self.new.entries
-            ≡ extended_by self.old.params self.old.entries Slow tick calls.Tick [] }
-        ensures unmade { result ≡ false → self.new.entries ≡ self.old.entries }
-        ensures unmade_parts { result ≡ false → self.new.parts ≡ self.old.parts }
-        ensures spare_entries { self.new.spare_entries ≡ self.old.spare_entries }
-        ensures spare_bytes { self.new.spare_bytes ≡ self.old.spare_bytes }
-        ensures legal { Legal self.new.params self.new.entries }
-        ensures stands { Stands self.new.parts (replay self.new.params self.new.entries) }
-        ensures id { self.new.id ≡ self.old.id }
-        ensures tuple { self.new.tuple ≡ self.old.tuple }
-        ensures params { self.new.params ≡ self.old.params }
-    {
-        let number = self.counts.slow();
-        if !goes_on(&self.stretches, Caller::Slow, number, tick) {
-            return false;
-        }
-        if !clock.pass(&mut self.parts, tick) {
-            return false;
-        }
-        self.made += 1;
-        self.last = tick;
-        self.counts.count_slow();
-        go_on(&mut self.stretches, Caller::Slow, number, tick);
-        true
-    }
-
     /// Ticks by the slow path, from this one on, as long as each lengthens the run of quiet ticks that the history ends
-    /// with, and at most so many. Answers how many passed. It takes no memory.
-    pub fn pass_quietly_for<C: Clock>(&mut self, tick: u32, count: u32, clock: &C) -> u32
+    /// with, and at most so many. Answers how many passed; the next one is to be made by `act`. It takes no memory.
+    pub fn pass_quietly<C: Clock>(&mut self, tick: u32, count: u32, clock: &C) -> u32
         requires timely { IsTimely self.old.parts.phase ins.Tick }
         requires room { tick + count ≤ 2 ^ 32 }
         ensures made { self.new.entries ≡ ticked_on self.old.params self.old.entries tick result }
         ensures most { result ≤ count }
+        ensures unmade_parts { result ≡ 0 → self.new.parts ≡ self.old.parts }
         ensures spare_entries { self.new.spare_entries ≡ self.old.spare_entries }
         ensures spare_bytes { self.new.spare_bytes ≡ self.old.spare_bytes }
         ensures legal { Legal self.new.params self.new.entries }
@@ -381,9 +352,9 @@ impl FlowRecord {
         if !goes_on(&self.stretches, Caller::Slow, first, tick) {
             return 0;
         }
-        let done = clock.pass_for(&mut self.parts, tick, count);
-        go_on_for(&mut self.stretches, Caller::Slow, first, tick, done);
-        self.counts.count_slow_for(done);
+        let done = clock.pass(&mut self.parts, tick, count);
+        go_on(&mut self.stretches, Caller::Slow, first, tick, done);
+        self.counts.count_slow(done);
         self.made += done as usize;
         self.last += done;
         done

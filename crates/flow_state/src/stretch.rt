@@ -63,27 +63,9 @@ pub fn goes_on(stretches: &[Stretch], caller: Caller, number: u64, tick: u32) ->
     }
 }
 
-/// Lengthens the last run by this quiet tick, which is its next one.
-#[inline(always)]
-pub fn go_on(stretches: &mut Vec<Stretch>, caller: Caller, number: u64, tick: u32)
-    requires { model_goes_on stretches.old.items caller number tick ≡ true }
-    ensures added { AddedTick stretches.old.items stretches.new.items caller number tick answers.Quiet }
-    ensures next { (memory : Memory) → tick ≡ last_tick 0 (entries_of memory stretches.old.items) + 1 }
-    ensures len { vec_len stretches.new ≡ vec_len stretches.old }
-    ensures capacity { vec_capacity stretches.new ≡ vec_capacity stretches.old }
-{
-    let last = stretches.len() - 1;
-    let Stretch::Quiet(run) = stretches[last] else {
-        unreachable!()
-    };
-    stretches[last] = Stretch::Quiet(QuietRun {
-        more: run.more + 1,
-        ..run
-    });
-}
-
 /// Lengthens the last run by so many quiet ticks, of which the first has this caller, number and tick.
-pub fn go_on_for(stretches: &mut Vec<Stretch>, caller: Caller, number: u64, tick: u32, count: u32)
+#[inline(always)]
+pub fn go_on(stretches: &mut Vec<Stretch>, caller: Caller, number: u64, tick: u32, count: u32)
     requires next { model_goes_on stretches.old.items caller number tick ≡ true }
     requires number { number + count ≤ 2 ^ 64 }
     requires tick { tick + count ≤ 2 ^ 32 }
@@ -116,7 +98,7 @@ fn lengthen(stretches: &mut Vec<Stretch>, caller: Caller, number: u64, tick: u32
     if !goes_on(stretches, caller, number, tick) {
         return false;
     }
-    go_on(stretches, caller, number, tick);
+    go_on(stretches, caller, number, tick, 1);
     true
 }
 

@@ -189,8 +189,12 @@ one_more params h before t n still early so =
     let tick : ℕ = max t (last_tick 0 before) in
     let still' : is_still s ≡ true = still_slept e s n so.slept still in
     let early' : is_armed s.tx ≡ true → s.tx.age + 1 < patience s =
-    λ armed. omega (arith, early (sym (armed_slept e s n so.slept) ∙ armed), so.slept.age,
-    patience_slept e s n so.slept) in
+    λ armed. omega (
+      arith,
+      early (sym (armed_slept e s n so.slept) ∙ armed),
+      so.slept.age,
+      patience_slept e s n so.slept,
+    ) in
     let told = tick_quiet s tick (shown s []) still' early' in
     let made = tick_quiet s tick replies.Quiet still' early' in
     let x : Entry = record {

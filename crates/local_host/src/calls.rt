@@ -44,7 +44,7 @@ pub fn pass_one(flow: &mut FlowRecord, tick: u32) -> Result<(), AllocError>
     ensures params { flow.new.params ≡ flow.old.params }
 {
     // Most ticks lengthen a run.
-    if flow.pass_quietly(tick, &TimerWork) {
+    if flow.pass_quietly(tick, 1, &TimerWork) > 0 {
         return Ok(());
     }
     make(flow, Caller::Slow, tick, &CallIn::Tick, &TimerWork)?;

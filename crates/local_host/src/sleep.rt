@@ -99,7 +99,7 @@ fn pass_some(history: &mut FlowRecord, next: u32, most: u32) -> Result<u32, Allo
 {
     // Its phase tells that it is not.
     let _closed = is_closed(history);
-    let passed = history.pass_quietly_for(next, most, &TimerWork);
+    let passed = history.pass_quietly(next, most, &TimerWork);
     if passed > 0 {
         return Ok(passed);
     }

@@ -1,5 +1,5 @@
 use crate::control::control;
-use crate::timer::{pass_quietly, pass_quietly_for, tick as run_tick};
+use crate::timer::{pass_quietly, tick as run_tick};
 use flow_state::{Answer, CallIn, Clock, Engine, Parts};
 
 /// The engine of Tick and Control. It answers `None` exactly on the other calls.
@@ -28,12 +28,7 @@ impl Engine for TimerWork {
 }
 
 impl Clock for TimerWork {
-    #[tactic(auto, unfolding(tas_model::specs::LegalHistory::step))]
-    fn pass(&self, parts: &mut Parts, tick: u32) -> bool {
-        pass_quietly(parts, tick)
-    }
-
-    fn pass_for(&self, parts: &mut Parts, tick: u32, count: u32) -> u32 {
-        pass_quietly_for(parts, tick, count)
+    fn pass(&self, parts: &mut Parts, tick: u32, count: u32) -> u32 {
+        pass_quietly(parts, tick, count)
     }
 }

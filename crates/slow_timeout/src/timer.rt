@@ -30,33 +30,10 @@ pub fn tick(parts: &mut Parts, now: u32) -> Answer
     }
 }
 
-/// One tick of a flow that is not closed, where nothing comes of it but the bucket's fill and the timer's age, and says
-/// whether that is so. Else nothing changes.
-#[inline(always)]
-pub fn pass_quietly(parts: &mut Parts, now: u32) -> bool
-    requires { is_closed_phase parts.old.phase ≡ false }
-    ensures made { result ≡ true → (out : List ℕ) (e : Endpoint) → Valid e → Stands parts.old e
-        → IsStep parts.new answers.Quiet out (ticks e now) }
-    ensures unmade { result ≡ false → parts.new ≡ parts.old }
-    ensures phase { parts.new.phase ≡ parts.old.phase }
-    ensures tuple { parts.new.tuple ≡ parts.old.tuple }
-    ensures params { parts.new.params ≡ parts.old.params }
-{
-    if let Phase::TimeWait = parts.phase {
-        return false;
-    }
-    let Some(age) = next_age(parts) else {
-        return false;
-    };
-    fill(parts);
-    set_age(parts, age);
-    true
-}
-
 /// Ticks of a flow that is not closed, from this one on, as long as nothing comes of them but the bucket's fill and the
 /// timer's age, and at most so many. Answers how many passed.
 #[inline(always)]
-pub fn pass_quietly_for(parts: &mut Parts, from: u32, count: u32) -> u32
+pub fn pass_quietly(parts: &mut Parts, from: u32, count: u32) -> u32
     requires open { is_closed_phase parts.old.phase ≡ false }
     requires room { from + count ≤ 2 ^ 32 }
     ensures made { AreQuietTicks parts.old from result parts.new }
@@ -74,8 +51,8 @@ pub fn pass_quietly_for(parts: &mut Parts, from: u32, count: u32) -> u32
     done
 }
 
-/// One tick, where nothing comes of it. Else nothing changes.
-#[tactic(auto, unfolding(tas_model::specs::LegalHistory::step))]
+/// One tick of a flow that is not closed, where nothing comes of it but the bucket's fill and the timer's age, and says
+/// whether that is so. Else nothing changes.
 #[inline(always)]
 fn pass_one(parts: &mut Parts, now: u32) -> bool
     requires { is_closed_phase parts.old.phase ≡ false }
@@ -85,7 +62,15 @@ fn pass_one(parts: &mut Parts, now: u32) -> bool
     ensures tuple { parts.new.tuple ≡ parts.old.tuple }
     ensures params { parts.new.params ≡ parts.old.params }
 {
-    pass_quietly(parts, now)
+    if let Phase::TimeWait = parts.phase {
+        return false;
+    }
+    let Some(age) = next_age(parts) else {
+        return false;
+    };
+    fill(parts);
+    set_age(parts, age);
+    true
 }
 
 /// The bucket gets its fill.

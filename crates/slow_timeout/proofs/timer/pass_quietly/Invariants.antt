@@ -1,6 +1,6 @@
 use Rattle.std.proofs.Common.{◌≡◌, ◌-◌, ◌≤◌}
 use Rattle.flow_state.specs.Made.{AreQuietTicks}
-use Rattle.slow_timeout.proofs.timer.pass_quietly_for.Given as goal
+use Rattle.slow_timeout.proofs.timer.pass_quietly.Given as goal
 
 abbrev pub invariant-loop-done : goal.invariant-loop-done
 invariant-loop-done l = record {

@@ -1,0 +1,25 @@
+use Rattle.std.proofs.Common.{◌≡◌, [], false, Option, sym, ◌∙◌, ap, subst, rules}
+use Rattle.tas_model.specs.Endpoint.{Endpoint, phase}
+use Rattle.tas_model.specs.LegalHistory.{step}
+use Rattle.tas_model.specs.Segments.{Outcome}
+use Rattle.tas_model.specs.Timers.{ticks, filled}
+use Rattle.flow_state.specs.Calls.{is_closed_phase}
+use Rattle.flow_state.specs.declared.call.Answer.TheVariants as answers
+use Rattle.flow_state.specs.Made.{IsStep}
+use Rattle.slow_timeout.proofs.Ticking.{ticked_in, still_quiet}
+use Rattle.slow_timeout.proofs.timer.pass_one.Goals as goal
+
+pub returns-clause-made : goal.returns-clause-made
+unfolding step ticks
+returns-clause-made c is = record {
+  makes = λ e v s.
+      let live : is_closed_phase (phase e) ≡ false = ap is_closed_phase (sym s.phase) ∙ c.requires in
+      let e' : Endpoint = record e { rate = filled e.rate } in
+      record {
+        step = subst (λ (o : Option Outcome). IsStep c.set_age.new.parts answers.Quiet [] o)
+            (sym (ticked_in (phase e) e' c.args.now (λ h. c.in_default.not-TimeWait (s.phase ∙ h)) live))
+            (still_quiet e' c.set_age.new.parts c.in-Some.age [] (sym (c.next_age.ensures e v s) ∙ c.in-Some.is)
+            (c.set_age.ensures.after e' (c.fill.ensures.after e s)));
+      };
+  params = c.set_age.ensures.params ∙ c.fill.ensures.params;
+}
