@@ -7,6 +7,7 @@ mod counts;
 mod found;
 mod item;
 mod laws;
+mod marks;
 mod numbers;
 mod reader;
 
