@@ -1,5 +1,6 @@
 -- What the next piece tells of the endpoint, and the bytes that go with it.
-use Rattle.std.proofs.Common.{◌≡◌, ℕ, ◌+◌, ◌-◌, ◌≤◌, ◌<◌, ◌==◌, ◌&&◌, Bool, true, false, cond, eqb, nat_lt, List}
+use Rattle.std.proofs.Common.{◌≡◌, ℕ, ◌+◌, ◌-◌, ◌≤◌, ◌<◌, ◌==◌, ◌&&◌, Bool, true, false, cond, eqb, nat_lt, min}
+use Rattle.std.proofs.Common.{List}
 use Rattle.std.proofs.Common.{length, take, drop, Option, Some, None, is_some, IsSome, ◌↔◌, refl, sym, ◌∙◌, ap, subst}
 use Rattle.std.proofs.Common.{arith, tests, length-take, length-drop, true≢false}
 use Rattle.std.proofs.lemmas.List.{drop-drop}
@@ -12,6 +13,8 @@ use Rattle.flow_state.specs.declared.call.Answer.TheVariants as answers
 use Rattle.flow_state.specs.Made.{IsStep}
 use Rattle.tas_model.specs.Valid.{Valid}
 use Rattle.flow_state.specs.declared.stage.Stage.{Stage}
+use Rattle.flow_state.specs.declared.stage.Stage.TheVariants as stages
+use Rattle.flow_state.specs.App.{stage_by}
 use Rattle.flow_state.specs.declared.parts.Parts.{Parts}
 use Rattle.flow_state.specs.Stands.{Stands, acked_bytes}
 use Rattle.fast_tx.specs.declared.piece.Piece.{Piece}
@@ -63,12 +66,17 @@ opening_tells p e pieces.Fin v s c is = absurd (cc (only_syn (is_next p 0) piece
 due_fits : (p : Parts) → nat_lt 0 (bytes_due p) ≡ true → (bytes_due p ≤ bytes_waiting p) × (0 < bytes_waiting p)
 due_fits p t = grind (arith, tests, t)
 
-probe_waits : (a b c d f : Bool) → (a && b && c && d && f) ≡ true → d ≡ true
-probe_waits true true true true f t = refl
-probe_waits true true true false f t = absurd (true≢false (sym t))
-probe_waits true true false d f t = absurd (true≢false (sym t))
-probe_waits true false c d f t = absurd (true≢false (sym t))
-probe_waits false b c d f t = absurd (true≢false (sym t))
+probe_tests : (a b c d f : Bool) → (a && b && c && d && f) ≡ true → (d ≡ true) × (f ≡ true)
+probe_tests true true true true f t = (refl, t)
+probe_tests true true true false f t = absurd (true≢false (sym t))
+probe_tests true true false d f t = absurd (true≢false (sym t))
+probe_tests true false c d f t = absurd (true≢false (sym t))
+probe_tests false b c d f t = absurd (true≢false (sym t))
+
+-- a probe is due where a byte waits and a segment may have one
+probe_is : (p : Parts) → is_probe_due p ≡ true → (nat_lt 0 (bytes_waiting p) ≡ true) × (nat_lt 0 p.smss ≡ true)
+probe_is p due =
+    probe_tests p.probe (p.window == 0) (in_flight p == 0) (nat_lt 0 (bytes_waiting p)) (nat_lt 0 p.smss) due
 
 one_waits : (n : ℕ) → nat_lt 0 n ≡ true → (1 ≤ n) × (0 < n)
 one_waits n t = grind (arith, tests, t)
@@ -81,8 +89,7 @@ running_tells p e piece true t u c due probe is =
     subst (λ (x : Piece). Tells x p e) (some_is (pieces.Data (bytes_due p)) piece is)
     (record { running = c; fits = (due_fits p due).0; some = (due_fits p due).1 })
 running_tells p e piece false true u c due probe is =
-    let waits : nat_lt 0 (bytes_waiting p) ≡ true =
-    probe_waits p.probe (p.window == 0) (in_flight p == 0) (nat_lt 0 (bytes_waiting p)) (nat_lt 0 p.smss) probe in
+    let waits = (probe_is p probe).0 in
     subst (λ (x : Piece). Tells x p e) (some_is pieces.Probe piece is)
     (record {
       running = c;
@@ -104,6 +111,32 @@ pub tells : (p : Parts) (e : Endpoint) (piece : Piece) → Valid e → Stands p 
     → Tells piece p e
 tells p e piece v s is = tells_in (column e) p e piece v s refl
     (ap (λ (g : Stage). piece_at g p) (sym (parts_stage p e s)) ∙ is)
+
+-- ----- how many bytes go
+-- no more than a segment's, nor than the ring holds
+abbrev Fits : Parts → Piece → Type 0
+Fits p piece = piece_len piece ≤ min p.smss (length p.tx.bytes)
+
+running_fits : (p : Parts) (piece : Piece) (z t u : Bool) → is_probe_due p ≡ t
+    → ◌≡◌ {A = Option Piece} (cond z (Some (pieces.Data (bytes_due p)))
+    (cond t (Some pieces.Probe) (cond u (Some pieces.Fin) None))) (Some piece) → Fits p piece
+running_fits p piece true t u probe is =
+    subst (Fits p) (some_is (pieces.Data (bytes_due p)) piece is) (omega arith)
+running_fits p piece false true u probe is =
+    let due = probe_is p probe in
+    subst (Fits p) (some_is pieces.Probe piece is)
+    (omega (arith, (one_waits (bytes_waiting p) due.0).0, (one_waits p.smss due.1).0))
+running_fits p piece false false true probe is = subst (Fits p) (some_is pieces.Fin piece is) (omega arith)
+running_fits p piece false false false probe is = absurd (cc (is))
+
+fits_at : (g : Stage) (p : Parts) (piece : Piece) → piece_at g p ≡ Some piece → Fits p piece
+fits_at stages.Opening p piece is = subst (Fits p) (sym (only_syn (is_next p 0) piece is)) (omega arith)
+fits_at (stages.Over reason) p piece is = absurd (cc (is))
+fits_at stages.Running p piece is =
+    running_fits p piece (nat_lt 0 (bytes_due p)) (is_probe_due p) (is_fin_due p) refl is
+
+pub piece_fits : (p : Parts) (piece : Piece) → next_piece p ≡ Some piece → Fits p piece
+piece_fits p piece is = fits_at (stage_by p.reason p.phase) p piece is
 
 -- ----- the bytes
 place_is : (p : Parts) (e : Endpoint) (n : ℕ) → Valid e → Stands p e → SendsBytes p e n

@@ -3,7 +3,8 @@ ghost use Rattle.tas_model.specs.Endpoint.{Endpoint};
 ghost use Rattle.tas_model.specs.NextSegment.{going as model_going, emitted};
 ghost use Rattle.tas_model.specs.Valid.{Valid};
 ghost use Rattle.flow_state.specs.Stands.{Stands};
-ghost use Rattle.flow_state.specs.Calls.{answer_len};
+ghost use Rattle.flow_state.specs.Calls.{answer_len, reply_room};
+ghost use Rattle.flow_state.specs.declared.call.CallIn.TheVariants as ins;
 ghost use Rattle.flow_state.specs.Made.{IsStep};
 ghost use Rattle.fast_tx.specs.Piece.{next_piece as piece_of};
 
@@ -17,10 +18,10 @@ pub struct FastTx;
 
 /// Emits where something may go.
 fn emit_next(parts: &mut Parts, out: &mut [u8]) -> Option<Answer>
-    requires room { parts.old.smss ≤ length out.old }
+    requires room { reply_room parts.old ins.Emit ≤ length out.old }
     ensures made { IfSome result (λ answer. (e : Endpoint) → Valid e → Stands parts.old e
         → IsStep parts.new answer out.new (emitted (model_going e))) }
-    ensures bytes { IfSome result (λ answer. answer_len answer ≤ parts.old.smss) }
+    ensures bytes { IfSome result (λ answer. answer_len answer ≤ reply_room parts.old ins.Emit) }
     ensures tuple { parts.new.tuple ≡ parts.old.tuple }
     ensures params { parts.new.params ≡ parts.old.params }
     ensures unmade { IfNone result (parts.new ≡ parts.old) }

@@ -112,11 +112,12 @@ segment_count (answers.Got len (Some head)) = 1
 segment_count _ = 0
 
 -- ----- conditions
--- how many bytes a reply to it may have here: a Send takes what fits, and a Recv gives what is unread
+-- how many bytes a reply to it may have here: a Send takes what fits, a Recv gives what is unread, and a segment has no
+-- more than its MSS allows, nor than the ring holds
 abbrev pub reply_room : Parts → CallIn → ℕ
 reply_room p (ins.Send bytes) = min (length bytes.now) (room_of p.tx)
 reply_room p (ins.Recv most) = min most (length p.rx.bytes)
-reply_room p ins.Emit = p.smss
+reply_room p ins.Emit = min p.smss (length p.tx.bytes)
 reply_room p _ = 0
 
 -- how many bytes its reply, and its own payload, take at most here

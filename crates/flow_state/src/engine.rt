@@ -31,7 +31,7 @@ pub fn need(parts: &Parts, call: &CallIn<'_>) -> usize
         CallIn::Passive { seg, .. } | CallIn::Rx { seg, .. } => seg.payload.len(),
         CallIn::Send { bytes } => bytes.len().min(parts.tx.room() as usize),
         CallIn::Recv { most } => (*most).min(parts.rx.len()) as usize,
-        CallIn::Emit => parts.smss as usize,
+        CallIn::Emit => u32::from(parts.smss).min(parts.tx.len()) as usize,
         _ => 0,
     }
 }

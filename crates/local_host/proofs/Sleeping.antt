@@ -1,7 +1,7 @@
 -- What ticks do to a flow of which nothing comes in them: they are quiet, and leave it as it is but for the timer's age
 -- and the bucket.
-use Rattle.std.proofs.Common.{◌≡◌, ℕ, zero, suc, ◌+◌, ◌-◌, ◌*◌, ◌^◌, ◌<◌, ◌≤◌, ◌==◌, ◌&&◌, not, Bool, true, false}
-use Rattle.std.proofs.Common.{List, [], ◌∷◌, ◌++◌, min, max}
+use Rattle.std.proofs.Common.{◌≡◌, ℕ, zero, suc, ◌+◌, ◌-◌, ◌^◌, ◌<◌, ◌≤◌, ◌==◌, ◌&&◌, not, Bool, true, false}
+use Rattle.std.proofs.Common.{List, [], ◌∷◌, ◌++◌, max}
 use Rattle.std.proofs.Common.{nat_lt, Option, Some, None, is_some, if◌then◌else◌}
 use Rattle.std.proofs.Common.{refl, sym, ap, subst, ◌∙◌, true≢false, arith, append_assoc, append-nil}
 use Rattle.std.proofs.lemmas.Bool.Decides.{nat_tests}
@@ -18,11 +18,11 @@ use Rattle.tas_model.specs.Endpoint.{Endpoint, phase, phase_by, is_fin_acked, is
 use Rattle.tas_model.specs.Segments.{Outcome}
 use Rattle.tas_model.specs.ApplicationCalls.{Column, Opening, Over, Running, column, column_by}
 use Rattle.tas_model.specs.NextSegment.{going, going_in, going_opening, going_running, data_len, waiting}
-use Rattle.tas_model.specs.Timers.{ticks, tick_in, filled, ticked as timer, is_armed, patience}
+use Rattle.tas_model.specs.Timers.{ticks, filled, ticked as timer, is_armed, patience}
 use Rattle.tas_model.specs.LegalHistory.{Legal, replay, step, extended_by, last_tick, next_number, shown, state_or}
 use Rattle.tas_model.specs.LegalHistory.{reply_or}
 use Rattle.host_rounds.specs.Lists.{Each}
-use Rattle.local_host.specs.Lacking.{IsQuietTick}
+use Rattle.local_host.specs.Lacking.{IsQuietEntry}
 use Rattle.tas_model.proofs.Grows.{legal_by}
 use Rattle.tas_model.proofs.Histories.{replay_push}
 use Rattle.flow_state.specs.Calls.{is_closed_phase}
@@ -31,6 +31,7 @@ use Rattle.host_rounds.specs.Logs.{Flow}
 use Rattle.host_rounds.specs.Hosts.{Live, endpoint, is_over, with_call}
 use Rattle.host_rounds.specs.Upkeep.{timed, controlled}
 use Rattle.slow_timeout.specs.Age.{early_ticks}
+use Rattle.slow_timeout.proofs.Ticking.{ticked_in}
 use Rattle.local_host.specs.declared.sleep.Sleep.{Sleep}
 use Rattle.local_host.specs.Live.{called}
 use Rattle.local_host.specs.Sleep.{is_still_by, is_still, MaySleep, IsRested, with_ticks, ticked_flow}
@@ -73,20 +74,6 @@ none_of_still e still = by_column (column e) still where
       none_running e (grind (arith, nat_tests, both.0)) (not_true e.tx.shut both.1)
 
 -- ----- one tick
--- the tick of a phase that is neither TIME-WAIT nor CLOSED is the timer's
-timer_ticks : (ph : Phase) (e : Endpoint) (tick : ℕ) → (ph ≡ phases.TimeWait → ⊥) → is_closed_phase ph ≡ false
-    → tick_in ph e tick ≡ Some (timer e)
-timer_ticks phases.SynSent e tick other live = refl
-timer_ticks phases.SynReceived e tick other live = refl
-timer_ticks phases.Established e tick other live = refl
-timer_ticks phases.FinWait1 e tick other live = refl
-timer_ticks phases.FinWait2 e tick other live = refl
-timer_ticks phases.CloseWait e tick other live = refl
-timer_ticks phases.Closing e tick other live = refl
-timer_ticks phases.LastAck e tick other live = refl
-timer_ticks phases.TimeWait e tick other live = absurd (other refl)
-timer_ticks phases.Closed e tick other live = absurd (cc (live))
-
 -- a phase with such ticks
 abbrev Ticks : Phase → Type 0
 Ticks ph = (ph ≡ phases.TimeWait → ⊥) × (is_closed_phase ph ≡ false)
@@ -148,7 +135,7 @@ tick_quiet e t reply still early =
     let timer = timer_quiet e early in (
       timer.0,
       timer.1,
-      timer_ticks (phase e) (record e { rate = filled e.rate }) t in_phase.0 in_phase.1
+      ticked_in (phase e) (record e { rate = filled e.rate }) t in_phase.0 in_phase.1
           ∙ ap (λ (o : Outcome). Some o) timer.2,
     )
 
@@ -164,7 +151,7 @@ pub record SleptOn (params : HostParams) (h : List Entry) (n : ℕ) (after : Lis
   pub slept : Slept (replay params h) n (replay params after)
   pub ticks : List Entry
   pub entries : after ≡ h ++ ticks
-  pub quiet : Each IsQuietTick ticks
+  pub quiet : Each IsQuietEntry ticks
 
 each_push : {X : Type 0} (P : X → Type 0) (xs : List X) (x : X) → Each P xs → P x → Each P (xs ++ x ∷ [])
 each_push P [] x each here = (here, tt)
@@ -219,7 +206,7 @@ one_more params h before t n still early so =
           });
       ticks = so.ticks ++ x ∷ [];
       entries = ap (λ (xs : List Entry). xs ++ x ∷ []) so.entries ∙ append_assoc h so.ticks (x ∷ []);
-      quiet = each_push IsQuietTick so.ticks x so.quiet (record { call = refl; reply = reply });
+      quiet = each_push IsQuietEntry so.ticks x so.quiet (record { call = refl; reply = reply });
     }
 
 -- where so many ticks may be slept through, the first of them leave all as it is

@@ -8,7 +8,7 @@ use Rattle.host_rounds.specs.Lists.{Each}
 use Rattle.host_rounds.specs.Logs.{Flow}
 
 -- a Tick of which nothing came
-pub record IsQuietTick (x : Entry) : Type 0 where
+pub record IsQuietEntry (x : Entry) : Type 0 where
   pub call : x.call ≡ calls.Tick
   pub reply : x.reply ≡ replies.Quiet
 
@@ -16,7 +16,7 @@ pub record IsQuietTick (x : Entry) : Type 0 where
 pub record LacksTicks (r : records.Flow) (f : Flow) : Type 0 where
   pub ticks : List Entry
   pub entries : f.entries ≡ r.entries ++ ticks
-  pub quiet : Each IsQuietTick ticks
+  pub quiet : Each IsQuietEntry ticks
   pub id : r.id ≡ f.id
   pub tuple : r.tuple ≡ f.tuple
   pub params : r.params ≡ f.params

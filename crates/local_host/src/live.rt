@@ -267,6 +267,7 @@ impl LiveFlow {
     }
 
     /// One tick passes, unless it is closed, and its rate is controlled where that is due. The error is want of memory.
+    #[inline(always)]
     pub fn tick(&mut self, tick: u32) -> Result<(), AllocError>
         ensures { OnOk result (self.new ≡ timed Slow tick self.old) }
     {
@@ -275,6 +276,13 @@ impl LiveFlow {
         if self.sleep.pass(tick) {
             return Ok(());
         }
+        self.tick_awake(tick)
+    }
+
+    /// The same of one that may not sleep through it.
+    fn tick_awake(&mut self, tick: u32) -> Result<(), AllocError>
+        ensures { OnOk result (self.new ≡ timed Slow tick self.old) }
+    {
         let slept = self.sleep;
         self.sleep = AWAKE;
         wake(&mut self.history, &slept)?;

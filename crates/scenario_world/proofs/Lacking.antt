@@ -9,19 +9,19 @@ use Rattle.tas_model.specs.Outputs.{segments_in, sent}
 use Rattle.flow_state.specs.Flow as records
 use Rattle.host_rounds.specs.Lists.{Each}
 use Rattle.host_rounds.specs.Logs.{Flow}
-use Rattle.local_host.specs.Lacking.{IsQuietTick, LacksTicks}
+use Rattle.local_host.specs.Lacking.{IsQuietEntry, LacksTicks}
 use Rattle.scenario_runs.specs.Worlds.{World, host_at, frames_of_entries}
 use Rattle.sent_frames.specs.declared.frames.Origin.{Origin}
 use Rattle.sent_frames.specs.Sending.{entry_frames, segment_frames, sent_by, sent_before}
 use Rattle.sent_frames.proofs.Numbered.{sent_by-append, entry_frames-append}
 
 -- ----- quiet ticks send nothing
-none_by : (xs : List Entry) → Each IsQuietTick xs → sent_by xs ≡ 0
+none_by : (xs : List Entry) → Each IsQuietEntry xs → sent_by xs ≡ 0
 none_by [] quiet = refl
 none_by (x ∷ xs) quiet =
     ap (λ (r : Reply). length (segments_in r ++ sent xs)) quiet.0.reply ∙ none_by xs quiet.1
 
-none_before : (t : ℕ) (xs : List Entry) → Each IsQuietTick xs → sent_before t xs ≡ 0
+none_before : (t : ℕ) (xs : List Entry) → Each IsQuietEntry xs → sent_before t xs ≡ 0
 none_before t [] quiet = refl
 none_before t (x ∷ xs) quiet = by_test (ltb x.tick t) (none_before t xs quiet.1)
   where
@@ -32,7 +32,7 @@ none_before t (x ∷ xs) quiet = by_test (ltb x.tick t) (none_before t xs quiet.
     by_test true none = ap (λ (r : Reply). length (segments_in r ++ sent rest)) quiet.0.reply ∙ none
     by_test false none = none
 
-no_frames : (o : Origin) (n : ℕ) (xs : List Entry) → Each IsQuietTick xs → entry_frames o n xs ≡ []
+no_frames : (o : Origin) (n : ℕ) (xs : List Entry) → Each IsQuietEntry xs → entry_frames o n xs ≡ []
 no_frames o n [] quiet = refl
 no_frames o n (x ∷ xs) quiet =
     ap (λ (r : Reply). segment_frames o n x.tick (segments_in r) ++ entry_frames o (n + length (segments_in r)) xs)

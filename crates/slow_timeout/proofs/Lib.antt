@@ -1,1 +1,1 @@
-mod Ticking
+pub mod Ticking
