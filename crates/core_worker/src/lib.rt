@@ -3,12 +3,13 @@
 
 mod entering;
 mod frames;
+mod handed;
 mod handing;
 mod handling;
 mod kicks;
 mod laws;
-mod lists;
 mod news;
+mod passed;
 mod receiving;
 mod senders;
 mod sending;
@@ -22,6 +23,7 @@ pub use handing::core_for;
 pub use kicks::{Kick, KickList};
 pub use laws::{no_change_is_no_news, senders_stay_own};
 pub use news::{News, Progress};
+pub use passed::PassedFrames;
 pub use senders::{AppSender, AppSenders};
 pub use shared::{AppQueue, Shared};
 pub use worker::CoreWorker;

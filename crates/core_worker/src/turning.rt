@@ -11,7 +11,7 @@ ghost use Rattle.core_worker.specs.Turns.{IsTurnStopped};
 use crate::frames::{Frame, Handled, Passed, PassedFrame};
 use crate::handling::{Duty, handle};
 use crate::kicks::KICK;
-use crate::lists::PassedList;
+use crate::passed::PassedFrames;
 use crate::sending::send;
 use crate::shared::Shared;
 use crate::worker::CoreWorker;
@@ -94,8 +94,8 @@ impl CoreWorker {
         ensures left { OnErr result (IsFrameLeft shared.now tick self.old self.new) }
         ensures same { (self.new.core ≡ self.old.core) × (self.new.kicks ≡ self.old.kicks) }
     {
-        self.deferred.reserve()?;
-        self.exceptions.reserve()?;
+        self.deferred.reserve(1)?;
+        self.exceptions.reserve(1)?;
         let Some(first) = self.frames.first() else {
             unreachable!()
         };
@@ -180,7 +180,7 @@ impl CoreWorker {
 }
 
 /// Puts a frame that was handled where its answer says.
-fn place(deferred: &mut PassedList, exceptions: &mut PassedList, frame: Frame, handled: Handled)
+fn place(deferred: &mut PassedFrames, exceptions: &mut PassedFrames, frame: Frame, handled: Handled)
     requires room { (0 < deferred.old.spare) × (0 < exceptions.old.spare) }
     ensures deferred { deferred.new.list ≡ deferred.old.list ++ deferred_by frame handled }
     ensures exceptions { exceptions.new.list ≡ exceptions.old.list ++ exceptions_by frame handled }

@@ -4,8 +4,9 @@ ghost use Rattle.core_worker.specs.Workers.{with_log, with_senders, new_worker, 
 ghost use Rattle.core_worker.specs.Handling.{IsHandled, IsUnhandled, setting_of};
 
 use crate::frames::{Frame, Handled, PassedFrame};
+use crate::handed::FrameList;
 use crate::handling::{Duty, handle};
-use crate::lists::{FrameList, PassedList};
+use crate::passed::PassedFrames;
 use crate::senders::AppSenders;
 use crate::shared::Shared;
 use context_queue::{ReceiverPass, SenderPass};
@@ -31,8 +32,8 @@ pub struct CoreWorker {
     pub(crate) reader: IndexReader,
     pub(crate) log: HostLog,
     pub(crate) frames: FrameList,
-    pub(crate) deferred: PassedList,
-    pub(crate) exceptions: PassedList,
+    pub(crate) deferred: PassedFrames,
+    pub(crate) exceptions: PassedFrames,
     pub(crate) kicks: ReceiverPass,
     pub(crate) senders: AppSenders,
 }
@@ -82,8 +83,8 @@ impl CoreWorker {
             reader,
             log: HostLog::new(alloc),
             frames: FrameList::new(alloc),
-            deferred: PassedList::new(alloc),
-            exceptions: PassedList::new(alloc),
+            deferred: PassedFrames::new(alloc),
+            exceptions: PassedFrames::new(alloc),
             kicks,
             senders: AppSenders::new(alloc),
         }

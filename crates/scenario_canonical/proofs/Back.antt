@@ -14,7 +14,7 @@ use Rattle.link_script.specs.declared.script.DropEach.{DropEach}
 use Rattle.scenario_text.specs.Statements.{reading, none_given}
 use Rattle.scenario_text.specs.Canonical.{line_of, host_text, app_text, step_text, act_line, act_text, each_text}
 use Rattle.scenario_text.specs.Canonical.{name_in, name_at, move_text, kill_text, canonical}
-use Rattle.scenario_text.specs.Drafts.{no_draft, is_unknown, repeats, is_full, judged, host_of, has_host, has_none}
+use Rattle.scenario_text.specs.Drafts.{no_draft, is_unknown, repeats, is_full, judged, host_of, has_host}
 use Rattle.scenario_text.specs.Drafts.{is_nil, last_steps, with_step, with_line, host_with}
 use Rattle.scenario_text.specs.Reads.{taken_if, taken_by, taken, finished, read_from, reads}
 use Rattle.scenario_text.specs.declared.draft.Draft.{Draft}
@@ -240,9 +240,9 @@ kill_back s all before k rest t l =
     (ap not t.known) t.fresh refl refl all l
 
 -- ----- the whole
-done : (s : Scenario) → has_none s.hosts ≡ false → Leads (with_kills s s.kills) [] (Ok s)
+done : (s : Scenario) → is_nil s.hosts ≡ false → Leads (with_kills s s.kills) [] (Ok s)
 done s some line = by_hosts s.hosts some where
-  by_hosts : (hosts : List HostLine) → has_none hosts ≡ false → finished line (with_kills s s.kills) hosts ≡ Ok s
+  by_hosts : (hosts : List HostLine) → is_nil hosts ≡ false → finished line (with_kills s s.kills) hosts ≡ Ok s
   by_hosts [] e = absurd (cc (e))
   by_hosts (host ∷ hosts) e = refl
 

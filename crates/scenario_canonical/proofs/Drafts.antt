@@ -10,7 +10,7 @@ use Rattle.link_script.specs.declared.script.Target.{Target}
 use Rattle.scenario_text.specs.Statements.{reading}
 use Rattle.scenario_text.specs.Drafts.{no_draft, is_unknown, repeats, is_full, judged, host_of, has_host, has_address}
 use Rattle.scenario_text.specs.Drafts.{has_app, has_kill, host_with, is_nil, last_steps, is_lost_step, brings}
-use Rattle.scenario_text.specs.Drafts.{brings_again, is_second, is_second_each, with_step, with_line, has_none}
+use Rattle.scenario_text.specs.Drafts.{brings_again, is_second, is_second_each, with_step, with_line}
 use Rattle.scenario_text.specs.Reads.{taken_if, taken_by, taken, finished, read_from, reads}
 use Rattle.scenario_text.specs.declared.draft.Draft.{Draft}
 use Rattle.scenario_text.specs.declared.scenario.HostLine.{HostLine}
@@ -252,7 +252,7 @@ draft_of s = record {
 -- A scenario whose lines can all be printed and read again, and that has a host.
 pub record IsWhole (s : Scenario) : Type 0 where
   pub lines : IsTaken (draft_of s)
-  pub some : has_none s.hosts ≡ false
+  pub some : is_nil s.hosts ≡ false
 
 limit_or_default : (limit : Option ℕ) → IfSome limit IsLimitLine → IsLimitLine (unwrap_or limit 1000)
 limit_or_default None h = limit_said 1000 default_limit
@@ -272,7 +272,7 @@ finished_by line d (host ∷ hosts) e h = record {
     moves = h.moves;
     kills = h.kills;
   };
-  some = ap has_none e;
+  some = ap is_nil e;
 }
 
 all_lines : (line : ℕ) (d : Draft) (texts : List (List ℕ)) → IsTaken d → IfOk (read_from line d texts) IsWhole

@@ -1,6 +1,6 @@
 -- A scenario as far as its lines were read: the kinds of refusal from 6 to 8, and what a line adds.
-use Rattle.std.specs.Prelude.{◌≡◌, ℕ, ◌+◌, Bool, true, false, not, ◌&&◌, ◌||◌, ◌==◌, nat_le, List, [], ◌∷◌, ◌++◌}
-use Rattle.std.specs.Prelude.{length, Option, Some, None, is_some, is_none, unwrap_or, bytes_eq, position}
+use Rattle.std.specs.Prelude.{◌≡◌, ℕ, Bool, true, false, not, ◌&&◌, ◌||◌, ◌==◌, nat_le, List, [], ◌∷◌, ◌++◌}
+use Rattle.std.specs.Prelude.{length, Option, Some, None, is_some, unwrap_or, bytes_eq, position}
 use Rattle.std.specs.Prelude.{if◌then◌else◌}
 use Rattle.std.specs.List.{list_any}
 use Rattle.std.specs.declared.cmp.Ordering.{Ordering}
@@ -10,11 +10,9 @@ use Rattle.std.specs.BTreeMap.{BTreeMap, get_by}
 use Rattle.std.specs.BTreeSet.{BTreeSet, contains}
 use Rattle.std.specs.declared.vec.Vec.{Vec}
 use Rattle.std.specs.declared.alloc.Global.{Global}
-use Rattle.tas_model.specs.declared.entry.HostParams.{HostParams}
 use Rattle.link_script.specs.LinkLines.{LinkLines, line_on, drop_each_of, with_act, with_drop_each, no_lines}
 use Rattle.scenario_text.specs.declared.scenario.HostLine.{HostLine}
 use Rattle.scenario_text.specs.declared.scenario.AppLine.{AppLine}
-use Rattle.scenario_text.specs.declared.scenario.MoveLine.{MoveLine}
 use Rattle.scenario_text.specs.declared.scenario.KillLine.{KillLine}
 use Rattle.scenario_text.specs.declared.scenario.Step.{Step}
 use Rattle.scenario_text.specs.declared.scenario.Step.TheVariants as steps
@@ -36,10 +34,6 @@ host_of hosts name = position (λ (h : HostLine). bytes_eq h.name name) hosts
 
 abbrev pub has_host : List HostLine → (name : List ℕ) → Bool
 has_host hosts name = is_some (host_of hosts name)
-
-abbrev pub has_none : List HostLine → Bool
-has_none [] = true
-has_none (host ∷ hosts) = false
 
 abbrev pub has_address : List HostLine → (addr : ℕ) → Bool
 has_address hosts addr = list_any (λ (h : HostLine). h.params.addr == addr) hosts
@@ -84,9 +78,9 @@ last_steps [] = []
 last_steps (app ∷ []) = app.steps
 last_steps (app ∷ other ∷ apps) = last_steps (other ∷ apps)
 
-abbrev pub is_nil : List AppLine → Bool
+abbrev pub is_nil : {A : Type 0} → List A → Bool
 is_nil [] = true
-is_nil (app ∷ apps) = false
+is_nil (x ∷ xs) = false
 
 -- ----- kind 6: an unknown name, another word, or a step before any application
 -- a step that names a listener, a host or a socket that does not stand

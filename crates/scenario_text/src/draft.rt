@@ -2,10 +2,10 @@ ghost use Rattle.std.specs.Prelude.{◌≡◌, ◌<◌, ◌≤◌, ◌||◌, ℕ
 ghost use Rattle.scenario_text.specs.Drafts as drafts;
 ghost use Rattle.scenario_text.specs.declared.scenario.Step.{Step};
 
-use crate::lists::{AppList, HostList, KillList, MoveList};
+use crate::lists::Lines;
 use crate::names::{Names, has_name};
 use crate::roles::{Roles, brings_again, is_listener, is_socket};
-use crate::scenario::{HostLine, KillLine, Step};
+use crate::scenario::{AppLine, HostLine, KillLine, MoveLine, Step};
 use crate::statement::Statement;
 use link_script::{LinkScript, Target};
 use std::alloc::{AllocError, Global};
@@ -21,11 +21,11 @@ const MOST_STEPS: usize = 1_000;
 #[derive(Drop)]
 pub struct Draft {
     pub limit: Option<u32>,
-    pub hosts: HostList,
-    pub apps: AppList,
+    pub hosts: Lines<HostLine>,
+    pub apps: Lines<AppLine>,
     pub link: LinkScript,
-    pub moves: MoveList,
-    pub kills: KillList,
+    pub moves: Lines<MoveLine>,
+    pub kills: Lines<KillLine>,
 }
 
 /// The place of the host of a name.
@@ -99,11 +99,11 @@ impl Draft {
     {
         Ok(Draft {
             limit: None,
-            hosts: HostList::new(alloc),
-            apps: AppList::new(alloc),
+            hosts: Lines::new(alloc),
+            apps: Lines::new(alloc),
             link: LinkScript::new(alloc)?,
-            moves: MoveList::new(alloc),
-            kills: KillList::new(alloc),
+            moves: Lines::new(alloc),
+            kills: Lines::new(alloc),
         })
     }
 

@@ -18,7 +18,7 @@ mod taking;
 mod words;
 
 pub use bulk::bulk_scenario;
-pub use lists::{AppList, HostList, KillList, MoveList, StepList};
+pub use lists::Lines;
 pub use printing::print_scenario;
 pub use reading::{ScenarioFault, read_scenario};
 pub use scenario::{AppLine, HostLine, KillLine, MoveLine, Scenario, Step};

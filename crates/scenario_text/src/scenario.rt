@@ -1,4 +1,4 @@
-use crate::lists::{AppList, HostList, KillList, MoveList, StepList};
+use crate::lists::Lines;
 use link_script::LinkScript;
 use tas_model::{Bytes, HostParams};
 
@@ -41,7 +41,7 @@ pub enum Step {
 pub struct AppLine {
     pub host: Bytes,
     pub name: Bytes,
-    pub steps: StepList,
+    pub steps: Lines<Step>,
 }
 
 /// A group of flows of a host goes to a core, at a tick.
@@ -67,9 +67,9 @@ pub struct KillLine {
 #[derive(Drop)]
 pub struct Scenario {
     pub limit: u32,
-    pub hosts: HostList,
-    pub apps: AppList,
+    pub hosts: Lines<HostLine>,
+    pub apps: Lines<AppLine>,
     pub link: LinkScript,
-    pub moves: MoveList,
-    pub kills: KillList,
+    pub moves: Lines<MoveLine>,
+    pub kills: Lines<KillLine>,
 }

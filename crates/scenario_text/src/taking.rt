@@ -2,7 +2,7 @@ ghost use Rattle.std.specs.Prelude.{◌≡◌, ◌≤◌, ◌++◌, ◌∷◌, [
 ghost use Rattle.scenario_text.specs.Drafts as drafts;
 
 use crate::draft::Draft;
-use crate::lists::StepList;
+use crate::lists::Lines;
 use crate::names::{Names, take_name};
 use crate::roles::take_role;
 use crate::scenario::{AppLine, HostLine, KillLine, Step};
@@ -77,7 +77,7 @@ impl Draft {
         self.apps.push(AppLine {
             host,
             name,
-            steps: StepList::new(alloc),
+            steps: Lines::new(alloc),
         })
     }
 

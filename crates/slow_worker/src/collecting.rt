@@ -3,13 +3,12 @@ ghost use Rattle.std.specs.Prelude.{◌≡◌, ◌≤◌, ◌++◌, [], length, 
 ghost use Rattle.core_worker.specs.Workers.{with_exceptions, with_deferred};
 ghost use Rattle.slow_worker.specs.Queues.{IsCollected, IsUncollected};
 
-use crate::waiting::WaitingFrames;
 use crate::worker::SlowWorker;
-use core_worker::CoreWorker;
+use core_worker::{CoreWorker, PassedFrames};
 use std::alloc::AllocError;
 
 /// Moves a core's exceptions behind the frames of a list.
-fn move_exceptions(frames: &mut WaitingFrames, core: &mut CoreWorker)
+fn move_exceptions(frames: &mut PassedFrames, core: &mut CoreWorker)
     requires room { length core.old.exceptions ≤ frames.old.spare }
     ensures list { frames.new.list ≡ frames.old.list ++ core.old.exceptions }
     ensures core { core.new ≡ with_exceptions [] core.old }
@@ -23,7 +22,7 @@ fn move_exceptions(frames: &mut WaitingFrames, core: &mut CoreWorker)
 }
 
 /// Moves a core's deferred frames behind the frames of a list.
-fn move_deferred(frames: &mut WaitingFrames, core: &mut CoreWorker)
+fn move_deferred(frames: &mut PassedFrames, core: &mut CoreWorker)
     requires room { length core.old.deferred ≤ frames.old.spare }
     ensures list { frames.new.list ≡ frames.old.list ++ core.old.deferred }
     ensures core { core.new ≡ with_deferred [] core.old }

@@ -11,7 +11,6 @@ mod opening;
 mod queues;
 mod served;
 mod turning;
-mod waiting;
 mod worker;
 
 pub use laws::{few_for_ticks, frames_open_free_slots};

@@ -7,10 +7,9 @@ use crate::kicking::Kickers;
 use crate::known::KnownFlows;
 use crate::opening::show;
 use crate::served::Served;
-use crate::waiting::WaitingFrames;
 use app_reaper::{FiledList, PinList};
 use context_queue::SenderPass;
-use core_worker::{AppSenders, KickList, PassedFrame, Shared, tuple_of};
+use core_worker::{AppSenders, KickList, PassedFrame, PassedFrames, Shared, tuple_of};
 use flow_index::{IndexReader, IndexWriter};
 use flow_lock::SlowPass;
 use flow_state::FlowRecord;
@@ -45,8 +44,8 @@ pub struct SlowWorker {
     pub(crate) doomed: PinList,
     pub(crate) flows: KnownFlows,
     pub(crate) index: IndexWriter,
-    pub(crate) deferred: WaitingFrames,
-    pub(crate) exceptions: WaitingFrames,
+    pub(crate) deferred: PassedFrames,
+    pub(crate) exceptions: PassedFrames,
     /// The last tick whose time has passed for the flows.
     pub(crate) ticked: Option<u32>,
     pub(crate) senders: AppSenders,
@@ -121,8 +120,8 @@ impl SlowWorker {
             doomed: PinList::new(alloc),
             flows: KnownFlows::new(alloc),
             index,
-            deferred: WaitingFrames::new(alloc),
-            exceptions: WaitingFrames::new(alloc),
+            deferred: PassedFrames::new(alloc),
+            exceptions: PassedFrames::new(alloc),
             ticked: None,
             senders: AppSenders::new(alloc),
             kicks: KickList::new(alloc),

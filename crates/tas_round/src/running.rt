@@ -12,7 +12,7 @@ use crate::logs::{FlowList, HostRun, HostRuns, RunLog};
 use crate::replaying::Mode;
 use local_host::HostEnd;
 use scenario_runs::serial_order_is_right;
-use scenario_text::{HostLine, HostList, Scenario};
+use scenario_text::{HostLine, Lines, Scenario};
 use scenario_world::{WorldEnd, play_scenario, play_scenario_on_cores};
 use std::alloc::{AllocError, Global};
 use std::sync::Wait;
@@ -92,7 +92,7 @@ fn log_of(alloc: Global, s: &Scenario, end: WorldEnd) -> Result<RunLog, AllocErr
 /// What the hosts of these lines leave, in their order. The error is want of memory.
 fn host_runs(
     alloc: Global,
-    lines: &HostList,
+    lines: &Lines<HostLine>,
     ends: Vec<HostEnd>,
 ) -> Result<Vec<HostRun>, AllocError>
     requires hosts { length ends.items ≡ length lines.now }

@@ -1,7 +1,7 @@
 use Rattle.std.proofs.Common.{◌≡◌, ◌+◌, ◌∙◌, sym, ap, length, arith}
 use Rattle.scenario_text.specs.Drafts.{last_steps}
 use Rattle.scenario_text.proofs.RoleMaps.{last_at}
-use Rattle.scenario_text.proofs.lists.AppList.last_steps.Goals as goal
+use Rattle.scenario_text.proofs.lists.Lines+AppLine.last_steps.Goals as goal
 
 pub returns-in-Some : goal.returns-in-Some
 returns-in-Some c =

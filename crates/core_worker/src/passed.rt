@@ -1,18 +1,18 @@
-// Frames that wait for the slow path.
+// Frames that cores pass on to the slow path.
 ghost use Rattle.std.specs.Prelude.{◌≡◌, ◌+◌, ◌<◌, ◌≤◌, ◌++◌, ◌∷◌, [], length, OnOk, IfNone, IfSome};
 
-use core_worker::PassedFrame;
+use crate::frames::PassedFrame;
 use std::alloc::{AllocError, Global};
 use std::collections::VecDeque;
 use std::marker::Model;
 
 /// Frames that cores passed on, the first first.
 #[derive(Drop)]
-pub(crate) struct WaitingFrames {
+pub struct PassedFrames {
     frames: VecDeque<PassedFrame>,
 }
 
-impl Model for WaitingFrames {
+impl Model for PassedFrames {
     ghost use Rattle.std.specs.Prelude.{◌-◌};
     ghost use Rattle.std.specs.VecDeque.{deque_len, deque_capacity};
     ghost use Rattle.app_reaper.specs.Lists.{Roomy};
@@ -23,24 +23,25 @@ impl Model for WaitingFrames {
     ghost view = { λ l. record { list = l.frames.items; spare = deque_capacity l.frames - deque_len l.frames } };
 }
 
-impl WaitingFrames {
-    pub(crate) fn new(alloc: Global) -> WaitingFrames
+impl PassedFrames {
+    /// No frames. It takes no memory.
+    pub fn new(alloc: Global) -> PassedFrames
         ensures { result.list ≡ [] }
     {
-        WaitingFrames {
+        PassedFrames {
             frames: VecDeque::new(alloc),
         }
     }
 
     /// How many frames there are.
-    pub(crate) fn len(&self) -> usize
+    pub fn len(&self) -> usize
         ensures { result ≡ length self.now.list }
     {
         self.frames.len()
     }
 
     /// Makes room for so many frames more. The error is want of memory.
-    pub(crate) fn reserve(&mut self, more: usize) -> Result<(), AllocError>
+    pub fn reserve(&mut self, more: usize) -> Result<(), AllocError>
         ensures room { OnOk result (more ≤ self.new.spare) }
         ensures list { self.new.list ≡ self.old.list }
     {
@@ -48,7 +49,7 @@ impl WaitingFrames {
     }
 
     /// Appends a frame.
-    pub(crate) fn put(&mut self, frame: PassedFrame)
+    pub fn put(&mut self, frame: PassedFrame)
         requires room { 0 < self.old.spare }
         ensures list { self.new.list ≡ self.old.list ++ frame ∷ [] }
         ensures room { self.new.spare + 1 ≡ self.old.spare }
@@ -57,7 +58,7 @@ impl WaitingFrames {
     }
 
     /// Puts a frame before all others.
-    pub(crate) fn put_back(&mut self, frame: PassedFrame)
+    pub fn put_back(&mut self, frame: PassedFrame)
         requires room { 0 < self.old.spare }
         ensures list { self.new.list ≡ frame ∷ self.old.list }
     {
@@ -65,7 +66,7 @@ impl WaitingFrames {
     }
 
     /// Takes the first frame out. There is then room for one more.
-    pub(crate) fn take_first(&mut self) -> Option<PassedFrame>
+    pub fn take_first(&mut self) -> Option<PassedFrame>
         ensures none { IfNone result ((self.old.list ≡ []) × (self.new.list ≡ [])) }
         ensures first { IfSome result (λ f. self.old.list ≡ f ∷ self.new.list) }
         ensures room { IfSome result (λ _. 0 < self.new.spare) }
@@ -74,7 +75,7 @@ impl WaitingFrames {
     }
 
     /// The frames alone.
-    pub(crate) fn into_frames(self) -> VecDeque<PassedFrame>
+    pub fn into_frames(self) -> VecDeque<PassedFrame>
         ensures { result.items ≡ self.list }
     {
         self.frames

@@ -1,7 +1,7 @@
 use Rattle.std.proofs.Common.{◌≡◌, ◌+◌, ◌∙◌, ap, length, arith}
 use Rattle.scenario_text.specs.Drafts.{with_step}
 use Rattle.scenario_text.proofs.RoleMaps.{set_last}
-use Rattle.scenario_text.proofs.lists.AppList.push_step.Goals as goal
+use Rattle.scenario_text.proofs.lists.Lines+AppLine.push_step.Goals as goal
 
 pub returns-in_ok-push : goal.returns-in_ok-push
 returns-in_ok-push c =
