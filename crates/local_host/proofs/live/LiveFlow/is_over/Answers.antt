@@ -1,18 +1,16 @@
 use Rattle.std.proofs.Common.{◌≡◌, true, not, ap, sym, ◌∙◌}
-use Rattle.host_rounds.specs.Logs.{Flow}
 use Rattle.host_rounds.specs.Hosts.{Live, is_over}
 use Rattle.local_host.specs.Live.{flow_in}
 use Rattle.local_host.specs.Inside.{live_of}
-use Rattle.local_host.proofs.Sleeping.{awake_flow, still_asleep, not_over}
+use Rattle.local_host.proofs.Sleeping.{still_asleep, not_over}
+use Rattle.local_host.proofs.Waking.{as_recorded}
 use Rattle.local_host.proofs.live.LiveFlow.is_over.Goals as goal
 
 pub returns-then-not-is_asleep : goal.returns-then-not-is_asleep
 returns-then-not-is_asleep c =
-    let f : Flow = flow_in c.self.inside.history in
-    let is : record (live_of c.self.inside) { flow = f } ≡ c.args.self.now =
-    ap (λ (g : Flow). record (live_of c.self.inside) { flow = g })
-    (sym (awake_flow c.self.inside.sleep f (c.is_asleep.ensures.awake c.if-not-is_asleep.true))) ∙ c.self.view_is in
-    c.is_closed.ensures.closed ∙ ap is_over is
+    c.is_closed.ensures.closed
+    ∙ ap is_over (as_recorded c.self.inside c.args.self.now (c.is_asleep.ensures.awake c.if-not-is_asleep.true)
+    c.self.view_is)
 
 pub returns-else-not-is_asleep : goal.returns-else-not-is_asleep
 returns-else-not-is_asleep c =

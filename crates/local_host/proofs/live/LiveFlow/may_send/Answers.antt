@@ -3,21 +3,20 @@ use Rattle.tas_model.specs.NextSegment.{going}
 use Rattle.tas_model.proofs.ValidCalls.{valid_replay}
 use Rattle.flow_state.specs.declared.parts.Parts.{Parts}
 use Rattle.flow_state.specs.Stands.{Stands}
-use Rattle.host_rounds.specs.Logs.{Flow}
 use Rattle.host_rounds.specs.Hosts.{Live, endpoint}
 use Rattle.local_host.specs.Live.{flow_in}
 use Rattle.local_host.specs.Inside.{live_of}
 use Rattle.local_host.proofs.Emitting.{told_where}
-use Rattle.local_host.proofs.Sleeping.{awake_flow, still_asleep, none_goes}
+use Rattle.local_host.proofs.Sleeping.{still_asleep, none_goes}
+use Rattle.local_host.proofs.Waking.{as_recorded}
 use Rattle.local_host.proofs.live.LiveFlow.may_send.Goals as goal
 
 pub returns-then-not-is_asleep : goal.returns-then-not-is_asleep
 returns-then-not-is_asleep c =
     let awake : c.is_asleep.result ≡ false = c.if-not-is_asleep.true in
-    let f : Flow = flow_in c.self.inside.history in
-    let l : Live = record (live_of c.self.inside) { flow = f } in
-    let is : l ≡ c.args.self.now = ap (λ (g : Flow). record (live_of c.self.inside) { flow = g })
-    (sym (awake_flow c.self.inside.sleep f (c.is_asleep.ensures.awake awake))) ∙ c.self.view_is in
+    let l : Live = record (live_of c.self.inside) { flow = flow_in c.self.inside.history } in
+    let is : l ≡ c.args.self.now =
+    as_recorded c.self.inside c.args.self.now (c.is_asleep.ensures.awake awake) c.self.view_is in
     let p = c.parts-parts.ensures in
     c.is_some.ensures
     ∙ (ap is_some (c.next_out.ensures.segment (endpoint l)

@@ -1,4 +1,4 @@
-use Rattle.std.proofs.Common.{ℕ, List, length, ap, sym, ◌∙◌}
+use Rattle.std.proofs.Common.{ℕ, length, ap, sym, ◌∙◌}
 use Rattle.host_rounds.specs.Hosts.{Live, endpoint}
 use Rattle.local_host.specs.Live.{flow_in}
 use Rattle.local_host.proofs.Sleeping.{lags, out_slept}
