@@ -1,7 +1,7 @@
 -- A record with so many quiet ticks more.
-use Rattle.std.proofs.Common.{◌≡◌, ℕ, zero, suc, ◌+◌, ◌^◌, ◌≤◌, cond, List, [], ◌∷◌, ◌++◌, length, max, Option}
+use Rattle.std.proofs.Common.{◌≡◌, ℕ, zero, suc, ◌+◌, ◌^◌, ◌<◌, ◌≤◌, cond, List, [], ◌∷◌, ◌++◌, length, max, Option}
 use Rattle.std.proofs.Common.{Bool, true, false, refl, sym, ◌∙◌, ap, subst, arith}
-use Rattle.std.proofs.Common.{length-append, append_assoc, append-nil}
+use Rattle.std.proofs.Common.{length-append, append_assoc, append-nil, None, Some}
 use Rattle.tas_model.specs.declared.entry.HostParams.{HostParams}
 use Rattle.tas_model.specs.declared.entry.Entry.{Entry}
 use Rattle.tas_model.specs.declared.entry.Caller.{Caller}
@@ -9,8 +9,11 @@ use Rattle.tas_model.specs.declared.entry.Caller.TheVariants.{Slow}
 use Rattle.tas_model.specs.declared.entry.Call.TheVariants as calls
 use Rattle.tas_model.specs.declared.entry.Reply.TheVariants as replies
 use Rattle.tas_model.specs.Outputs as outputs
+use Rattle.tas_model.specs.Segments.{Outcome}
 use Rattle.tas_model.specs.Valid.{InRange}
+use Rattle.tas_model.proofs.ValidCalls.{valid_replay}
 use Rattle.tas_model.specs.LegalHistory.{Legal, replay, extended_by, last_tick, next_number, same_caller}
+use Rattle.tas_model.specs.LegalHistory.{step, shown, reply_or}
 use Rattle.flow_state.specs.declared.parts.Parts.{Parts}
 use Rattle.flow_state.specs.declared.call.CallIn.TheVariants as ins
 use Rattle.flow_state.specs.declared.call.Answer.TheVariants as answers
@@ -22,8 +25,8 @@ use Rattle.flow_state.specs.declared.stretch.Stretch.{Stretch}
 use Rattle.flow_state.specs.Application.{application_of}
 use Rattle.flow_state.specs.Arena.{Memory}
 use Rattle.flow_state.specs.Counts.{counted_for}
-use Rattle.flow_state.specs.Flow.{next_entry, ticked_on}
-use Rattle.flow_state.specs.Made.{IsMadeWith, AreQuietTicks}
+use Rattle.flow_state.specs.Flow.{next_entry, ticked_on, reply_to}
+use Rattle.flow_state.specs.Made.{IsMadeWith, AreQuietTicks, IsLoud, IsLoudTick, is_quiet}
 use Rattle.flow_state.specs.Record.{IsRecord}
 use Rattle.flow_state.specs.Stands.{Stands}
 use Rattle.flow_state.specs.Stretches.{quiet_tick, quiet_ticks, entries_of, AddedTicks}
@@ -193,3 +196,18 @@ kept_after_ticks before after memory stretches stretches' counts counts' app mad
       };
       exact = grown ∙ all.exact;
     }
+
+-- ----- the tick behind them
+loud_reply : (o : Option Outcome) → IsLoud o → is_quiet (reply_or o replies.Nothing) ≡ false
+loud_reply None loud = absurd loud
+loud_reply (Some o) loud = loud
+
+-- something comes of a later tick of a record, where it does by its parts
+pub loud_next : (params : HostParams) (h : List Entry) (parts : Parts) (t : ℕ) → InRange params → Legal params h
+    → Stands parts (replay params h) → last_tick 0 h < t → IsLoudTick parts t
+    → is_quiet (reply_to params h t calls.Tick []) ≡ false
+loud_next params h parts t fits legal stands later loud =
+    let next : ℕ → Option Outcome = λ n. step (replay params h) n calls.Tick (shown (replay params h) []) in
+    let is : t ≡ max t (last_tick 0 h) = omega (arith, later) in
+    loud_reply (next (max t (last_tick 0 h)))
+    (subst (λ (n : ℕ). IsLoud (next n)) is (loud.loud (replay params h) (valid_replay params h fits legal) stands))

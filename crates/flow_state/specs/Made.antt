@@ -1,6 +1,8 @@
 -- When a call was made: the parts stand for the model's next endpoint, and the answer is the model's reply.
-use Rattle.std.specs.Prelude.{◌≡◌, ◌≤◌, ◌+◌, ℕ, zero, suc, List, [], length, Option, Some, None}
+use Rattle.std.specs.Prelude.{◌≡◌, ◌≤◌, ◌+◌, ℕ, zero, suc, Bool, true, false, List, [], length, Option, Some, None}
 use Rattle.tas_model.specs.declared.entry.Caller.{Caller}
+use Rattle.tas_model.specs.declared.entry.Reply.{Reply}
+use Rattle.tas_model.specs.declared.entry.Reply.TheVariants as replies
 use Rattle.tas_model.specs.Endpoint.{Endpoint}
 use Rattle.tas_model.specs.Segments.{Outcome}
 use Rattle.tas_model.specs.LegalHistory.{step, shown}
@@ -61,3 +63,17 @@ abbrev pub AreQuietTicks : (before : Parts) → (tick n : ℕ) → (after : Part
 AreQuietTicks before tick zero after = after ≡ before
 AreQuietTicks before tick (suc n) after =
     (between : Parts) × AreQuietTicks before tick n between × IsQuietTick between (tick + n) after
+
+abbrev pub is_quiet : Reply → Bool
+is_quiet replies.Quiet = true
+is_quiet _ = false
+
+-- the call is a step, and something comes of it
+abbrev pub IsLoud : Option Outcome → Type 0
+IsLoud None = ⊥
+IsLoud (Some o) = is_quiet o.reply ≡ false
+
+-- something comes of a tick of these parts
+pub record IsLoudTick (parts : Parts) (tick : ℕ) : Type 0 where
+  pub loud : (e : Endpoint) → Valid e → Stands parts e
+      → IsLoud (step e tick (call_of ins.Tick) (shown e (offer_of ins.Tick)))

@@ -4,7 +4,7 @@ ghost use Rattle.tas_model.specs.Endpoint.{Endpoint};
 ghost use Rattle.tas_model.specs.Valid.{Valid};
 ghost use Rattle.flow_state.specs.Stands.{Stands, IsNear, HasRings};
 ghost use Rattle.flow_state.specs.Calls.{answer_len, reply_room, need_of, cost_of, IsSmall, IsTimely};
-ghost use Rattle.flow_state.specs.Made.{Makes, AreQuietTicks};
+ghost use Rattle.flow_state.specs.Made.{Makes, AreQuietTicks, IsLoudTick};
 ghost use Rattle.flow_state.specs.declared.call.CallIn.TheVariants as ins;
 
 use crate::call::{Answer, CallIn};
@@ -69,12 +69,13 @@ pub trait Engine {
 /// What time alone does to a flow.
 pub trait Clock {
     /// Ticks of a flow that is not closed, from this one on, as long as nothing comes of them, and at most so many.
-    /// Answers how many passed.
+    /// Answers how many passed: all of them, or all before one of which something comes.
     fn pass(&self, parts: &mut Parts, tick: u32, count: u32) -> u32
         requires timely { IsTimely parts.old.phase ins.Tick }
         requires room { tick + count ≤ 2 ^ 32 }
         ensures made { AreQuietTicks parts.old tick result parts.new }
         ensures most { result ≤ count }
+        ensures all { result < count → IsLoudTick parts.new (tick + result) }
         ensures tuple { parts.new.tuple ≡ parts.old.tuple }
         ensures params { parts.new.params ≡ parts.old.params };
 }

@@ -1,6 +1,6 @@
 ghost use Rattle.std.specs.Prelude.{◌≡◌, ℕ, ◌+◌, ◌-◌, ◌^◌, ◌<◌, ◌≤◌, ◌++◌, ◌∷◌, ◌↔◌, [], List, length, take, slice_get};
 ghost use Rattle.std.specs.Prelude.{Some, replicate, max, vec_len, vec_capacity, flat_map, IfOk, IfSome, IfNone};
-ghost use Rattle.std.specs.Prelude.{IsSome, OnErr, OnOk, IsOk, None};
+ghost use Rattle.std.specs.Prelude.{IsSome, OnErr, OnOk, IsOk, None, false};
 ghost use Rattle.tas_model.specs.declared.entry.Call.TheVariants as calls;
 ghost use Rattle.tas_model.specs.declared.entry.Caller.TheVariants.{Slow};
 ghost use Rattle.tas_model.specs.Endpoint.{phase};
@@ -16,7 +16,7 @@ ghost use Rattle.flow_state.specs.Application.{application_of};
 ghost use Rattle.flow_state.specs.Stretches.{entries_of, entries_in, StretchWithin};
 ghost use Rattle.flow_state.specs.declared.call.CallIn.TheVariants as ins;
 ghost use Rattle.flow_state.specs.Arena.{memory_of};
-ghost use Rattle.flow_state.specs.Made.{IsMadeAt};
+ghost use Rattle.flow_state.specs.Made.{IsMadeAt, is_quiet};
 ghost use Rattle.flow_state.specs.Views.{seen_entry};
 
 use crate::application::got_by;
@@ -333,12 +333,15 @@ impl FlowRecord {
     }
 
     /// Ticks by the slow path, from this one on, as long as each lengthens the run of quiet ticks that the history ends
-    /// with, and at most so many. Answers how many passed; the next one is to be made by `act`. It takes no memory.
+    /// with, and at most so many. Answers how many passed; the next one is to be made by `act`. Where some passed and
+    /// not all, something comes of it. It takes no memory.
     pub fn pass_quietly<C: Clock>(&mut self, tick: u32, count: u32, clock: &C) -> u32
         requires timely { IsTimely self.old.parts.phase ins.Tick }
         requires room { tick + count ≤ 2 ^ 32 }
         ensures made { self.new.entries ≡ ticked_on self.old.params self.old.entries tick result }
         ensures most { result ≤ count }
+        ensures all { 0 < result → result < count
+            → is_quiet (reply_to self.new.params self.new.entries (tick + result) calls.Tick []) ≡ false }
         ensures unmade_parts { result ≡ 0 → self.new.parts ≡ self.old.parts }
         ensures spare_entries { self.new.spare_entries ≡ self.old.spare_entries }
         ensures spare_bytes { self.new.spare_bytes ≡ self.old.spare_bytes }

@@ -1,5 +1,5 @@
 -- Facts of ticks.
-use Rattle.std.proofs.Common.{◌≡◌, ℕ, ◌+◌, ◌-◌, Bool, true, false, nat_lt, List, Option, Some, None}
+use Rattle.std.proofs.Common.{◌≡◌, ℕ, ◌+◌, ◌-◌, ◌*◌, ◌==◌, Bool, true, false, nat_lt, nat_le, List, Option, Some, None}
 use Rattle.std.proofs.Common.{refl, sym, ◌∙◌, ap, subst, arith}
 use Rattle.tas_model.specs.declared.entry.Reason.{Reason}
 use Rattle.tas_model.specs.declared.entry.Phase.{Phase}
@@ -8,12 +8,13 @@ use Rattle.tas_model.specs.Segments.{Outcome}
 use Rattle.tas_model.specs.Endpoint.{Endpoint, Rate, phase, phase_by, is_fin_acked}
 use Rattle.tas_model.specs.declared.entry.Reply.TheVariants as replies
 use Rattle.tas_model.specs.Timers.{filled, tick_in, ticked, expired, aged, is_armed, patience, control, controlled}
+use Rattle.tas_model.specs.Timers.{probes, waited}
 use Rattle.tas_model.specs.Valid.{Valid, IsPaced}
 use Rattle.flow_state.specs.declared.parts.Parts.{Parts}
 use Rattle.flow_state.specs.declared.call.Answer.{Answer}
 use Rattle.flow_state.specs.declared.call.Answer.TheVariants as answers
 use Rattle.flow_state.specs.Stands.{Stands}
-use Rattle.flow_state.specs.Made.{IsOutcome}
+use Rattle.flow_state.specs.Made.{IsOutcome, IsLoud, is_quiet}
 use Rattle.slow_timeout.specs.Age.{next_age}
 use Rattle.slow_timeout.specs.Rate.{rate_with}
 use Rattle.flow_state.specs.Calls.{is_closed_phase}
@@ -94,6 +95,28 @@ still_quiet e after age out is s =
 pub runs_out : (e : Endpoint) (after : Parts) (answer : Answer) (out : List ℕ) → next_age e ≡ None
     → IsOutcome after answer out (expired e) → IsOutcome after answer out (ticked e)
 runs_out e after answer out is o = subst (IsOutcome after answer out) (sym (ticked_by e None is)) o
+
+-- something comes of a timer that runs out, and of the end of TIME-WAIT
+loud_expired : (e : Endpoint) → is_quiet (expired e).reply ≡ false
+loud_expired e = by_tests (e.tx.tries + 1 == 9) refl (probes e) refl
+  where
+    by_tests : (t : Bool) → (e.tx.tries + 1 == 9) ≡ t → (p : Bool) → probes e ≡ p → is_quiet (expired e).reply ≡ false
+    by_tests true ninth p probing = rw ninth refl
+    by_tests false ninth true probing = rw (ninth, probing) refl
+    by_tests false ninth false probing = rw (ninth, probing) refl
+
+pub loud_timer : (e : Endpoint) → next_age e ≡ None → IsLoud (Some (ticked e))
+loud_timer e none = ap (λ (o : Outcome). is_quiet o.reply) (ticked_by e None none) ∙ loud_expired e
+
+pub loud_wait : (e : Endpoint) (tick : ℕ) → nat_le (4 * e.params.rto) (tick - e.entered) ≡ true
+    → IsLoud (Some (waited e tick))
+loud_wait e tick over = rw over refl
+
+-- and nothing before that end
+pub still_waiting : (e : Endpoint) (tick : ℕ) (after : Parts) (out : List ℕ)
+    → nat_le (4 * e.params.rto) (tick - e.entered) ≡ false → Stands after e
+    → IsOutcome after answers.Quiet out (waited e tick)
+still_waiting e tick after out early s = rw early (record { reply = refl; state = s })
 
 -- the age, by the two tests
 pub age_unarmed : (e : Endpoint) → is_armed e.tx ≡ false → Some 0 ≡ next_age e

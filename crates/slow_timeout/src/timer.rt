@@ -1,4 +1,4 @@
-ghost use Rattle.std.specs.Prelude.{◌≡◌, ℕ, ◌+◌, ◌*◌, ◌^◌, ◌≤◌, ◌<◌, List, min, true, false, Some, None};
+ghost use Rattle.std.specs.Prelude.{◌≡◌, ℕ, ◌+◌, ◌-◌, ◌*◌, ◌^◌, ◌≤◌, ◌<◌, nat_le, List, min, true, false, Some, None};
 ghost use Rattle.tas_model.specs.declared.entry.Reason.TheVariants as reasons;
 ghost use Rattle.tas_model.specs.Endpoint.{Endpoint};
 ghost use Rattle.tas_model.specs.Timers.{ticks, filled, aged, ticked, waited, expired, is_armed as model_is_armed};
@@ -6,7 +6,8 @@ ghost use Rattle.tas_model.specs.Timers.{patience as model_patience, probes as m
 ghost use Rattle.tas_model.specs.Valid.{Valid};
 ghost use Rattle.flow_state.specs.Stands.{Stands};
 ghost use Rattle.flow_state.specs.Calls.{answer_len, is_closed_phase};
-ghost use Rattle.flow_state.specs.Made.{IsOutcome, IsStep, IsQuietTick, AreQuietTicks};
+ghost use Rattle.tas_model.specs.declared.entry.Phase.TheVariants as phases;
+ghost use Rattle.flow_state.specs.Made.{IsOutcome, IsStep, IsQuietTick, AreQuietTicks, IsLoudTick};
 ghost use Rattle.flow_state.specs.declared.call.Answer.TheVariants as answers;
 ghost use Rattle.slow_timeout.specs.Age.{next_age as model_next_age, early_ticks as model_early_ticks};
 
@@ -38,6 +39,7 @@ pub fn pass_quietly(parts: &mut Parts, from: u32, count: u32) -> u32
     requires room { from + count ≤ 2 ^ 32 }
     ensures made { AreQuietTicks parts.old from result parts.new }
     ensures most { result ≤ count }
+    ensures all { result < count → IsLoudTick parts.new (from + result) }
     ensures tuple { parts.new.tuple ≡ parts.old.tuple }
     ensures params { parts.new.params ≡ parts.old.params }
 {
@@ -58,18 +60,36 @@ fn pass_one(parts: &mut Parts, now: u32) -> bool
     requires { is_closed_phase parts.old.phase ≡ false }
     ensures made { result ≡ true → IsQuietTick parts.old now parts.new }
     ensures unmade { result ≡ false → parts.new ≡ parts.old }
+    ensures loud { result ≡ false → IsLoudTick parts.old now }
     ensures phase { parts.new.phase ≡ parts.old.phase }
     ensures tuple { parts.new.tuple ≡ parts.old.tuple }
     ensures params { parts.new.params ≡ parts.old.params }
 {
     if let Phase::TimeWait = parts.phase {
-        return false;
+        return wait_on(parts, now);
     }
     let Some(age) = next_age(parts) else {
         return false;
     };
     fill(parts);
     set_age(parts, age);
+    true
+}
+
+/// The same in TIME-WAIT.
+fn wait_on(parts: &mut Parts, now: u32) -> bool
+    requires { parts.old.phase ≡ phases.TimeWait }
+    ensures made { result ≡ true → IsQuietTick parts.old now parts.new }
+    ensures unmade { result ≡ false → parts.new ≡ parts.old }
+    ensures loud { result ≡ false → IsLoudTick parts.old now }
+    ensures phase { parts.new.phase ≡ parts.old.phase }
+    ensures tuple { parts.new.tuple ≡ parts.old.tuple }
+    ensures params { parts.new.params ≡ parts.old.params }
+{
+    if has_waited(parts, now) {
+        return false;
+    }
+    fill(parts);
     true
 }
 
@@ -90,12 +110,19 @@ fn wait(parts: &mut Parts, now: u32) -> Answer
     ensures tuple { parts.new.tuple ≡ parts.old.tuple }
     ensures params { parts.new.params ≡ parts.old.params }
 {
-    let waited = u64::from(now.saturating_sub(parts.entered));
-    if waited < 4 * u64::from(parts.params.rto) {
+    if !has_waited(parts, now) {
         return Answer::Quiet;
     }
     end_wait(parts);
     Answer::Expired
+}
+
+/// Whether TIME-WAIT has lasted for four timeouts.
+fn has_waited(parts: &Parts, now: u32) -> bool
+    ensures { (e : Endpoint) → Stands parts.now e → result ≡ nat_le (4 * e.params.rto) (now - e.entered) }
+{
+    let waited = u64::from(now.saturating_sub(parts.entered));
+    waited >= 4 * u64::from(parts.params.rto)
 }
 
 /// TIME-WAIT is over.

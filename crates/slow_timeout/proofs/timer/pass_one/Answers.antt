@@ -5,8 +5,8 @@ use Rattle.tas_model.specs.Segments.{Outcome}
 use Rattle.tas_model.specs.Timers.{ticks, filled}
 use Rattle.flow_state.specs.Calls.{is_closed_phase}
 use Rattle.flow_state.specs.declared.call.Answer.TheVariants as answers
-use Rattle.flow_state.specs.Made.{IsStep}
-use Rattle.slow_timeout.proofs.Ticking.{ticked_in, still_quiet}
+use Rattle.flow_state.specs.Made.{IsStep, IsLoud}
+use Rattle.slow_timeout.proofs.Ticking.{ticked_in, still_quiet, loud_timer}
 use Rattle.slow_timeout.proofs.timer.pass_one.Goals as goal
 
 pub returns-clause-made : goal.returns-clause-made
@@ -22,4 +22,14 @@ returns-clause-made c is = record {
             (c.set_age.ensures.after e' (c.fill.ensures.after e s)));
       };
   params = c.set_age.ensures.params ∙ c.fill.ensures.params;
+}
+
+pub returns-in_default-next_age-clause-loud : goal.returns-in_default-next_age-clause-loud
+unfolding step ticks
+returns-in_default-next_age-clause-loud c is = record {
+  loud = λ e v s.
+      let live : is_closed_phase (phase e) ≡ false = ap is_closed_phase (sym s.phase) ∙ c.requires in
+      let e' : Endpoint = record e { rate = filled e.rate } in
+      subst IsLoud (sym (ticked_in (phase e) e' c.args.now (λ h. c.in_default.not-TimeWait (s.phase ∙ h)) live))
+      (loud_timer e' (sym (c.next_age.ensures e v s) ∙ c.in_default-next_age.is));
 }

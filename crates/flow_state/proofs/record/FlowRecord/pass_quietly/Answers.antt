@@ -1,7 +1,8 @@
-use Rattle.std.proofs.Common.{rules, ◌≡◌, subst, arith}
+use Rattle.std.proofs.Common.{rules, ◌≡◌, ◌+◌, ◌<◌, subst, arith}
+use Rattle.tas_model.specs.LegalHistory.{last_tick}
 use Rattle.flow_state.specs.Flow.{Flow, ticked_on}
 use Rattle.flow_state.specs.Stretches.{entries_of}
-use Rattle.flow_state.proofs.Ticking.{Ticked, kept_after_ticks}
+use Rattle.flow_state.proofs.Ticking.{Ticked, kept_after_ticks, loud_next}
 use Rattle.flow_state.proofs.record.FlowRecord.pass_quietly.Goals as goal
 use Rattle.flow_state.proofs.record.FlowRecord.pass_quietly.Goals.{After-self-2-1}
 use Rattle.flow_state.proofs.record.FlowRecord.pass_quietly.Given
@@ -24,6 +25,22 @@ pub returns-clause-made : goal.returns-clause-made
 returns-clause-made g c =
     subst (λ (f : Flow). entries_of c.self.inside.arena.memory c.go_on.new.stretches.items
     ≡ ticked_on f.params f.entries c.args.tick c.pass-done.result) c.self.view_is (ticked g c).exact
+
+pub returns-clause-all : goal.returns-clause-all
+returns-clause-all g c some few =
+    let told = ticked g c in
+    let later : last_tick 0 (entries_of c.self.inside.arena.memory c.go_on.new.stretches.items)
+    < c.args.tick + c.pass-done.result =
+    omega (
+      arith,
+      told.kept.last,
+      c.self.invariant.last,
+      c.go_on.ensures.added.next c.self.inside.arena.memory,
+    ) in
+    loud_next c.pass-done.new.parts.params
+    (entries_of c.self.inside.arena.memory c.go_on.new.stretches.items) c.pass-done.new.parts
+    (c.args.tick + c.pass-done.result) told.kept.fits told.kept.legal told.kept.stands later
+    (c.pass-done.ensures.all few)
 
 pub returns-clause-legal : goal.returns-clause-legal
 returns-clause-legal g c = (ticked g c).kept.legal
