@@ -1,6 +1,6 @@
 -- The items of the records of a capture, one record after the other.
 use Rattle.std.proofs.Common.{◌≡◌, ℕ, ◌+◌, Bool, List, [], ◌∷◌, ◌++◌, Option, Some, None, Result, Ok, Err, IsOk, refl}
-use Rattle.std.proofs.Common.{rules, ◌≤◌, ap, sym, ◌∙◌, subst, length, drop, arith}
+use Rattle.std.proofs.Common.{rules, ◌≤◌, ap, ◌∙◌, subst, length, drop, arith}
 use Rattle.std.specs.List.{cons_option}
 use Rattle.std.proofs.lemmas.List.Elements.{filter_map-append}
 use Rattle.tas_num.specs.Captures.{Fault, Form, Record, Next, first_record, records_from, joined}
@@ -8,7 +8,7 @@ use Rattle.pcap_frames.proofs.Following.{records_from_next, records_from_ends, r
 use Rattle.tas_runs.specs.Records.{Item, item_of, items_of}
 use Rattle.pcap_frames.specs.Views.{form_in, next_in, record_in}
 use Rattle.pcap_frames.specs.declared.capture.RecordView.{RecordView}
-use Rattle.capture_items.specs.Items.{item_in, items_among, items_from}
+use Rattle.capture_items.specs.Items.{items_among, items_from}
 use Rattle.capture_items.specs.Reading.{IsReadable}
 use Rattle.capture_items.specs.declared.reader.ItemReader.TheInside.{Inside}
 

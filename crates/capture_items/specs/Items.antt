@@ -1,8 +1,10 @@
 -- What the code's values stand for among the records of a capture.
-use Rattle.std.specs.Prelude.{ℕ, Bool, List, [], ◌∷◌, Option, Some, None, Result, Ok, Err}
+use Rattle.std.specs.Prelude.{ℕ, nat_lt, Bool, List, [], ◌∷◌, Option, Some, None, Result, Ok, Err}
 use Rattle.tas_num.specs.Captures.{Fault, Form, Record, records_from}
 use Rattle.segment_fields.specs.Fields.{fields_of}
 use Rattle.segment_fields.specs.Refusals.{number_of}
+use Rattle.segment_fields.specs.declared.segment.Refused.{Refused}
+use Rattle.segment_fields.specs.declared.segment.Refused.TheVariants.{IpSum}
 use Rattle.segment_fields.specs.declared.segment.Segment.{Segment}
 use Rattle.tas_model.specs.declared.entry.FourTuple.{FourTuple}
 use Rattle.flow_state.specs.Calls.{seg_of}
@@ -26,6 +28,10 @@ sends s = sender_tuple (fields_of s)
 
 abbrev pub receives : Segment → FourTuple
 receives s = receiver_tuple (fields_of s)
+
+-- the rule is tried before any checksum is looked at
+abbrev pub is_before_sums : Refused → Bool
+is_before_sums rule = nat_lt (number_of rule) (number_of IpSum)
 
 -- ----- the items that are left
 -- the items of these records; none where the bytes are no capture

@@ -1,10 +1,11 @@
-ghost use Rattle.std.specs.Prelude.{◌≡◌, ◌≤◌, Some, None, IfSome, IfNone};
+ghost use Rattle.std.specs.Prelude.{◌≡◌, ◌≤◌, false, Some, None, IfSome, IfNone};
 ghost use Rattle.segment_fields.specs.Refusals.{number_of};
+ghost use Rattle.segment_fields.specs.Text.{refusal};
 ghost use Rattle.pcap_frames.specs.Views.{form_in, record_in};
 ghost use Rattle.tas_runs.specs.Records.{is_other_traffic, due_content, content_of_packet, item_of, is_damaged};
 ghost use Rattle.tas_runs.specs.Batches.{tuple_of, is_of};
 ghost use Rattle.host_rounds.specs.Hosts.{same_tuple};
-ghost use Rattle.capture_items.specs.Items.{content_in, item_in, sends, receives};
+ghost use Rattle.capture_items.specs.Items.{content_in, item_in, sends, receives, is_before_sums};
 
 use pcap_frames::{CaptureHeader, RecordView, packet};
 use segment_fields::{Refused, Segment, read};
@@ -85,7 +86,8 @@ pub fn read_item<'a>(
     })
 }
 
-/// What a packet is for the host. It is read once without its checksums, and once more where it comes to the host.
+/// What a packet is for the host. It is read once without its checksums, and once more where it comes to the host and
+/// they may tell otherwise.
 #[tactic(auto, using(crate::proofs::Read::segment_read, crate::proofs::Read::sender_read))]
 fn read_content(packet: &[u8], local: u32, loose: bool) -> Option<Content<'_>>
     ensures taken { IfSome result (λ content. content_of_packet local loose packet.now ≡ Some (content_in content)) }
@@ -93,13 +95,26 @@ fn read_content(packet: &[u8], local: u32, loose: bool) -> Option<Content<'_>>
 {
     match read(packet, false) {
         Err(rule) if is_other_traffic(rule) => None,
-        Err(_) => Some(due(packet, loose)),
+        Err(rule) => Some(broken(packet, loose, rule)),
         Ok(segment) if segment.src == local => Some(Content::Local(
             sender_tuple(&segment),
             segment,
         )),
         Ok(segment) if segment.dst == local => Some(due(packet, loose)),
         Ok(_) => None,
+    }
+}
+
+/// What a packet is that comes to the host, and breaks this rule where its checksums are not looked at.
+#[tactic(auto, using(crate::proofs::Read::refused_before_sums))]
+fn broken(packet: &[u8], loose: bool, rule: Refused) -> Content<'_>
+    requires { refusal false packet.now ≡ Some rule }
+    ensures { content_in result ≡ due_content loose packet.now }
+{
+    if is_before_sums(rule) {
+        Content::Damaged(rule)
+    } else {
+        due(packet, loose)
     }
 }
 
@@ -119,6 +134,13 @@ fn is_other_traffic(rule: Refused) -> bool
     ensures { result ≡ is_other_traffic (number_of rule) }
 {
     matches!(rule, Refused::NotIpv4 | Refused::Fragment | Refused::NotTcp)
+}
+
+/// Whether a rule is tried before any checksum is looked at.
+fn is_before_sums(rule: Refused) -> bool
+    ensures { result ≡ is_before_sums rule }
+{
+    !matches!(rule, Refused::IpSum | Refused::DataOffset | Refused::TcpSum)
 }
 
 /// The four-tuple of a segment as its sender sees it.

@@ -167,6 +167,7 @@ impl LocalHost {
     }
 
     /// Appends a line to its log. The error is want of memory.
+    #[inline(always)]
     pub fn note(&mut self, tick: u32, event: LogEvent) -> Result<(), AllocError>
         ensures made { OnOk result (self.new ≡ logged self.old tick event) }
         ensures params { self.new.params ≡ self.old.params }

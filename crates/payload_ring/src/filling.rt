@@ -3,8 +3,8 @@ ghost use Rattle.std.specs.Prelude.{◌≡◌, ◌+◌, ◌-◌, ◌≤◌, ◌+
 /// How many zeros are written at a time.
 const PIECE: usize = 4096;
 
-/// How many there are in a piece of few: mostly no more are wanted, and a whole piece costs more to set up.
-const FEW: usize = 64;
+/// They stand ready, as a list of them in a function would be written anew in each call.
+static ZEROS: [u8; PIECE] = [0; PIECE];
 
 /// Writes zeros behind the bytes until there are `end` bytes, for which there is room. Where there are as many already,
 /// nothing changes.
@@ -28,13 +28,7 @@ fn add_zeros(bytes: &mut Vec<u8>, count: usize)
     ensures items { bytes.new.items ≡ bytes.old.items ++ replicate count 0 }
     ensures capacity { vec_capacity bytes.old ≤ vec_capacity bytes.new }
 {
-    if count <= FEW {
-        let zeros = [0; FEW];
-        add(bytes, &zeros[..count]);
-    } else {
-        let zeros = [0; PIECE];
-        add(bytes, &zeros[..count]);
-    }
+    add(bytes, &ZEROS[..count]);
 }
 
 /// Writes a piece behind the bytes, which have room for it.

@@ -1,3 +1,4 @@
 pub mod Age
+pub mod Passing
 pub mod Rate
 pub mod Serves

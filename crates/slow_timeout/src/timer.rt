@@ -7,8 +7,9 @@ ghost use Rattle.tas_model.specs.Valid.{Valid};
 ghost use Rattle.flow_state.specs.Stands.{Stands};
 ghost use Rattle.flow_state.specs.Calls.{answer_len, is_closed_phase};
 ghost use Rattle.tas_model.specs.declared.entry.Phase.TheVariants as phases;
-ghost use Rattle.flow_state.specs.Made.{IsOutcome, IsStep, IsQuietTick, AreQuietTicks, IsLoudTick};
+ghost use Rattle.flow_state.specs.Made.{IsOutcome, IsStep, AreQuietTicks, IsLoudTick};
 ghost use Rattle.flow_state.specs.declared.call.Answer.TheVariants as answers;
+ghost use Rattle.slow_timeout.specs.Passing.{MayPass};
 ghost use Rattle.slow_timeout.specs.Age.{next_age as model_next_age, early_ticks as model_early_ticks};
 
 use flow_state::{Answer, Parts};
@@ -58,12 +59,7 @@ pub fn pass_quietly(parts: &mut Parts, from: u32, count: u32) -> u32
 #[inline(always)]
 fn pass_one(parts: &mut Parts, now: u32) -> bool
     requires { is_closed_phase parts.old.phase ≡ false }
-    ensures made { result ≡ true → IsQuietTick parts.old now parts.new }
-    ensures unmade { result ≡ false → parts.new ≡ parts.old }
-    ensures loud { result ≡ false → IsLoudTick parts.old now }
-    ensures phase { parts.new.phase ≡ parts.old.phase }
-    ensures tuple { parts.new.tuple ≡ parts.old.tuple }
-    ensures params { parts.new.params ≡ parts.old.params }
+    ensures { MayPass parts.old now result parts.new }
 {
     if let Phase::TimeWait = parts.phase {
         return wait_on(parts, now);
@@ -79,12 +75,7 @@ fn pass_one(parts: &mut Parts, now: u32) -> bool
 /// The same in TIME-WAIT.
 fn wait_on(parts: &mut Parts, now: u32) -> bool
     requires { parts.old.phase ≡ phases.TimeWait }
-    ensures made { result ≡ true → IsQuietTick parts.old now parts.new }
-    ensures unmade { result ≡ false → parts.new ≡ parts.old }
-    ensures loud { result ≡ false → IsLoudTick parts.old now }
-    ensures phase { parts.new.phase ≡ parts.old.phase }
-    ensures tuple { parts.new.tuple ≡ parts.old.tuple }
-    ensures params { parts.new.params ≡ parts.old.params }
+    ensures { MayPass parts.old now result parts.new }
 {
     if has_waited(parts, now) {
         return false;
