@@ -13,6 +13,10 @@ pub(crate) fn write_digits(bytes: &[u8], digits: &mut [u8])
     requires { length digits.old ≡ 2 * length bytes.now }
     ensures { digits.new ≡ hex_bytes bytes.now }
 {
+    if bytes.len() < 16 {
+        write_rest(bytes, digits);
+        return;
+    }
     let (blocks, rest) = bytes.split_at(bytes.len() / 16 * 16);
     let (front, back) = digits.split_at_mut(2 * blocks.len());
     write_blocks(blocks, front);

@@ -160,8 +160,19 @@ fn push_pieces<K: Sink>(sink: &mut K, waiting: &mut Buffer, bytes: &[u8]) -> Res
     Ok(())
 }
 
-/// Writes the digits of bytes behind all that waits, as many at a time as there is room for.
+/// Writes the digits of bytes behind all that waits. Mostly there is room for all of them.
 fn push_hex<K: Sink>(sink: &mut K, waiting: &mut Buffer, bytes: &[u8]) -> Result<(), IoFault>
+    ensures { Writes (K.state sink.old) waiting.old result (K.state sink.new) waiting.new (hex_bytes bytes.now) }
+{
+    if bytes.len() <= waiting.free() / 2 {
+        waiting.push_digits(bytes);
+        return Ok(());
+    }
+    push_hex_pieces(sink, waiting, bytes)
+}
+
+/// Writes the digits of bytes behind all that waits, as many at a time as there is room for.
+fn push_hex_pieces<K: Sink>(sink: &mut K, waiting: &mut Buffer, bytes: &[u8]) -> Result<(), IoFault>
     ensures { Writes (K.state sink.old) waiting.old result (K.state sink.new) waiting.new (hex_bytes bytes.now) }
 {
     let mut done = 0;

@@ -1,7 +1,7 @@
 use Rattle.std.proofs.Common.{rules, take, drop}
 use Rattle.tas_runs.specs.Report.{hex_bytes}
 use Rattle.run_texts.proofs.Writing.{piece_more, stopped_between, hex_more, hex_rest}
-use Rattle.run_texts.proofs.writer.push_hex.Goals as goal
+use Rattle.run_texts.proofs.writer.push_hex_pieces.Goals as goal
 
 pub loop-done-preserved : goal.loop-done-preserved
 loop-done-preserved g c =

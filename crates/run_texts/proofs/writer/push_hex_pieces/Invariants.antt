@@ -1,7 +1,7 @@
 use Rattle.std.proofs.Common.{◌-◌, ◌≤◌, length, take, Ok}
 use Rattle.tas_runs.specs.Report.{hex_bytes}
 use Rattle.run_texts.specs.Writes.{Writes}
-use Rattle.run_texts.proofs.writer.push_hex.Given as goal
+use Rattle.run_texts.proofs.writer.push_hex_pieces.Given as goal
 
 abbrev pub invariant-loop-done : goal.invariant-loop-done
 invariant-loop-done g l = record {
