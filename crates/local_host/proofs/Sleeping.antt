@@ -29,7 +29,7 @@ use Rattle.flow_state.specs.Calls.{is_closed_phase}
 use Rattle.flow_state.specs.Flow.{ticked_on}
 use Rattle.host_rounds.specs.Logs.{Flow}
 use Rattle.host_rounds.specs.Hosts.{Live, endpoint, is_over, with_call}
-use Rattle.host_rounds.specs.Upkeep.{timed, controlled}
+use Rattle.host_rounds.specs.Upkeep.{timed, controlled, is_control_tick}
 use Rattle.slow_timeout.specs.Age.{early_ticks}
 use Rattle.slow_timeout.proofs.Ticking.{ticked_in}
 use Rattle.local_host.specs.declared.sleep.Sleep.{Sleep}
@@ -303,18 +303,17 @@ rested_on old new f rested some far more less =
     let same : new.missed + new.left ≡ old.missed + old.left = omega (arith, more, less) in
     record {
       far = far;
-      fixed = λ h. rested.fixed (omega (arith, some));
       rests = λ h. subst (MaySleep (replay f.params f.entries)) (sym same) (rested.rests (omega (arith, some)));
     }
 
-uncontrolled : (l : Live) (t : ℕ) → l.flow.params.fixed ≡ true → controlled Slow t l ≡ l
-uncontrolled l t fixed = rw fixed refl
+uncontrolled : (l : Live) (t : ℕ) → is_control_tick l.flow.params.fixed t ≡ false → controlled Slow t l ≡ l
+uncontrolled l t free = rw free refl
 
--- the tick of a replay's flow that is not closed
-pub timed_fixed : (l : Live) (t : ℕ) → is_over l ≡ false → l.flow.params.fixed ≡ true
+-- the tick of a flow that is not closed, where no rate is controlled
+pub timed_alone : (l : Live) (t : ℕ) → is_over l ≡ false → is_control_tick l.flow.params.fixed t ≡ false
     → with_call l Slow t calls.Tick [] ≡ timed Slow t l
-timed_fixed l t runs fixed =
-    sym (uncontrolled (with_call l Slow t calls.Tick []) t fixed)
+timed_alone l t runs free =
+    sym (uncontrolled (with_call l Slow t calls.Tick []) t free)
     ∙ ticked l (called l.flow Slow t calls.Tick []) t refl runs
 
 -- what ticks leave as it was

@@ -33,9 +33,7 @@ with_ticks f t n = record f { entries = ticked_on f.params f.entries t n }
 abbrev pub ticked_flow : Sleep → Flow → Flow
 ticked_flow s f = with_ticks f s.next s.missed
 
--- It lacks no tick past the last one that there is. Where it lacks some, or may lack more, it is a flow of a replay, of
--- which nothing comes in these ticks.
+-- It lacks no tick past the last one that there is. Where it lacks some, or may lack more, nothing comes of them.
 pub record IsRested (s : Sleep) (f : Flow) : Type 0 where
   pub far : s.next + s.missed ≤ 2 ^ 32
-  pub fixed : 0 < s.missed + s.left → f.params.fixed ≡ true
   pub rests : 0 < s.missed + s.left → MaySleep (replay f.params f.entries) (s.missed + s.left)

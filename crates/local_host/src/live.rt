@@ -13,6 +13,7 @@ ghost use Rattle.host_rounds.specs.Hosts.{Live, same_tuple, is_indexed_as, is_in
 ghost use Rattle.host_rounds.specs.Hosts.{is_running, is_held, first_entry, is_ready, waits_at, is_waiting_by};
 ghost use Rattle.host_rounds.specs.Deliveries.{received, is_fast};
 ghost use Rattle.host_rounds.specs.Upkeep.{swept, timed, controlled, quieted};
+ghost use Rattle.host_rounds.specs.Upkeep.{is_control_tick as model_control_tick};
 ghost use Rattle.local_host.specs.Arriving.{arrival_in, taking_in};
 ghost use Rattle.local_host.specs.Lanes.{is_taken, worked_frame};
 ghost use Rattle.local_host.specs.Index.{is_standing, is_settled};
@@ -273,10 +274,21 @@ impl LiveFlow {
     {
         // What ticks leave as it was is told of a legal history.
         let _parts = self.history.parts();
+        if self.is_control_due(tick) {
+            return self.tick_awake(tick);
+        }
         if self.sleep.pass(tick) {
             return Ok(());
         }
         self.tick_awake(tick)
+    }
+
+    /// Whether its rate may be controlled in this tick. Its record is looked at in each tenth tick alone.
+    #[inline(always)]
+    fn is_control_due(&self, tick: u32) -> bool
+        ensures { result ≡ model_control_tick self.now.flow.params.fixed tick }
+    {
+        tick % 10 == 0 && is_control_tick(self.history.params().fixed, tick)
     }
 
     /// The same of one that may not sleep through it.

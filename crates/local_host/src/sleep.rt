@@ -123,7 +123,7 @@ pub fn rest(history: &FlowRecord) -> Sleep
     ensures missed { result.missed ≡ 0 }
 {
     let parts = history.parts();
-    if !parts.params.fixed || !is_still(parts) {
+    if !is_still(parts) {
         return AWAKE;
     }
     Sleep {

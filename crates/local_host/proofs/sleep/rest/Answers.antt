@@ -1,5 +1,4 @@
-use Rattle.std.proofs.Common.{◌<◌, arith, sym, subst, ap, ◌∙◌}
-use Rattle.tas_model.specs.declared.entry.HostParams.{HostParams}
+use Rattle.std.proofs.Common.{◌<◌, arith, sym, subst}
 use Rattle.tas_model.specs.Endpoint.{Endpoint}
 use Rattle.tas_model.specs.LegalHistory.{replay}
 use Rattle.tas_model.specs.Valid.{Valid}
@@ -18,8 +17,6 @@ returns-clause-rested c =
     let stands : Stands c.parts-parts.result.now e = subst (λ (q : Parts). Stands q e) (sym p.parts) p.stands in
     record {
       far = omega arith;
-      fixed = λ some. ap (λ (q : HostParams). q.fixed) (sym p.params)
-          ∙ (ap (λ (q : Parts). q.params.fixed) (sym p.parts) ∙ c.if-not-parts.false);
       rests = λ some. record {
         still = c.is_still.ensures e valid stands c.if-not-is_still.false;
         early = λ armed.
