@@ -1,17 +1,17 @@
--- The frames of a tick with cores, as deeds.
+-- The frames of a tick with cores, and what applications ask in it, as deeds.
 use Rattle.std.proofs.Common.{◌≡◌, ℕ, Bool, true, false, cond, List, [], ◌∷◌, ◌++◌, map, fold, filter, refl, sym, ap}
-use Rattle.std.proofs.Common.{◌∙◌}
+use Rattle.std.proofs.Common.{◌∙◌, ◌==◌}
 use Rattle.tas_model.specs.declared.entry.FrameId.{FrameId}
 use Rattle.tas_model.specs.declared.entry.Caller.TheVariants.{Slow, Core}
 use Rattle.host_rounds.specs.Lists.{Each}
-use Rattle.host_rounds.specs.Hosts.{Host, Numbers}
-use Rattle.host_rounds.specs.Deliveries.{Arrival, same_frame, received, delivered}
+use Rattle.host_rounds.specs.Hosts.{Host}
+use Rattle.host_rounds.specs.Deliveries.{Arrival, received, delivered}
 use Rattle.host_rounds.specs.Scripts.{Site, Scripts}
-use Rattle.host_rounds.specs.Rounds.{Action, Frame, Deed, does, on_host, Agent, OfFlow, OfFrame, OfScript, is_by}
+use Rattle.host_rounds.specs.Rounds.{Action, Frame, Ask, Deed, does, on_host, Agent, OfFlow, OfFrame, OfScript, is_by}
 use Rattle.host_rounds.specs.Rounds.{actions_of, IsWorker}
-use Rattle.host_rounds.proofs.SerialFrames.{by_slow, slow_actions}
-use Rattle.host_rounds.proofs.Lists.{map_append}
-use Rattle.core_rounds.specs.CoreTicks.{Taken, taken_by_cores, is_frame, AreShared, rest_phase}
+use Rattle.host_rounds.proofs.SerialFrames.{by_slow}
+use Rattle.host_rounds.proofs.Lists.{filter_append}
+use Rattle.core_rounds.specs.CoreTicks.{Taken, taken_by_cores, is_frame, rest_phase}
 
 -- ----- what cores do
 abbrev pub by_cores : {A : Type 0} → List Taken → List (Deed A)
@@ -38,8 +38,8 @@ cores_workers A [] = tt
 cores_workers A (x ∷ xs) = (tt, cores_workers A xs)
 
 -- ----- what they left
-abbrev as_action : {A : Type 0} → Arrival → Action A
-as_action x = Frame x
+abbrev pub as_frame : {A : Type 0} → Arrival → Action A
+as_frame x = Frame x
 
 abbrev as_actions : {A : Type 0} → List Arrival → List (Action A)
 as_actions xs = map Frame xs
@@ -82,9 +82,66 @@ alike_to_agents {S} {A} scripts (OfFrame frame) xs ys h =
 alike_to_agents scripts (OfScript n) xs ys h = no_frames scripts (OfScript n) (λ x. refl) xs
     ∙ sym (no_frames scripts (OfScript n) (λ x. refl) ys)
 
-pub shared_actions : {A : Type 0} (order : List Taken) (rest : List Arrival)
-    → actions_of (by_cores {A = A} order) ++ actions_of (left_due rest) ≡ map Frame (arrivals_of order ++ rest)
-shared_actions {A} order rest =
-    ap (λ (zs : List (Action A)). zs ++ actions_of (left_due rest)) (cores_actions order)
-    ∙ ap (λ (zs : List (Action A)). map Frame (arrivals_of order) ++ zs) (slow_actions (map Frame rest))
-    ∙ sym (map_append (λ (x : Arrival). as_action {A = A} x) (arrivals_of order) rest)
+-- ----- that all who ask have their turn
+no_asks : {S A : Type 0} (scripts : Scripts S A) (a : Agent) → ((x : A) → is_by scripts a (Ask x) ≡ false)
+    → (xs : List A) → filter (is_by scripts a) (map Ask xs) ≡ []
+no_asks scripts a h [] = refl
+no_asks scripts a h (x ∷ xs) = rw (h x) (no_asks scripts a h xs)
+
+abbrev is_asked_by : {S A : Type 0} → Scripts S A → ℕ → A → Bool
+is_asked_by scripts n x = n == scripts.agent x
+
+abbrev pub as_ask : {A : Type 0} → A → Action A
+as_ask x = Ask x
+
+abbrev as_asks : {A : Type 0} → List A → List (Action A)
+as_asks xs = map Ask xs
+
+of_script : {S A : Type 0} (scripts : Scripts S A) (n : ℕ) (xs : List A)
+    → filter (is_by scripts (OfScript n)) (map Ask xs) ≡ map Ask (filter (is_asked_by scripts n) xs)
+of_script scripts n [] = refl
+of_script {S} {A} scripts n (x ∷ xs) = by_test (is_asked_by scripts n x) (of_script scripts n xs) where
+  by_test : (b : Bool) → filter (is_by scripts (OfScript n)) (map Ask xs) ≡ map Ask (filter (is_asked_by scripts n) xs)
+      → cond b (Ask x ∷ filter (is_by scripts (OfScript n)) (map Ask xs))
+      (filter (is_by scripts (OfScript n)) (map Ask xs))
+      ≡ as_asks (cond b (x ∷ filter (is_asked_by scripts n) xs) (filter (is_asked_by scripts n) xs))
+  by_test true h = ap (λ (zs : List (Action A)). Ask x ∷ zs) h
+  by_test false h = h
+
+-- Where each who asks does so alike, the asks are the same to each agent.
+pub asks_alike : {S A : Type 0} (scripts : Scripts S A) (a : Agent) (xs ys : List A)
+    → ((n : ℕ) → filter (is_asked_by scripts n) xs ≡ filter (is_asked_by scripts n) ys)
+    → filter (is_by scripts a) (map Ask xs) ≡ filter (is_by scripts a) (map Ask ys)
+asks_alike scripts (OfFlow n) xs ys h = no_asks scripts (OfFlow n) (λ x. refl) xs
+    ∙ sym (no_asks scripts (OfFlow n) (λ x. refl) ys)
+asks_alike scripts (OfFrame frame) xs ys h = no_asks scripts (OfFrame frame) (λ x. refl) xs
+    ∙ sym (no_asks scripts (OfFrame frame) (λ x. refl) ys)
+asks_alike {S} {A} scripts (OfScript n) xs ys h =
+    of_script scripts n xs ∙ ap (λ (zs : List A). as_asks zs) (h n) ∙ sym (of_script scripts n ys)
+
+-- ----- asks before frames
+past : {X : Type 0} (test : X → Bool) (b c : List X) → filter test b ≡ [] → filter test (b ++ c) ≡ filter test c
+past {X} test b c h = filter_append test b c ∙ ap (λ (zs : List X). zs ++ filter test c) h
+
+past_both : {X : Type 0} (test : X → Bool) (b c d : List X) → filter test b ≡ []
+    → filter test (b ++ (c ++ d)) ≡ filter test (c ++ (b ++ d))
+past_both {X} test b c d h =
+    past test b (c ++ d) h
+    ∙ filter_append test c d
+    ∙ ap (λ (zs : List X). filter test c ++ zs) (sym (past test b d h))
+    ∙ sym (filter_append test c (b ++ d))
+
+-- No agent tells whether asks come before frames or after them.
+pub asks_past : {S A : Type 0} (scripts : Scripts S A) (a : Agent) (asks : List A) (frames : List Arrival)
+    (more : List (Action A))
+    → filter (is_by scripts a) (map Ask asks ++ (map Frame frames ++ more))
+    ≡ filter (is_by scripts a) (map Frame frames ++ (map Ask asks ++ more))
+asks_past scripts (OfFlow n) asks frames more =
+    past_both (is_by scripts (OfFlow n)) (map Ask asks) (map Frame frames) more
+    (no_asks scripts (OfFlow n) (λ x. refl) asks)
+asks_past scripts (OfFrame frame) asks frames more =
+    past_both (is_by scripts (OfFrame frame)) (map Ask asks) (map Frame frames) more
+    (no_asks scripts (OfFrame frame) (λ x. refl) asks)
+asks_past scripts (OfScript n) asks frames more =
+    sym (past_both (is_by scripts (OfScript n)) (map Frame frames) (map Ask asks) more
+    (no_frames scripts (OfScript n) (λ x. refl) frames))

@@ -1,6 +1,6 @@
--- A tick of a host with cores: frames that cores take side by side, and all else by the slow path and the applications
--- in their order.
-use Rattle.std.specs.Prelude.{◌≡◌, ℕ, ◌++◌, Bool, List, map, filter, fold}
+-- A tick of a host with cores: what cores take and applications ask side by side, and all else by the slow path and the
+-- applications in their order.
+use Rattle.std.specs.Prelude.{◌≡◌, ℕ, ◌==◌, ◌++◌, Bool, List, map, filter, fold}
 use Rattle.tas_model.specs.declared.entry.FrameId.{FrameId}
 use Rattle.tas_model.specs.declared.entry.Caller.TheVariants.{Slow, Core}
 use Rattle.host_rounds.specs.Hosts.{Host, Numbers}
@@ -37,17 +37,31 @@ pub record IsCoresPhase (t : ℕ) (before : Host) (frames rest : List Arrival) (
   pub made : (numbers : Numbers) → taken_by_cores numbers t before order ≡ after
 
 -- ----- a tick
+-- What was asked beside the cores, and what is asked after them: for each who asks, together what is due of it, in its
+-- order.
+abbrev pub AreTried : {S A : Type 0} → Scripts S A → (asks tried later : List A) → Type 0
+AreTried {S} {A} scripts asks tried later =
+    (n : ℕ) → filter (λ (a : A). n == scripts.agent a) (tried ++ later) ≡ filter (λ (a : A). n == scripts.agent a) asks
+
 -- The frames that cores left, in their order, by the slow path.
 abbrev pub rest_phase : {S A : Type 0} → Scripts S A → (tick : ℕ) → Host → List Arrival → Host
 rest_phase scripts t host rest = fold (delivered (received Slow) scripts.numbers t) host rest
 
--- The slow path gives up closed flows and lets time pass; cores take frames side by side; the slow path takes the
--- others; the applications ask in their order; and all that may go is sent.
+-- What was asked beside the cores, as if after all their frames, and then the frames that they left.
+abbrev pub tried_and_rest : {S A : Type 0} → Scripts S A → (tick : ℕ) → Site S → (tried : List A) → List Arrival
+    → Site S
+tried_and_rest scripts t site tried rest =
+    on_host (λ (host : Host). rest_phase scripts t host rest) (ask_phase scripts t site tried)
+
+-- The slow path gives up closed flows and lets time pass; cores take frames and applications ask side by side; the slow
+-- path takes the other frames; the applications ask the rest in their order; and all that may go is sent.
 pub record IsCoresTick {S A : Type 0} (scripts : Scripts S A) (t : ℕ) (due : Due A) (before after : Site S)
     : Type 0 where
   pub rest : List Arrival
   pub middle : Host
   pub phase : IsCoresPhase t (slow_phase t before.host) due.frames rest middle
-  pub made : on_host (emit_phase t)
-      (ask_phase scripts t (record { host = rest_phase scripts t middle rest; scripts = before.scripts }) due.asks)
-      ≡ after
+  pub tried : List A
+  pub later : List A
+  pub asked : AreTried scripts due.asks tried later
+  pub made : on_host (emit_phase t) (ask_phase scripts t
+      (tried_and_rest scripts t (record { host = middle; scripts = before.scripts }) tried rest) later) ≡ after
