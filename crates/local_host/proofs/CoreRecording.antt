@@ -86,6 +86,9 @@ played_on_cores items t batch site slow frames rest middle framed asked last fir
       middle = middle;
       phase = subst (λ (h : Host). IsCoresPhase t h (arrivals_in batch) rest middle) first
           (subst (λ (xs : List Arrival). IsCoresPhase t slow xs rest middle) came phase);
+      tried = [];
+      later = (due_in batch).asks;
+      asked = λ n. refl;
       made = sym (ap (λ (h : Host). record asked { host = h }) fourth
           ∙ ap (on_host (emit_phase t)) (third ∙ ap (λ (s : Site (List Shown)). asks items t s batch) second));
     }

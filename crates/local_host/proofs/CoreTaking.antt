@@ -9,7 +9,7 @@ use Rattle.tas_model.specs.declared.entry.FourTuple.{FourTuple}
 use Rattle.tas_model.specs.declared.entry.FrameId.{FrameId}
 use Rattle.tas_model.specs.declared.entry.HostParams.{HostParams}
 use Rattle.tas_model.specs.declared.entry.Seg.{Seg}
-use Rattle.tas_model.specs.declared.entry.Caller.TheVariants.{Core}
+use Rattle.tas_model.specs.declared.entry.Caller.TheVariants.{Core, App}
 use Rattle.host_rounds.specs.Hosts.{Live, Host, Numbers, is_indexed_as, next_number}
 use Rattle.host_rounds.specs.Deliveries.{Packet, Damaged, Segment, Arrival, received, arrived}
 use Rattle.host_rounds.specs.Deliveries.{delivered_packet}
@@ -23,12 +23,31 @@ use Rattle.local_host.specs.declared.flows.Openings.{Openings}
 use Rattle.local_host.specs.declared.lanes.Handed.{Handed}
 use Rattle.local_host.specs.declared.lanes.Job.{Job}
 use Rattle.local_host.specs.declared.lanes.Lane.{Lane}
+use Rattle.local_host.specs.declared.attempts.Attempt.{Attempt}
+use Rattle.local_host.specs.declared.attempts.Trial.{Trial}
+use Rattle.local_host.specs.declared.cores.SideWork.{SideWork}
+use Rattle.local_host.specs.SideWork.{IsSideWork, IsSidePhase}
+use Rattle.local_host.specs.Trying.{AreAnswered, AreMade, IsMadeBy, IsMade, attempt_of, put_trials, tried_trial}
+use Rattle.local_host.specs.Trying.{tried_live, held_after, unanswered}
+use Rattle.local_host.proofs.Asking.{asked, asked_calms}
+use Rattle.flow_state.specs.declared.call.Answer.{Answer}
+use Rattle.flow_state.specs.declared.call.CallIn.{CallIn}
+use Rattle.flow_state.specs.declared.call.CallIn.TheVariants as ins
+use Rattle.flow_state.specs.Calls.{call_of, offer_of}
+use Rattle.tas_model.specs.Endpoint.{is_closed}
+use Rattle.tas_model.specs.LegalHistory.{replay}
+use Rattle.host_rounds.specs.Logs.{Flow}
+use Rattle.local_host.proofs.Trying.{tried_answered, both_made, none_made}
+use Rattle.local_host.proofs.LaneLists.{perm_by, crossed}
+use Rattle.std.proofs.lemmas.List.Sorted.{IsPermutation-refl, IsPermutation-trans, IsPermutation-append}
+use Rattle.std.proofs.lemmas.List.Sorted.{IsPermutation-append_left, IsPermutation-append_comm, IsPermutation-sym}
 use Rattle.local_host.specs.Index.{IsKnown}
 use Rattle.local_host.specs.Ports.{IsHost}
 use Rattle.local_host.specs.Lanes.{worked_job, left_by, IsWorked, packet_taken}
-use Rattle.local_host.specs.Handing.{place_in, jobs_in, left_in, taken_packet, flow_taken, TookFrames}
+use Rattle.local_host.specs.Handing.{place_in, jobs_in, left_in, strays_in, trials_in, taken_packet, flow_taken}
+use Rattle.local_host.specs.Handing.{TookFrames, IsLendingOut}
 use Rattle.local_host.proofs.Indexing.{Keeps}
-use Rattle.local_host.proofs.Standing.{Stays, known_change, found_stands}
+use Rattle.local_host.proofs.Standing.{Stays, Calms, known_change, known_calm, found_stands}
 use Rattle.local_host.proofs.Ports.{host_change, host_none}
 use Rattle.local_host.proofs.Places.{found_change}
 use Rattle.local_host.proofs.Hosting.{known_is}
@@ -52,8 +71,10 @@ pub lanes_worked : (t : ℕ) (lanes after : List Lane) → length after ≡ leng
     → ((i : ℕ) (d : Lane) → i < length lanes → (get_or after i d).failed ≡ false
     → IsWorked t (get_or lanes i d) (get_or after i d))
     → All (λ (l : Lane). l.failed ≡ false) after → All (λ (l : Lane). l.left.items ≡ []) lanes
-    → (jobs_in after ≡ map (worked_job t) (jobs_in lanes)) × (left_in after ≡ left_by t (jobs_in lanes))
-lanes_worked t [] [] len each done fresh = (refl, refl)
+    → (jobs_in after ≡ map (worked_job t) (jobs_in lanes))
+    × IsPermutation (left_in after) (left_by t (jobs_in lanes) ++ strays_in lanes)
+    × (trials_in after ≡ map (tried_trial t) (trials_in lanes))
+lanes_worked t [] [] len each done fresh = (refl, IsPermutation-refl [], refl)
 lanes_worked t [] (a ∷ bs) len each done fresh = absurd (omega (arith, len))
 lanes_worked t (l ∷ ls) [] len each done fresh = absurd (omega (arith, len))
 lanes_worked t (l ∷ ls) (a ∷ rest) len each done fresh =
@@ -64,31 +85,77 @@ lanes_worked t (l ∷ ls) (a ∷ rest) len each done fresh =
       ap (λ (js : List Job). js ++ jobs_in rest) mine.jobs
           ∙ (ap (λ (js : List Job). map (worked_job t) l.jobs.items ++ js) others.0
           ∙ sym (map_both (worked_job t) l.jobs.items (jobs_in ls))),
-      ap (λ (hs : List Handed). hs ++ left_in rest) (mine.left
-          ∙ ap (λ (hs : List Handed). hs ++ left_by t l.jobs.items)
-          (All-head (λ (m : Lane). m.left.items ≡ []) l ls fresh))
-          ∙ (ap (λ (hs : List Handed). left_by t l.jobs.items ++ hs) others.1
-          ∙ sym (left_both t l.jobs.items (jobs_in ls))),
+      subst (λ (hs : List Handed). IsPermutation (left_in (a ∷ rest)) (hs ++ strays_in (l ∷ ls)))
+          (sym (left_both t l.jobs.items (jobs_in ls)))
+          (IsPermutation-trans (left_in (a ∷ rest))
+          ((left_by t l.jobs.items ++ l.strays.items) ++ (left_by t (jobs_in ls) ++ strays_in ls))
+          ((left_by t l.jobs.items ++ left_by t (jobs_in ls)) ++ (l.strays.items ++ strays_in ls))
+          (IsPermutation-append a.left.items (left_by t l.jobs.items ++ l.strays.items) (left_in rest)
+          (left_by t (jobs_in ls) ++ strays_in ls)
+          (perm_by a.left.items (left_by t l.jobs.items ++ l.strays.items)
+          (mine.left ∙ ap (λ (hs : List Handed). (hs ++ left_by t l.jobs.items) ++ l.strays.items)
+          (All-head (λ (m : Lane). m.left.items ≡ []) l ls fresh)))
+          others.1)
+          (crossed (left_by t l.jobs.items) l.strays.items (left_by t (jobs_in ls)) (strays_in ls))),
+      ap (λ (xs : List Trial). xs ++ trials_in rest) mine.trials
+          ∙ (ap (λ (xs : List Trial). map (tried_trial t) l.trials.items ++ xs) others.2
+          ∙ sym (map_both (tried_trial t) l.trials.items (trials_in ls))),
     )
 
 -- ----- the whole of a tick's frames
-pub cores_took : (t : ℕ) (old now end : List Live) (jobs : List Job) (left gathered rest : List Handed)
-    (cores : List ℕ) (frames : List Arrival) (lanes after : List Lane)
-    → AreHanded old now jobs left cores frames → AreDistinct frames → AreLanes jobs lanes
+pub cores_took : (t : ℕ) (old now lent put end : List Live) (jobs : List Job) (left rest : List Handed)
+    (given attempts : List (Option Attempt)) (cores : List ℕ) (frames : List Arrival) (lanes after : List Lane)
+    → AreHanded old now jobs left cores frames → AreDistinct frames
+    → IsLendingOut now lent given jobs left lanes → AreAnswered given given
     → length after ≡ length lanes
     → ((i : ℕ) (d : Lane) → i < length lanes → (get_or after i d).failed ≡ false
     → IsWorked t (get_or lanes i d) (get_or after i d))
-    → All (λ (l : Lane). l.failed ≡ false) after → end ≡ put_jobs (jobs_in after) now
-    → gathered ≡ left ++ left_in after → IsPermutation gathered rest
-    → TookFrames t old cores frames (map arrival_of rest) end
-cores_took t old now end jobs left gathered rest cores frames lanes after handed distinct are len each done put more
-    sorted =
-    let worked = lanes_worked t lanes after len each done are.fresh in
-    subst (TookFrames t old cores frames (map arrival_of rest))
-    (sym (put ∙ ap (λ (js : List Job). put_jobs js now) worked.0))
-    (took_frames t old now jobs (jobs_in lanes) left rest cores frames handed distinct are.moved are.shuffled
-    (subst (λ (hs : List Handed). IsPermutation hs rest)
-    (more ∙ ap (λ (hs : List Handed). left ++ hs) worked.1) sorted))
+    → All (λ (l : Lane). l.failed ≡ false) after → put ≡ put_jobs (jobs_in after) lent
+    → end ≡ put_trials (trials_in after) put → attempts ≡ map attempt_of (trials_in after)
+    → IsPermutation (left_in after) rest
+    → IsSideWork t old cores frames (map arrival_of rest) given attempts end
+cores_took t old now lent put end jobs left rest given attempts cores frames lanes after handed distinct out fresh len
+    each done back ends told sorted = record {
+      middle = put_jobs (map (worked_job t) (jobs_in lanes)) now;
+      took = took_frames t old now jobs (jobs_in lanes) left rest cores frames handed distinct are.moved are.shuffled
+          gathered;
+      same = subst (AreAnswered given) (sym told_by) (tried_answered t given out.trials out.lent.tried fresh);
+      made = subst
+          (λ (ys : List (Option Attempt)). AreMade t ys (put_jobs (map (worked_job t) (jobs_in lanes)) now) end)
+          (sym told_by)
+          (subst (AreMade t (map attempt_of (map (tried_trial t) out.trials))
+          (put_jobs (map (worked_job t) (jobs_in lanes)) now)) (sym ended)
+          (both_made t old now lent jobs (jobs_in lanes) left cores frames given out.trials handed are.moved out.lent
+          fresh));
+    } where
+      are : AreLanes jobs left out.trials lanes
+      are = out.have
+
+      worked : (jobs_in after ≡ map (worked_job t) (jobs_in lanes))
+          × IsPermutation (left_in after) (left_by t (jobs_in lanes) ++ strays_in lanes)
+          × (trials_in after ≡ map (tried_trial t) (trials_in lanes))
+      worked = lanes_worked t lanes after len each done are.fresh
+
+      trials : trials_in after ≡ map (tried_trial t) out.trials
+      trials = worked.2 ∙ ap (map (tried_trial t)) are.tried
+
+      told_by : attempts ≡ map attempt_of (map (tried_trial t) out.trials)
+      told_by = told ∙ ap (map attempt_of) trials
+
+      ended : end ≡ put_trials (map (tried_trial t) out.trials) (put_jobs (map (worked_job t) (jobs_in lanes)) lent)
+      ended = ends ∙ (ap (λ (xs : List Trial). put_trials xs put) trials
+          ∙ ap (put_trials (map (tried_trial t) out.trials))
+          (back ∙ ap (λ (js : List Job). put_jobs js lent) worked.0))
+
+      gathered : IsPermutation (left ++ left_by t (jobs_in lanes)) rest
+      gathered =
+          let ls : List Handed = left_by t (jobs_in lanes) in
+          IsPermutation-trans (left ++ ls) (strays_in lanes ++ ls) rest
+          (IsPermutation-append_left ls left (strays_in lanes) are.passed)
+          (IsPermutation-trans (strays_in lanes ++ ls) (ls ++ strays_in lanes) rest
+          (IsPermutation-append_comm (strays_in lanes) ls)
+          (IsPermutation-trans (ls ++ strays_in lanes) (left_in after) rest
+          (IsPermutation-sym (left_in after) (ls ++ strays_in lanes) worked.1) sorted))
 
 -- ----- one frame
 found_at : (F : List Live) (p : Packet) → is_some (place_in F p) ≡ true → (i : ℕ) × (place_in F p ≡ Some i)
@@ -251,52 +318,149 @@ none_taken t host cores frames rest same = record {
   steered = All-nil (IsSteered cores frames);
 }
 
--- the frames alone, where memory was enough
-pub if_took : {E : Type 0} {t : ℕ} {old end : List Live} {cores : List ℕ} {frames : List Arrival} {shown : List Handed}
-    (r : Result (Vec code_arrival.Arrival) E) (rest : List Handed) → shown ≡ rest
-    → IfOk r (λ (v : Vec code_arrival.Arrival). v.items ≡ map (λ (h : Handed). h.arrival) shown)
-    → TookFrames t old cores frames (map arrival_of rest) end
-    → IfOk r (λ (v : Vec code_arrival.Arrival). TookFrames t old cores frames (map arrival_in v.items) end)
-if_took (Err e) rest same told took = tt
-if_took {E} {t} {old} {end} {cores} {frames} {shown} (Ok v) rest same told took =
-    subst (λ (xs : List Arrival). TookFrames t old cores frames xs end)
-    (sym (ap (map arrival_in) (told ∙ ap (map (λ (h : Handed). h.arrival)) same) ∙ twice rest)) took where
-      twice : (hs : List Handed) → map arrival_in (map (λ (h : Handed). h.arrival) hs) ≡ map arrival_of hs
-      twice [] = refl
-      twice (h ∷ hs) = ap (λ (xs : List Arrival). arrival_of h ∷ xs) (twice hs)
+-- the frames alone
+pub frames_alone : (hs : List Handed) → map arrival_in (map (λ (h : Handed). h.arrival) hs) ≡ map arrival_of hs
+frames_alone [] = refl
+frames_alone (h ∷ hs) = ap (λ (xs : List Arrival). arrival_of h ∷ xs) (frames_alone hs)
+
+-- ----- attempts among what is known of flows
+-- who holds it, and nothing else
+record IsHeldAs (l m : Live) : Type 0 where
+  flow : m.flow ≡ l.flow
+  indexed : m.indexed ≡ l.indexed
+  filed : m.filed ≡ l.filed
+
+held_as : (call : CallIn) (l : Live) → IsHeldAs l (held_after call l)
+held_as (ins.Connect iss) l = record { flow = refl; indexed = refl; filed = refl }
+held_as (ins.Passive frame iss seg) l = record { flow = refl; indexed = refl; filed = refl }
+held_as (ins.Rx frame seg) l = record { flow = refl; indexed = refl; filed = refl }
+held_as ins.Emit l = record { flow = refl; indexed = refl; filed = refl }
+held_as ins.Tick l = record { flow = refl; indexed = refl; filed = refl }
+held_as ins.Control l = record { flow = refl; indexed = refl; filed = refl }
+held_as ins.Accept l = record { flow = refl; indexed = refl; filed = refl }
+held_as ins.Ready l = record { flow = refl; indexed = refl; filed = refl }
+held_as (ins.Send bytes) l = record { flow = refl; indexed = refl; filed = refl }
+held_as (ins.Recv most) l = record { flow = refl; indexed = refl; filed = refl }
+held_as ins.Shut l = record { flow = refl; indexed = refl; filed = refl }
+held_as ins.Close l = record { flow = refl; indexed = refl; filed = refl }
+held_as ins.Abort l = record { flow = refl; indexed = refl; filed = refl }
+
+abbrev asked_by : ℕ → Attempt → Live → Live
+asked_by t x l = asked (App x.app) t (call_of x.call) (offer_of x.call) l
+
+tried_keeps : (t : ℕ) (x : Attempt) → Keeps (tried_live t x)
+tried_keeps t x = record {
+  same =
+      λ l. record {
+        tuple = ap (λ (f : Flow). f.tuple) (held_as x.call (asked_by t x l)).flow;
+        id = ap (λ (f : Flow). f.id) (held_as x.call (asked_by t x l)).flow;
+        index = λ h. sym (held_as x.call (asked_by t x l)).indexed ∙ h;
+      };
+}
+
+tried_calms : (t : ℕ) (x : Attempt) → Calms (tried_live t x)
+tried_calms t x l at =
+    let rest = asked_calms (App x.app) t (call_of x.call) (offer_of x.call) l at in
+    let held = held_as x.call (asked_by t x l) in
+    record {
+      over = ap (λ (f : Flow). is_closed (replay f.params f.entries)) held.flow ∙ rest.over;
+      index = held.indexed ∙ rest.index;
+    }
+
+tried_stays : (t : ℕ) (x : Attempt) → Stays (tried_live t x)
+tried_stays t x l = (held_as x.call (asked_by t x l)).filed
+
+one_known : (known : FourTuple → Option Openings) (slots : ℕ → Option ℕ) (places : List ℕ) (given : ℕ)
+    (marks : List Bool) (t : ℕ) (x : Attempt) (o : Option Answer) (F G : List Live) → IsMadeBy t x o F G
+    → IsKnown known slots places given marks F → IsKnown known slots places given marks G
+one_known known slots places given marks t x None F G made is = subst (IsKnown known slots places given marks) made is
+one_known known slots places given marks t x (Some a) F G made is =
+    subst (IsKnown known slots places given marks) made.2
+    (known_calm known slots places given marks (tried_live t x) F x.place (tried_keeps t x) (tried_calms t x)
+    (tried_stays t x) is)
+
+made_known : (known : FourTuple → Option Openings) (slots : ℕ → Option ℕ) (places : List ℕ) (given : ℕ)
+    (marks : List Bool) (t : ℕ) (xs : List (Option Attempt)) (F G : List Live) → AreMade t xs F G
+    → IsKnown known slots places given marks F → IsKnown known slots places given marks G
+made_known known slots places given marks t [] F G made is = subst (IsKnown known slots places given marks) made is
+made_known known slots places given marks t (x ∷ xs) F G made is =
+    made_known known slots places given marks t xs made.0 G made.2 (by_attempt x made.1) where
+      by_attempt : (o : Option Attempt) → IsMade t o F made.0 → IsKnown known slots places given marks made.0
+      by_attempt None one = subst (IsKnown known slots places given marks) one is
+      by_attempt (Some y) one = one_known known slots places given marks t y y.answer F made.0 one is
+
+one_host : {params : HostParams} {listeners : List code.Listener} (t : ℕ) (x : Attempt) (o : Option Answer)
+    (F G : List Live) → IsMadeBy t x o F G → IsHost params listeners F → IsHost params listeners G
+one_host {params} {listeners} t x None F G made is = subst (IsHost params listeners) made is
+one_host {params} {listeners} t x (Some a) F G made is =
+    subst (IsHost params listeners) made.2 (host_change (tried_live t x) x.place (tried_keeps t x) is)
+
+made_host : {params : HostParams} {listeners : List code.Listener} (t : ℕ) (xs : List (Option Attempt))
+    (F G : List Live) → AreMade t xs F G → IsHost params listeners F → IsHost params listeners G
+made_host {params} {listeners} t [] F G made is = subst (IsHost params listeners) made is
+made_host {params} {listeners} t (x ∷ xs) F G made is = made_host t xs made.0 G made.2 (by_attempt x made.1) where
+  by_attempt : (o : Option Attempt) → IsMade t o F made.0 → IsHost params listeners made.0
+  by_attempt None one = subst (IsHost params listeners) one is
+  by_attempt (Some y) one = one_host t y y.answer F made.0 one is
 
 -- ----- what a call gave
 abbrev Given : {E : Type 0} (t : ℕ) (old after : List Live) (cores : List ℕ) (frames : List Arrival)
-    → Result (Vec code_arrival.Arrival) E → Type 0
-Given t old after cores frames r =
-    IfOk r (λ (v : Vec code_arrival.Arrival). TookFrames t old cores frames (map arrival_in v.items) after)
+    (given : List (Option Attempt)) → Result SideWork E → Type 0
+Given t old after cores frames given r =
+    IfOk r (λ (w : SideWork).
+    IsSideWork t old cores frames (map arrival_in w.rest.items) given w.attempts.items after)
 
-pub sound_took : {E : Type 0} {known : FourTuple → Option Openings} {slots : ℕ → Option ℕ} {places : List ℕ}
-    {given : ℕ} {marks : List Bool} (t : ℕ) (old after : List Live) (cores : List ℕ) (frames : List Arrival)
-    (r : Result (Vec code_arrival.Arrival) E)
-    → Given t old after cores frames r → IsKnown known slots places given marks old
-    → OnOk r (IsKnown known slots places given marks after)
-sound_took t old after cores frames (Ok v) took is = took_known took is
-sound_took t old after cores frames (Err e) took is = tt
+pub sound_side : {E : Type 0} {known : FourTuple → Option Openings} {slots : ℕ → Option ℕ} {places : List ℕ}
+    {count : ℕ} {marks : List Bool} (t : ℕ) (old after : List Live) (cores : List ℕ) (frames : List Arrival)
+    (given : List (Option Attempt)) (r : Result SideWork E)
+    → Given t old after cores frames given r → IsKnown known slots places count marks old
+    → OnOk r (IsKnown known slots places count marks after)
+sound_side {E} {known} {slots} {places} {count} {marks} t old after cores frames given (Ok w) side is =
+    made_known known slots places count marks t w.attempts.items side.middle after side.made (took_known side.took is)
+sound_side t old after cores frames given (Err e) side is = tt
 
-pub host_took : {E : Type 0} {params : HostParams} {listeners : List code.Listener} (t : ℕ) (old after : List Live)
-    (cores : List ℕ) (frames : List Arrival) (r : Result (Vec code_arrival.Arrival) E)
-    → Given t old after cores frames r → OnErr r (after ≡ []) → IsHost params listeners old
+pub host_side : {E : Type 0} {params : HostParams} {listeners : List code.Listener} (t : ℕ) (old after : List Live)
+    (cores : List ℕ) (frames : List Arrival) (given : List (Option Attempt)) (r : Result SideWork E)
+    → Given t old after cores frames given r → OnErr r (after ≡ []) → IsHost params listeners old
     → IsHost params listeners after
-host_took t old after cores frames (Ok v) took none is = took_host took is
-host_took {E} {params} {listeners} t old after cores frames (Err e) took none is =
+host_side t old after cores frames given (Ok w) side none is =
+    made_host t w.attempts.items side.middle after side.made (took_host side.took is)
+host_side {E} {params} {listeners} t old after cores frames given (Err e) side none is =
     subst (IsHost params listeners) (sym none) (host_none is)
 
-pub phase_took : {E : Type 0} (t : ℕ) (host : Host) (after : List Live) (cores : List ℕ) (frames : List Arrival)
-    (r : Result (Vec code_arrival.Arrival) E) → Given t host.flows after cores frames r
-    → IfOk r (λ (v : Vec code_arrival.Arrival).
-    IsSteeredPhase t host cores frames (map arrival_in v.items) (record host { flows = after }))
-phase_took t host after cores frames (Ok v) took = took_phase t host after cores frames (map arrival_in v.items) took
-phase_took t host after cores frames (Err e) took = tt
+pub phase_side : {E : Type 0} (t : ℕ) (host : Host) (after : List Live) (cores : List ℕ) (frames : List Arrival)
+    (given : List (Option Attempt)) (r : Result SideWork E) → Given t host.flows after cores frames given r
+    → IfOk r (λ (w : SideWork). IsSidePhase t host cores frames (map arrival_in w.rest.items) given w.attempts.items
+    (record host { flows = after }))
+phase_side t host after cores frames given (Ok w) side = record {
+  middle = record host { flows = side.middle };
+  phase = took_phase t host side.middle cores frames (map arrival_in w.rest.items) side.took;
+  same = side.same;
+  made = side.made;
+  others = refl;
+}
+phase_side t host after cores frames given (Err e) side = tt
 
-pub phase_of : {E : Type 0} (t : ℕ) (host : Host) (after : Host) (cores : List ℕ) (frames : List Arrival)
-    (r : Result (Vec code_arrival.Arrival) E)
-    → IfOk r (λ (v : Vec code_arrival.Arrival). IsSteeredPhase t host cores frames (map arrival_in v.items) after)
-    → IfOk r (λ (v : Vec code_arrival.Arrival). IsCoresPhase t host frames (map arrival_in v.items) after)
-phase_of t host after cores frames (Ok v) is = is.phase
-phase_of t host after cores frames (Err e) is = tt
+-- nobody took or tried anything
+pub none_worked : (t : ℕ) (host : Host) (cores : List ℕ) (frames rest : List Arrival) (given : List (Option Attempt))
+    → rest ≡ frames → AreAnswered given given → IsSidePhase t host cores frames rest given given host
+none_worked t host cores frames rest given same fresh = record {
+  middle = host;
+  phase = none_taken t host cores frames rest same;
+  same = fresh;
+  made = none_made t given host.flows fresh;
+  others = refl;
+}
+
+-- nobody tried anything
+pub none_tried : {t : ℕ} {host after : Host} {cores : List ℕ} {frames rest : List Arrival}
+    (given attempts : List (Option Attempt)) → given ≡ []
+    → IsSidePhase t host cores frames rest given attempts after → IsSteeredPhase t host cores frames rest after
+none_tried {t} {host} {after} {cores} {frames} {rest} given attempts none side =
+    subst (IsSteeredPhase t host cores frames rest)
+    (ap (λ (F : List Live). record (side.middle) { flows = F }) (unmoved attempts (side.same ∙ none) side.made)
+    ∙ side.others) side.phase where
+      unmoved : (xs : List (Option Attempt)) → map unanswered xs ≡ []
+          → AreMade t xs side.middle.flows after.flows → side.middle.flows ≡ after.flows
+      unmoved [] nothing made = made
+      unmoved (x ∷ xs) nothing made = absurd (cc (nothing))

@@ -1,11 +1,12 @@
 -- Frames that are handed out one by one, jobs that are given to lanes, and flows that are put back.
 use Rattle.std.proofs.Common.{◌≡◌, ℕ, zero, suc, ◌+◌, ◌<◌, ◌≤◌, ◌++◌, ◌==◌, List, [], ◌∷◌, length, get_or, set, map}
 use Rattle.std.proofs.Common.{take, drop, All, Bool, true, false, Option, Some, slice_get, refl, sym, ap, subst}
-use Rattle.std.proofs.Common.{◌∙◌, arith, tests, append_assoc, true≢false, ◌⊎◌, inl, inr}
+use Rattle.std.proofs.Common.{◌∙◌, arith, tests, append_assoc, append-nil, true≢false, ◌⊎◌, inl, inr}
 use Rattle.std.specs.Prelude.{IsPermutation}
-use Rattle.std.proofs.lemmas.List.{drop_more, take_more, map-append}
+use Rattle.std.proofs.lemmas.List.{drop_more, take_more, map-append, length_push}
 use Rattle.std.proofs.lemmas.List.Sums.{sum_by_push}
-use Rattle.std.proofs.lemmas.List.Elements.{All-push, All-set, All-get_or, All-more}
+use Rattle.std.proofs.lemmas.List.Elements.{All-push, All-set, All-get_or, All-more, All-nil, All-cons, All-head}
+use Rattle.std.proofs.lemmas.List.Elements.{All-tail, All-append}
 use Rattle.std.proofs.lemmas.List.Sorted.{IsPermutation-trans, IsPermutation-sym, IsPermutation-append_left}
 use Rattle.std.proofs.lemmas.List.Sorted.{IsPermutation-append_right, IsPermutation-append_comm}
 use Rattle.host_rounds.specs.Hosts.{Live}
@@ -14,12 +15,16 @@ use Rattle.local_host.specs.declared.arrival.Arrival as code
 use Rattle.local_host.specs.declared.lanes.Handed.{Handed}
 use Rattle.local_host.specs.declared.lanes.Job.{Job}
 use Rattle.local_host.specs.declared.lanes.Lane.{Lane}
+use Rattle.local_host.specs.declared.attempts.Attempt.{Attempt}
+use Rattle.local_host.specs.declared.attempts.Trial.{Trial}
+use Rattle.std.specs.Global.{Vec}
 use Rattle.local_host.specs.Arriving.{arrival_in}
 use Rattle.local_host.specs.Index.{passes_at}
 use Rattle.local_host.specs.Lanes.{arrival_of}
 use Rattle.local_host.specs.Handing.{place_in, joined, frames_of, frames_by, jobs_of, jobs_in, left_in, jobs_at}
 use Rattle.local_host.specs.Handing.{IsJobOf, IsSteered, AreSentTo, AreHanded, by_core, is_in_index, HasMore}
-use Rattle.local_host.specs.Handing.{AreLanes, IsOfOneCore, put_jobs}
+use Rattle.local_host.specs.Handing.{AreLanes, IsOfOneCore, IsEmptyLane, IsLendingOut, put_jobs, strays_in}
+use Rattle.local_host.specs.Handing.{trials_in}
 use Rattle.local_host.proofs.LaneLists.{set_there, set_elsewhere, length_set, tally, count_cons}
 use Rattle.local_host.proofs.LaneLists.{perm_by, joined_push, joined_more}
 use Rattle.local_host.proofs.OwnCores.{steered_last, jobs_still, job_still, even_more}
@@ -274,79 +279,226 @@ lanes_frames [] = refl
 lanes_frames (l ∷ ls) = joined_both frames_of (jobs_of l) (jobs_in ls)
     ∙ ap (λ (xs : List Arrival). lane_frames l ++ xs) (lanes_frames ls)
 
--- one job more, in the lanes that come of it
-lanes_more : {jobs : List Job} {lanes : List Lane} (job : Job) (after : List Lane)
-    → IsPermutation (jobs_in after) (jobs_in lanes ++ job ∷ [])
-    → IsPermutation (frames_by (jobs_in after)) (frames_by (jobs_in lanes) ++ frames_of job)
-    → All (λ (l : Lane). l.core < 16) after → All IsOfOneCore after → All (λ (l : Lane). l.left.items ≡ []) after
-    → AreLanes jobs lanes → AreLanes (jobs ++ job ∷ []) after
-lanes_more {jobs} {lanes} job after gained seen low own fresh is = record {
-  moved = IsPermutation-trans (jobs ++ job ∷ []) (jobs_in lanes ++ job ∷ []) (jobs_in after)
-      (IsPermutation-append_left (job ∷ []) jobs (jobs_in lanes) is.moved)
-      (IsPermutation-sym (jobs_in after) (jobs_in lanes ++ job ∷ []) gained);
+-- ----- lanes that get more
+abbrev strays_of : Lane → List Handed
+strays_of l = l.strays.items
+
+abbrev trials_of : Lane → List Trial
+trials_of l = l.trials.items
+
+joined_still : {A B : Type 0} (g : A → List B) (xs : List A) (k : ℕ) (y d : A) → g y ≡ g (get_or xs k d)
+    → joined g (set xs k y) ≡ joined g xs
+joined_still g [] k y d same = refl
+joined_still {A} {B} g (x ∷ xs) zero y d same = ap (λ (zs : List B). zs ++ joined g xs) same
+joined_still {A} {B} g (x ∷ xs) (suc k) y d same = ap (λ (zs : List B). g x ++ zs) (joined_still g xs k y d same)
+
+joined_last : {A B : Type 0} (g : A → List B) (xs : List A) (k : ℕ) (y d : A) (zs : List B) → k + 1 ≡ length xs
+    → g y ≡ g (get_or xs k d) ++ zs → joined g (set xs k y) ≡ joined g xs ++ zs
+joined_last g [] k y d zs last more = absurd (omega (arith, last))
+joined_last {A} {B} g (x ∷ []) zero y d zs last more =
+    ap (λ (ws : List B). ws ++ []) more
+    ∙ (append-nil (g x ++ zs) ∙ ap (λ (ws : List B). ws ++ zs) (sym (append-nil (g x))))
+joined_last g (x ∷ w ∷ ws) zero y d zs last more = absurd (omega (arith, last))
+joined_last {A} {B} g (x ∷ xs) (suc k) y d zs last more =
+    ap (λ (ws : List B). g x ++ ws) (joined_last g xs k y d zs (omega (arith, last)) more)
+    ∙ sym (append_assoc (g x) (joined g xs) zs)
+
+joined_none : {A B : Type 0} (g : A → List B) (xs : List A) (y : A) → g y ≡ [] → joined g (xs ++ y ∷ []) ≡ joined g xs
+joined_none {A} {B} g xs y none =
+    joined_push g xs y ∙ (ap (λ (zs : List B). joined g xs ++ zs) none ∙ append-nil (joined g xs))
+
+-- one of them has more
+lane_grown : {jobs : List Job} {strays : List Handed} {trials : List Trial} {lanes : List Lane} (i : ℕ)
+    (was lane : Lane) (js : List Job) (hs : List Handed) (ts : List Trial) → i < length lanes
+    → was ≡ get_or lanes i was → lane.core ≡ was.core → lane.left.items ≡ was.left.items
+    → lane.jobs.items ≡ was.jobs.items ++ js → lane.strays.items ≡ was.strays.items ++ hs
+    → trials_in (set lanes i lane) ≡ trials_in lanes ++ ts → All (λ (j : Job). j.core ≡ was.core) js
+    → AreLanes jobs strays trials lanes → AreLanes (jobs ++ js) (strays ++ hs) (trials ++ ts) (set lanes i lane)
+lane_grown {jobs} {strays} {trials} {lanes} i was lane js hs ts low read core left more passed grown mine is = record {
+  moved = IsPermutation-trans (jobs ++ js) (jobs_in lanes ++ js) (jobs_in after)
+      (IsPermutation-append_left js jobs (jobs_in lanes) is.moved)
+      (IsPermutation-sym (jobs_in after) (jobs_in lanes ++ js)
+      (joined_more jobs_of lanes i lane was js low
+      (perm_by (jobs_of lane) (jobs_of (get_or lanes i was) ++ js)
+      (more ∙ ap (λ (l : Lane). jobs_of l ++ js) read))));
   shuffled = subst (λ (xs : List Arrival). IsPermutation xs (frames_by (jobs_in after)))
-      (sym (joined_push frames_of jobs job))
-      (IsPermutation-trans (frames_by jobs ++ frames_of job) (frames_by (jobs_in lanes) ++ frames_of job)
+      (sym (joined_both frames_of jobs js))
+      (IsPermutation-trans (frames_by jobs ++ frames_by js) (frames_by (jobs_in lanes) ++ frames_by js)
       (frames_by (jobs_in after))
-      (IsPermutation-append_left (frames_of job) (frames_by jobs) (frames_by (jobs_in lanes)) is.shuffled)
-      (IsPermutation-sym (frames_by (jobs_in after)) (frames_by (jobs_in lanes) ++ frames_of job) seen));
-  low = low;
-  own = own;
-  fresh = fresh;
+      (IsPermutation-append_left (frames_by js) (frames_by jobs) (frames_by (jobs_in lanes)) is.shuffled)
+      (IsPermutation-sym (frames_by (jobs_in after)) (frames_by (jobs_in lanes) ++ frames_by js) seen));
+  passed = IsPermutation-trans (strays ++ hs) (strays_in lanes ++ hs) (strays_in after)
+      (IsPermutation-append_left hs strays (strays_in lanes) is.passed)
+      (IsPermutation-sym (strays_in after) (strays_in lanes ++ hs)
+      (joined_more strays_of lanes i lane was hs low
+      (perm_by (strays_of lane) (strays_of (get_or lanes i was) ++ hs)
+      (passed ∙ ap (λ (l : Lane). strays_of l ++ hs) read))));
+  tried = grown ∙ ap (λ (xs : List Trial). xs ++ ts) is.tried;
+  low = All-set (λ (l : Lane). l.core < 16) lanes i lane
+      (subst (λ (n : ℕ). n < 16) (sym (core ∙ ap (λ (l : Lane). l.core) read))
+      (All-get_or (λ (l : Lane). l.core < 16) lanes i was low is.low)) is.low;
+  own = All-set IsOfOneCore lanes i lane own is.own;
+  fresh = All-set (λ (l : Lane). l.left.items ≡ []) lanes i lane
+      (left ∙ (ap (λ (l : Lane). l.left.items) read
+      ∙ All-get_or (λ (l : Lane). l.left.items ≡ []) lanes i was low is.fresh)) is.fresh;
+} where
+  after : List Lane
+  after = set lanes i lane
+
+  seen : IsPermutation (frames_by (jobs_in after)) (frames_by (jobs_in lanes) ++ frames_by js)
+  seen =
+      subst (λ (xs : List Arrival). IsPermutation xs (frames_by (jobs_in lanes) ++ frames_by js))
+      (sym (lanes_frames after))
+      (subst (λ (xs : List Arrival). IsPermutation (joined lane_frames after) (xs ++ frames_by js))
+      (sym (lanes_frames lanes))
+      (joined_more lane_frames lanes i lane was (frames_by js) low
+      (perm_by (lane_frames lane) (lane_frames (get_or lanes i was) ++ frames_by js)
+      (ap frames_by more ∙ (joined_both frames_of was.jobs.items js
+      ∙ ap (λ (l : Lane). lane_frames l ++ frames_by js) read)))))
+
+  had : All (λ (j : Job). j.core ≡ was.core) was.jobs.items
+  had = subst IsOfOneCore (sym read) (All-get_or IsOfOneCore lanes i was low is.own)
+
+  own : IsOfOneCore lane
+  own =
+      subst (All (λ (j : Job). j.core ≡ lane.core)) (sym more)
+      (subst (λ (n : ℕ). All (λ (j : Job). j.core ≡ n) (was.jobs.items ++ js)) (sym core)
+      (All-append (λ (j : Job). j.core ≡ was.core) was.jobs.items js had mine))
+
+-- the same, where there is more of one kind alone
+trimmed : {jobs : List Job} {strays : List Handed} {trials : List Trial} {lanes : List Lane}
+    → AreLanes (jobs ++ []) (strays ++ []) (trials ++ []) lanes → AreLanes jobs strays trials lanes
+trimmed {jobs} {strays} {trials} {lanes} is =
+    subst (λ (js : List Job). AreLanes js strays trials lanes) (append-nil jobs)
+    (subst (λ (hs : List Handed). AreLanes (jobs ++ []) hs trials lanes) (append-nil strays)
+    (subst (λ (ts : List Trial). AreLanes (jobs ++ []) (strays ++ []) ts lanes) (append-nil trials) is))
+
+no_jobs : (core : ℕ) → All (λ (j : Job). j.core ≡ core) []
+no_jobs core = All-nil (λ (j : Job). j.core ≡ core)
+
+none_more : {X : Type 0} (after before : List X) → after ≡ before → after ≡ before ++ []
+none_more after before same = same ∙ sym (append-nil before)
+
+still_tried : (lanes : List Lane) (i : ℕ) (was lane : Lane) → was ≡ get_or lanes i was
+    → lane.trials.items ≡ was.trials.items → trials_in (set lanes i lane) ≡ trials_in lanes ++ []
+still_tried lanes i was lane read same =
+    none_more (trials_in (set lanes i lane)) (trials_in lanes)
+    (joined_still trials_of lanes i lane was (same ∙ ap trials_of read))
+
+pub job_given : {jobs : List Job} {strays : List Handed} {trials : List Trial} {lanes : List Lane} (job : Job) (i : ℕ)
+    (was lane : Lane) → i < length lanes → was ≡ get_or lanes i was → was.core ≡ job.core → lane.core ≡ was.core
+    → lane.left.items ≡ was.left.items → lane.strays.items ≡ was.strays.items → lane.trials.items ≡ was.trials.items
+    → lane.jobs.items ≡ was.jobs.items ++ job ∷ [] → AreLanes jobs strays trials lanes
+    → AreLanes (jobs ++ job ∷ []) strays trials (set lanes i lane)
+job_given {jobs} {strays} {trials} {lanes} job i was lane low read mine core left passed tried more is =
+    subst (λ (hs : List Handed). AreLanes (jobs ++ job ∷ []) hs trials (set lanes i lane)) (append-nil strays)
+    (subst (λ (ts : List Trial). AreLanes (jobs ++ job ∷ []) (strays ++ []) ts (set lanes i lane)) (append-nil trials)
+    (lane_grown i was lane (job ∷ []) [] [] low read core left more
+    (none_more lane.strays.items was.strays.items passed) (still_tried lanes i was lane read tried)
+    (All-cons (λ (j : Job). j.core ≡ was.core) job [] (sym mine) (no_jobs was.core)) is))
+
+pub stray_given : {jobs : List Job} {strays : List Handed} {trials : List Trial} {lanes : List Lane} (h : Handed)
+    (i : ℕ) (was lane : Lane) → i < length lanes → was ≡ get_or lanes i was → lane.core ≡ was.core
+    → lane.left.items ≡ was.left.items → lane.jobs.items ≡ was.jobs.items → lane.trials.items ≡ was.trials.items
+    → lane.strays.items ≡ was.strays.items ++ h ∷ [] → AreLanes jobs strays trials lanes
+    → AreLanes jobs (strays ++ h ∷ []) trials (set lanes i lane)
+stray_given {jobs} {strays} {trials} {lanes} h i was lane low read core left worked tried more is =
+    subst (λ (js : List Job). AreLanes js (strays ++ h ∷ []) trials (set lanes i lane)) (append-nil jobs)
+    (subst (λ (ts : List Trial). AreLanes (jobs ++ []) (strays ++ h ∷ []) ts (set lanes i lane)) (append-nil trials)
+    (lane_grown i was lane [] (h ∷ []) [] low read core left (none_more lane.jobs.items was.jobs.items worked) more
+    (still_tried lanes i was lane read tried) (no_jobs was.core) is))
+
+pub stray_more : {jobs : List Job} {lanes : List Lane} (all : List Handed) (k : ℕ) (d : Handed) (i : ℕ)
+    (was lane : Lane) → k < length all → i < length lanes → was ≡ get_or lanes i was → lane.core ≡ was.core
+    → lane.left.items ≡ was.left.items → lane.jobs.items ≡ was.jobs.items → lane.trials.items ≡ was.trials.items
+    → lane.strays.items ≡ was.strays.items ++ get_or all k d ∷ [] → AreLanes jobs (take k all) [] lanes
+    → AreLanes jobs (take (k + 1) all) [] (set lanes i lane)
+stray_more {jobs} {lanes} all k d i was lane here low read core left worked tried more is =
+    subst (λ (hs : List Handed). AreLanes jobs hs [] (set lanes i lane)) (sym (take_more all k d here))
+    (stray_given (get_or all k d) i was lane low read core left worked tried more is)
+
+pub trial_given : {jobs : List Job} {strays : List Handed} {trials : List Trial} {lanes : List Lane} (x : Trial) (i : ℕ)
+    (was lane : Lane) → i + 1 ≡ length lanes → was ≡ get_or lanes i was → lane.core ≡ was.core
+    → lane.left.items ≡ was.left.items → lane.jobs.items ≡ was.jobs.items → lane.strays.items ≡ was.strays.items
+    → lane.trials.items ≡ was.trials.items ++ x ∷ [] → AreLanes jobs strays trials lanes
+    → AreLanes jobs strays (trials ++ x ∷ []) (set lanes i lane)
+trial_given {jobs} {strays} {trials} {lanes} x i was lane last read core left worked passed more is =
+    let low : i < length lanes = omega (arith, last) in
+    subst (λ (js : List Job). AreLanes js strays (trials ++ x ∷ []) (set lanes i lane)) (append-nil jobs)
+    (subst (λ (hs : List Handed). AreLanes (jobs ++ []) hs (trials ++ x ∷ []) (set lanes i lane)) (append-nil strays)
+    (lane_grown i was lane [] [] (x ∷ []) low read core left (none_more lane.jobs.items was.jobs.items worked)
+    (none_more lane.strays.items was.strays.items passed)
+    (joined_last trials_of lanes i lane was (x ∷ []) last (more ∙ ap (λ (l : Lane). trials_of l ++ x ∷ []) read))
+    (no_jobs was.core) is))
+
+-- one lane more, which has nothing yet
+pub lane_added : {jobs : List Job} {strays : List Handed} {trials : List Trial} {lanes : List Lane} (core : ℕ)
+    (lane : Lane) (after : List Lane) → after ≡ lanes ++ lane ∷ [] → core < 16 → IsEmptyLane core lane
+    → AreLanes jobs strays trials lanes → AreLanes jobs strays trials after
+lane_added {jobs} {strays} {trials} {lanes} core lane after made low empty is =
+    subst (AreLanes jobs strays trials) (sym made)
+    (record {
+      moved = subst (IsPermutation jobs) (sym same_jobs) is.moved;
+      shuffled = subst (λ (js : List Job). IsPermutation (frames_by jobs) (frames_by js)) (sym same_jobs) is.shuffled;
+      passed = subst (IsPermutation strays) (sym (joined_none strays_of lanes lane empty.strays)) is.passed;
+      tried = joined_none trials_of lanes lane empty.trials ∙ is.tried;
+      low = All-push (λ (l : Lane). l.core < 16) lanes lane is.low (subst (λ (n : ℕ). n < 16) (sym empty.core) low);
+      own = All-push IsOfOneCore lanes lane is.own
+          (subst (All (λ (j : Job). j.core ≡ lane.core)) (sym empty.jobs) (no_jobs lane.core));
+      fresh = All-push (λ (l : Lane). l.left.items ≡ []) lanes lane is.fresh empty.left;
+    }) where
+      same_jobs : jobs_in (lanes ++ lane ∷ []) ≡ jobs_in lanes
+      same_jobs = joined_none jobs_of lanes lane empty.jobs
+
+pub no_lanes : AreLanes [] [] [] []
+no_lanes = record {
+  moved = perm_by [] [] refl;
+  shuffled = perm_by [] [] refl;
+  passed = perm_by [] [] refl;
+  tried = refl;
+  low = All-nil (λ (l : Lane). l.core < 16);
+  own = All-nil IsOfOneCore;
+  fresh = All-nil (λ (l : Lane). l.left.items ≡ []);
 }
 
--- a lane with one job more of its core
-one_more : (job : Job) (was lane : Lane) → IsOfOneCore was → lane.core ≡ was.core → was.core ≡ job.core
-    → lane.jobs.items ≡ was.jobs.items ++ job ∷ [] → IsOfOneCore lane
-one_more job was lane own core same more =
-    subst (All (λ (j : Job). j.core ≡ lane.core)) (sym more)
-    (subst (λ (n : ℕ). All (λ (j : Job). j.core ≡ n) (was.jobs.items ++ job ∷ [])) (sym core)
-    (All-push (λ (j : Job). j.core ≡ was.core) was.jobs.items job own (sym same)))
+-- what a push leaves at the end
+pub last_of : {X : Type 0} (xs after : List X) (x d : X) (i : ℕ) → after ≡ xs ++ x ∷ [] → i + 1 ≡ length after
+    → get_or after i d ≡ x
+last_of {X} xs after x d i made last =
+    ap (λ (zs : List X). get_or zs i d) made ∙ at_end xs i (omega (arith, last, ap length made, length_push xs x)) where
+      at_end : (zs : List X) (k : ℕ) → k ≡ length zs → get_or (zs ++ x ∷ []) k d ≡ x
+      at_end [] zero same = refl
+      at_end [] (suc k) same = absurd (omega (arith, same))
+      at_end (z ∷ zs) zero same = absurd (omega (arith, same))
+      at_end (z ∷ zs) (suc k) same = at_end zs k (omega (arith, same))
 
-pub given_lane : {jobs : List Job} {lanes : List Lane} (job : Job) (i : ℕ) (was lane : Lane) → i < length lanes
-    → was ≡ get_or lanes i was → lane.core ≡ was.core → was.core ≡ job.core → lane.left.items ≡ was.left.items
-    → lane.jobs.items ≡ was.jobs.items ++ job ∷ [] → AreLanes jobs lanes
-    → AreLanes (jobs ++ job ∷ []) (set lanes i lane)
-given_lane {jobs} {lanes} job i was lane low read core same left more is =
-    lanes_more job (set lanes i lane)
-    (joined_more jobs_of lanes i lane was (job ∷ []) low
-    (perm_by (jobs_of lane) (jobs_of (get_or lanes i was) ++ job ∷ [])
-    (more ∙ ap (λ (l : Lane). jobs_of l ++ job ∷ []) read)))
-    (subst (λ (xs : List Arrival). IsPermutation xs (frames_by (jobs_in lanes) ++ frames_of job))
-    (sym (lanes_frames (set lanes i lane)))
-    (subst (λ (xs : List Arrival). IsPermutation (joined lane_frames (set lanes i lane)) (xs ++ frames_of job))
-    (sym (lanes_frames lanes))
-    (joined_more lane_frames lanes i lane was (frames_of job) low
-    (perm_by (lane_frames lane) (lane_frames (get_or lanes i was) ++ frames_of job)
-    (ap frames_by more ∙ (joined_push frames_of was.jobs.items job
-    ∙ ap (λ (l : Lane). lane_frames l ++ frames_of job) read))))))
-    (All-set (λ (l : Lane). l.core < 16) lanes i lane
-    (subst (λ (n : ℕ). n < 16) (sym (core ∙ ap (λ (l : Lane). l.core) read))
-    (All-get_or (λ (l : Lane). l.core < 16) lanes i was low is.low)) is.low)
-    (All-set IsOfOneCore lanes i lane
-    (one_more job was lane (subst IsOfOneCore (sym read) (All-get_or IsOfOneCore lanes i was low is.own)) core same
-    more) is.own)
-    (All-set (λ (l : Lane). l.left.items ≡ []) lanes i lane
-    (left ∙ (ap (λ (l : Lane). l.left.items) read
-    ∙ All-get_or (λ (l : Lane). l.left.items ≡ []) lanes i was low is.fresh)) is.fresh)
-    is
+-- lanes that got jobs, then strays, and then trials
+pub all_lent : {now lent : List Live} {given : List (Option Attempt)} {first second lanes : List Lane}
+    (jobs : List Job) (left : List Handed) {js : List Job} {hs : List Handed} → js ≡ jobs → hs ≡ left
+    → AreLanes js [] [] first
+    → ((ks : List Job) → AreLanes ks [] [] first → AreLanes ks hs [] second)
+    → ((ks : List Job) (gs : List Handed) → AreLanes ks gs [] second → IsLendingOut now lent given ks gs lanes)
+    → IsLendingOut now lent given jobs left lanes
+all_lent {now} {lent} {given} {first} {second} {lanes} jobs left {js} {hs} same_jobs same_left are strays trials =
+    trials jobs left
+    (subst (λ (gs : List Handed). AreLanes jobs gs [] second) same_left
+    (strays jobs (subst (λ (ks : List Job). AreLanes ks [] [] first) same_jobs are)))
 
-pub new_lane : {jobs : List Job} {lanes : List Lane} (job : Job) (lane : Lane) (after : List Lane)
-    → after ≡ lanes ++ lane ∷ [] → lane.core < 16 → job.core ≡ lane.core
-    → lane.left.items ≡ [] → lane.jobs.items ≡ job ∷ [] → AreLanes jobs lanes → AreLanes (jobs ++ job ∷ []) after
-new_lane {jobs} {lanes} job lane after made low same left one is =
-    subst (AreLanes (jobs ++ job ∷ [])) (sym made)
-    (lanes_more job (lanes ++ lane ∷ [])
-    (perm_by (jobs_in (lanes ++ lane ∷ [])) (jobs_in lanes ++ job ∷ []) gained)
-    (perm_by (frames_by (jobs_in (lanes ++ lane ∷ []))) (frames_by (jobs_in lanes) ++ frames_of job)
-    (ap frames_by gained ∙ joined_push frames_of (jobs_in lanes) job))
-    (All-push (λ (l : Lane). l.core < 16) lanes lane is.low low)
-    (All-push IsOfOneCore lanes lane is.own (subst (All (λ (j : Job). j.core ≡ lane.core)) (sym one)
-    (All-push (λ (j : Job). j.core ≡ lane.core) [] job (λ k d low. absurd (omega (arith, low))) same)))
-    (All-push (λ (l : Lane). l.left.items ≡ []) lanes lane is.fresh left)
-    is) where
-      gained : jobs_in (lanes ++ lane ∷ []) ≡ jobs_in lanes ++ job ∷ []
-      gained = joined_push jobs_of lanes lane ∙ ap (λ (js : List Job). jobs_in lanes ++ js) one
+-- the trials of all lanes
+pub in_lanes : (P : Trial → Type 0) (lanes : List Lane) → All P (trials_in lanes)
+    → All (λ (l : Lane). All P l.trials.items) lanes
+in_lanes P [] all = All-nil (λ (l : Lane). All P l.trials.items)
+in_lanes P (l ∷ ls) all =
+    All-cons (λ (m : Lane). All P m.trials.items) l ls (front l.trials.items (trials_in ls) all)
+    (in_lanes P ls (back l.trials.items (trials_in ls) all)) where
+      front : (xs ys : List Trial) → All P (xs ++ ys) → All P xs
+      front [] ys each = All-nil P
+      front (x ∷ xs) ys each =
+          All-cons P x xs (All-head P x (xs ++ ys) each) (front xs ys (All-tail P x (xs ++ ys) each))
+
+      back : (xs ys : List Trial) → All P (xs ++ ys) → All P ys
+      back [] ys each = each
+      back (x ∷ xs) ys each = back xs ys (All-tail P x (xs ++ ys) each)
 
 -- ----- flows that are put back
 put_both : (js ks : List Job) (flows : List Live) → put_jobs (js ++ ks) flows ≡ put_jobs ks (put_jobs js flows)
@@ -371,6 +523,12 @@ get_front [] zero d = refl
 get_front [] (suc k) d = refl
 get_front (x ∷ xs) zero d = refl
 get_front (x ∷ xs) (suc k) d = get_front xs k d
+
+-- a lane that was put back keeps its trials
+pub trials_kept : (old now : List Lane) (k : ℕ) (d lane : Lane) → lane.trials ≡ (get_or now k d).trials
+    → trials_in now ≡ trials_in old → trials_in (set now k lane) ≡ trials_in old
+trials_kept old now k d lane same are =
+    joined_still trials_of now k lane d (ap (λ (ts : Vec Trial). ts.items) same) ∙ are
 
 -- one lane more was put back
 pub put_more : (old now : List Lane) (k : ℕ) (d lane : Lane) (flows next end : List Live) (left more all : List Handed)

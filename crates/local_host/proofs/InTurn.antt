@@ -2,7 +2,7 @@
 use Rattle.std.proofs.Common.{◌≡◌, ℕ, ◌++◌, List, [], ◌∷◌, set, map, Bool, true, false}
 use Rattle.std.proofs.Common.{cond, ◌+◌, ◌<◌, take, length}
 use Rattle.std.proofs.Common.{Some, is_some, slice_get, get_or, refl, sym, ap, subst, ◌∙◌, append_assoc}
-use Rattle.std.proofs.Common.{Result, Ok, Err, IfOk}
+use Rattle.std.proofs.Common.{Option}
 use Rattle.std.specs.Global.{Vec}
 use Rattle.std.specs.Prelude.{IsPermutation}
 use Rattle.std.proofs.lemmas.List.{map-append, take_more}
@@ -12,6 +12,10 @@ use Rattle.std.proofs.lemmas.List.Sorted.{IsPermutation-middle, IsPermutation-ap
 use Rattle.host_rounds.specs.Hosts.{Live}
 use Rattle.host_rounds.specs.Deliveries.{Packet, Arrival}
 use Rattle.core_rounds.specs.CoreTicks.{Taken, is_frame}
+use Rattle.local_host.specs.declared.attempts.Attempt.{Attempt}
+use Rattle.local_host.specs.SideWork.{IsSideWork}
+use Rattle.local_host.specs.Trying.{AreAnswered}
+use Rattle.local_host.proofs.Trying.{none_made}
 use Rattle.local_host.specs.declared.arrival.Arrival as code
 use Rattle.local_host.specs.Arriving.{arrival_in}
 use Rattle.local_host.specs.Lanes.{packet_taken, is_taken, worked_frame}
@@ -136,12 +140,21 @@ all_taken {t} {old} {now} {cores} {frames} {rest} distinct some = record {
 }
 
 -- and so it is with those of a list's slice, where memory was enough
-pub if_turned : {E : Type 0} (t : ℕ) (old slice now after : List Live) (cores : List ℕ) (frames : List Arrival)
-    (r : Result (Vec code.Arrival) E) → AreDistinct frames → slice ≡ old → after ≡ now
-    → IfOk r (λ (v : Vec code.Arrival). TookSome t slice cores frames (map arrival_in v.items) now)
-    → IfOk r (λ (v : Vec code.Arrival). TookFrames t old cores frames (map arrival_in v.items) after)
-if_turned t old slice now after cores frames (Err e) distinct before behind some = tt
-if_turned {E} t old slice now after cores frames (Ok v) distinct before behind some =
-    subst (λ (F : List Live). TookFrames t old cores frames (map arrival_in v.items) F) (sym behind)
-    (subst (λ (F : List Live). TookFrames t F cores frames (map arrival_in v.items) now) before
-    (all_taken distinct some))
+pub turned : (t : ℕ) (old slice now after : List Live) (cores : List ℕ) (frames rest : List Arrival)
+    → AreDistinct frames → slice ≡ old → after ≡ now → TookSome t slice cores frames rest now
+    → TookFrames t old cores frames rest after
+turned t old slice now after cores frames rest distinct before behind some =
+    subst (TookFrames t old cores frames rest) (sym behind)
+    (subst (λ (F : List Live). TookFrames t F cores frames rest now) before (all_taken distinct some))
+
+-- and no attempt is made
+pub side_in_turn : (t : ℕ) (old slice now after : List Live) (cores : List ℕ) (frames rest : List Arrival)
+    (given : List (Option Attempt)) → AreDistinct frames → slice ≡ old → after ≡ now
+    → TookSome t slice cores frames rest now → AreAnswered given given
+    → IsSideWork t old cores frames rest given given after
+side_in_turn t old slice now after cores frames rest given distinct before behind some fresh = record {
+  middle = after;
+  took = turned t old slice now after cores frames rest distinct before behind some;
+  same = fresh;
+  made = none_made t given after fresh;
+}

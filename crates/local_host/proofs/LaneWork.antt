@@ -259,7 +259,7 @@ put_alike (j ∷ js) S F len same below =
           let other : j.place ≡ q → ⊥ = λ e. true≢false (sym (grind (arith, tests, e)) ∙ is) in
           set_elsewhere S j.place q j.flow other ∙ (same q all ∙ sym (set_elsewhere F j.place q j.flow other))
 
-places_worked : (t q : ℕ) (js : List Job) → jobs_at q (map (worked_job t) js) ≡ jobs_at q js
+pub places_worked : (t q : ℕ) (js : List Job) → jobs_at q (map (worked_job t) js) ≡ jobs_at q js
 places_worked t q [] = refl
 places_worked t q (j ∷ js) =
     count_cons (λ (k : Job). k.place == q) (worked_job t j) (map (worked_job t) js)

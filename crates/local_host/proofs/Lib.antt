@@ -19,6 +19,7 @@ mod LaneLists
 mod OwnCores
 mod HandingOut
 mod SeenFrames
+mod Trying
 mod CoreTaking
 mod Halves
 pub mod Timing

@@ -11,6 +11,9 @@ use Rattle.core_rounds.specs.CoreTicks.{Taken, AreShared, IsCoresPhase, is_frame
 use Rattle.local_host.specs.declared.lanes.Handed.{Handed}
 use Rattle.local_host.specs.declared.lanes.Job.{Job}
 use Rattle.local_host.specs.declared.lanes.Lane.{Lane}
+use Rattle.local_host.specs.declared.attempts.Attempt.{Attempt}
+use Rattle.local_host.specs.declared.attempts.Trial.{Trial}
+use Rattle.local_host.specs.Trying.{AreLent}
 use Rattle.local_host.specs.Lanes.{arrival_of, taken_of}
 
 -- each frame comes once
@@ -57,6 +60,12 @@ jobs_in lanes = joined jobs_of lanes
 abbrev pub left_in : List Lane → List Handed
 left_in lanes = joined (λ (l : Lane). l.left.items) lanes
 
+abbrev pub strays_in : List Lane → List Handed
+strays_in lanes = joined (λ (l : Lane). l.strays.items) lanes
+
+abbrev pub trials_in : List Lane → List Trial
+trials_in lanes = joined (λ (l : Lane). l.trials.items) lanes
+
 -- how many jobs have the flow at this place
 abbrev pub jobs_at : (place : ℕ) → List Job → ℕ
 jobs_at q jobs = count_by (λ (j : Job). j.place == q) jobs
@@ -100,13 +109,31 @@ pub record HasMore (h : Handed) (before after : Job) : Type 0 where
 abbrev pub IsOfOneCore : Lane → Type 0
 IsOfOneCore l = All (λ (j : Job). j.core ≡ l.core) l.jobs.items
 
--- The lanes have these jobs, each lane those of its core, and have left nothing yet.
-pub record AreLanes (jobs : List Job) (lanes : List Lane) : Type 0 where
+-- The lanes have these jobs, each lane those of its core, these frames to pass on and these trials, and have left
+-- nothing yet.
+pub record AreLanes (jobs : List Job) (strays : List Handed) (trials : List Trial) (lanes : List Lane) : Type 0 where
   pub moved : IsPermutation jobs (jobs_in lanes)
   pub shuffled : IsPermutation (frames_by jobs) (frames_by (jobs_in lanes))
+  pub passed : IsPermutation strays (strays_in lanes)
+  pub tried : trials_in lanes ≡ trials
   pub low : All (λ (l : Lane). l.core < 16) lanes
   pub own : All IsOfOneCore lanes
   pub fresh : All (λ (l : Lane). l.left.items ≡ []) lanes
+
+-- a lane of this core that has nothing yet
+pub record IsEmptyLane (number : ℕ) (l : Lane) : Type 0 where
+  pub core : l.core ≡ number
+  pub jobs : l.jobs.items ≡ []
+  pub strays : l.strays.items ≡ []
+  pub trials : l.trials.items ≡ []
+  pub left : l.left.items ≡ []
+
+-- The lanes have trials of these attempts too, whose flows were taken out of these.
+pub record IsLendingOut (old now : List Live) (given : List (Option Attempt)) (jobs : List Job) (strays : List Handed)
+    (lanes : List Lane) : Type 0 where
+  pub trials : List Trial
+  pub lent : AreLent old now given trials
+  pub have : AreLanes jobs strays trials lanes
 
 -- the flows of jobs are put back
 abbrev pub put_jobs : List Job → List Live → List Live

@@ -9,6 +9,7 @@ use Rattle.local_host.specs.declared.lanes.Handed.{Handed}
 use Rattle.local_host.specs.declared.lanes.Job.{Job}
 use Rattle.local_host.specs.declared.lanes.Lane.{Lane}
 use Rattle.local_host.specs.Arriving.{arrival_in}
+use Rattle.local_host.specs.Trying.{tried_trial}
 
 -- ----- one frame
 -- the fast path takes it
@@ -61,7 +62,8 @@ abbrev pub left_by : (tick : ℕ) → List Job → List Handed
 left_by t [] = []
 left_by t (j ∷ js) = left_of j.core t j.frames.items j.flow ++ left_by t js
 
--- A lane whose memory was enough has worked all its jobs.
+-- A lane whose memory was enough has worked all its jobs, passed its strays on and made its attempts.
 pub record IsWorked (t : ℕ) (before after : Lane) : Type 0 where
   pub jobs : after.jobs.items ≡ map (worked_job t) before.jobs.items
-  pub left : after.left.items ≡ before.left.items ++ left_by t before.jobs.items
+  pub left : after.left.items ≡ (before.left.items ++ left_by t before.jobs.items) ++ before.strays.items
+  pub trials : after.trials.items ≡ map (tried_trial t) before.trials.items

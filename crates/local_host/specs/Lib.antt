@@ -8,7 +8,9 @@ pub mod Script
 pub mod Arriving
 pub mod Ports
 pub mod Steered
+pub mod Trying
 pub mod Lanes
 pub mod Handing
+pub mod SideWork
 pub mod Keys
 pub use Rattle.core_rounds.specs.CoreTicks

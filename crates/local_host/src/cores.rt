@@ -2,22 +2,39 @@ ghost use Rattle.std.specs.Prelude.{◌≡◌, ℕ, ◌<◌, ◌++◌, ◌∷◌
 ghost use Rattle.host_rounds.specs.Hosts.{Live};
 ghost use Rattle.host_rounds.specs.Deliveries.{Arrival as ModelArrival};
 ghost use Rattle.local_host.specs.Arriving.{arrival_in};
-ghost use Rattle.local_host.specs.Handing.{AreDistinct, TookFrames, TookSome, place_in};
+ghost use Rattle.local_host.specs.Handing.{AreDistinct, TookSome, place_in};
+ghost use Rattle.local_host.specs.SideWork.{IsSideWork};
+ghost use Rattle.local_host.specs.Trying.{AreAnswered, CanTryIt};
 
 use crate::arrival::Arrival;
-use crate::jobs::{hand_out, keep_stand_ins, lanes_of, put_back};
+use crate::attempts::Attempt;
+use crate::jobs::{end_lanes, give_strays, hand_out, lanes_of, lend_all, put_back};
 use crate::lanes::{Handed, work_all};
 use crate::live::LiveFlow;
 use std::alloc::{AllocError, Global};
 use std::thread::Threads;
 use tas_num::Gate;
 
-/// Fewer frames than these are one thread's work: to hand flows out costs more than threads gain.
+/// Fewer frames than these are one thread's work where nobody watches: to hand flows out costs more than threads gain.
 const FRAMES_FOR_THREADS: usize = 4096;
 
-/// Cores take the frames of flows that stand at these places, each the core that it was steered to, side by side where
-/// these are many. The answer are the frames that were left, in the order in which they came. `spare` has flows that
-/// stand in for those that cores have. The error is want of memory.
+/// Whether so many frames of a tick, and with them what applications try, are handed out to threads.
+pub fn are_handed_out<G: Gate>(frames: usize, gate: &G) -> bool {
+    frames >= FRAMES_FOR_THREADS || gate.is_watched()
+}
+
+/// What cores and applications left that worked side by side.
+#[derive(Drop)]
+pub struct SideWork<'a> {
+    /// The frames that cores left, in the order in which they came.
+    pub rest: Vec<Arrival<'a>>,
+    /// The attempts of applications, with the answers of those that were made.
+    pub attempts: Vec<Option<Attempt<'a>>>,
+}
+
+/// Cores take the frames of flows that stand at these places, each the core that it was steered to, and applications
+/// make attempts, side by side where these are many or someone watches. `spare` has flows that stand in for those that
+/// others have. The error is want of memory.
 pub fn take_on_cores<'a, R: Threads + Sync, G: Gate>(
     rt: &R,
     alloc: Global,
@@ -29,25 +46,33 @@ pub fn take_on_cores<'a, R: Threads + Sync, G: Gate>(
     steered: &[u32],
     host: u32,
     gate: &G,
-) -> Result<Vec<Arrival<'a>>, AllocError>
+    attempts: Vec<Option<Attempt<'a>>>,
+) -> Result<SideWork<'a>, AllocError>
     requires places { places.now ≡ map (λ x. place_in flows.old.items (arrival_in x).packet) arrivals.now }
     requires steered { length steered.now ≡ length arrivals.now }
     requires cores { All (λ core. core < 16) steered.now }
     requires host { host < 67108863 }
     requires distinct { AreDistinct (map arrival_in arrivals.now) }
-    ensures { IfOk result (λ rest. TookFrames tick flows.old.items steered.now (map arrival_in arrivals.now)
-        (map arrival_in rest.items) flows.new.items) }
+    requires fresh { AreAnswered attempts.items attempts.items }
+    requires tries { All CanTryIt attempts.items }
+    ensures { IfOk result (λ side. IsSideWork tick flows.old.items steered.now (map arrival_in arrivals.now)
+        (map arrival_in side.rest.items) attempts.entry.items side.attempts.items flows.new.items) }
 {
-    if arrivals.len() < FRAMES_FOR_THREADS {
-        return take_in_turn(alloc, flows, places, tick, arrivals, steered);
+    if !are_handed_out(arrivals.len(), gate) {
+        let rest = take_in_turn(alloc, flows, places, tick, arrivals, steered)?;
+        return Ok(SideWork { rest, attempts });
     }
     let mut handing = hand_out(alloc, flows, spare, places, arrivals, steered)?;
     let mut lanes = lanes_of(alloc, handing.take_jobs(alloc))?;
+    give_strays(alloc, &mut lanes, &handing.left, steered)?;
+    lend_all(alloc, flows, spare, &mut lanes, attempts)?;
     work_all(rt, &mut lanes, host, tick, gate);
-    put_back(flows, &mut handing.left, &mut lanes)?;
-    keep_stand_ins(spare, lanes)?;
-    handing.left.sort_by_key(|handed| handed.index)?;
-    arrivals_of_handed(alloc, &handing.left)
+    let mut left = Vec::new(alloc);
+    put_back(flows, &mut left, &mut lanes)?;
+    let attempts = end_lanes(alloc, flows, spare, lanes)?;
+    left.sort_by_key(|handed| handed.index)?;
+    let rest = arrivals_of_handed(alloc, &left)?;
+    Ok(SideWork { rest, attempts })
 }
 
 /// The same by one thread, frame by frame, each by its own core.

@@ -14,7 +14,9 @@ ghost use Rattle.host_rounds.specs.Hosts.{opened_as};
 ghost use Rattle.host_rounds.specs.Hosts.{flows_of, is_ready, is_over, waits_at, with_call, first_port};
 ghost use Rattle.host_rounds.specs.Upkeep.{swept, timed, quieted};
 ghost use Rattle.local_host.specs.Arriving.{arrival_in, taking_in};
-ghost use Rattle.local_host.specs.Handing.{AreDistinct, TookFrames, place_in};
+ghost use Rattle.local_host.specs.Handing.{AreDistinct, place_in};
+ghost use Rattle.local_host.specs.SideWork.{IsSideWork};
+ghost use Rattle.local_host.specs.Trying.{AreAnswered, CanTryIt};
 ghost use Rattle.tas_runs.specs.Records.{Content, is_remote};
 ghost use Rattle.tas_runs.specs.LocalScript.{resets_here};
 ghost use Rattle.local_host.specs.Index.{IsSound, AreAtRest, is_standing, standing_places, passes_at, number_of};
@@ -24,7 +26,8 @@ ghost use Rattle.local_host.specs.Script.{asked_all, asked_live};
 ghost use Rattle.local_host.specs.Live.{flow_in, holder_in, IsLegal};
 
 use crate::arrival::{Arrival, Packet, Taking};
-use crate::cores::take_on_cores;
+use crate::attempts::Attempt;
+use crate::cores::{SideWork, take_on_cores};
 use crate::live::{Holder, LiveFlow};
 use crate::parts::{FLOWS_FOR_THREADS, Sending, Timing, work_all};
 use crate::script::Shown;
@@ -329,8 +332,8 @@ impl Flows {
         self.table.settle(done)
     }
 
-    /// Cores take frames, each on a thread of its own where these are many. The answer are the frames that were left,
-    /// in the order in which they came. The error is want of memory.
+    /// Cores take frames and applications make attempts, each on a thread of its own where the frames are many or
+    /// someone watches. The error is want of memory.
     pub fn take_on_cores<'a, R: Threads + Sync, G: Gate>(
         &mut self,
         rt: &R,
@@ -340,13 +343,16 @@ impl Flows {
         steered: &[u32],
         host: u32,
         gate: &G,
-    ) -> Result<Vec<Arrival<'a>>, AllocError>
+        attempts: Vec<Option<Attempt<'a>>>,
+    ) -> Result<SideWork<'a>, AllocError>
         requires steered { length steered.now ≡ length arrivals.now }
         requires cores { All (λ core. core < 16) steered.now }
         requires host { host < 67108863 }
         requires distinct { AreDistinct (map arrival_in arrivals.now) }
-        ensures made { IfOk result (λ rest. TookFrames tick self.old steered.now (map arrival_in arrivals.now)
-            (map arrival_in rest.items) self.new) }
+        requires fresh { AreAnswered attempts.items attempts.items }
+        requires tries { All CanTryIt attempts.items }
+        ensures made { IfOk result (λ side. IsSideWork tick self.old steered.now (map arrival_in arrivals.now)
+            (map arrival_in side.rest.items) attempts.entry.items side.attempts.items self.new) }
         ensures none { OnErr result (self.new ≡ []) }
     {
         match self.places(alloc, arrivals) {
@@ -354,7 +360,7 @@ impl Flows {
                 let flows = &mut self.table.flows;
                 let spare = &mut self.table.spare;
                 let done = take_on_cores(
-                    rt, alloc, flows, spare, &places, tick, arrivals, steered, host, gate,
+                    rt, alloc, flows, spare, &places, tick, arrivals, steered, host, gate, attempts,
                 );
                 self.table.settle(done)
             }

@@ -21,12 +21,16 @@ ghost use Rattle.tas_runs.specs.Records.{Content, is_remote};
 ghost use Rattle.tas_runs.specs.LocalScript.{resets_here};
 ghost use Rattle.local_host.specs.Arriving.{arrival_in, taking_in};
 ghost use Rattle.local_host.specs.Handing.{IsSteeredPhase};
+ghost use Rattle.local_host.specs.SideWork.{IsSidePhase};
+ghost use Rattle.local_host.specs.Trying.{AreAnswered, CanTryIt};
 ghost use Rattle.local_host.specs.Index.{is_standing, passes_at, standing_places, AreAtRest};
 ghost use Rattle.local_host.specs.Script.{asked_all, asked_live};
 ghost use Rattle.local_host.specs.Live.{flow_in, holder_in, IsLegal, connected_by};
 ghost use Rattle.local_host.specs.Ports.{IsConnecting, MayAsk};
 
 use crate::arrival::{Arrival, Packet, Taking};
+use crate::attempts::Attempt;
+use crate::cores::SideWork;
 use crate::distinct::are_distinct;
 use crate::flows::{FIRST_PORT, Flows};
 use crate::live::{Holder, LiveFlow};
@@ -593,11 +597,11 @@ impl LocalHost {
         self.deliver_by(Taking::Slowly, tick, arrival, numbers)
     }
 
-    /// Cores take frames, each on a thread of its own where these are many: a segment goes to the core that stands at
-    /// its place in `steered`, which takes it where the index has its flow and it is for the fast path. The answer are
-    /// all other frames, in their order: they are the slow path's. Where a frame comes twice, all are left. A thread
-    /// passes the gate's points, 64 * `host` + 2 * core before a frame and one more after it. The error is want of
-    /// memory.
+    /// Cores take frames, each on a thread of its own where these are many or someone watches: a segment goes to the
+    /// core that stands at its place in `steered`, which takes it where the index has its flow and it is for the fast
+    /// path. The answer are all other frames, in their order: they are the slow path's. Where a frame comes twice, all
+    /// are left. A thread passes the gate's points, 64 * `host` + 2 * core before a frame and one more after it. The
+    /// error is want of memory.
     pub fn receive_on_cores<'a, R: Threads + Sync, G: Gate>(
         &mut self,
         rt: &R,
@@ -618,14 +622,45 @@ impl LocalHost {
             (map arrival_in rest.items) self.new) }
         ensures params { self.new.params ≡ self.old.params }
     {
+        let none = Vec::new(self.alloc);
+        let side = self.work_on_cores(rt, tick, arrivals, steered, none, host, cores, gate)?;
+        Ok(side.rest)
+    }
+
+    /// The same, and beside the cores applications make attempts, each on the flow at its place where no core has that,
+    /// in at most 16 threads of their own. Of the attempts those have an answer that were made; the others leave all as
+    /// it was. A thread passes the gate's points 64 * `host` + 62 before an attempt and 64 * `host` + 63 after it.
+    /// Where a frame comes twice, and where neither frames are many nor someone watches, no attempt is made. The error
+    /// is want of memory.
+    pub fn work_on_cores<'a, R: Threads + Sync, G: Gate>(
+        &mut self,
+        rt: &R,
+        tick: u32,
+        arrivals: &[Arrival<'a>],
+        steered: &[u32],
+        attempts: Vec<Option<Attempt<'a>>>,
+        host: u32,
+        cores: u32,
+        gate: &G,
+    ) -> Result<SideWork<'a>, AllocError>
+        requires steered { length steered.now ≡ length arrivals.now }
+        requires below { All (λ core. core < cores) steered.now }
+        requires cores { (0 < cores) × (cores ≤ 16) }
+        requires host { host < 67108863 }
+        requires fresh { AreAnswered attempts.items attempts.items }
+        requires tries { All CanTryIt attempts.items }
+        ensures made { IfOk result (λ side. IsSidePhase tick self.old steered.now (map arrival_in arrivals.now)
+            (map arrival_in side.rest.items) attempts.entry.items side.attempts.items self.new) }
+        ensures params { self.new.params ≡ self.old.params }
+    {
         if are_distinct(self.alloc, arrivals)? {
-            return self
-                .flows
-                .take_on_cores(rt, self.alloc, tick, arrivals, steered, host, gate);
+            return self.flows.take_on_cores(
+                rt, self.alloc, tick, arrivals, steered, host, gate, attempts,
+            );
         }
         let mut rest = Vec::new(self.alloc);
         rest.extend_from_slice(arrivals)?;
-        Ok(rest)
+        Ok(SideWork { rest, attempts })
     }
 
     fn deliver_by<N: NumberSource>(

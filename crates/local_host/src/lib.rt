@@ -3,6 +3,7 @@
 #![tactic(auto)]
 
 mod arrival;
+mod attempts;
 mod calls;
 mod cores;
 mod distinct;
@@ -22,6 +23,8 @@ mod slot_marks;
 mod steer;
 
 pub use arrival::{Arrival, Packet};
+pub use attempts::Attempt;
+pub use cores::{SideWork, are_handed_out};
 pub use host::{Connecting, HostEnd, LocalHost};
 pub use live::{Holder, LiveFlow};
 pub use numbers::NumberSource;
