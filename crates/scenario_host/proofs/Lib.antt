@@ -11,4 +11,6 @@ pub mod Sockets
 pub mod Stepping
 pub mod Aborting
 pub mod Playing
+pub mod OneTry
+pub mod TriedTurns
 pub mod OnCores

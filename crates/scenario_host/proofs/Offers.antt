@@ -1,12 +1,21 @@
--- The bytes of `fill` from one of them on.
+-- What a Send offers: the rest of a text, and the bytes of `fill` from one of them on.
 use Rattle.std.proofs.Common.{◌≡◌, ◌≤◌, ◌+◌, ◌-◌, ◌%◌, ℕ, zero, suc, List, ◌∷◌, length, map, take, drop, min}
-use Rattle.std.proofs.Common.{refl, sym, ap}
-use Rattle.std.proofs.Common.{◌∙◌, arith}
+use Rattle.std.proofs.Common.{refl, sym, ap, ◌∙◌, arith, length-drop}
 use Rattle.std.specs.List.{range_with_len}
-use Rattle.std.proofs.lemmas.List.{drop-map, take-map}
+use Rattle.std.proofs.lemmas.List.{drop-map, take-map, take_all}
 use Rattle.std.proofs.lemmas.List.FromFn.{length-map-range_with_len}
 use Rattle.scenario_runs.specs.Applications.{most, filling}
 
+-- the rest of a text is offered whole
+pub rest_offered : (text : List ℕ) (done : ℕ) → length text ≤ 4096
+    → take (length text - done) (drop done text) ≡ take most (drop done text)
+rest_offered text done few =
+    let len = length-drop done text in
+    let all : length (drop done text) ≤ length text - done = omega (arith, len) in
+    let enough : length (drop done text) ≤ most = omega (arith, len, few) in
+    take_all (length text - done) (drop done text) all ∙ sym (take_all most (drop done text) enough)
+
+-- ----- fill
 pub length-filling : (count : ℕ) → length (filling count) ≡ count
 length-filling count = length-map-range_with_len (λ (k : ℕ). k % 251) 0 count
 

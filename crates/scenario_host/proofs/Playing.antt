@@ -1,6 +1,7 @@
 -- A tick of a host and its scripts, from what its phases leave.
 use Rattle.std.proofs.Common.{◌≡◌, ℕ, List, length, map, fold, ap, ◌∙◌}
 use Rattle.tas_model.specs.declared.entry.HostParams.{HostParams}
+use Rattle.host_rounds.specs.Lists.{Each}
 use Rattle.host_rounds.specs.Hosts.{Host}
 use Rattle.host_rounds.specs.Deliveries.{Arrival, received_serially, delivered}
 use Rattle.host_rounds.specs.Rounds.{on_host}
@@ -17,14 +18,19 @@ use Rattle.scenario_host.proofs.Walking.{each_weaker}
 abbrev pub numbers_in : List Script → List ℕ
 numbers_in scripts = map (λ (s : Script). s.number) scripts
 
--- scripts stay sound while their host lasts
+-- scripts stay fit, and sound, while their host lasts
+pub fits_later : (before after : Host) (scripts : List Script) → Lasts before after
+    → Each (IsFit (length before.flows)) scripts → Each (IsFit (length after.flows)) scripts
+fits_later before after scripts lasts fit =
+    each_weaker (IsFit (length before.flows)) (IsFit (length after.flows))
+    (λ s one. fit_more (length before.flows) (length after.flows) s lasts.grown one) scripts fit
+
 pub sound_later : (before after : Host) (scripts : List Script) → Lasts before after
     → IsSound (site_with before scripts) → IsSound (site_with after scripts)
 sound_later before after scripts lasts sound = record {
   listens = ap (λ (p : HostParams). p.fixed) lasts.params ∙ sound.listens;
   numbers = sound.numbers;
-  scripts = each_weaker (IsFit (length before.flows)) (IsFit (length after.flows))
-      (λ s fit. fit_more (length before.flows) (length after.flows) s lasts.grown fit) scripts sound.scripts;
+  scripts = fits_later before after scripts lasts sound.scripts;
 }
 
 -- the slow path and the frames

@@ -31,7 +31,7 @@ each_weaker P Q weaker [] each = tt
 each_weaker P Q weaker (x ∷ xs) each = (weaker x each.0, each_weaker P Q weaker xs each.1)
 
 -- ----- numbers
-abbrev has_number : ℕ → Script → Bool
+abbrev pub has_number : ℕ → Script → Bool
 has_number k s = s.number == k
 
 same_number : (a b : ℕ) → a ≡ b → (a == b) ≡ true
@@ -87,84 +87,103 @@ rising_set (x ∷ xs) (suc i) s y rising here same =
       rising_set xs i s y rising.1 here same,
     )
 
-drop_place : (ss : List Script) (i : ℕ) (s : Script) → slice_get ss i ≡ Some s → drop i ss ≡ s ∷ drop (suc i) ss
+pub drop_place : (ss : List Script) (i : ℕ) (s : Script) → slice_get ss i ≡ Some s → drop i ss ≡ s ∷ drop (suc i) ss
 drop_place [] i s here = absurd (cc (here))
 drop_place (x ∷ xs) zero s here = let same : x ≡ s = cc (here) in ap (λ (r : Script). r ∷ xs) same
 drop_place (x ∷ xs) (suc i) s here = drop_place xs i s here
 
-drop_set : (ss : List Script) (i : ℕ) (y : Script) → drop (suc i) (set ss i y) ≡ drop (suc i) ss
+pub drop_set : (ss : List Script) (i : ℕ) (y : Script) → drop (suc i) (set ss i y) ≡ drop (suc i) ss
 drop_set [] i y = refl
 drop_set (x ∷ xs) zero y = refl
 drop_set (x ∷ xs) (suc i) y = drop_set xs i y
 
 -- ----- turns
-abbrev numbers_in : List Script → List ℕ
+abbrev pub numbers_in : List Script → List ℕ
 numbers_in ss = map (λ (s : Script). s.number) ss
 
-abbrev asked_by : Numbers → (address : List ℕ → ℕ) → (tick : ℕ) → Site (List Script) → ℕ → Site (List Script)
+abbrev pub asked_by : Numbers → (address : List ℕ → ℕ) → (tick : ℕ) → Site (List Script) → ℕ → Site (List Script)
 asked_by numbers address t site k = asked_of numbers address t (find (has_number k) site.scripts) site
 
-abbrev asked_all : Numbers → (address : List ℕ → ℕ) → (tick : ℕ) → Site (List Script) → List ℕ → Site (List Script)
+abbrev pub asked_all : Numbers → (address : List ℕ → ℕ) → (tick : ℕ) → Site (List Script) → List ℕ → Site (List Script)
 asked_all numbers address t site ks = fold (asked_by numbers address t) site ks
 
--- The scripts before this place have made their turns; the others lead from what there is to the end.
-pub record Walks (numbers : Numbers) (address : List ℕ → ℕ) (t i : ℕ) (start : Site (List Script)) (host : Host)
-    (scripts : List Script) : Type 0 where
-  pub rest : asked_all numbers address t (record { host = host; scripts = scripts }) (numbers_in (drop i scripts))
-      ≡ asked_all numbers address t start (numbers_in start.scripts)
+-- Some turns were made, and those of these applications lead from what there is to the end.
+pub record Leads (numbers : Numbers) (address : List ℕ → ℕ) (t : ℕ) (left : List ℕ) (start end : Site (List Script))
+    (host : Host) (scripts : List Script) : Type 0 where
+  pub rest : asked_all numbers address t (record { host = host; scripts = scripts }) left ≡ end
   pub lasts : Lasts start.host host
+  pub same : numbers_in scripts ≡ numbers_in start.scripts
   pub rising : AreRising scripts
   pub fit : Each (IsFit (length host.flows)) scripts
+
+pub leads_start : (numbers : Numbers) (address : List ℕ → ℕ) (t : ℕ) (left : List ℕ) (start : Site (List Script))
+    → AreRising start.scripts → Each (IsFit (length start.host.flows)) start.scripts
+    → Leads numbers address t left start (asked_all numbers address t start left) start.host start.scripts
+leads_start numbers address t left start rising fit =
+    record { rest = refl; lasts = lasts_same start.host; same = refl; rising = rising; fit = fit }
+
+set_number : (ss : List Script) (i : ℕ) (s y : Script) → slice_get ss i ≡ Some s → y.number ≡ s.number
+    → numbers_in (set ss i y) ≡ numbers_in ss
+set_number [] i s y here same = refl
+set_number (x ∷ xs) zero s y here same =
+    let first : x ≡ s = cc (here) in
+    ap (λ (k : ℕ). k ∷ numbers_in xs) (same ∙ ap (λ (r : Script). r.number) (sym first))
+set_number (x ∷ xs) (suc i) s y here same = ap (λ (ks : List ℕ). x.number ∷ ks) (set_number xs i s y here same)
+
+-- one more
+pub leads_on : (numbers : Numbers) (address : List ℕ → ℕ) (t i : ℕ) (left : List ℕ) (start end : Site (List Script))
+    (host after : Host) (scripts : List Script) (s y : Script)
+    → Leads numbers address t (s.number ∷ left) start end host scripts → slice_get scripts i ≡ Some s
+    → turn_of after y ≡ turn numbers address t (turn_of host s)
+    → Leads numbers address t left start end after (set scripts i y)
+leads_on numbers address t i left start end host after scripts s y leads here made =
+    let site : Site (List Script) = record { host = host; scripts = scripts } in
+    let x : Turn = turn_of host s in
+    let goes : Goes x (turn_of after y) =
+    subst (Goes x) (sym made)
+    (turn_goes numbers address t x (each_at (IsFit (length host.flows)) scripts i s leads.fit here)) in
+    let one : asked_by numbers address t site s.number ≡ record { host = after; scripts = set scripts i y } =
+    ap (λ (o : Option Script). asked_of numbers address t o site) (find_by_number scripts i s leads.rising here)
+    ∙ (ap (λ (z : Turn). with_turn z scripts) (sym made)
+    ∙ ap (λ (zs : List Script). record { host = after; scripts = zs })
+    (put_by_number scripts i s y leads.rising here goes.number)) in
+    record {
+      rest = ap (λ (z : Site (List Script)). asked_all numbers address t z left) (sym one) ∙ leads.rest;
+      lasts = lasts_both start.host host after leads.lasts goes.host;
+      same = set_number scripts i s y here goes.number ∙ leads.same;
+      rising = rising_set scripts i s y leads.rising here goes.number;
+      fit = each_set (IsFit (length after.flows)) scripts i y
+          (each_weaker (IsFit (length host.flows)) (IsFit (length after.flows))
+          (λ r fit. fit_more (length host.flows) (length after.flows) r goes.host.grown fit) scripts leads.fit)
+          goes.fit;
+    }
+
+-- ----- all of them
+-- The scripts before this place have made their turns.
+abbrev pub Walks : Numbers → (address : List ℕ → ℕ) → (t i : ℕ) → (start : Site (List Script)) → Host → List Script
+    → Type 0
+Walks numbers address t i start host scripts =
+    Leads numbers address t (numbers_in (drop i scripts)) start
+    (asked_all numbers address t start (numbers_in start.scripts)) host scripts
 
 pub walks_start : (numbers : Numbers) (address : List ℕ → ℕ) (t : ℕ) (start : Site (List Script))
     → AreRising start.scripts → Each (IsFit (length start.host.flows)) start.scripts
     → Walks numbers address t 0 start start.host start.scripts
 walks_start numbers address t start rising fit =
-    record { rest = refl; lasts = lasts_same start.host; rising = rising; fit = fit }
+    leads_start numbers address t (numbers_in start.scripts) start rising fit
 
--- one more
-walks_on : (numbers : Numbers) (address : List ℕ → ℕ) (t i : ℕ) (start : Site (List Script)) (host after : Host)
-    (scripts : List Script) (s y : Script)
-    → Walks numbers address t i start host scripts → slice_get scripts i ≡ Some s
-    → turn_of after y ≡ turn numbers address t (turn_of host s)
-    → Walks numbers address t (suc i) start after (set scripts i y)
-walks_on numbers address t i start host after scripts s y walks here made =
-    let site : Site (List Script) = record { host = host; scripts = scripts } in
-    let x : Turn = turn_of host s in
-    let goes : Goes x (turn_of after y) =
-    subst (Goes x) (sym made)
-    (turn_goes numbers address t x (each_at (IsFit (length host.flows)) scripts i s walks.fit here)) in
-    let one : asked_by numbers address t site s.number ≡ record { host = after; scripts = set scripts i y } =
-    ap (λ (o : Option Script). asked_of numbers address t o site) (find_by_number scripts i s walks.rising here)
-    ∙ (ap (λ (z : Turn). with_turn z scripts) (sym made)
-    ∙ ap (λ (zs : List Script). record { host = after; scripts = zs })
-    (put_by_number scripts i s y walks.rising here goes.number)) in
-    record {
-      rest = ap (λ (zs : List Script). asked_all numbers address t (record { host = after; scripts = set scripts i y })
-          (numbers_in zs)) (drop_set scripts i y)
-          ∙ (ap (λ (z : Site (List Script)). asked_all numbers address t z (numbers_in (drop (suc i) scripts)))
-          (sym one)
-          ∙ (ap (λ (zs : List Script). asked_all numbers address t site (numbers_in zs))
-          (sym (drop_place scripts i s here))
-          ∙ walks.rest));
-      lasts = lasts_both start.host host after walks.lasts goes.host;
-      rising = rising_set scripts i s y walks.rising here goes.number;
-      fit = each_set (IsFit (length after.flows)) scripts i y
-          (each_weaker (IsFit (length host.flows)) (IsFit (length after.flows))
-          (λ r fit. fit_more (length host.flows) (length after.flows) r goes.host.grown fit) scripts walks.fit)
-          goes.fit;
-    }
-
--- the same, with the place counted as a loop counts
 pub walks_more : (numbers : Numbers) (address : List ℕ → ℕ) (t i : ℕ) (start : Site (List Script)) (host after : Host)
     (scripts : List Script) (s y : Script)
     → Walks numbers address t i start host scripts → slice_get scripts i ≡ Some s
     → turn_of after y ≡ turn numbers address t (turn_of host s)
     → Walks numbers address t (i + 1) start after (set scripts i y)
 walks_more numbers address t i start host after scripts s y walks here made =
+    let end : Site (List Script) = asked_all numbers address t start (numbers_in start.scripts) in
     let next : suc i ≡ i + 1 = omega arith in
     subst (λ (n : ℕ). Walks numbers address t n start after (set scripts i y)) next
-    (walks_on numbers address t i start host after scripts s y walks here made)
+    (leads_on numbers address t i (numbers_in (drop (suc i) (set scripts i y))) start end host after scripts s y
+    (subst (λ (zs : List Script). Leads numbers address t (numbers_in zs) start end host scripts)
+    (drop_place scripts i s here ∙ ap (λ (zs : List Script). s ∷ zs) (sym (drop_set scripts i y))) walks) here made)
 
 pub get_at : {X : Type 0} (xs : List X) (i : ℕ) (d : X) → i < length xs → slice_get xs i ≡ Some (get_or xs i d)
 get_at [] i d below = absurd (omega (arith, below))

@@ -3,3 +3,4 @@ pub mod Answers
 pub mod Sound
 pub mod Turns
 pub mod GroupMoves
+pub mod Tries

@@ -218,7 +218,7 @@ fn deliver_all(
 }
 
 /// The turns of all applications, in their order. The error is want of memory.
-pub(crate) fn ask_all(
+fn ask_all(
     host: &mut LocalHost,
     scripts: &mut Vec<AppScript<'_>>,
     tick: u32,

@@ -11,5 +11,6 @@ mod script;
 mod start;
 mod steps;
 mod streams;
+mod trying;
 
 pub use host::ScenarioHost;

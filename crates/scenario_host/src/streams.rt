@@ -112,7 +112,7 @@ impl AppScript<'_> {
 }
 
 /// How many bytes are asked of so many, or of all that come, where so many came.
-fn asks_for(all: Option<u32>, done: u32) -> u32
+pub(crate) fn asks_for(all: Option<u32>, done: u32) -> u32
     requires { IsBelow all done }
     ensures { result ≡ model_asks all done }
 {

@@ -1,20 +1,11 @@
-use Rattle.std.proofs.Common.{◌≡◌, ◌-◌, ◌≤◌, ℕ, List, length, take, drop, refl, sym, ap, ◌∙◌, arith, length-drop}
-use Rattle.std.proofs.lemmas.List.{take_all}
+use Rattle.std.proofs.Common.{ℕ, length, take, drop, refl, sym, ap, ◌∙◌}
 use Rattle.scenario_runs.specs.Applications.{most}
 use Rattle.scenario_host.specs.Turns.{turn_of}
 use Rattle.local_host.proofs.Places.{ok_by}
+use Rattle.scenario_host.proofs.Offers.{rest_offered}
 use Rattle.scenario_host.proofs.Sockets.{socket_below}
 use Rattle.scenario_host.proofs.Stepping.{sent_found}
 use Rattle.scenario_host.proofs.script.AppScript.send.Goals as goal
-
--- the rest of a text is offered whole
-rest_offered : (text : List ℕ) (done : ℕ) → length text ≤ 4096
-    → take (length text - done) (drop done text) ≡ take most (drop done text)
-rest_offered text done few =
-    let len = length-drop done text in
-    let all : length (drop done text) ≤ length text - done = omega (arith, len) in
-    let enough : length (drop done text) ≤ most = omega (arith, len, few) in
-    take_all (length text - done) (drop done text) all ∙ sym (take_all most (drop done text) enough)
 
 pub offer-requires-clause-place : goal.offer-requires-clause-place
 offer-requires-clause-place c =

@@ -1,0 +1,131 @@
+-- What applications try while cores take frames, and how their scripts go on by the answers.
+use Rattle.std.specs.Prelude.{◌≡◌, ℕ, ◌+◌, ◌^◌, ◌<◌, ◌≤◌, List, [], ◌∷◌, length, slice_get, Option, Some, None, IfSome}
+use Rattle.std.specs.Prelude.{⊤}
+use Rattle.flow_state.specs.declared.call.CallIn.{CallIn}
+use Rattle.flow_state.specs.declared.call.Answer.{Answer}
+use Rattle.host_rounds.specs.Lists.{Each}
+use Rattle.host_rounds.specs.Hosts.{Host, Numbers}
+use Rattle.local_host.specs.declared.attempts.Attempt.{Attempt}
+use Rattle.local_host.specs.Live.{took}
+use Rattle.local_host.specs.Trying.{IsTryable, IsMadeBy}
+use Rattle.scenario_text.specs.declared.scenario.Step.{Step}
+use Rattle.scenario_text.specs.declared.scenario.Step.TheVariants as steps
+use Rattle.scenario_ranges.specs.Ranges.{IsStepInRange}
+use Rattle.scenario_runs.specs.Applications.{Script, unbind, stepped, bound_in, flow_of, step_of, turn}
+use Rattle.scenario_host.specs.Answers.{IsWithin, gave, sent_by, received_by}
+use Rattle.scenario_host.specs.Sound.{IsPartOfFirst}
+use Rattle.scenario_host.specs.Turns.{turn_of}
+
+-- ----- the script goes on
+-- by the answer to the call of this step
+abbrev pub answered_at : Step → Answer → Script → Script
+answered_at (steps.Send socket text) a s = sent_by a (length text) s
+answered_at (steps.Fill socket count) a s = sent_by a count s
+answered_at (steps.Recv socket count) a s = received_by a (Some count) s
+answered_at (steps.Drain socket) a s = received_by a None s
+answered_at (steps.Shut socket) a s = stepped s
+answered_at (steps.Close socket) a s = stepped (unbind socket s)
+answered_at (steps.Abort socket) a s = stepped (unbind socket s)
+answered_at _ a s = s
+
+abbrev pub answered_first : List Step → Answer → Script → Script
+answered_first [] a s = s
+answered_first (step ∷ rest) a s = answered_at step a s
+
+abbrev pub answered_by : Answer → Script → Script
+answered_by a s = answered_first s.left a s
+
+-- with the answer no more is done than the step has, whose text can be counted
+abbrev pub IsAnswerAt : Step → Answer → Script → Type 0
+IsAnswerAt (steps.Send socket text) a s = (length text < 2 ^ 32) × (s.done + took a ≤ length text)
+IsAnswerAt (steps.Fill socket count) a s = s.done + took a ≤ count
+IsAnswerAt (steps.Recv socket count) a s = IsWithin (Some count) (s.done + gave a)
+IsAnswerAt _ a s = ⊤
+
+abbrev pub IsAnswerFirst : List Step → Answer → Script → Type 0
+IsAnswerFirst [] a s = ⊤
+IsAnswerFirst (step ∷ rest) a s = IsAnswerAt step a s
+
+abbrev pub IsAnswerWithin : Answer → Script → Type 0
+IsAnswerWithin a s = IsAnswerFirst s.left a s
+
+-- ----- one attempt
+-- The steps that are not over are in their ranges, and the first of them is under way.
+pub record IsAtStep (s : Script) : Type 0 where
+  pub steps : Each IsStepInRange s.left
+  pub part : IsPartOfFirst s.left s.done
+
+-- The application has this call for the socket of this name.
+pub record IsTryOn (socket : List ℕ) (call : CallIn) (s : Script) (x : Attempt) : Type 0 where
+  pub found : flow_of (bound_in s.names socket) ≡ Some x.place
+  pub app : x.app ≡ s.number
+  pub calls : x.call ≡ call
+  pub fresh : x.answer ≡ None
+
+-- The attempt was made on a host, and this was the answer.
+pub record IsTry (t : ℕ) (x : Attempt) (a : Answer) (before after : Host) : Type 0 where
+  pub made : IsMadeBy t x (Some a) before.flows after.flows
+  pub others : record before { flows = after.flows } ≡ after
+
+-- Where the attempt is made, and the script goes on by its answer, that is the step.
+pub record IsAttemptAt (t : ℕ) (step : Step) (s : Script) (x : Attempt) : Type 0 where
+  pub fresh : x.answer ≡ None
+  pub may : IsTryable x.call
+  pub turns : (numbers : Numbers) (address : List ℕ → ℕ) (a : Answer) (before after : Host) → IsTry t x a before after
+      → turn_of after (answered_at step a s) ≡ step_of numbers address t step (turn_of before s)
+  pub within : (a : Answer) (before after : Host) → IsTry t x a before after → IsAnswerAt step a s
+
+-- And that is the turn of its application.
+pub record IsAttemptOf (t : ℕ) (s : Script) (x : Attempt) : Type 0 where
+  pub fresh : x.answer ≡ None
+  pub may : IsTryable x.call
+  pub turns : (numbers : Numbers) (address : List ℕ → ℕ) (a : Answer) (before after : Host) → IsTry t x a before after
+      → turn_of after (answered_by a s) ≡ turn numbers address t (turn_of before s)
+  pub within : (a : Answer) (before after : Host) → IsTry t x a before after → IsAnswerWithin a s
+
+-- ----- attempts of all applications
+-- One of each script that has one, in their order; scripts without an item here try nothing.
+abbrev pub AreAttemptsOf : (tick : ℕ) → List Script → List (Option Attempt) → Type 0
+AreAttemptsOf t ss [] = ⊤
+AreAttemptsOf t [] (x ∷ xs) = ⊥
+AreAttemptsOf t (s ∷ ss) (x ∷ xs) = IfSome x (IsAttemptOf t s) × AreAttemptsOf t ss xs
+
+-- none where nothing was tried, or the attempt was not made
+abbrev pub answer_in : Option Attempt → Option Answer
+answer_in None = None
+answer_in (Some x) = x.answer
+
+abbrev pub answer_on : Option (Option Attempt) → Option Answer
+answer_on None = None
+answer_on (Some x) = answer_in x
+
+-- the answer of the attempt at this place
+abbrev pub answer_at : List (Option Attempt) → (place : ℕ) → Option Answer
+answer_at xs k = answer_on (slice_get xs k)
+
+abbrev pub goes_by : Option Answer → Script → Script
+goes_by None s = s
+goes_by (Some a) s = answered_by a s
+
+-- all scripts whose attempts were made go on
+abbrev pub answered_all : List (Option Attempt) → List Script → List Script
+answered_all [] ss = ss
+answered_all (x ∷ xs) [] = []
+answered_all (x ∷ xs) (s ∷ ss) = goes_by (answer_in x) s ∷ answered_all xs ss
+
+abbrev pub AreWithin : List (Option Attempt) → List Script → Type 0
+AreWithin [] ss = ⊤
+AreWithin (x ∷ xs) [] = ⊤
+AreWithin (x ∷ xs) (s ∷ ss) = IfSome (answer_in x) (λ (a : Answer). IsAnswerWithin a s) × AreWithin xs ss
+
+-- of these applications those whose attempts were made
+abbrev pub tried_in : List (Option Attempt) → (applications : List ℕ) → List ℕ
+tried_in [] ns = []
+tried_in (x ∷ xs) [] = []
+tried_in (x ∷ xs) (n ∷ ns) = elim (answer_in x) [ None ↦ tried_in xs ns | Some a ↦ n ∷ tried_in xs ns ]
+
+-- and all others
+abbrev pub later_in : List (Option Attempt) → (applications : List ℕ) → List ℕ
+later_in [] ns = ns
+later_in (x ∷ xs) [] = []
+later_in (x ∷ xs) (n ∷ ns) = elim (answer_in x) [ None ↦ n ∷ later_in xs ns | Some a ↦ later_in xs ns ]
