@@ -1,32 +1,44 @@
 ghost use Rattle.std.specs.Prelude.{◌≤◌};
 
-use flow_state::{CallView, EntryView, FlowRecord};
+use flow_state::{CallView, EntryView, FlowRecord, ReplyView};
 use scenario_ranges::what_is_read_is_in_range;
 use scenario_text::read_scenario;
-use std::alloc::{AllocError, Global};
+use std::alloc::Global;
 use std::hint::spin_loop;
 use std::process::Abort;
 use std::sync::Wait;
-use std::sync::atomic::{AtomicBool, Ordering};
+use std::sync::atomic::{AtomicBool, AtomicUsize, Ordering};
 use std::test::*;
 use std::thread::Threads;
 use tas_model::Caller;
 use tas_num::{Gate, NoGate};
-use tas_round::{Mode, RunLog, run};
+use tas_round::{FlowList, Mode, RunLog, run};
 
 /// How many turns a worker waits at most.
 const TURNS: u32 = 10_000_000;
 
-/// Two hosts whose connections take many frames for few bytes.
-const SMALL_SEGMENTS: &[u8] = b"host a 10.0.0.1 iss 1000 ring 65535 mss 64 rto 9
-host b 10.0.0.2 iss 5000 ring 65535 mss 64 rto 9
+/// A client and a server, which exchange a word. The flow is of group 19 on host b, which core 1 of two has.
+const ONE_CLIENT: &[u8] = b"host a 10.0.0.1 iss 1000 rto 3
+host b 10.0.0.2 iss 5000 rto 3
+app b server
+listen lst 80
+accept s lst
+recv s 5
+send s world
+close s
+app a client
+connect s b 80
+send s hello
+recv s 5
+close s
 ";
 
-/// The lowest number of a client and its server, which have two digits.
-const FIRST: u8 = 10;
-
-/// How many of them there are.
-const PAIRS: u8 = 80;
+/// A second client, whose flow is of group 20 on host b, which core 0 of two has. Nobody accepts it.
+const OTHER_CLIENT: &[u8] = b"app a other
+connect s b 80
+send s hello
+close s
+";
 
 /// A client fills the ring of a server that reads late. The flow is of group 19.
 const FULL_RING: &[u8] = b"host a 10.0.0.1 iss 1000 ring 1024 mss 512 rto 20
@@ -63,30 +75,40 @@ close s
 move b 19 0 at 2
 ";
 
-/// Holds the first worker at one point until another point was passed, or for so many turns.
+/// Holds a worker that passes one point, once others did so often, until another point was passed so often, or for so
+/// many turns.
 #[derive(Drop)]
 struct Hold {
     held: u32,
+    /// How many passes of the held point come before.
+    before: usize,
     until: u32,
+    /// How many passes of the other point it waits for.
+    wanted: usize,
+    came: AtomicUsize,
+    passed: AtomicUsize,
     was_held: AtomicBool,
-    was_passed: AtomicBool,
     ran_out: AtomicBool,
 }
 
 impl Hold {
-    fn new(held: u32, until: u32) -> Hold {
+    fn new(held: u32, before: usize, until: u32, wanted: usize) -> Hold {
         Hold {
             held,
+            before,
             until,
+            wanted,
+            came: AtomicUsize::new(0),
+            passed: AtomicUsize::new(0),
             was_held: AtomicBool::new(false),
-            was_passed: AtomicBool::new(false),
             ran_out: AtomicBool::new(false),
         }
     }
 
     fn wait(&self) {
+        self.was_held.store(true, Ordering::SeqCst);
         for _ in 0..TURNS {
-            if self.was_passed.load(Ordering::SeqCst) {
+            if self.passed.load(Ordering::SeqCst) >= self.wanted {
                 return;
             }
             // A turn takes longer so, and the other worker's thread has more time to start on a busy machine.
@@ -99,9 +121,9 @@ impl Hold {
 impl Gate for Hold {
     fn pass(&self, point: u32) {
         if point == self.until {
-            self.was_passed.store(true, Ordering::SeqCst);
+            self.passed.fetch_add(1, Ordering::SeqCst);
         }
-        if point == self.held && !self.was_held.swap(true, Ordering::SeqCst) {
+        if point == self.held && self.came.fetch_add(1, Ordering::SeqCst) == self.before {
             self.wait();
         }
     }
@@ -122,65 +144,66 @@ fn run_on<R: Threads + Wait + Sync, G: Gate>(
     Ok(run(rt, alloc, &scenario, Mode::Cores(cores), gate)?)
 }
 
-/// Clients of host a that send to a server each on host b, all at once: thousands of frames are due in a tick, for both
-/// of two cores. The error is want of memory.
-fn crowd(alloc: Global) -> Result<Vec<u8>, AllocError> {
-    let mut text = Vec::new(alloc);
-    text.extend_from_slice(SMALL_SEGMENTS)?;
-    for number in FIRST..FIRST + PAIRS {
-        put_server(&mut text, number)?;
-    }
-    for number in FIRST..FIRST + PAIRS {
-        put_client(&mut text, number)?;
-    }
-    Ok(text)
-}
-
-/// A server at a port of its own, ten times its number.
-fn put_server(text: &mut Vec<u8>, number: u8) -> Result<(), AllocError> {
-    text.extend_from_slice(b"app b s")?;
-    put_digits(text, number)?;
-    text.extend_from_slice(b"\nlisten door ")?;
-    put_digits(text, number)?;
-    text.extend_from_slice(b"0\naccept s door\nrecv s 60000\nclose s\n")
-}
-
-/// The client of the server with this number.
-fn put_client(text: &mut Vec<u8>, number: u8) -> Result<(), AllocError> {
-    text.extend_from_slice(b"app a c")?;
-    put_digits(text, number)?;
-    text.extend_from_slice(b"\nconnect s b ")?;
-    put_digits(text, number)?;
-    text.extend_from_slice(b"0\nfill s 60000\nclose s\n")
-}
-
-/// The last two decimal digits of a number.
-fn put_digits(text: &mut Vec<u8>, number: u8) -> Result<(), AllocError> {
-    text.push(b'0' + number / 10 % 10)?;
-    text.push(b'0' + number % 10)?;
-    Ok(())
-}
-
-/// Runs the crowd on two cores, with one worker held at a point until another one has passed its point.
+/// Runs a scenario on two cores by a gate, which must have held a worker, and not until its turns ran out. The answer
+/// is the run's log.
 fn meets<R: Threads + Wait + Sync + Abort>(
     rt: &R,
     alloc: Global,
-    held: u32,
-    until: u32,
-) -> Result<(), Fail> {
-    let gate = Hold::new(held, until);
-    let text = crowd(alloc)?;
-    let _log = run_on(rt, alloc, &text, 2, &gate)?;
+    text: &[u8],
+    gate: &Hold,
+) -> Result<RunLog, Fail> {
+    let log = run_on(rt, alloc, text, 2, gate)?;
     assert!(rt; gate.was_held.load(Ordering::SeqCst));
     assert!(rt; !gate.ran_out.load(Ordering::SeqCst));
-    Ok(())
+    Ok(log)
 }
 
 /// Core 0 of host b is before a frame while core 1 handles one, and the other way round.
 #[test]
 fn two_cores_take_frames_at_once(rt: HostRuntime) -> Result<(), Fail> {
-    meets(&rt, rt.alloc(), 64, 67)?;
-    meets(&rt, rt.alloc(), 66, 65)
+    let mut text = Vec::new(rt.alloc());
+    text.extend_from_slice(ONE_CLIENT)?;
+    text.extend_from_slice(OTHER_CLIENT)?;
+    meets(&rt, rt.alloc(), &text, &Hold::new(64, 0, 67, 1))?;
+    meets(&rt, rt.alloc(), &text, &Hold::new(66, 0, 65, 1))?;
+    Ok(())
+}
+
+/// Core 1 of host b has the frame with the client's word, and waits until the server tried to receive it.
+#[test]
+fn a_core_waits_for_an_application(rt: HostRuntime) -> Result<(), Fail> {
+    let log = meets(&rt, rt.alloc(), ONE_CLIENT, &Hold::new(66, 2, 127, 1))?;
+    has_words(&rt, &log)
+}
+
+/// The server waits with its first try until core 1 of its host handled three frames.
+#[test]
+fn an_application_waits_for_a_core(rt: HostRuntime) -> Result<(), Fail> {
+    let log = meets(&rt, rt.alloc(), ONE_CLIENT, &Hold::new(126, 0, 67, 3))?;
+    has_words(&rt, &log)
+}
+
+/// Wants the words of both ends read by the other one.
+fn has_words<R: Abort>(rt: &R, log: &RunLog) -> Result<(), Fail> {
+    assert!(rt; log.hosts.len() == 2);
+    reads(rt, &log.hosts.item(0).flows, b"world")?;
+    reads(rt, &log.hosts.item(1).flows, b"hello")
+}
+
+/// Wants one flow, whose only bytes that were read are these.
+fn reads<R: Abort>(rt: &R, flows: &FlowList, word: &[u8]) -> Result<(), Fail> {
+    assert!(rt; flows.len() == 1);
+    let flow = flows.item(0);
+    let mut found = false;
+    for i in 0..flow.entries() {
+        if let ReplyView::Got { bytes, .. } = flow.entry(i).reply {
+            assert!(rt; !found);
+            assert_eq!(rt; bytes, word);
+            found = true;
+        }
+    }
+    assert!(rt; found);
+    Ok(())
 }
 
 /// How many segments of a flow this core received.

@@ -28,7 +28,8 @@ use std::thread;
 use std::thread::Threads;
 use tas_num::Gate;
 
-/// With fewer frames in a tick its hosts play one after the other: threads would cost more than they gain.
+/// With fewer frames in a tick its hosts play one after the other, where nobody watches: threads would cost more than
+/// they gain.
 const FRAMES_FOR_THREADS: usize = 1024;
 
 /// Plays a scenario to its end on hosts with so many cores each, from 1 to 16: the first tick after which all scripts
@@ -119,7 +120,7 @@ fn play_seats<R: Threads + Wait + Sync, G: Gate>(
     ensures played { (i : ℕ) (d : Seat) → i < length seats.old → (slice_index_or seats.new i d).failed ≡ false
         → HasPlayed s.now tick due.now (slice_index_or seats.old i d) (slice_index_or seats.new i d) }
 {
-    let threads = threads_for(seats.len(), due.len());
+    let threads = threads_for(seats.len(), due.len(), gate);
     let part = move |_: usize, seat: &mut Seat<'_>|
         requires { IsSync R.row × IsSync G.row }
         ensures { seat.exit.now.failed ≡ false
@@ -129,10 +130,10 @@ fn play_seats<R: Threads + Wait + Sync, G: Gate>(
 }
 
 /// How many threads play so many hosts, in a tick in which so many frames are due.
-fn threads_for(hosts: usize, frames: usize) -> usize
+fn threads_for<G: Gate>(hosts: usize, frames: usize, gate: &G) -> usize
     ensures some { 0 < result }
 {
-    if frames < FRAMES_FOR_THREADS {
+    if frames < FRAMES_FOR_THREADS && !gate.is_watched() {
         1
     } else {
         hosts.max(1)
