@@ -1,5 +1,5 @@
 -- A record with one entry more.
-use Rattle.std.proofs.Common.{◌≡◌, ℕ, ◌+◌, ◌^◌, ◌<◌, ◌≤◌, cond, List, [], ◌∷◌, ◌++◌, length, max, Option}
+use Rattle.std.proofs.Common.{◌≡◌, ℕ, ◌+◌, ◌*◌, ◌^◌, ◌<◌, ◌≤◌, cond, List, [], ◌∷◌, ◌++◌, length, max, Option}
 use Rattle.std.proofs.Common.{Some, None, refl, sym, ◌∙◌, ap, subst, arith, length-append}
 use Rattle.std.specs.Option.{option_or}
 use Rattle.std.proofs.Common.{append-nil}
@@ -32,7 +32,7 @@ use Rattle.flow_state.specs.Flow.{next_entry, reply_to}
 use Rattle.flow_state.specs.Made.{IsStep, IsMadeWith, IsMadeAt}
 use Rattle.flow_state.specs.Record.{IsRecord}
 use Rattle.flow_state.specs.declared.stretch.Stretch.{Stretch}
-use Rattle.flow_state.specs.declared.stretch.Stretch.TheVariants.{One, Quiet}
+use Rattle.flow_state.specs.declared.stretch.Stretch.TheVariants.{One, Quiet, Paced}
 use Rattle.flow_state.specs.Arena.{Memory, Grows}
 use Rattle.flow_state.specs.Slots.{entry_of, IsWithin}
 use Rattle.flow_state.specs.Stretches.{entries_of, StretchWithin, AllWithin, AllStand, Added}
@@ -91,6 +91,7 @@ stretch_longer : (n m k l : ℕ) (s : Stretch) → n ≤ m → k ≤ l → Stret
 stretch_longer n m k l (One t s) le le' is =
     record { bytes = omega (arith, is.bytes); came = call_longer k l s.call le' is.came }
 stretch_longer n m k l (Quiet r) le le' is = is
+stretch_longer n m k l (Paced r) le le' is = is
 
 within_longer : (n m k l : ℕ) (stretches : List Stretch) → n ≤ m → k ≤ l → AllWithin n k stretches
     → AllWithin m l stretches
@@ -191,7 +192,8 @@ kept_after before after old new stretches stretches' s counts counts' app app' m
     let there : P after.params (entries_of new stretches') =
     subst (λ (p : HostParams). P p (entries_of new stretches')) (sym same)
     (subst (P before.params) (sym grown) (all.legal, all.stands)) in
-    let few : length stretches + last_tick 0 h + 1 ≤ length stretches' + t = added.few old (omega (arith, t-is)) in
+    let few : length stretches + 2 * last_tick 0 h + 1 ≤ length stretches' + 2 * t =
+    added.few old (omega (arith, t-is)) in
     record {
       kept = record {
         fits = subst InRange (sym same) is.fits;

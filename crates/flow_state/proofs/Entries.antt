@@ -12,7 +12,7 @@ use Rattle.flow_state.specs.declared.slot.CallSlot.TheVariants as cs
 use Rattle.flow_state.specs.declared.slot.Slot.{Slot}
 use Rattle.flow_state.specs.declared.slot.Span.{Span}
 use Rattle.flow_state.specs.declared.stretch.Stretch.{Stretch}
-use Rattle.flow_state.specs.declared.stretch.Stretch.TheVariants.{One, Quiet}
+use Rattle.flow_state.specs.declared.stretch.Stretch.TheVariants.{One, Quiet, Paced}
 use Rattle.flow_state.specs.Arena.{Memory, Grows}
 use Rattle.flow_state.specs.Slots.{entry_of, call_in, call_with, frame_in, reply_part, reply_in, bytes_at, SpanWithin}
 use Rattle.flow_state.specs.Slots.{CameWithin, IsWithin}
@@ -98,6 +98,7 @@ stretch_kept : (old new : Memory) (s : Stretch) → Grows old new
     → StretchWithin (length old.bytes) (length old.came) s → entries_in new s ≡ entries_in old s
 stretch_kept old new (One t s) grows fits = ap (λ (x : Entry). x ∷ []) (entry_kept old new t s grows fits)
 stretch_kept old new (Quiet r) grows fits = refl
+stretch_kept old new (Paced r) grows fits = refl
 
 -- what stretches mean they mean still when the memory grows
 pub entries_kept : (old new : Memory) (stretches : List Stretch) → Grows old new → AllStand old stretches

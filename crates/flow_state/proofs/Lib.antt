@@ -10,3 +10,4 @@ pub mod Ready
 pub mod Looking
 pub mod Acting
 pub mod Ticking
+pub mod Pacing

@@ -1,6 +1,6 @@
 -- An entry of the history, by its stretch.
 use Rattle.std.proofs.Common.{◌≡◌, ℕ, zero, suc, ◌+◌, ◌-◌, ◌<◌, List, [], ◌∷◌, ◌++◌, length, get_or, slice_get, Some}
-use Rattle.std.proofs.Common.{map, take, flat_map, refl, sym, ◌∙◌, ap, subst, arith, length-append, append-nil}
+use Rattle.std.proofs.Common.{map, take, drop, flat_map, refl, sym, ◌∙◌, ap, subst, arith, length-append, append-nil}
 use Rattle.tas_model.specs.declared.entry.Entry.{Entry}
 use Rattle.tas_model.specs.declared.entry.HostParams.{HostParams}
 use Rattle.tas_model.specs.declared.entry.Caller.{Caller}
@@ -15,11 +15,11 @@ use Rattle.flow_state.specs.Flow.{last_reply, reply_to, next_entry}
 use Rattle.std.proofs.lemmas.List.{take_all, take_more}
 use Rattle.std.proofs.lemmas.Option.{get_or_from_slice_get}
 use Rattle.std.proofs.lemmas.List.Concat.{flat_map-append}
-use Rattle.flow_state.specs.declared.stretch.Stretch.TheVariants.{One, Quiet}
+use Rattle.flow_state.specs.declared.stretch.Stretch.TheVariants.{One, Quiet, Paced}
 use Rattle.flow_state.specs.Arena.{Memory}
 use Rattle.flow_state.specs.Slots.{entry_of}
-use Rattle.flow_state.specs.Stretches.{quiet_tick, quiet_ticks, run_entries, entries_in, entries_of, StretchWithin}
-use Rattle.flow_state.specs.Stretches.{AllWithin}
+use Rattle.flow_state.specs.Stretches.{quiet_tick, quiet_ticks, run_entries, paced_entries, entries_in, entries_of}
+use Rattle.flow_state.specs.Stretches.{AllWithin, StretchWithin}
 
 pub within_at : (n k : ℕ) (stretches : List Stretch) (i : ℕ) (d : Stretch) → i < length stretches
     → AllWithin n k stretches → StretchWithin n k (get_or stretches i d)
@@ -39,12 +39,12 @@ joined memory [] = refl
 joined memory (s ∷ stretches) = ap (λ (es : List Entry). entries_in memory s ++ es) (joined memory stretches)
 
 -- ----- the i-th of all, by the k-th list
-got_front : (xs ys : List Entry) (j : ℕ) (x : Entry) → slice_get xs j ≡ Some x → slice_get (xs ++ ys) j ≡ Some x
+pub got_front : (xs ys : List Entry) (j : ℕ) (x : Entry) → slice_get xs j ≡ Some x → slice_get (xs ++ ys) j ≡ Some x
 got_front [] ys j x h = absurd (cc (h))
 got_front (y ∷ xs) ys zero x h = h
 got_front (y ∷ xs) ys (suc j) x h = got_front xs ys j x h
 
-got_back : (xs ys : List Entry) (j : ℕ) → slice_get (xs ++ ys) (length xs + j) ≡ slice_get ys j
+pub got_back : (xs ys : List Entry) (j : ℕ) → slice_get (xs ++ ys) (length xs + j) ≡ slice_get ys j
 got_back [] ys j = ap (slice_get ys) (zero_plus j)
   where
     zero_plus : (n : ℕ) → 0 + n ≡ n
@@ -105,7 +105,7 @@ front_more (ys ∷ xss) (suc k) xs h =
     ) in
     ap (λ n. length (flat_map (λ (zs : List Entry). zs) (take n (ys ∷ xss)))) next ∙ more
 
-last_cut : (ss : List Stretch) (s : Stretch) → slice_get ss (length ss - 1) ≡ Some s
+pub last_cut : (ss : List Stretch) (s : Stretch) → slice_get ss (length ss - 1) ≡ Some s
     → ss ≡ take (length ss - 1) ss ++ s ∷ []
 last_cut [] s h = absurd (cc (h))
 last_cut (x ∷ ss) s h =
@@ -124,6 +124,9 @@ stretch_behind memory h (Quiet r) =
     ap (λ (xs : List Entry). last_reply (h ++ xs)) (append-nil (run_entries r))
     ∙ last_reply_behind h (quiet_tick r.caller r.number r.tick)
     (quiet_ticks r.caller (r.number + 1) (r.tick + 1) r.more)
+stretch_behind memory h (Paced r) =
+    ap (λ (xs : List Entry). last_reply (h ++ xs)) (append-nil (paced_entries r))
+    ∙ last_reply_behind h (quiet_tick r.run.caller r.run.number r.run.tick) (drop 1 (paced_entries r))
 
 -- the last reply is that of the last stretch
 pub last_reply_stretches : (memory : Memory) (stretches : List Stretch) (s : Stretch)

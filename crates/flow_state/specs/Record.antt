@@ -1,5 +1,5 @@
 -- What a record keeps true of its parts, its memory, its slots, its counts and its application.
-use Rattle.std.specs.Prelude.{◌≡◌, ℕ, ◌+◌, ◌^◌, ◌<◌, ◌≤◌, List, length, Option}
+use Rattle.std.specs.Prelude.{◌≡◌, ℕ, ◌+◌, ◌*◌, ◌^◌, ◌<◌, ◌≤◌, List, length, Option}
 use Rattle.tas_model.specs.LegalHistory.{Legal, replay, last_tick}
 use Rattle.tas_model.specs.Outputs.{sent}
 use Rattle.tas_model.specs.Valid.{InRange}
@@ -13,7 +13,8 @@ use Rattle.flow_state.specs.Application.{application_of}
 use Rattle.flow_state.specs.Stands.{Stands}
 
 -- The parts stand for the endpoint that the entries lead to, and these are a legal history. Their number is kept, and
--- the tick of the last; a run has no more of them than ticks passed. The segments that they sent are counted.
+-- the tick of the last; runs have no more of them than two for each tick that passed. The segments that they sent are
+-- counted.
 pub record IsRecord (parts : Parts) (memory : Memory) (stretches : List Stretch) (table : List CallerCount)
     (app : Option ℕ) (n t segments : ℕ) : Type 0 where
   pub fits : InRange parts.params
@@ -24,7 +25,7 @@ pub record IsRecord (parts : Parts) (memory : Memory) (stretches : List Stretch)
   pub application : app ≡ application_of (entries_of memory stretches)
   pub made : n ≡ length (entries_of memory stretches)
   pub last : t ≡ last_tick 0 (entries_of memory stretches)
-  pub few : n ≤ length stretches + t
+  pub few : n ≤ length stretches + 2 * t
   pub low : t < 2 ^ 32
   pub sent : segments ≡ length (sent (entries_of memory stretches))
   pub several : segments ≤ n  -- an entry has one at most

@@ -14,7 +14,7 @@ use Rattle.flow_state.specs.declared.view.ReplyView.TheVariants as rv
 use Rattle.flow_state.specs.declared.view.EntryView.{EntryView}
 use Rattle.flow_state.specs.declared.stretches.StretchView.{StretchView}
 use Rattle.flow_state.specs.declared.stretches.StretchView.TheVariants as sv
-use Rattle.flow_state.specs.Stretches.{run_entries, IsRun}
+use Rattle.flow_state.specs.Stretches.{run_entries, paced_entries, IsRun, IsPacedRun}
 
 -- its segment, with the payload as a list
 abbrev pub seen_seg : SegView → Seg
@@ -69,8 +69,10 @@ seen_entry x = record {
 abbrev pub seen_stretch : StretchView → List Entry
 seen_stretch (sv.One x) = seen_entry x ∷ []
 seen_stretch (sv.Quiet r) = run_entries r
+seen_stretch (sv.Paced r) = paced_entries r
 
 -- numbers and ticks of a stretch can be written
 abbrev pub IsFit : StretchView → Type 0
 IsFit (sv.One x) = ⊤
 IsFit (sv.Quiet r) = IsRun r
+IsFit (sv.Paced r) = IsPacedRun r

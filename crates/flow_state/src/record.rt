@@ -417,5 +417,6 @@ fn last_bytes_of<'a>(arena: &'a [u8], came: &[CameSlot], stretch: &Stretch) -> &
     match stretch {
         Stretch::One { tick, slot } => entry_view(arena, came, *tick, slot).reply.bytes(),
         Stretch::Quiet(_) => &[],
+        Stretch::Paced(_) => &[],
     }
 }

@@ -1,4 +1,5 @@
-ghost use Rattle.std.specs.Prelude.{◌≡◌, ℕ, ◌+◌, ◌^◌, ◌≤◌, ◌<◌, ◌++◌, ◌∷◌, [], List, length, true, false};
+ghost use Rattle.std.specs.Prelude.{◌≡◌, ℕ, ◌+◌, ◌*◌, ◌^◌, ◌≤◌, ◌<◌, ◌++◌, ◌∷◌, [], List, length, true, false};
+ghost use Rattle.std.specs.Prelude.{◌-◌, take};
 ghost use Rattle.std.specs.Prelude.{slice_get, Some, vec_len, vec_capacity, IsTrue, IsFalse};
 ghost use Rattle.tas_model.specs.LegalHistory.{last_tick};
 ghost use Rattle.flow_state.specs.Arena.{Memory};
@@ -6,11 +7,13 @@ ghost use Rattle.flow_state.specs.Slots.{IsWithin, entry_of};
 ghost use Rattle.flow_state.specs.Stretches.{AllWithin, entries_of, entries_in, StretchWithin, IsRun};
 ghost use Rattle.flow_state.specs.Stretches.{is_quiet_tick as model_quiet, comes_next as model_next};
 ghost use Rattle.flow_state.specs.Stretches.{quiet_tick, AddedTick, AddedTicks, goes_on as model_goes_on};
+ghost use Rattle.flow_state.specs.Stretches.{paced_entries, IsPacedRun, ArePlaced};
 ghost use Rattle.flow_state.specs.declared.call.Answer.TheVariants as answers;
 ghost use Rattle.flow_state.specs.Calls.{answer_len};
 
 use crate::call::Answer;
 use crate::counts::is_same;
+use crate::paced::{PacedRun, joined_last, last_paced};
 use crate::slot::{CallSlot, ReplySlot, Slot, tick_slot};
 use tas_model::Caller;
 
@@ -33,6 +36,8 @@ pub enum Stretch {
     One { tick: u32, slot: Slot },
     /// Quiet ticks.
     Quiet(QuietRun),
+    /// Quiet ticks with Controls between them.
+    Paced(PacedRun),
 }
 
 /// Whether it is the entry of a quiet tick.
@@ -128,34 +133,89 @@ fn first_of(caller: Caller, number: u64, tick: u32) -> QuietRun
     }
 }
 
+/// Adds runs of a pace behind the others, which have room for them: to those before them, where they go on with these.
+fn add_paced(stretches: &mut Vec<Stretch>, next: PacedRun)
+    requires room { vec_len stretches.old < vec_capacity stretches.old }
+    requires placed { ArePlaced stretches.old.items }
+    requires next { IsPacedRun next }
+    requires one { next.more ≡ 0 }
+    ensures entries { (memory : Memory) → entries_of memory stretches.new.items
+        ≡ entries_of memory stretches.old.items ++ paced_entries next }
+    ensures within { (n k : ℕ) → AllWithin n k stretches.old.items → AllWithin n k stretches.new.items }
+    ensures longer { vec_len stretches.old ≤ vec_len stretches.new }
+    ensures len { vec_len stretches.new ≤ vec_len stretches.old + 1 }
+    ensures capacity { vec_capacity stretches.old ≤ vec_capacity stretches.new }
+{
+    if let Some(runs) = joined_last(stretches, &next) {
+        stretches.pop();
+        push(stretches, Stretch::Paced(runs));
+    } else {
+        push(stretches, Stretch::Paced(next));
+    }
+}
+
+/// Drops the last two.
+fn drop_two(stretches: &mut Vec<Stretch>)
+    requires { 2 ≤ length stretches.old.items }
+    ensures items { stretches.new.items ≡ take (length stretches.old.items - 2) stretches.old.items }
+    ensures len { vec_len stretches.new + 2 ≡ vec_len stretches.old }
+    ensures capacity { vec_capacity stretches.new ≡ vec_capacity stretches.old }
+{
+    stretches.pop();
+    stretches.pop();
+}
+
+/// Where the others end with a run of quiet ticks and a Control in its last tick, and this tick is a later one, both
+/// become one stretch, or part of the one before.
+fn close_run(stretches: &mut Vec<Stretch>, tick: u32)
+    requires placed { ArePlaced stretches.old.items }
+    ensures entries { (memory : Memory) → entries_of memory stretches.new.items
+        ≡ entries_of memory stretches.old.items }
+    ensures within { (n k : ℕ) → AllWithin n k stretches.old.items → AllWithin n k stretches.new.items }
+    // At most two stretches go, and where one does a tick passed.
+    ensures few { (memory : Memory) → last_tick 0 (entries_of memory stretches.old.items) ≤ tick
+        → vec_len stretches.old + 2 * last_tick 0 (entries_of memory stretches.old.items)
+        ≤ vec_len stretches.new + 2 * tick }
+    ensures len { vec_len stretches.new ≤ vec_len stretches.old }
+    ensures capacity { vec_capacity stretches.old ≤ vec_capacity stretches.new }
+{
+    if let Some(run) = last_paced(stretches, tick) {
+        drop_two(stretches);
+        add_paced(stretches, run);
+    }
+}
+
 /// Adds a quiet tick behind the others, which have room for one: to the run before it, where it is the next of that.
 fn add_quiet(stretches: &mut Vec<Stretch>, caller: Caller, number: u64, tick: u32)
-    requires { vec_len stretches.old < vec_capacity stretches.old }
+    requires room { vec_len stretches.old < vec_capacity stretches.old }
+    requires placed { ArePlaced stretches.old.items }
     ensures entries { (memory : Memory) → entries_of memory stretches.new.items
         ≡ entries_of memory stretches.old.items ++ quiet_tick caller number tick ∷ [] }
     ensures within { (n k : ℕ) → AllWithin n k stretches.old.items → AllWithin n k stretches.new.items }
     ensures few { (memory : Memory) → last_tick 0 (entries_of memory stretches.old.items) ≤ tick
-        → vec_len stretches.old + last_tick 0 (entries_of memory stretches.old.items) + 1 ≤ vec_len stretches.new
-        + tick }
+        → vec_len stretches.old + 2 * last_tick 0 (entries_of memory stretches.old.items) + 1
+        ≤ vec_len stretches.new + 2 * tick }
     ensures len { vec_len stretches.new ≤ vec_len stretches.old + 1 }
     ensures capacity { vec_capacity stretches.old ≤ vec_capacity stretches.new }
 {
     if !lengthen(stretches, caller, number, tick) {
+        close_run(stretches, tick);
         push(stretches, Stretch::Quiet(first_of(caller, number, tick)));
     }
 }
 
 /// Adds an entry at this tick behind the others, which have room for one.
 pub fn add(stretches: &mut Vec<Stretch>, tick: u32, slot: &Slot)
-    requires { vec_len stretches.old < vec_capacity stretches.old }
+    requires room { vec_len stretches.old < vec_capacity stretches.old }
+    requires placed { ArePlaced stretches.old.items }
     ensures entries { (memory : Memory) → entries_of memory stretches.new.items ≡ entries_of memory stretches.old.items
         ++ entry_of memory tick slot.now ∷ [] }
     ensures within { (n k : ℕ) → AllWithin n k stretches.old.items → IsWithin n k slot.now
         → AllWithin n k stretches.new.items }
-    // Where no stretch came to the others, a tick passed.
+    // Where no stretch came to the others, a tick passed, and also where one went.
     ensures few { (memory : Memory) → last_tick 0 (entries_of memory stretches.old.items) ≤ tick
-        → vec_len stretches.old + last_tick 0 (entries_of memory stretches.old.items) + 1 ≤ vec_len stretches.new
-        + tick }
+        → vec_len stretches.old + 2 * last_tick 0 (entries_of memory stretches.old.items) + 1
+        ≤ vec_len stretches.new + 2 * tick }
     ensures len { vec_len stretches.new ≤ vec_len stretches.old + 1 }
     ensures capacity { vec_capacity stretches.old ≤ vec_capacity stretches.new }
 {
@@ -175,6 +235,7 @@ pub fn add_tick(
     answer: &Answer,
 )
     requires room { vec_len stretches.old < vec_capacity stretches.old }
+    requires placed { ArePlaced stretches.old.items }
     requires bare { answer_len answer.now ≡ 0 }
     ensures added { AddedTick stretches.old.items stretches.new.items caller number tick answer.now }
     ensures len { vec_len stretches.new ≤ vec_len stretches.old + 1 }

@@ -4,6 +4,7 @@ ghost use Rattle.flow_state.specs.Slots.{IsWithin};
 ghost use Rattle.flow_state.specs.Stretches.{AllWithin, StretchWithin, entries_of, entries_in, run_entries, IsRun};
 ghost use Rattle.flow_state.specs.Views.{seen_entry, seen_stretch, IsFit};
 
+use crate::paced::PacedRun;
 use crate::slot::CameSlot;
 use crate::stretch::{QuietRun, Stretch};
 use crate::view::{CallView, EntryView, ReplyView, entry_view};
@@ -16,6 +17,8 @@ pub enum StretchView<'a> {
     One(EntryView<'a>),
     /// Quiet ticks.
     Quiet(QuietRun),
+    /// Quiet ticks with Controls between them.
+    Paced(PacedRun),
 }
 
 /// A history in stretches, seen as the list of their entries. Whoever looks at all of it goes from stretch to stretch.
@@ -97,6 +100,7 @@ impl<'a> StretchView<'a> {
                     Err(j - 1 - run.more as usize)
                 }
             }
+            StretchView::Paced(runs) => runs.entry(j),
         }
     }
 }
@@ -129,5 +133,6 @@ pub fn stretch_view<'a>(arena: &'a [u8], came: &[CameSlot], stretch: &Stretch) -
     match stretch {
         Stretch::One { tick, slot } => StretchView::One(entry_view(arena, came, *tick, slot)),
         Stretch::Quiet(run) => StretchView::Quiet(*run),
+        Stretch::Paced(runs) => StretchView::Paced(*runs),
     }
 }

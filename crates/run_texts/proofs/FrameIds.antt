@@ -1,6 +1,6 @@
 -- The texts that frames are shown by, and those around them.
 use Rattle.std.proofs.Common.{◌≡◌, ◌==◌, ◌^◌, ◌-◌, ℕ, false, cond, List, [], ◌∷◌, ◌++◌, codes, decimal, Result, IsErr}
-use Rattle.std.proofs.Common.{refl, ap, subst, sym, ◌∙◌, append_assoc}
+use Rattle.std.proofs.Common.{refl, ap, subst, sym, append_assoc}
 use Rattle.tas_num.specs.declared.outside.IoFault.{IoFault}
 use Rattle.tas_model.specs.declared.entry.FrameId.{FrameId}
 use Rattle.tas_runs.specs.Report.{name_at, flow_text, copy_text, frame_text}
@@ -16,13 +16,17 @@ place_text f = codes ":" ++ flow_text f.flow ++ codes "." ++ decimal f.number ++
 behind : (a b c d e f : List ℕ) → a ++ (b ++ c ++ d ++ e ++ f) ≡ a ++ b ++ c ++ d ++ e ++ f
 behind a b c d e f = simp append_assoc refl
 
+abbrev pub named_text : (names : List (List ℕ)) → FrameId → List ℕ
+named_text names f = name_at names f.host ++ codes ":" ++ flow_text f.flow ++ codes "." ++ decimal f.number
+    ++ copy_text f.copy
+
+pub named : (names : List (List ℕ)) (f : FrameId) → name_at names f.host ++ place_text f ≡ named_text names f
+named names f = behind (name_at names f.host) (codes ":") (flow_text f.flow) (codes ".") (decimal f.number)
+    (copy_text f.copy)
+
 pub host_frame : (names : List (List ℕ)) (f : FrameId) → (f.host == 2 ^ 32 - 1) ≡ false
-    → name_at names f.host ++ place_text f ≡ frame_text names f
-host_frame names f h =
-    behind (name_at names f.host) (codes ":") (flow_text f.flow) (codes ".") (decimal f.number) (copy_text f.copy)
-    ∙ sym (ap
-    (λ b. cond b (codes "r:" ++ decimal f.number) (name_at names f.host ++ codes ":" ++ flow_text f.flow
-    ++ codes "." ++ decimal f.number ++ copy_text f.copy)) h)
+    → named_text names f ≡ frame_text names f
+host_frame names f h = sym (ap (λ b. cond b (codes "r:" ++ decimal f.number) (named_text names f)) h)
 
 -- ----- texts one after the other
 pub three_behind : (a b c d : List ℕ) → a ++ (b ++ (c ++ d)) ≡ a ++ b ++ c ++ d

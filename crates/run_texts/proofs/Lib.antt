@@ -7,9 +7,11 @@ pub mod Ticks
 pub mod Ordered
 pub mod Short
 pub mod Digits
+pub mod DigitCount
 pub mod Sixteen
 pub mod FrameIds
 pub mod Unnamed
 pub mod Quiet
+pub mod Paced
 pub mod LogRuns
 pub mod RecordTexts

@@ -1,6 +1,7 @@
-ghost use Rattle.std.specs.Prelude.{◌≡◌, ◌+◌, ◌*◌, ◌≤◌, ◌++◌, ◌<◌, [], length, set, IfOk};
+ghost use Rattle.std.specs.Prelude.{◌≡◌, ◌+◌, ◌*◌, ◌≤◌, ◌++◌, ◌<◌, [], length, set, decimal, IfOk};
 ghost use Rattle.tas_runs.specs.Report.{hex_bytes};
 
+use crate::digit_count::digit_count;
 use crate::hex_digits::write_digits;
 use std::alloc::{AllocError, Global};
 use std::marker::Model;
@@ -92,7 +93,29 @@ impl Buffer {
         self.filled = end;
     }
 
+    /// Puts the digit of a number below 10 behind those that wait.
+    #[inline(always)]
+    pub fn push_digit(&mut self, number: u8)
+        requires room { length self.old < 32768 }
+        requires small { number < 10 }
+        ensures { self.new ≡ self.old ++ decimal number }
+    {
+        self.push(&[b'0' + number]);
+    }
+
+    /// Puts the decimal digits of a number behind those that wait, right where they belong.
+    #[inline(never)]
+    pub fn push_number(&mut self, number: u64)
+        requires { length self.old + length (decimal number) ≤ 32768 }
+        ensures { self.new ≡ self.old ++ decimal number }
+    {
+        let end = self.filled + digit_count(number);
+        itoa::write_digits(number, &mut self.room, end);
+        self.filled = end;
+    }
+
     /// Puts the digits of bytes behind those that wait: two of lower case a byte, the higher one first.
+    #[inline(always)]
     pub fn push_digits(&mut self, bytes: &[u8])
         requires { length self.old + 2 * length bytes.now ≤ 32768 }
         ensures { self.new ≡ self.old ++ hex_bytes bytes.now }

@@ -54,13 +54,17 @@ pub fn add_lines<L: CountedLines>(waiting: &mut Buffer, lines: &L, j: u64) -> u6
 {
     let from = waiting.len();
     let digits = lines.add_line(j, waiting);
+    let put = &waiting.as_slice()[from..];
+    let first = put[digits.first];
+    let second = put[digits.second];
+    let alike = (b'9' - first).min(b'9' - second);
+    let more = u64::from(alike).min(lines.followers() - j);
+    if more == 0 {
+        return 1;
+    }
     let mut room = [0; LINE];
     let line = &mut room[..waiting.len() - from];
     line.copy_from_slice(&waiting.as_slice()[from..]);
-    let first = line[digits.first];
-    let second = line[digits.second];
-    let alike = (b'9' - first).min(b'9' - second);
-    let more = u64::from(alike).min(lines.followers() - j);
     for k in 0..more as u8 {
         let by = k + 1;
         waiting.push_with(line, digits.first, first + by, digits.second, second + by);

@@ -192,6 +192,7 @@ fn write_data<K: Sink>(writer: &mut Writer, sink: &mut K, bytes: &[u8]) -> Resul
 }
 
 /// Writes bytes, or `-` for none.
+#[inline(always)]
 fn write_hex<K: Sink>(writer: &mut Writer, sink: &mut K, bytes: &[u8]) -> Result<(), IoFault>
     ensures { Writes (K.state sink.old) writer.old result (K.state sink.new) writer.new (hex bytes.now) }
 {

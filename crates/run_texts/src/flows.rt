@@ -163,6 +163,7 @@ fn given_in<'a>(stretch: StretchView<'a>) -> &'a [u8]
     match stretch {
         StretchView::One(entry) => given(entry.reply),
         StretchView::Quiet(_) => &[],
+        StretchView::Paced(_) => &[],
     }
 }
 

@@ -147,7 +147,7 @@ fn add_flow<'a>(frames: &mut Vec<Frame<'a>>, flow: &'a FlowRecord) -> Result<(),
     Ok(())
 }
 
-/// Adds the segments of the entries of a stretch. A quiet tick has none.
+/// Adds the segments of the entries of a stretch. Quiet ticks and Controls have none.
 fn add_stretch<'a>(
     frames: &mut Vec<Frame<'a>>,
     tuple: FourTuple,
@@ -159,6 +159,7 @@ fn add_stretch<'a>(
     match stretch {
         StretchView::One(entry) => add_entry(frames, tuple, entry),
         StretchView::Quiet(_) => Ok(()),
+        StretchView::Paced(_) => Ok(()),
     }
 }
 

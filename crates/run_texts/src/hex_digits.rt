@@ -7,16 +7,25 @@ use std::simd::prelude::*;
 /// The digits of the numbers below 16.
 const GLYPHS: [u8; 16] = *b"0123456789abcdef";
 
-/// Writes the digits of bytes: two of lower case a byte, the higher one first. Most of a report is such digits, so
-/// vectors make those of sixteen bytes at a time.
+/// Writes the digits of bytes: two of lower case a byte, the higher one first.
+#[inline(always)]
 pub(crate) fn write_digits(bytes: &[u8], digits: &mut [u8])
     requires { length digits.old ≡ 2 * length bytes.now }
     ensures { digits.new ≡ hex_bytes bytes.now }
 {
     if bytes.len() < 16 {
         write_rest(bytes, digits);
-        return;
+    } else {
+        write_many(bytes, digits);
     }
+}
+
+/// The same for many bytes. Most of a report is such digits, so vectors make those of sixteen bytes at a time.
+#[inline(never)]
+fn write_many(bytes: &[u8], digits: &mut [u8])
+    requires { length digits.old ≡ 2 * length bytes.now }
+    ensures { digits.new ≡ hex_bytes bytes.now }
+{
     let (blocks, rest) = bytes.split_at(bytes.len() / 16 * 16);
     let (front, back) = digits.split_at_mut(2 * blocks.len());
     write_blocks(blocks, front);
@@ -59,6 +68,7 @@ fn low_digits(bytes: u8x16) -> u8x16
 }
 
 /// Writes the digits of bytes one by one: of those that fill no vector.
+#[inline(always)]
 fn write_rest(bytes: &[u8], digits: &mut [u8])
     requires { length digits.old ≡ 2 * length bytes.now }
     ensures { digits.new ≡ hex_bytes bytes.now }
@@ -75,9 +85,5 @@ fn digit(number: u8) -> u8
     requires { number < 16 }
     ensures { result ≡ digit_glyph false number }
 {
-    if number < 10 {
-        b'0' + number
-    } else {
-        b'a' - 10 + number
-    }
+    GLYPHS[usize::from(number)]
 }

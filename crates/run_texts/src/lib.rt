@@ -3,6 +3,7 @@
 
 mod buffer;
 mod counted_lines;
+mod digit_count;
 mod entries;
 mod flows;
 mod frame_ids;

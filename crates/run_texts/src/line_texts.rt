@@ -1,7 +1,7 @@
 ghost use Rattle.std.specs.Prelude.{◌≡◌, ℕ, ◌≤◌, length, codes, if◌then◌else◌};
 
 use crate::buffer::Buffer;
-use crate::text::{Text, add, add_number};
+use crate::text::{Text, add, add_number, add_wide};
 use crate::texts::{AddrText, FlowName, PortText, TupleText, phase_name, reason_name};
 use crate::whole::Counts;
 use tas_model::{FourTuple, Phase, Reason};
@@ -173,7 +173,7 @@ impl Text for ReadText {
 
     fn add_to(&self, waiting: &mut Buffer) {
         add(waiting, b"read ");
-        add_number(waiting, self.0);
+        add_wide(waiting, self.0);
         add(waiting, b" ");
     }
 }

@@ -1,11 +1,12 @@
 ghost use Rattle.std.specs.Prelude.{map};
 ghost use Rattle.tas_runs.specs.Report.{entries_text};
+ghost use Rattle.flow_state.specs.Stretches.{paced_entries, first_paced, IsPacedRun};
 ghost use Rattle.flow_state.specs.Views.{seen_stretch, IsFit};
 ghost use Rattle.run_texts.specs.Writes.{Writes};
 
 use crate::entries::write_entry;
 use crate::writer::Writer;
-use flow_state::StretchView;
+use flow_state::{PacedRun, StretchView};
 use tas_num::{IoFault, Sink};
 
 /// Writes the lines of the entries of a stretch.
@@ -22,5 +23,42 @@ pub fn write_stretch<K: Sink>(
     match stretch {
         StretchView::One(entry) => write_entry(writer, sink, names, entry),
         StretchView::Quiet(run) => writer.put_lines(sink, run),
+        StretchView::Paced(runs) => write_paced(writer, sink, names, runs),
     }
+}
+
+/// Writes the lines of runs of quiet ticks and of the Control behind each.
+fn write_paced<K: Sink>(
+    writer: &mut Writer,
+    sink: &mut K,
+    names: &[&[u8]],
+    runs: &PacedRun,
+) -> Result<(), IoFault>
+    requires { IsPacedRun runs.now }
+    ensures { Writes (K.state sink.old) writer.old result (K.state sink.new) writer.new
+        (entries_text (map (λ n. n.now) names.now) (paced_entries runs.now)) }
+{
+    let mut left = *runs;
+    loop {
+        write_first(writer, sink, names, &left)?;
+        match left.rest() {
+            Some(rest) => left = rest,
+            None => return Ok(()),
+        }
+    }
+}
+
+/// Writes the lines of the first of these runs and of the Control behind it.
+fn write_first<K: Sink>(
+    writer: &mut Writer,
+    sink: &mut K,
+    names: &[&[u8]],
+    runs: &PacedRun,
+) -> Result<(), IoFault>
+    requires { IsPacedRun runs.now }
+    ensures { Writes (K.state sink.old) writer.old result (K.state sink.new) writer.new
+        (entries_text (map (λ n. n.now) names.now) (first_paced runs.now)) }
+{
+    writer.put_lines(sink, &runs.run)?;
+    write_entry(writer, sink, names, &runs.control())
 }

@@ -2,7 +2,7 @@ ghost use Rattle.tas_runs.specs.Summary.{summary_lines};
 ghost use Rattle.run_texts.specs.Writes.{Writes};
 
 use crate::buffer::Buffer;
-use crate::text::{Text, add, add_number};
+use crate::text::{Text, add, add_number, add_wide};
 use crate::writer::Writer;
 use tas_num::{IoFault, Sink};
 
@@ -33,7 +33,7 @@ impl Text for SummaryLines {
         add(waiting, b"bulk ");
         add_number(waiting, summary.clients);
         add(waiting, b"\nread ");
-        add_number(waiting, summary.read);
+        add_wide(waiting, summary.read);
         add(waiting, b"\nclosed ");
         add_number(waiting, summary.closed);
         add(waiting, b"\n");

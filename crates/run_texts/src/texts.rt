@@ -1,4 +1,4 @@
-ghost use Rattle.std.specs.Prelude.{◌≡◌, ℕ, ◌<◌, ◌≤◌, List, length, IfSome, IfNone};
+ghost use Rattle.std.specs.Prelude.{◌≡◌, ℕ, ◌+◌, ◌<◌, ◌≤◌, ◌++◌, List, length};
 ghost use Rattle.tas_runs.specs.Report.{letter, flags_text, reason_text, phase_text, copy_text};
 
 use crate::buffer::Buffer;
@@ -17,37 +17,34 @@ impl Text for FlagsText {
     ghost most = { 8 };
 
     fn add_to(&self, waiting: &mut Buffer) {
-        let flags = self.0;
-        if let Some(letters) = usual_letters(flags) {
-            add(waiting, letters);
-            return;
+        // Nearly every segment has one of these, whose letters are put in one piece.
+        match self.0 {
+            0 => add(waiting, b"-"),
+            2 => add(waiting, b"S"),
+            16 => add(waiting, b"A"),
+            17 => add(waiting, b"AF"),
+            18 => add(waiting, b"AS"),
+            24 => add(waiting, b"AP"),
+            flags => add_letters(waiting, flags),
         }
-        add(waiting, one(flags, 128, b"C"));
-        add(waiting, one(flags, 64, b"E"));
-        add(waiting, one(flags, 32, b"U"));
-        add(waiting, one(flags, 16, b"A"));
-        add(waiting, one(flags, 8, b"P"));
-        add(waiting, one(flags, 4, b"R"));
-        add(waiting, one(flags, 2, b"S"));
-        add(waiting, one(flags, 1, b"F"));
     }
 }
 
-/// The letters of the control bits that nearly every segment has, which are put in one piece.
-fn usual_letters(flags: u8) -> Option<&'static [u8]>
-    ensures usual { IfSome result (λ letters. letters.now ≡ flags_text flags) }
-    ensures short { IfSome result (λ letters. length letters.now ≤ 2) }
-    ensures some_set { IfNone result (0 < flags) }
+/// Puts the letters of control bits one by one.
+fn add_letters(waiting: &mut Buffer, flags: u8)
+    requires some_set { 0 < flags }
+    requires room { length waiting.old + 8 ≤ 32768 }
+    ensures text { waiting.new ≡ waiting.old ++ flags_text flags }
+    ensures short { length waiting.new ≤ length waiting.old + 8 }
 {
-    match flags {
-        0 => Some(b"-"),
-        2 => Some(b"S"),
-        16 => Some(b"A"),
-        17 => Some(b"AF"),
-        18 => Some(b"AS"),
-        24 => Some(b"AP"),
-        _ => None,
-    }
+    add(waiting, one(flags, 128, b"C"));
+    add(waiting, one(flags, 64, b"E"));
+    add(waiting, one(flags, 32, b"U"));
+    add(waiting, one(flags, 16, b"A"));
+    add(waiting, one(flags, 8, b"P"));
+    add(waiting, one(flags, 4, b"R"));
+    add(waiting, one(flags, 2, b"S"));
+    add(waiting, one(flags, 1, b"F"));
 }
 
 /// The letter of a control bit that is set.
@@ -70,6 +67,7 @@ impl Text for HeadText {
 
     ghost most = { 58 };
 
+    #[inline(always)]
     fn add_to(&self, waiting: &mut Buffer) {
         let head = self.0;
         FlagsText(head.flags).add_to(waiting);

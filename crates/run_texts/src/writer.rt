@@ -54,6 +54,7 @@ impl Writer {
     }
 
     /// Writes the digits of bytes: two of lower case a byte, the higher one first.
+    #[inline(always)]
     pub fn put_hex<K: Sink>(&mut self, sink: &mut K, bytes: &[u8]) -> Result<(), IoFault>
         ensures { Writes (K.state sink.old) self.old result (K.state sink.new) self.new (hex_bytes bytes.now) }
     {
@@ -61,6 +62,7 @@ impl Writer {
     }
 
     /// Writes a text.
+    #[inline(always)]
     pub fn put_text<K: Sink, T: Text>(&mut self, sink: &mut K, text: &T) -> Result<(), IoFault>
         requires { T.most ≤ 570 }
         ensures { Writes (K.state sink.old) self.old result (K.state sink.new) self.new (T.text text.now) }
@@ -82,7 +84,8 @@ impl Writer {
     }
 }
 
-/// Writes all that waits. After Ok nothing waits.
+/// Writes all that waits. After Ok nothing waits. It is rare, so what comes often stays short.
+#[inline(never)]
 fn flush<K: Sink>(sink: &mut K, waiting: &mut Buffer) -> Result<(), IoFault>
     ensures writes { Writes (K.state sink.old) waiting.old result (K.state sink.new) waiting.new [] }
     ensures empty { OnOk result (waiting.new ≡ []) }
@@ -93,6 +96,7 @@ fn flush<K: Sink>(sink: &mut K, waiting: &mut Buffer) -> Result<(), IoFault>
 }
 
 /// Writes all that waits where there is no room for so many bytes more.
+#[inline(always)]
 fn make_room<K: Sink>(sink: &mut K, waiting: &mut Buffer, count: usize) -> Result<(), IoFault>
     requires { count ≤ 32768 }
     ensures writes { Writes (K.state sink.old) waiting.old result (K.state sink.new) waiting.new [] }
@@ -106,6 +110,7 @@ fn make_room<K: Sink>(sink: &mut K, waiting: &mut Buffer, count: usize) -> Resul
 }
 
 /// Writes a text behind all that waits.
+#[inline(always)]
 fn push_text<K: Sink, T: Text>(sink: &mut K, waiting: &mut Buffer, text: &T) -> Result<(), IoFault>
     requires { T.most ≤ 570 }
     ensures { Writes (K.state sink.old) waiting.old result (K.state sink.new) waiting.new (T.text text.now) }
@@ -147,6 +152,7 @@ fn push<K: Sink>(sink: &mut K, waiting: &mut Buffer, bytes: &[u8]) -> Result<(),
 }
 
 /// Writes bytes behind all that waits, as much at a time as there is room for.
+#[inline(never)]
 fn push_pieces<K: Sink>(sink: &mut K, waiting: &mut Buffer, bytes: &[u8]) -> Result<(), IoFault>
     ensures { Writes (K.state sink.old) waiting.old result (K.state sink.new) waiting.new bytes.now }
 {
@@ -160,10 +166,14 @@ fn push_pieces<K: Sink>(sink: &mut K, waiting: &mut Buffer, bytes: &[u8]) -> Res
     Ok(())
 }
 
-/// Writes the digits of bytes behind all that waits. Mostly there is room for all of them.
+/// Writes the digits of bytes behind all that waits. Often there are none, and mostly there is room for all of them.
+#[inline(always)]
 fn push_hex<K: Sink>(sink: &mut K, waiting: &mut Buffer, bytes: &[u8]) -> Result<(), IoFault>
     ensures { Writes (K.state sink.old) waiting.old result (K.state sink.new) waiting.new (hex_bytes bytes.now) }
 {
+    if bytes.is_empty() {
+        return Ok(());
+    }
     if bytes.len() <= waiting.free() / 2 {
         waiting.push_digits(bytes);
         return Ok(());
@@ -172,6 +182,7 @@ fn push_hex<K: Sink>(sink: &mut K, waiting: &mut Buffer, bytes: &[u8]) -> Result
 }
 
 /// Writes the digits of bytes behind all that waits, as many at a time as there is room for.
+#[inline(never)]
 fn push_hex_pieces<K: Sink>(sink: &mut K, waiting: &mut Buffer, bytes: &[u8]) -> Result<(), IoFault>
     ensures { Writes (K.state sink.old) waiting.old result (K.state sink.new) waiting.new (hex_bytes bytes.now) }
 {

@@ -3,3 +3,4 @@ pub mod Ticks
 pub mod Starting
 pub mod Addresses
 pub mod Answering
+pub mod Paced

@@ -1,13 +1,12 @@
 -- Frames of entries and of lines are numbered on.
-use Rattle.std.proofs.Common.{◌≡◌, ℕ, zero, suc, ◌+◌, ◌≤◌, ◌<◌, Bool, true, false, cond, List, [], ◌∷◌, ◌++◌, length}
+use Rattle.std.proofs.Common.{◌≡◌, ℕ, ◌+◌, ◌≤◌, Bool, true, false, cond, List, [], ◌∷◌, ◌++◌, length}
 use Rattle.std.proofs.Common.{filter}
-use Rattle.std.proofs.Common.{Option, Some, None, flat_map, refl, sym, ap, ◌∙◌, append_assoc, length-append, arith}
+use Rattle.std.proofs.Common.{Option, Some, None, refl, sym, ap, ◌∙◌, append_assoc, length-append, arith}
 use Rattle.std.proofs.Common.{is_some}
 use Rattle.std.proofs.lemmas.List.Concat.{flat_map-append}
 use Rattle.std.proofs.lemmas.List.Elements.{filter-append}
 use Rattle.tas_model.specs.declared.entry.FourTuple.{FourTuple}
 use Rattle.tas_model.specs.declared.entry.Head.{Head}
-use Rattle.tas_model.specs.declared.entry.Seg.{Seg}
 use Rattle.tas_model.specs.declared.entry.Entry.{Entry}
 use Rattle.tas_model.specs.declared.entry.Reply.{Reply}
 use Rattle.tas_model.specs.declared.entry.Reply.TheVariants as replies
@@ -16,7 +15,7 @@ use Rattle.host_rounds.specs.declared.log.LogLine.{LogLine}
 use Rattle.link_script.specs.declared.frames.Sent.{Sent}
 use Rattle.scenario_runs.specs.Worlds.{World, answer_on, frames_of_answer, frames_of_log}
 use Rattle.sent_frames.specs.declared.frames.Origin.{Origin}
-use Rattle.sent_frames.specs.Sending.{of_tick, segment_frames, entry_frames, sent_by, is_answered, answers_in}
+use Rattle.sent_frames.specs.Sending.{segment_frames, entry_frames, sent_by, is_answered, answers_in}
 
 -- ----- entries
 pub sent_by-append : (xs ys : List Entry) → sent_by (xs ++ ys) ≡ sent_by xs + sent_by ys

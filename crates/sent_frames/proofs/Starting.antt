@@ -5,7 +5,6 @@ use Rattle.std.proofs.Common.{filter, take, drop, flat_map, Some, slice_get, ref
 use Rattle.std.proofs.Common.{append-nil}
 use Rattle.std.proofs.Common.{take-append-drop, append_assoc, length-append, add-one, drop-cons, get_or, eqb}
 use Rattle.std.proofs.lemmas.Bool.Decides.{nat_tests}
-use Rattle.std.proofs.lemmas.List.{take_all}
 use Rattle.std.proofs.lemmas.Option.{slice_get_within, get_or_from_slice_get}
 use Rattle.std.proofs.lemmas.List.Concat.{flat_map-append}
 use Rattle.std.proofs.lemmas.List.Elements.{filter-append}

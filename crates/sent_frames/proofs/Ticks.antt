@@ -1,7 +1,7 @@
 -- Frames by the ticks in which they were sent.
-use Rattle.std.proofs.Common.{◌≡◌, ℕ, zero, suc, ◌+◌, ◌≤◌, ◌<◌, ◌==◌, Bool, true, false, cond, eqb, ltb, List, [], ◌∷◌}
+use Rattle.std.proofs.Common.{◌≡◌, ℕ, ◌+◌, ◌≤◌, ◌<◌, Bool, true, false, eqb, ltb, List, [], ◌∷◌}
 use Rattle.std.proofs.Common.{◌++◌}
-use Rattle.std.proofs.Common.{length, filter, Option, Some, None, refl, sym, ap, ◌∙◌, subst, arith}
+use Rattle.std.proofs.Common.{length, Option, Some, None, refl, ap, ◌∙◌, arith}
 use Rattle.std.proofs.lemmas.Bool.Decides.{nat_tests}
 use Rattle.std.proofs.lemmas.List.Elements.{filter-append}
 use Rattle.tas_model.specs.declared.entry.FourTuple.{FourTuple}
@@ -10,7 +10,6 @@ use Rattle.tas_model.specs.declared.entry.Seg.{Seg}
 use Rattle.tas_model.specs.declared.entry.Entry.{Entry}
 use Rattle.tas_model.specs.Outputs.{segments_in}
 use Rattle.host_rounds.specs.declared.log.LogLine.{LogLine}
-use Rattle.host_rounds.specs.Lists.{Each}
 use Rattle.link_script.specs.Emitted.{behind_earlier}
 use Rattle.link_script.specs.declared.frames.Sent.{Sent}
 use Rattle.scenario_runs.specs.Worlds.{World, answer_on, frames_of_answer, frames_of_log}

@@ -1,5 +1,5 @@
 -- What a host sends in a tick, and what it keeps to number its frames.
-use Rattle.std.specs.Prelude.{ℕ, ◌≤◌, ◌<◌, ◌==◌, Bool, List, [], ◌∷◌, length, map, filter, nat_lt, is_some}
+use Rattle.std.specs.Prelude.{ℕ, ◌≤◌, ◌<◌, ◌==◌, Bool, List, length, map, filter, nat_lt, is_some}
 use Rattle.tas_model.specs.declared.entry.Seg.{Seg}
 use Rattle.tas_model.specs.declared.entry.Entry.{Entry}
 use Rattle.tas_model.specs.Outputs as outputs

@@ -50,6 +50,7 @@ impl SentCounts {
 
     /// Collects the frames that the flow with this opening number sent in a tick, behind those that it sent before, and
     /// counts them. The error is want of memory.
+    #[inline(always)]
     pub fn collect_flow(
         &mut self,
         alloc: Global,

@@ -18,8 +18,35 @@ use std::alloc::{AllocError, Global};
 /// Collects the frames that a flow sent in a tick: it is the flow with opening number `flow` of a host, and sent
 /// `number` frames before. The answer is how many it sent in all. The error is want of memory.
 ///
-/// It looks at the newest entries alone.
+/// It looks at the newest entries alone, and at none where it sent nothing.
+#[inline(always)]
 pub fn collect_flow(
+    alloc: Global,
+    sender: &Sender<'_>,
+    flow: u32,
+    number: u64,
+    tick: u32,
+    history: &FlowRecord,
+    sent: &mut SentList,
+) -> Result<u64, AllocError>
+    requires hosts { length sender.now.addresses.now < 2 ^ 32 }
+    requires number { number ≡ sent_before tick history.now.entries }
+    requires last { AreUpTo tick sent.old }
+    ensures frames { (world : World) → sender.now.addresses.now ≡ addresses_of world → OnOk result (sent.new
+        ≡ sent.old ++ of_tick tick (frames_of_entries sender.now.host flow 0 (host_at world history.now.tuple.raddr)
+        history.now.tuple history.now.entries)) }
+    ensures number { IfOk result (λ n. n ≡ sent_by history.now.entries) }
+    ensures last { OnOk result (AreUpTo tick sent.new) }
+{
+    // Most flows sent none in most ticks, as their count tells.
+    if history.sent() == number {
+        return Ok(number);
+    }
+    collect_newest(alloc, sender, flow, number, tick, history, sent)
+}
+
+/// The same by the newest entries.
+fn collect_newest(
     alloc: Global,
     sender: &Sender<'_>,
     flow: u32,
@@ -63,10 +90,6 @@ fn collect_entries(
     ensures number { IfOk result (λ n. n ≡ sent_by history.now.entries) }
     ensures last { OnOk result (AreUpTo tick sent.new) }
 {
-    // Most flows sent none in most ticks, as their count tells.
-    if history.sent() == number {
-        return Ok(number);
-    }
     // Its history is legal, with parameters in their ranges.
     let _parts = history.parts();
     let _entries = history.entries();
@@ -105,11 +128,12 @@ fn ended_before(stretch: StretchView<'_>, tick: u32) -> bool
     match stretch {
         StretchView::One(entry) => entry.tick < tick,
         StretchView::Quiet(run) => run.tick + run.more < tick,
+        StretchView::Paced(runs) => runs.tick <= tick,
     }
 }
 
 /// Collects the frames of a tick among those of a stretch, the first of which has this number. The answer is the number
-/// of the next one. Quiet ticks have none.
+/// of the next one. Quiet ticks and Controls have none.
 fn collect_stretch(
     alloc: Global,
     origin: &Origin,
@@ -129,6 +153,7 @@ fn collect_stretch(
     match stretch {
         StretchView::One(entry) => collect_entry(alloc, origin, number, tick, entry, sent),
         StretchView::Quiet(_) => Ok(number),
+        StretchView::Paced(_) => Ok(number),
     }
 }
 

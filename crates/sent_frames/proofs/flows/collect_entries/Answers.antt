@@ -1,18 +1,10 @@
-use Rattle.std.proofs.Common.{◌≡◌, ◌++◌, ◌≤◌, length, take, sym, subst, ap, ◌∙◌, arith, append-nil, rules}
+use Rattle.std.proofs.Common.{◌≡◌, ◌++◌, ◌≤◌, length, take, sym, ap, ◌∙◌, arith, append-nil}
 use Rattle.std.proofs.lemmas.List.{take_all}
-use Rattle.tas_model.specs.Outputs.{sent}
 use Rattle.flow_state.specs.Views.{seen_stretch}
-use Rattle.run_texts.specs.Frames.{AreAllShort}
 use Rattle.run_texts.proofs.Short.{of_sent}
 use Rattle.sent_frames.specs.Sending.{of_tick, entry_frames, sent_by}
-use Rattle.sent_frames.proofs.Starting.{joined, starts, collected_more, number_more, few_sent, short_in, none_sent_now}
+use Rattle.sent_frames.proofs.Starting.{joined, starts, collected_more, number_more, few_sent, short_in}
 use Rattle.sent_frames.proofs.flows.collect_entries.Goals as goal
-
-pub returns-then-sent-number-clause-frames : goal.returns-then-sent-number-clause-frames
-returns-then-sent-number-clause-frames c =
-    let same : c.sent.result ≡ c.args.number = search rules in
-    sym (ap (λ fs. c.args.sent.now ++ fs) (none_sent_now c.args.origin.now c.args.tick c.args.history.now.entries
-    (sym c.sent.ensures ∙ (same ∙ c.requires.number))) ∙ append-nil c.args.sent.now)
 
 pub loop-i-init : goal.loop-i-init
 loop-i-init c =

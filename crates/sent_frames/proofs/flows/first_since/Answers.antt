@@ -1,4 +1,4 @@
-use Rattle.std.proofs.Common.{◌<◌, ◌-◌, ◌+◌, ◌≡◌, ℕ, [], nat_lt, filter, drop, take, subst, arith}
+use Rattle.std.proofs.Common.{◌<◌, ◌-◌, ◌+◌, ◌≡◌, [], nat_lt, filter, drop, take, subst, arith}
 use Rattle.tas_model.specs.declared.entry.Entry.{Entry}
 use Rattle.tas_model.specs.LegalHistory.{last_tick}
 use Rattle.tas_model.specs.Outputs.{sent}

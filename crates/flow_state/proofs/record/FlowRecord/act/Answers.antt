@@ -59,6 +59,12 @@ grown g c =
     (ap (λ k. c.self.inside.sent + k) c.segments.ensures.count)
     c.in-Some.ensures.made
 
+pub add-requires-clause-placed : goal.add-requires-clause-placed
+add-requires-clause-placed g c =
+    let n = length c.self.inside.arena.memory.bytes in
+    let k = length c.self.inside.arena.memory.came in
+    (n, k, subst (AllWithin n k) (sym c.in_ok-reserve.ensures.items) c.self.invariant.within)
+
 pub invariant_of-self-2 : goal.invariant_of-self-2
 invariant_of-self-2 g c = (grown g c).kept
 

@@ -14,7 +14,7 @@ use Rattle.flow_state.specs.Flow.{Flow, reply_to}
 use Rattle.flow_state.specs.Calls.{answer_of, answer_len, reply_of}
 use Rattle.flow_state.specs.Counts.{counted_for}
 use Rattle.flow_state.specs.Arena.{Memory}
-use Rattle.flow_state.specs.Stretches.{entries_of, Added, tick_entry}
+use Rattle.flow_state.specs.Stretches.{entries_of, Added, AllWithin, tick_entry}
 use Rattle.flow_state.proofs.Entries.{grows_self}
 use Rattle.flow_state.proofs.Near.{near_of}
 use Rattle.flow_state.proofs.Ready.{rings_of}
@@ -65,6 +65,12 @@ grown g c =
         bytes = omega (arith, bare);
       },
     )
+
+pub add_tick-requires-clause-placed : goal.add_tick-requires-clause-placed
+add_tick-requires-clause-placed g c =
+    let n = length c.self.inside.arena.memory.bytes in
+    let k = length c.self.inside.arena.memory.came in
+    (n, k, subst (AllWithin n k) (sym c.in_ok-reserve.ensures.items) c.self.invariant.within)
 
 pub invariant_of-self-2 : goal.invariant_of-self-2
 invariant_of-self-2 g c = (grown g c).kept

@@ -1,4 +1,4 @@
-use Rattle.std.proofs.Common.{ℕ, ◌≡◌, ◌==◌, length, position, unwrap_or, sym, ap, ◌∙◌}
+use Rattle.std.proofs.Common.{length, unwrap_or, sym, ap, ◌∙◌}
 use Rattle.sent_frames.proofs.Addresses.{host_is_placed, place_in}
 use Rattle.sent_frames.proofs.frames.Sender.host_at.Goals as goal
 

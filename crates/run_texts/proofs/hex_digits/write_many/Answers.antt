@@ -1,6 +1,6 @@
 use Rattle.std.proofs.Common.{◌*◌, ◌/◌, length}
 use Rattle.run_texts.proofs.Writing.{hex_rest}
-use Rattle.run_texts.proofs.hex_digits.write_digits.Goals as goal
+use Rattle.run_texts.proofs.hex_digits.write_many.Goals as goal
 
 pub returns : goal.returns
 returns c =
