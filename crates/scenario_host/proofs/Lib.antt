@@ -4,6 +4,7 @@ pub mod Fit
 pub mod Replies
 pub mod Going
 pub mod Walking
+pub mod Rests
 pub mod Starting
 pub mod Answering
 pub mod Offers

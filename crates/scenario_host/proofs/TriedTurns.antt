@@ -16,7 +16,8 @@ use Rattle.scenario_host.specs.Sound.{IsFit, AreRising}
 use Rattle.scenario_host.specs.Tries.{IsAtStep, IsAttemptOf, IsAnswerWithin, AreAttemptsOf, answer_in, answer_on}
 use Rattle.scenario_host.specs.Tries.{answer_at, goes_by, answered_by, answered_all, AreWithin, tried_in, later_in}
 use Rattle.scenario_host.specs.Turns.{turn_of}
-use Rattle.scenario_host.proofs.Walking.{numbers_in, asked_all, Leads, leads_on, drop_place, drop_set, each_weaker}
+use Rattle.scenario_host.proofs.Walking.{numbers_in, asked_all, Leads, leads_on, drop_place, drop_set, set_same}
+use Rattle.scenario_host.proofs.Walking.{each_weaker}
 
 -- ----- places
 at_drop : {X : Type 0} (i : ℕ) (xs : List X) → slice_get (drop i xs) 0 ≡ slice_get xs i
@@ -28,11 +29,6 @@ drop_one : {X : Type 0} (i : ℕ) (xs : List X) → drop 1 (drop i xs) ≡ drop 
 drop_one zero xs = refl
 drop_one (suc i) [] = refl
 drop_one (suc i) (x ∷ xs) = drop_one i xs
-
-pub set_same : (ss : List Script) (i : ℕ) (s : Script) → slice_get ss i ≡ Some s → set ss i s ≡ ss
-set_same [] i s here = absurd (cc (here))
-set_same (x ∷ xs) zero s here = let first : s ≡ x = cc (here) in ap (λ (r : Script). r ∷ xs) first
-set_same (x ∷ xs) (suc i) s here = ap (λ (zs : List Script). x ∷ zs) (set_same xs i s here)
 
 -- ----- attempts that are gathered
 pub attempts_more : (t : ℕ) (ss : List Script) (xs : List (Option Attempt)) (s : Script) (x : Option Attempt)

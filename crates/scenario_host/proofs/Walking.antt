@@ -97,6 +97,11 @@ drop_set [] i y = refl
 drop_set (x ∷ xs) zero y = refl
 drop_set (x ∷ xs) (suc i) y = drop_set xs i y
 
+pub set_same : (ss : List Script) (i : ℕ) (s : Script) → slice_get ss i ≡ Some s → set ss i s ≡ ss
+set_same [] i s here = absurd (cc (here))
+set_same (x ∷ xs) zero s here = let first : s ≡ x = cc (here) in ap (λ (r : Script). r ∷ xs) first
+set_same (x ∷ xs) (suc i) s here = ap (λ (zs : List Script). x ∷ zs) (set_same xs i s here)
+
 -- ----- turns
 abbrev pub numbers_in : List Script → List ℕ
 numbers_in ss = map (λ (s : Script). s.number) ss

@@ -1,4 +1,4 @@
-ghost use Rattle.std.specs.Prelude.{◌≡◌, ◌≤◌, ◌++◌, ℕ, false, [], map, fold, length, IfOk, OnOk};
+ghost use Rattle.std.specs.Prelude.{◌≡◌, ◌≤◌, ◌<◌, ◌+◌, ◌++◌, ℕ, false, [], map, fold, length, IfOk, OnOk};
 ghost use Rattle.std.specs.List.{list_all};
 ghost use Rattle.host_rounds.specs.Lists.{Each};
 ghost use Rattle.host_rounds.specs.Hosts.{flows_of};
@@ -8,14 +8,16 @@ ghost use Rattle.core_rounds.specs.CoreTicks.{IsCoresTick};
 ghost use Rattle.local_host.specs.Arriving.{arrival_in};
 ghost use Rattle.local_host.specs.Live.{flow_in, IsLegal};
 ghost use Rattle.scenario_ranges.specs.Ranges.{IsInRange, IsHostInRange};
-ghost use Rattle.scenario_runs.specs.Applications.{Script, has_ended};
-ghost use Rattle.scenario_runs.specs.Worlds.{site_of, scripts_of, numbers_of};
-ghost use Rattle.scenario_host.specs.Sound.{IsSound};
-ghost use Rattle.scenario_host.specs.Turns.{site_with};
+ghost use Rattle.scenario_runs.specs.Applications.{Script, has_ended, turn};
+ghost use Rattle.scenario_runs.specs.Worlds.{site_of, scripts_of, numbers_of, address_in};
+ghost use Rattle.scenario_host.specs.Resting.{scripts_in, seen, AreKept};
+ghost use Rattle.scenario_host.specs.Sound.{IsFit, IsSound};
+ghost use Rattle.scenario_host.specs.Turns.{turn_of, site_with};
 
 use crate::filling::FillBytes;
 use crate::numbers::HostNumbers;
 use crate::on_cores::play_tick_on_cores;
+use crate::resting::{AppScripts, LEAST_REST};
 use crate::script::AppScript;
 use crate::start::scripts_on;
 use local_host::{Arrival, Cores, HostEnd, LocalHost};
@@ -33,21 +35,21 @@ pub struct ScenarioHost<'a> {
     host: LocalHost,
     numbers: HostNumbers,
     filling: FillBytes,
-    scripts: Vec<AppScript<'a>>,
+    scripts: AppScripts<'a>,
 }
 
 impl<'a> Model for ScenarioHost<'a> {
     ghost use Rattle.std.specs.Prelude.{List};
     ghost use Rattle.host_rounds.specs.Scripts.{Site};
     ghost use Rattle.scenario_runs.specs.Applications.{Script};
-    ghost use Rattle.scenario_host.specs.Sound.{IsHosting};
+    ghost use Rattle.scenario_host.specs.Resting.{scripts_in, IsReady};
     ghost use Rattle.scenario_host.specs.Turns.{site_with};
 
     ghost Value = { Site (List Script) };
 
-    ghost view = { λ h. site_with h.host h.scripts.items };
+    ghost view = { λ h. site_with h.host (scripts_in h.scripts) };
 
-    ghost invariant = { λ h. IsHosting h.numbers.params (site_with h.host h.scripts.items) };
+    ghost invariant = { λ h. IsReady h.numbers.params h.host h.scripts };
 }
 
 impl<'a> ScenarioHost<'a> {
@@ -70,7 +72,7 @@ impl<'a> ScenarioHost<'a> {
                 params: line.params,
             },
             filling,
-            scripts,
+            scripts: AppScripts::new(alloc, scripts),
         })
     }
 
@@ -97,7 +99,7 @@ impl<'a> ScenarioHost<'a> {
             Ok(()) => Ok(()),
             Err(error) => {
                 self.host = LocalHost::new(self.alloc, self.numbers.params);
-                self.scripts.clear();
+                self.scripts = AppScripts::new(self.alloc, Vec::new(self.alloc));
                 Err(error)
             }
         }
@@ -120,11 +122,12 @@ impl<'a> ScenarioHost<'a> {
             self.old self.new) }
         ensures cores { cores.new ≡ cores.old }
     {
+        self.scripts.wake_all();
         match play_tick_on_cores(
             rt,
             self.alloc,
             &mut self.host,
-            &mut self.scripts,
+            &mut self.scripts.items,
             tick,
             arrivals,
             s,
@@ -136,7 +139,7 @@ impl<'a> ScenarioHost<'a> {
             Ok(()) => Ok(()),
             Err(error) => {
                 self.host = LocalHost::new(self.alloc, self.numbers.params);
-                self.scripts.clear();
+                self.scripts = AppScripts::new(self.alloc, Vec::new(self.alloc));
                 Err(error)
             }
         }
@@ -146,7 +149,7 @@ impl<'a> ScenarioHost<'a> {
     pub fn have_ended(&self) -> bool
         ensures { result ≡ list_all has_ended self.now.scripts }
     {
-        have_ended(self.scripts.as_slice())
+        have_ended(self.scripts.items.as_slice())
     }
 
     /// The host alone.
@@ -180,7 +183,7 @@ fn have_ended(scripts: &[AppScript<'_>]) -> bool
 /// A tick of a host and its scripts. The error is want of memory.
 fn play_tick(
     host: &mut LocalHost,
-    scripts: &mut Vec<AppScript<'_>>,
+    scripts: &mut AppScripts<'_>,
     tick: u32,
     arrivals: &[Arrival<'_>],
     s: &Scenario,
@@ -188,12 +191,16 @@ fn play_tick(
     filling: &FillBytes,
 ) -> Result<(), AllocError>
     requires params { numbers.now.params ≡ host.old.params }
-    requires sound { IsSound (site_with host.old scripts.old.items) }
-    ensures made { OnOk result (site_with host.new scripts.new.items
-        ≡ serial_tick (scripts_of s.now numbers.now.params) tick (site_with host.old scripts.old.items)
-        (record { frames = map arrival_in arrivals.now; asks = map (λ (x : Script). x.number) scripts.old.items })) }
+    requires sound { IsSound (site_with host.old (scripts_in scripts.old)) }
+    requires kept { AreKept scripts.old }
+    ensures made { OnOk result (site_with host.new (scripts_in scripts.new)
+        ≡ serial_tick (scripts_of s.now numbers.now.params) tick (site_with host.old (scripts_in scripts.old)) (record {
+          frames = map arrival_in arrivals.now;
+          asks = map (λ (x : Script). x.number) (scripts_in scripts.old);
+        })) }
     ensures params { OnOk result (host.new.params ≡ host.old.params) }
-    ensures sound { OnOk result (IsSound (site_with host.new scripts.new.items)) }
+    ensures sound { OnOk result (IsSound (site_with host.new (scripts_in scripts.new))) }
+    ensures kept { OnOk result (AreKept scripts.new) }
 {
     host.pass_time(tick)?;
     deliver_all(host, tick, arrivals, numbers)?;
@@ -220,21 +227,72 @@ fn deliver_all(
 /// The turns of all applications, in their order. The error is want of memory.
 fn ask_all(
     host: &mut LocalHost,
-    scripts: &mut Vec<AppScript<'_>>,
+    scripts: &mut AppScripts<'_>,
     tick: u32,
     s: &Scenario,
     numbers: &HostNumbers,
     filling: &FillBytes,
 ) -> Result<(), AllocError>
-    requires sound { IsSound (site_with host.old scripts.old.items) }
-    ensures made { OnOk result (site_with host.new scripts.new.items
-        ≡ ask_phase (scripts_of s.now numbers.now.params) tick (site_with host.old scripts.old.items)
-        (map (λ (x : Script). x.number) scripts.old.items)) }
+    requires sound { IsSound (site_with host.old (scripts_in scripts.old)) }
+    requires kept { AreKept scripts.old }
+    ensures made { OnOk result (site_with host.new (scripts_in scripts.new)
+        ≡ ask_phase (scripts_of s.now numbers.now.params) tick (site_with host.old (scripts_in scripts.old))
+        (map (λ (x : Script). x.number) (scripts_in scripts.old))) }
     ensures params { OnOk result (host.new.params ≡ host.old.params) }
-    ensures sound { OnOk result (IsSound (site_with host.new scripts.new.items)) }
+    ensures sound { OnOk result (IsSound (site_with host.new (scripts_in scripts.new))) }
+    ensures kept { OnOk result (AreKept scripts.new) }
 {
-    for script in scripts.iter_mut() {
-        script.take_turn(host, tick, s.hosts.as_slice(), numbers, filling)?;
-    }
+    scripts.look_where_due()?;
+    let one_rests = ask_awake(host, scripts, tick, s, numbers, filling)?;
+    scripts.end_turn(one_rests);
     Ok(())
+}
+
+/// The turns of those that are awake, in their order; those of sleepers are counted alone. The answer is whether one
+/// may fall asleep. The error is want of memory.
+fn ask_awake(
+    host: &mut LocalHost,
+    scripts: &mut AppScripts<'_>,
+    tick: u32,
+    s: &Scenario,
+    numbers: &HostNumbers,
+    filling: &FillBytes,
+) -> Result<bool, AllocError>
+    requires sound { IsSound (site_with host.old (scripts_in scripts.old)) }
+    requires kept { AreKept scripts.old }
+    requires left { scripts.old.passed < scripts.old.turns }
+    ensures made { OnOk result (site_with host.new
+        (seen (scripts.new.passed + 1) scripts.new.asleep.items scripts.new.items.items)
+        ≡ ask_phase (scripts_of s.now numbers.now.params) tick (site_with host.old (scripts_in scripts.old))
+        (map (λ (x : Script). x.number) (scripts_in scripts.old))) }
+    ensures params { OnOk result (host.new.params ≡ host.old.params) }
+    ensures sound { OnOk result (IsSound (site_with host.new
+        (seen (scripts.new.passed + 1) scripts.new.asleep.items scripts.new.items.items))) }
+    ensures kept { OnOk result (AreKept scripts.new) }
+    ensures left { OnOk result (scripts.new.passed < scripts.new.turns) }
+{
+    let mut one_rests = false;
+    for k in 0..scripts.awake.len() {
+        let place = scripts.awake[k];
+        one_rests |= ask_one(host, &mut scripts.items[place], tick, s, numbers, filling)?;
+    }
+    Ok(one_rests)
+}
+
+/// The turn of one. The answer is whether it may fall asleep. The error is want of memory.
+fn ask_one(
+    host: &mut LocalHost,
+    script: &mut AppScript<'_>,
+    tick: u32,
+    s: &Scenario,
+    numbers: &HostNumbers,
+    filling: &FillBytes,
+) -> Result<bool, AllocError>
+    requires listens { host.old.params.fixed ≡ false }
+    requires fit { IsFit (length host.old.flows) script.old }
+    ensures { OnOk result (turn_of host.new script.new
+        ≡ turn (numbers_of numbers.now.params) (address_in s.now.hosts) tick (turn_of host.old script.old)) }
+{
+    script.take_turn(host, tick, s.hosts.as_slice(), numbers, filling)?;
+    Ok(script.rest() >= LEAST_REST)
 }

@@ -11,6 +11,7 @@ use tas_model::Caller;
 
 impl AppScript<'_> {
     /// It is killed: its flows are aborted, its listeners go, and its script has ended. The error is want of memory.
+    #[inline(never)]
     pub(crate) fn be_killed(&mut self, host: &mut LocalHost, tick: u32) -> Result<(), AllocError>
         ensures { OnOk result (turn_of host.new self.new ≡ killed tick (turn_of host.old self.old)) }
     {

@@ -7,6 +7,7 @@ mod host;
 mod kill;
 mod numbers;
 mod on_cores;
+mod resting;
 mod script;
 mod start;
 mod steps;

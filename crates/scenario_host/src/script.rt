@@ -2,7 +2,7 @@ ghost use Rattle.std.specs.Prelude.{◌≡◌, ◌≤◌, ◌+◌, true, false, 
 ghost use Rattle.scenario_runs.specs.Applications.{has_ended, is_killed_at, bound_in, port_of, flow_of, bind};
 ghost use Rattle.scenario_runs.specs.Applications.{unbind};
 ghost use Rattle.scenario_runs.specs.Applications.{stepped, done_or};
-ghost use Rattle.std.specs.Option.{option_map};
+ghost use Rattle.std.specs.Option.{option_map, is_some};
 ghost use Rattle.scenario_runs.specs.Applications.{bound_in as model_bound_in};
 ghost use Rattle.local_host.specs.Live.{took};
 ghost use Rattle.scenario_host.specs.Answers.{IsWithin, gave, waited_by, sent_by, received_by};
@@ -107,6 +107,13 @@ impl<'a> AppScript<'a> {
             None => false,
             Some(at) => at == tick,
         }
+    }
+
+    /// Whether it is killed in some tick.
+    pub fn is_to_be_killed(&self) -> bool
+        ensures { result ≡ is_some self.now.kill }
+    {
+        self.kill.is_some()
     }
 
     /// The steps that are not over.

@@ -24,6 +24,7 @@ use tas_model::Caller;
 impl<'a> AppScript<'a> {
     /// What the application asks in a tick: it is killed, or makes the call of its step; one that has ended asks
     /// nothing. The error is want of memory.
+    #[inline(always)]
     pub fn take_turn(
         &mut self,
         host: &mut LocalHost,
@@ -42,11 +43,16 @@ impl<'a> AppScript<'a> {
         }
         match self.left() {
             [] => Ok(()),
+            [Step::Wait(ticks), ..] => {
+                self.wait(*ticks);
+                Ok(())
+            }
             [step, ..] => self.take_step(host, tick, step, hosts, numbers, filling),
         }
     }
 
     /// The call of a step. The error is want of memory.
+    #[inline(never)]
     fn take_step(
         &mut self,
         host: &mut LocalHost,

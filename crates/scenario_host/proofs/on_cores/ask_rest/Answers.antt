@@ -5,8 +5,8 @@ use Rattle.scenario_runs.specs.Applications.{Script, turn}
 use Rattle.scenario_runs.specs.Worlds.{numbers_of, address_in}
 use Rattle.host_rounds.specs.Hosts.{Host}
 use Rattle.scenario_host.specs.Turns.{turn_of, site_with}
-use Rattle.scenario_host.proofs.Walking.{get_at}
-use Rattle.scenario_host.proofs.TriedTurns.{WalksRest, none_by, some_of, set_same, rest_asked, rest_passed, rest_end}
+use Rattle.scenario_host.proofs.Walking.{get_at, set_same}
+use Rattle.scenario_host.proofs.TriedTurns.{WalksRest, none_by, some_of, rest_asked, rest_passed, rest_end}
 use Rattle.scenario_host.proofs.on_cores.ask_rest.Goals.{Joined-is_none, then-is_none+in_ok-take_turn, else-is_none}
 use Rattle.scenario_host.proofs.on_cores.ask_rest.Goals as goal
 
