@@ -13,11 +13,9 @@ use Rattle.tas_model.specs.declared.entry.Caller.TheVariants.{Core, App}
 use Rattle.host_rounds.specs.Hosts.{Live, Host, Numbers, is_indexed_as, next_number}
 use Rattle.host_rounds.specs.Deliveries.{Packet, Damaged, Segment, Arrival, received, arrived}
 use Rattle.host_rounds.specs.Deliveries.{delivered_packet}
-use Rattle.core_rounds.specs.CoreTicks.{Taken, taken_by_cores, is_frame, IsCoresPhase}
+use Rattle.core_rounds.specs.CoreTicks.{Taken, taken_by_cores, is_frame}
 use Rattle.local_host.specs.declared.host.Listener as code
-use Rattle.local_host.specs.declared.arrival.Arrival as code_arrival
 use Rattle.local_host.specs.Arriving.{arrival_in}
-use Rattle.std.specs.Global.{Vec}
 use Rattle.std.proofs.Common.{Result, Ok, Err, IfOk, OnOk, OnErr}
 use Rattle.local_host.specs.declared.flows.Openings.{Openings}
 use Rattle.local_host.specs.declared.lanes.Handed.{Handed}
@@ -28,7 +26,7 @@ use Rattle.local_host.specs.declared.attempts.Trial.{Trial}
 use Rattle.local_host.specs.declared.cores.SideWork.{SideWork}
 use Rattle.local_host.specs.SideWork.{IsSideWork, IsSidePhase}
 use Rattle.local_host.specs.Trying.{AreAnswered, AreMade, IsMadeBy, IsMade, attempt_of, put_trials, tried_trial}
-use Rattle.local_host.specs.Trying.{tried_live, held_after, unanswered}
+use Rattle.local_host.specs.Trying.{tried_live, held_after, unanswered, CanTry, CanTryIt}
 use Rattle.local_host.proofs.Asking.{asked, asked_calms}
 use Rattle.flow_state.specs.declared.call.Answer.{Answer}
 use Rattle.flow_state.specs.declared.call.CallIn.{CallIn}
@@ -37,7 +35,8 @@ use Rattle.flow_state.specs.Calls.{call_of, offer_of}
 use Rattle.tas_model.specs.Endpoint.{is_closed}
 use Rattle.tas_model.specs.LegalHistory.{replay}
 use Rattle.host_rounds.specs.Logs.{Flow}
-use Rattle.local_host.proofs.Trying.{tried_answered, both_made, none_made}
+use Rattle.local_host.proofs.HandingOut.{in_lanes}
+use Rattle.local_host.proofs.Trying.{tried_answered, both_made, none_made, can_try}
 use Rattle.local_host.proofs.LaneLists.{perm_by, crossed}
 use Rattle.std.proofs.lemmas.List.Sorted.{IsPermutation-refl, IsPermutation-trans, IsPermutation-append}
 use Rattle.std.proofs.lemmas.List.Sorted.{IsPermutation-append_left, IsPermutation-append_comm, IsPermutation-sym}
@@ -45,7 +44,7 @@ use Rattle.local_host.specs.Index.{IsKnown}
 use Rattle.local_host.specs.Ports.{IsHost}
 use Rattle.local_host.specs.Lanes.{worked_job, left_by, IsWorked, packet_taken}
 use Rattle.local_host.specs.Handing.{place_in, jobs_in, left_in, strays_in, trials_in, taken_packet, flow_taken}
-use Rattle.local_host.specs.Handing.{TookFrames, IsLendingOut}
+use Rattle.local_host.specs.Handing.{TookFrames, IsLendingOut, AreFilled, AreGathered}
 use Rattle.local_host.proofs.Indexing.{Keeps}
 use Rattle.local_host.proofs.Standing.{Stays, Calms, known_change, known_calm, found_stands}
 use Rattle.local_host.proofs.Ports.{host_change, host_none}
@@ -156,6 +155,29 @@ cores_took t old now lent put end jobs left rest given attempts cores frames lan
           (IsPermutation-append_comm (strays_in lanes) ls)
           (IsPermutation-trans (ls ++ strays_in lanes) (left_in after) rest
           (IsPermutation-sym (left_in after) (ls ++ strays_in lanes) worked.1) sorted))
+
+-- of lanes that were filled, that worked, and whose work was gathered
+pub lanes_took : {t : ℕ} {old lent after : List Live} {given attempts : List (Option Attempt)} {cores : List ℕ}
+    {frames rest : List Arrival} {lanes worked : List Lane}
+    → AreFilled old lent given cores frames lanes → AreDistinct frames → AreAnswered given given
+    → length worked ≡ length lanes
+    → ((i : ℕ) (d : Lane) → i < length lanes → (get_or worked i d).failed ≡ false
+    → IsWorked t (get_or lanes i d) (get_or worked i d))
+    → AreGathered lent worked rest attempts after
+    → IsSideWork t old cores frames rest given attempts after
+lanes_took {t} {old} {lent} {after} {given} {attempts} {cores} {frames} {rest} {lanes} {worked} filled distinct fresh
+    len each all =
+    subst (λ (xs : List Arrival). IsSideWork t old cores frames xs given attempts after) (sym all.rest)
+    (cores_took t old filled.middle lent (put_jobs (jobs_in worked) lent) after filled.jobs filled.left all.left given
+    attempts cores frames lanes worked filled.handed distinct filled.lending fresh len each all.done refl all.flows
+    all.attempts all.sorted)
+
+pub lanes_try : {old lent : List Live} {given : List (Option Attempt)} {cores : List ℕ} {frames : List Arrival}
+    {lanes : List Lane} → AreFilled old lent given cores frames lanes → All CanTryIt given
+    → All (λ (l : Lane). All CanTry l.trials.items) lanes
+lanes_try {old} {lent} {given} {cores} {frames} {lanes} filled tries =
+    in_lanes CanTry lanes (subst (All CanTry) (sym filled.lending.have.tried)
+    (can_try given filled.lending.trials filled.lending.lent.tried tries))
 
 -- ----- one frame
 found_at : (F : List Live) (p : Packet) → is_some (place_in F p) ≡ true → (i : ℕ) × (place_in F p ≡ Some i)

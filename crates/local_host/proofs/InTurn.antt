@@ -3,7 +3,6 @@ use Rattle.std.proofs.Common.{◌≡◌, ℕ, ◌++◌, List, [], ◌∷◌, set
 use Rattle.std.proofs.Common.{cond, ◌+◌, ◌<◌, take, length}
 use Rattle.std.proofs.Common.{Some, is_some, slice_get, get_or, refl, sym, ap, subst, ◌∙◌, append_assoc}
 use Rattle.std.proofs.Common.{Option}
-use Rattle.std.specs.Global.{Vec}
 use Rattle.std.specs.Prelude.{IsPermutation}
 use Rattle.std.proofs.lemmas.List.{map-append, take_more}
 use Rattle.std.proofs.lemmas.List.Elements.{All-append, All-nil, All-cons, All-push}

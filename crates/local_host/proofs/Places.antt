@@ -19,6 +19,10 @@ pub ok_both : {T E : Type 0} {P Q R : Type 0} (r : Result T E) → (P → Q → 
 ok_both (Ok x) f p q = f p q
 ok_both (Err e) f p q = tt
 
+pub if_by : {T E : Type 0} {P Q : T → Type 0} (r : Result T E) → ((x : T) → P x → Q x) → IfOk r P → IfOk r Q
+if_by (Ok x) f p = f x p
+if_by (Err e) f p = tt
+
 -- the same answer
 pub if_as : {T E : Type 0} (P : T → Type 0) (r s : Result T E) → s ≡ r → IfOk r P → IfOk s P
 if_as {T} {E} P r s is kept = subst (λ (q : Result T E). IfOk q P) (sym is) kept

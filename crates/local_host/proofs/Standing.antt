@@ -29,13 +29,13 @@ use Rattle.tas_runs.specs.LocalScript.{Shown}
 use Rattle.capture_items.specs.Numbers.{equal_tuple}
 use Rattle.local_host.specs.declared.flows.Openings.{Openings}
 use Rattle.local_host.specs.Index.{passes_at, is_standing, with_first, standing_places, IsAtRest, AreAtRest, number_of}
-use Rattle.local_host.specs.Index.{flows_in, IsKnown}
+use Rattle.local_host.specs.Index.{flows_in, IsKnown, IsIndex, indexed_at}
 use Rattle.local_host.specs.Script.{asked_live}
 use Rattle.local_host.proofs.Emitting.{all_is_sent}
 use Rattle.local_host.proofs.Places.{ok_by, wrote_change}
 use Rattle.local_host.proofs.Given.{one_given, given_push, given_map, given_change}
 use Rattle.local_host.proofs.Indexing.{length_change, all_kept, Keeps, swept_keeps, map_index, change_index}
-use Rattle.local_host.proofs.Indexing.{pushed_index}
+use Rattle.local_host.proofs.Indexing.{pushed_index, latest_found}
 use Rattle.local_host.proofs.Slots.{marked_map, marked_change, marked_push, marked_swept}
 
 -- ----- what a flow at rest stays
@@ -331,6 +331,20 @@ found_stands t (l ∷ ls) i found at =
     at_place (m ∷ ms) zero d low passes at = stands_by m m.filed refl
         (and_front m.indexed (same_tuple t m.flow.tuple) passes) at.0
     at_place (m ∷ ms) (suc k) d low passes at = at_place ms k d (omega (arith, low)) passes at.1
+
+indexed_passes : (t : FourTuple) (ls : List Live) (i : ℕ) → indexed_at t ls i ≡ passes_at (is_indexed_as t) ls i
+indexed_passes t [] i = refl
+indexed_passes t (l ∷ ls) zero = refl
+indexed_passes t (l ∷ ls) (suc i) = indexed_passes t ls i
+
+-- and whatever led to a flow that is indexed under the four-tuple, it is the one that the index has
+pub indexed_found : {known : FourTuple → Option Openings} (t : FourTuple) (ls : List Live) (i : ℕ) → IsIndex known ls
+    → passes_at (is_indexed_as t) ls i ≡ true → Some i ≡ position (is_indexed_as t) ls
+indexed_found {known} t [] i index here = absurd (true≢false (sym here))
+indexed_found {known} t (l ∷ ls) i index here =
+    let low : i < length (l ∷ ls) = passes_below (is_indexed_as t) (l ∷ ls) i here in
+    latest_found known t (l ∷ ls) i l index (index.leads t i (indexed_passes t (l ∷ ls) i ∙ here))
+    (sym (passes_get (is_indexed_as t) (l ∷ ls) i l low) ∙ here)
 
 -- ----- slots
 abbrev one_in : ℕ → Live → ℕ

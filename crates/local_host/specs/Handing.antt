@@ -1,6 +1,6 @@
 -- How the frames that come to a host are handed out: those of flows that the index has become jobs of cores, and the
 -- others are left.
-use Rattle.std.specs.Prelude.{◌≡◌, ℕ, ◌++◌, ◌∷◌, [], ◌<◌, ◌≤◌, ◌==◌, Bool, true, List, All, map, set, fold}
+use Rattle.std.specs.Prelude.{◌≡◌, ℕ, ◌++◌, ◌∷◌, [], ◌<◌, ◌≤◌, ◌==◌, Bool, true, false, List, All, map, set, fold}
 use Rattle.std.specs.Prelude.{Option, Some, None, is_some, position, length, slice_get, count_by, IsPermutation}
 use Rattle.tas_model.specs.declared.entry.FrameId.{FrameId}
 use Rattle.tas_model.specs.declared.entry.Caller.TheVariants.{Core}
@@ -13,7 +13,7 @@ use Rattle.local_host.specs.declared.lanes.Job.{Job}
 use Rattle.local_host.specs.declared.lanes.Lane.{Lane}
 use Rattle.local_host.specs.declared.attempts.Attempt.{Attempt}
 use Rattle.local_host.specs.declared.attempts.Trial.{Trial}
-use Rattle.local_host.specs.Trying.{AreLent}
+use Rattle.local_host.specs.Trying.{AreLent, attempt_of, put_trials}
 use Rattle.local_host.specs.Lanes.{arrival_of, taken_of}
 
 -- each frame comes once
@@ -139,6 +139,26 @@ pub record IsLendingOut (old now : List Live) (given : List (Option Attempt)) (j
 abbrev pub put_jobs : List Job → List Live → List Live
 put_jobs [] flows = flows
 put_jobs (j ∷ js) flows = put_jobs js (set flows j.place j.flow)
+
+-- ----- all that is handed out
+-- These frames were handed out, and then flows were lent for these attempts: the lanes have all of it.
+pub record AreFilled (old now : List Live) (given : List (Option Attempt)) (cores : List ℕ) (frames : List Arrival)
+    (lanes : List Lane) : Type 0 where
+  pub middle : List Live
+  pub jobs : List Job
+  pub left : List Handed
+  pub handed : AreHanded old middle jobs left cores frames
+  pub lending : IsLendingOut middle now given jobs left lanes
+
+-- The lanes' flows are back in their places, first those of jobs; these frames were left, and these are the attempts.
+pub record AreGathered (before : List Live) (lanes : List Lane) (frames : List Arrival) (tried : List (Option Attempt))
+    (after : List Live) : Type 0 where
+  pub left : List Handed
+  pub done : All (λ (l : Lane). l.failed ≡ false) lanes
+  pub flows : after ≡ put_trials (trials_in lanes) (put_jobs (jobs_in lanes) before)
+  pub attempts : tried ≡ map attempt_of (trials_in lanes)
+  pub sorted : IsPermutation (left_in lanes) left
+  pub rest : frames ≡ map arrival_of left
 
 -- ----- what cores took
 abbrev pub order_by : (tick : ℕ) → List Job → List Taken

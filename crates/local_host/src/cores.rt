@@ -2,14 +2,14 @@ ghost use Rattle.std.specs.Prelude.{◌≡◌, ℕ, ◌<◌, ◌++◌, ◌∷◌
 ghost use Rattle.host_rounds.specs.Hosts.{Live};
 ghost use Rattle.host_rounds.specs.Deliveries.{Arrival as ModelArrival};
 ghost use Rattle.local_host.specs.Arriving.{arrival_in};
-ghost use Rattle.local_host.specs.Handing.{AreDistinct, TookSome, place_in};
+ghost use Rattle.local_host.specs.Handing.{AreDistinct, AreFilled, AreGathered, TookSome, place_in};
 ghost use Rattle.local_host.specs.SideWork.{IsSideWork};
 ghost use Rattle.local_host.specs.Trying.{AreAnswered, CanTryIt};
 
 use crate::arrival::Arrival;
 use crate::attempts::Attempt;
 use crate::jobs::{end_lanes, give_strays, hand_out, lanes_of, lend_all, put_back};
-use crate::lanes::{Handed, work_all};
+use crate::lanes::{Handed, Lane, work_all};
 use crate::live::LiveFlow;
 use std::alloc::{AllocError, Global};
 use std::thread::Threads;
@@ -62,11 +62,47 @@ pub fn take_on_cores<'a, R: Threads + Sync, G: Gate>(
         let rest = take_in_turn(alloc, flows, places, tick, arrivals, steered)?;
         return Ok(SideWork { rest, attempts });
     }
+    let mut lanes = fill_lanes(alloc, flows, spare, places, arrivals, steered, attempts)?;
+    work_all(rt, &mut lanes, host, tick, gate);
+    gather(alloc, flows, spare, lanes)
+}
+
+/// Frames are handed out, and flows are lent for attempts. The answer are the lanes that have them. The error is want
+/// of memory.
+fn fill_lanes<'a>(
+    alloc: Global,
+    flows: &mut Vec<LiveFlow>,
+    spare: &mut Vec<LiveFlow>,
+    places: &[Option<usize>],
+    arrivals: &[Arrival<'a>],
+    steered: &[u32],
+    attempts: Vec<Option<Attempt<'a>>>,
+) -> Result<Vec<Lane<'a>>, AllocError>
+    requires places { places.now ≡ map (λ x. place_in flows.old.items (arrival_in x).packet) arrivals.now }
+    requires steered { length steered.now ≡ length arrivals.now }
+    requires cores { All (λ core. core < 16) steered.now }
+    ensures { IfOk result (λ lanes. AreFilled flows.old.items flows.new.items attempts.entry.items steered.now
+        (map arrival_in arrivals.now) lanes.items) }
+{
     let mut handing = hand_out(alloc, flows, spare, places, arrivals, steered)?;
     let mut lanes = lanes_of(alloc, handing.take_jobs(alloc))?;
     give_strays(alloc, &mut lanes, &handing.left, steered)?;
     lend_all(alloc, flows, spare, &mut lanes, attempts)?;
-    work_all(rt, &mut lanes, host, tick, gate);
+    Ok(lanes)
+}
+
+/// What lanes made is gathered: the flows go back to their places, and the frames that cores left are put in the order
+/// in which they came. The error is want of memory, also in a lane.
+fn gather<'a>(
+    alloc: Global,
+    flows: &mut Vec<LiveFlow>,
+    spare: &mut Vec<LiveFlow>,
+    lanes: Vec<Lane<'a>>,
+) -> Result<SideWork<'a>, AllocError>
+    ensures { IfOk result (λ side. AreGathered flows.old.items lanes.entry.items (map arrival_in side.rest.items)
+        side.attempts.items flows.new.items) }
+{
+    let mut lanes = lanes;
     let mut left = Vec::new(alloc);
     put_back(flows, &mut left, &mut lanes)?;
     let attempts = end_lanes(alloc, flows, spare, lanes)?;

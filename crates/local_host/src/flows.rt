@@ -67,6 +67,9 @@ struct Table {
     /// The places of those whose records are not filed, in order.
     standing: Vec<usize>,
     openings: HashMap<FourTuple, Openings>,
+    /// The place of the flow that something came to last. It only says where a search looks first, as mostly more comes
+    /// to the same flow: a flow that is indexed under a four-tuple is the only one, whatever led to it.
+    recent: usize,
     /// How many flows there were in a slot.
     generations: HashMap<u32, usize>,
     /// How many flows have ports that connects are given.
@@ -107,6 +110,7 @@ impl Flows {
                 flows: Vec::new(alloc),
                 standing: Vec::new(alloc),
                 openings: HashMap::new(alloc),
+                recent: 0,
                 generations: HashMap::new(alloc),
                 given: 0,
                 taken: SlotMarks::new(alloc),
@@ -131,26 +135,28 @@ impl Flows {
     }
 
     /// The records of all flows, in the order of their opening. The error is want of memory.
-    ///
-    /// Of the flows no more is kept than was not moved yet, but for a piece, as they may be most of a run's memory.
     pub fn into_records(self, alloc: Global) -> Result<Vec<FlowRecord>, AllocError>
         ensures flows { IfOk result (λ records. map flow_in records.items ≡ flows_of self) }
         ensures legal { IfOk result (λ records. Each IsLegal records.items) }
     {
         let table = self.table;
-        let mut flows = table.flows;
-        flows.reverse();
-        let mut records = Vec::with_capacity(alloc, flows.len())?;
-        'moving: while let Some(flow) = flows.pop() {
-            let record = flow.into_record()?;
-            records.push(record)?;
-            give_room_back(&mut flows);
-        }
-        Ok(records)
+        records_of(alloc, table.flows)
     }
 
     /// The place of the flow that the index has under this four-tuple.
     pub fn find(&self, tuple: &FourTuple) -> Option<usize>
+        ensures place { result ≡ position (is_indexed_as tuple.now) self.now }
+        ensures standing { IfSome result (λ i. passes_at is_standing self.now i ≡ true) }
+    {
+        let recent = self.table.recent;
+        if is_indexed_at(&self.table.flows, recent, tuple) {
+            return Some(recent);
+        }
+        self.find_latest(tuple)
+    }
+
+    /// The same by the index alone.
+    fn find_latest(&self, tuple: &FourTuple) -> Option<usize>
         ensures place { result ≡ position (is_indexed_as tuple.now) self.now }
         ensures standing { IfSome result (λ i. passes_at is_standing self.now i ≡ true) }
     {
@@ -328,6 +334,7 @@ impl Flows {
         ensures made { OnOk result (self.new ≡ change_at i (taking_in taking tick frame (seg_of seg.now)) self.old) }
         ensures none { OnErr result (self.new ≡ []) }
     {
+        self.table.recent = i;
         let done = self.table.flows[i].receive(taking, tick, frame, seg);
         self.table.settle(done)
     }
@@ -442,6 +449,7 @@ impl Flows {
             (shown.new ≡ (asked_all tick content (record { live = l; shown = shown.old })).shown) }
         ensures none { OnErr result (self.new ≡ []) }
     {
+        self.table.recent = i;
         let done = shown.serve(&mut self.table.flows[i], tick, remote, resets);
         self.table.settle(done)
     }
@@ -459,14 +467,17 @@ impl Table {
         ensures flows { OnOk result (self.new.flows.items ≡ self.old.flows.items ++ flow ∷ []) }
         ensures sound { OnOk result (IsSound self.new) }
     {
-        note_opening(&mut self.openings, tuple, now)?;
         let slot = flow.id().slot;
-        note_slot(&mut self.generations, slot)?;
-        self.taken.take(slot)?;
+        note(
+            &mut self.openings,
+            &mut self.generations,
+            &mut self.taken,
+            tuple,
+            now,
+            slot,
+        )?;
         self.given = self.given + count_given(tuple.lport);
-        self.standing.push(self.flows.len())?;
-        self.flows.push(flow)?;
-        Ok(())
+        keep(&mut self.standing, &mut self.flows, flow)
     }
 
     /// Gives back what was done. After want of memory, which may stop between two changes, no flow is kept.
@@ -487,6 +498,41 @@ impl Table {
         }
         done
     }
+}
+
+/// The four-tuple has these openings now, and a record more stands in the slot. The error is want of memory.
+fn note(
+    openings: &mut HashMap<FourTuple, Openings>,
+    generations: &mut HashMap<u32, usize>,
+    taken: &mut SlotMarks,
+    tuple: FourTuple,
+    now: Openings,
+    slot: u32,
+) -> Result<(), AllocError>
+    requires { number_of (get nat_eq generations.old slot) < 2 ^ 63 }
+    ensures openings { OnOk result ((q : FourTuple) → get equal_tuple openings.new q
+        ≡ cond (equal_tuple tuple q) (Some now) (get equal_tuple openings.old q)) }
+    ensures generations { OnOk result ((q : ℕ) → number_of (get nat_eq generations.new q)
+        ≡ number_of (get nat_eq generations.old q) + cond (slot == q) 1 0) }
+    ensures taken { OnOk result ((q : ℕ) → get_or taken.new q false ≡ (get_or taken.old q false || slot == q)) }
+{
+    note_opening(openings, tuple, now)?;
+    note_slot(generations, slot)?;
+    taken.take(slot)
+}
+
+/// The flow, which stands behind the others. The error is want of memory.
+fn keep(
+    standing: &mut Vec<usize>,
+    flows: &mut Vec<LiveFlow>,
+    flow: LiveFlow,
+) -> Result<(), AllocError>
+    ensures standing { OnOk result (standing.new.items ≡ standing.old.items ++ length flows.old.items ∷ []) }
+    ensures flows { OnOk result (flows.new.items ≡ flows.old.items ++ flow ∷ []) }
+{
+    standing.push(flows.len())?;
+    flows.push(flow)?;
+    Ok(())
 }
 
 /// The four-tuple has these openings now. The error is want of memory, and leaves all as it was.
@@ -547,6 +593,16 @@ fn first_ready(flows: &[LiveFlow], standing: &[usize], port: u16) -> Option<usiz
         .iter()
         .copied()
         .find(|place| is_ready_at(flows, *place, port))
+}
+
+/// Whether the index leads frames of this four-tuple to the flow at this place.
+fn is_indexed_at(flows: &[LiveFlow], place: usize, tuple: &FourTuple) -> bool
+    ensures { result ≡ passes_at (is_indexed_as tuple.now) flows.now place }
+{
+    match flows.get(place) {
+        Some(flow) => flow.is_indexed_as(tuple),
+        None => false,
+    }
 }
 
 fn is_ready_at(flows: &[LiveFlow], place: usize, port: u16) -> bool
@@ -613,6 +669,24 @@ fn is_settled_at(flows: &[LiveFlow], place: usize) -> bool
         Some(flow) => flow.is_settled(),
         None => false,
     }
+}
+
+/// The records of these flows, in their order. The error is want of memory.
+///
+/// Of the flows no more is kept than was not moved yet, but for a piece, as they may be most of a run's memory.
+fn records_of(alloc: Global, flows: Vec<LiveFlow>) -> Result<Vec<FlowRecord>, AllocError>
+    ensures flows { IfOk result (λ records. map flow_in records.items ≡ flows_of flows.items) }
+    ensures legal { IfOk result (λ records. Each IsLegal records.items) }
+{
+    let mut flows = flows;
+    flows.reverse();
+    let mut records = Vec::with_capacity(alloc, flows.len())?;
+    'moving: while let Some(flow) = flows.pop() {
+        let record = flow.into_record()?;
+        records.push(record)?;
+        give_room_back(&mut flows);
+    }
+    Ok(records)
 }
 
 /// Gives back the room of those that left, where a piece of them did.

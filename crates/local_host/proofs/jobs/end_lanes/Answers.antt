@@ -1,4 +1,4 @@
-use Rattle.std.proofs.Common.{◌≡◌, ◌++◌, [], ◌∷◌, List, map, sym, ap, subst, ◌∙◌}
+use Rattle.std.proofs.Common.{◌≡◌, [], List, map, sym, subst}
 use Rattle.local_host.specs.declared.attempts.Trial.{Trial}
 use Rattle.local_host.specs.Handing.{trials_in}
 use Rattle.local_host.specs.Trying.{attempt_of, put_trials}

@@ -1,4 +1,3 @@
-use Rattle.std.proofs.Common.{refl}
 use Rattle.local_host.proofs.CoreTaking.{none_tried}
 use Rattle.local_host.proofs.host.LocalHost.receive_on_cores.Goals as goal
 

@@ -2,11 +2,11 @@ use Rattle.std.proofs.Common.{◌≡◌, ◌++◌, map, reverse}
 use Rattle.host_rounds.specs.Hosts.{flows_of}
 use Rattle.host_rounds.specs.Lists.{Each}
 use Rattle.local_host.specs.Live.{flow_in, IsLegal}
-use Rattle.local_host.proofs.flows.Flows.into_records.Given as goal
+use Rattle.local_host.proofs.flows.records_of.Given as goal
 
 abbrev pub invariant-moving : goal.invariant-moving
 invariant-moving l = record {
-  flows : map flow_in l.records.items ++ flows_of (reverse l.flows.items) ≡ flows_of l.fn.self;
+  flows : map flow_in l.records.items ++ flows_of (reverse l.flows.items) ≡ flows_of l.fn.flows.items;
   legal : Each IsLegal l.records.items;
 }
 

@@ -2,7 +2,7 @@ use Rattle.std.proofs.Common.{sym, subst}
 use Rattle.host_rounds.specs.Lists.{Each}
 use Rattle.local_host.specs.Live.{IsLegal}
 use Rattle.local_host.proofs.Records.{record_moved, each_push}
-use Rattle.local_host.proofs.flows.Flows.into_records.Goals as goal
+use Rattle.local_host.proofs.flows.records_of.Goals as goal
 
 pub moving-preserved : goal.moving-preserved
 moving-preserved c = record {
