@@ -1,6 +1,6 @@
 ghost use Rattle.std.specs.Prelude.{◌≡◌, ◌≤◌, false, Some, None, IfSome, IfNone};
 ghost use Rattle.segment_fields.specs.Refusals.{number_of};
-ghost use Rattle.segment_fields.specs.Text.{refusal};
+ghost use Rattle.segment_fields.specs.Text.{IsText, refusal};
 ghost use Rattle.pcap_frames.specs.Views.{form_in, record_in};
 ghost use Rattle.tas_runs.specs.Records.{is_other_traffic, due_content, content_of_packet, item_of, is_damaged};
 ghost use Rattle.tas_runs.specs.Batches.{tuple_of, is_of};
@@ -8,7 +8,7 @@ ghost use Rattle.host_rounds.specs.Hosts.{same_tuple};
 ghost use Rattle.capture_items.specs.Items.{content_in, item_in, sends, receives, is_before_sums};
 
 use pcap_frames::{CaptureHeader, RecordView, packet};
-use segment_fields::{Refused, Segment, read};
+use segment_fields::{Refused, Segment, read, wrong_sum};
 use tas_model::FourTuple;
 
 /// What a packet is for the host: the four-tuple of a segment is the one that it has as this host sees it.
@@ -86,8 +86,8 @@ pub fn read_item<'a>(
     })
 }
 
-/// What a packet is for the host. It is read once without its checksums, and once more where it comes to the host and
-/// they may tell otherwise.
+/// What a packet is for the host. It is read without its checksums, which are looked at afterwards where it comes to
+/// the host.
 #[tactic(auto, using(crate::proofs::Read::segment_read, crate::proofs::Read::sender_read))]
 fn read_content(packet: &[u8], local: u32, loose: bool) -> Option<Content<'_>>
     ensures taken { IfSome result (λ content. content_of_packet local loose packet.now ≡ Some (content_in content)) }
@@ -100,8 +100,25 @@ fn read_content(packet: &[u8], local: u32, loose: bool) -> Option<Content<'_>>
             sender_tuple(&segment),
             segment,
         )),
-        Ok(segment) if segment.dst == local => Some(due(packet, loose)),
+        Ok(segment) if segment.dst == local => Some(arrived(packet, segment, loose)),
         Ok(_) => None,
+    }
+}
+
+/// What a packet is that comes to the host, and spells this segment where its checksums are not looked at. They are,
+/// unless they are `loose`.
+#[tactic(auto, using(crate::proofs::Read::segment_read, crate::proofs::Read::receiver_read))]
+fn arrived<'a>(packet: &[u8], segment: Segment<'a>, loose: bool) -> Content<'a>
+    requires reads { refusal false packet.now ≡ None }
+    requires text { IsText packet.now segment }
+    ensures { content_in result ≡ due_content loose packet.now }
+{
+    if loose {
+        return Content::Remote(receiver_tuple(&segment), segment);
+    }
+    match wrong_sum(packet) {
+        Some(rule) => Content::Damaged(rule),
+        None => Content::Remote(receiver_tuple(&segment), segment),
     }
 }
 

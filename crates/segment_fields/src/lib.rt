@@ -8,6 +8,6 @@ mod segment;
 mod writing;
 
 pub use laws::{texts_spell_fields, what_is_written_is_read};
-pub use reading::read;
+pub use reading::{read, wrong_sum};
 pub use segment::{Flags, Refused, Segment};
 pub use writing::{NoRoom, write};

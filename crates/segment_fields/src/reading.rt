@@ -1,5 +1,5 @@
 ghost use Rattle.std.specs.Prelude.{◌≡◌, ℕ, ◌+◌, ◌-◌, ◌*◌, ◌<◌, ◌≤◌, ◌^◌, Some, None, MatchResult, IfOk, IfErr, length};
-ghost use Rattle.std.specs.Prelude.{slice_range, sum};
+ghost use Rattle.std.specs.Prelude.{true, false, slice_range, sum};
 ghost use Rattle.tas_num.specs.Sums.{words};
 ghost use Rattle.segment_fields.specs.Bytes.{half};
 ghost use Rattle.segment_fields.specs.Text.{IsText, refusal, is_wrong, mss_of, data_offset};
@@ -65,6 +65,24 @@ pub fn read(bytes: &[u8], check_sums: bool) -> Result<Segment<'_>, Refused>
         mss: mss(tcp, offset),
         payload: &tcp[offset..],
     })
+}
+
+/// Which checksum is wrong of a packet that reads where none is looked at (RFC 791, section 3.1; RFC 9293, section
+/// 3.1). No other rule is tried again.
+#[tactic(auto, unfolding(crate::specs::Text::refusal))]
+pub fn wrong_sum(bytes: &[u8]) -> Option<Refused>
+    requires reads { refusal false bytes.now ≡ None }
+    ensures { result ≡ refusal true bytes.now }
+{
+    let ip_len = 4 * (bytes[0] % 16) as usize;
+    if is_wrong_sum(0, &bytes[..ip_len]) {
+        return Some(Refused::IpSum);
+    }
+    let tcp = &bytes[ip_len..half_at(bytes, 2) as usize];
+    if is_wrong_sum(pseudo(bytes, tcp.len()), tcp) {
+        return Some(Refused::TcpSum);
+    }
+    None
 }
 
 /// The sum of the pseudo-header's words.
