@@ -67,7 +67,7 @@ seen_entry x = record {
 
 -- the entries of a stretch
 abbrev pub seen_stretch : StretchView → List Entry
-seen_stretch (sv.One x) = seen_entry x ∷ []
+seen_stretch (sv.One x) = x ∷ []
 seen_stretch (sv.Quiet r) = run_entries r
 seen_stretch (sv.Paced r) = paced_entries r
 

@@ -33,4 +33,4 @@ pub use record::FlowRecord;
 pub use stage::Stage;
 pub use stretch::QuietRun;
 pub use stretches::{StretchView, Stretches};
-pub use view::{CallView, EntryView, ReplyView, SegView};
+pub use view::{CallView, EntryAt, EntryView, ReplyView, SegView};

@@ -30,7 +30,7 @@ use crate::parts::Parts;
 use crate::slot::{CameSlot, connect_slot, passive_slot};
 use crate::stretch::{Stretch, add, add_tick, go_on, goes_on};
 use crate::stretches::Stretches;
-use crate::view::{EntryView, entry_view};
+use crate::view::{EntryAt, EntryView};
 use segment_fields::Segment;
 use std::alloc::{AllocError, Global};
 use std::marker::Model;
@@ -410,12 +410,12 @@ impl FlowRecord {
 }
 
 /// The bytes of the reply of a stretch's last entry.
-fn last_bytes_of<'a>(arena: &'a [u8], came: &[CameSlot], stretch: &Stretch) -> &'a [u8]
+fn last_bytes_of<'a>(arena: &'a [u8], came: &'a [CameSlot], stretch: &'a Stretch) -> &'a [u8]
     requires { StretchWithin (length arena.now) (length came.now) stretch.now }
     ensures { result.now ≡ reply_bytes (last_reply (entries_in (memory_of arena.now came.now) stretch.now)) }
 {
     match stretch {
-        Stretch::One { tick, slot } => entry_view(arena, came, *tick, slot).reply.bytes(),
+        Stretch::One { tick, slot } => EntryAt::new(arena, came, *tick, slot).reply().bytes(),
         Stretch::Quiet(_) => &[],
         Stretch::Paced(_) => &[],
     }

@@ -7,14 +7,14 @@ ghost use Rattle.flow_state.specs.Views.{seen_entry, seen_stretch, IsFit};
 use crate::paced::PacedRun;
 use crate::slot::CameSlot;
 use crate::stretch::{QuietRun, Stretch};
-use crate::view::{CallView, EntryView, ReplyView, entry_view};
+use crate::view::{CallView, EntryAt, EntryView, ReplyView};
 use std::marker::Model;
 
 /// Entries that follow on each other in a history.
-#[derive(Clone, Copy, Debug)]
+#[derive(Drop)]
 pub enum StretchView<'a> {
     /// One entry.
-    One(EntryView<'a>),
+    One(EntryAt<'a>),
     /// Quiet ticks.
     Quiet(QuietRun),
     /// Quiet ticks with Controls between them.
@@ -92,7 +92,7 @@ impl<'a> StretchView<'a> {
         ensures past { IfErr result (λ n. length (seen_stretch self.now) + n ≡ j) }
     {
         match self {
-            StretchView::One(entry) => { if j == 0 { Ok(*entry) } else { Err(j - 1) } }
+            StretchView::One(entry) => { if j == 0 { Ok(entry.view()) } else { Err(j - 1) } }
             StretchView::Quiet(run) => {
                 if j <= run.more as usize {
                     Ok(run.entry(j as u32))
@@ -125,13 +125,17 @@ impl QuietRun {
 
 /// The entries of a stretch.
 #[inline(always)]
-pub fn stretch_view<'a>(arena: &'a [u8], came: &[CameSlot], stretch: &Stretch) -> StretchView<'a>
+pub fn stretch_view<'a>(
+    arena: &'a [u8],
+    came: &'a [CameSlot],
+    stretch: &'a Stretch,
+) -> StretchView<'a>
     requires { StretchWithin (length arena.now) (length came.now) stretch.now }
     ensures entries { seen_stretch result ≡ entries_in (memory_of arena.now came.now) stretch.now }
     ensures fits { IsFit result }
 {
     match stretch {
-        Stretch::One { tick, slot } => StretchView::One(entry_view(arena, came, *tick, slot)),
+        Stretch::One { tick, slot } => StretchView::One(EntryAt::new(arena, came, *tick, slot)),
         Stretch::Quiet(run) => StretchView::Quiet(*run),
         Stretch::Paced(runs) => StretchView::Paced(*runs),
     }

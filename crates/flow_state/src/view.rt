@@ -1,11 +1,13 @@
 ghost use Rattle.std.specs.Prelude.{◌≡◌, ℕ, ◌+◌, ◌≤◌, List, length, take, drop};
 ghost use Rattle.flow_state.specs.Calls.{reply_bytes};
+ghost use Rattle.tas_model.specs.Outputs.{given_bytes};
 ghost use Rattle.flow_state.specs.Arena.{memory_of};
 ghost use Rattle.flow_state.specs.Slots.{bytes_at, SpanWithin, CameWithin, IsWithin, call_in, reply_in, entry_of};
 ghost use Rattle.flow_state.specs.Slots.{reply_part as model_part, head_in};
 ghost use Rattle.flow_state.specs.Views.{seen_seg, seen_call, seen_reply, seen_entry};
 
 use crate::slot::{CallSlot, CameSlot, ReplySlot, Slot, Span};
+use std::marker::Model;
 use tas_model::{Caller, FrameId, Head, Reason};
 use tas_num::Seq;
 
@@ -228,18 +230,112 @@ fn reply_view<'a>(bytes: &'a [u8], reply: ReplySlot) -> ReplyView<'a>
     }
 }
 
-/// The entry of a slot at this tick.
-#[inline(always)]
-pub fn entry_view<'a>(arena: &'a [u8], came: &[CameSlot], tick: u32, slot: &Slot) -> EntryView<'a>
-    requires { IsWithin (length arena.now) (length came.now) slot.now }
-    ensures { seen_entry result ≡ entry_of (memory_of arena.now came.now) tick slot.now }
-{
-    let bytes = bytes_of(arena, slot.bytes);
-    EntryView {
-        caller: slot.caller,
-        number: slot.number,
-        tick,
-        call: call_view(came, bytes, slot.call),
-        reply: reply_view(reply_part(bytes, slot.call), slot.reply),
+/// An entry where it stands in the record's memory. Who asks for a part of it reads that part alone.
+#[derive(Drop)]
+pub struct EntryAt<'a> {
+    arena: &'a [u8],
+    came: &'a [CameSlot],
+    tick: u32,
+    slot: &'a Slot,
+}
+
+impl<'a> Model for EntryAt<'a> {
+    ghost use Rattle.std.specs.Prelude.{length};
+    ghost use Rattle.tas_model.specs.declared.entry.Entry.{Entry};
+    ghost use Rattle.flow_state.specs.Arena.{memory_of};
+    ghost use Rattle.flow_state.specs.Slots.{IsWithin, entry_of};
+
+    ghost Value = { Entry };
+
+    ghost view = { λ e. entry_of (memory_of e.arena.now e.came.now) e.tick e.slot.now };
+
+    ghost invariant = { λ e. IsWithin (length e.arena.now) (length e.came.now) e.slot.now };
+}
+
+impl<'a> EntryAt<'a> {
+    /// The entry of a slot at this tick.
+    #[inline(always)]
+    pub fn new(arena: &'a [u8], came: &'a [CameSlot], tick: u32, slot: &'a Slot) -> EntryAt<'a>
+        requires { IsWithin (length arena.now) (length came.now) slot.now }
+        ensures { result ≡ entry_of (memory_of arena.now came.now) tick slot.now }
+    {
+        EntryAt {
+            arena,
+            came,
+            tick,
+            slot,
+        }
+    }
+
+    /// At which tick it was made.
+    #[inline(always)]
+    pub fn tick(&self) -> u32
+        ensures { result ≡ self.now.tick }
+    {
+        self.tick
+    }
+
+    /// Who made the call.
+    #[inline(always)]
+    pub fn caller(&self) -> Caller
+        ensures { result ≡ self.now.caller }
+    {
+        self.slot.caller
+    }
+
+    /// Its number among the caller's entries.
+    #[inline(always)]
+    pub fn number(&self) -> u64
+        ensures { result ≡ self.now.number }
+    {
+        self.slot.number
+    }
+
+    /// Its call.
+    #[inline(always)]
+    pub fn call(&self) -> CallView<'a>
+        ensures { seen_call result ≡ self.now.call }
+    {
+        call_view(
+            self.came,
+            bytes_of(self.arena, self.slot.bytes),
+            self.slot.call,
+        )
+    }
+
+    /// Its reply.
+    #[inline(always)]
+    pub fn reply(&self) -> ReplyView<'a>
+        ensures { seen_reply result ≡ self.now.reply }
+    {
+        let bytes = bytes_of(self.arena, self.slot.bytes);
+        reply_view(reply_part(bytes, self.slot.call), self.slot.reply)
+    }
+
+    /// The bytes that it gave to the application.
+    #[inline(always)]
+    pub fn given(&self) -> &'a [u8]
+        ensures { result.now ≡ given_bytes self.now.reply }
+    {
+        match self.slot.reply {
+            ReplySlot::Got | ReplySlot::Update { .. } => {
+                reply_part(bytes_of(self.arena, self.slot.bytes), self.slot.call)
+            }
+            _ => &[],
+        }
+    }
+
+    /// All of it.
+    #[inline(always)]
+    pub fn view(&self) -> EntryView<'a>
+        ensures { seen_entry result ≡ self.now }
+    {
+        EntryView {
+            caller: self.caller(),
+            number: self.number(),
+            tick: self.tick,
+            call: self.call(),
+            reply: self.reply(),
+        }
     }
 }

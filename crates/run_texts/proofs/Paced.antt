@@ -22,12 +22,17 @@ entries_both names (x ∷ xs) ys =
     ∙ ap (λ t. entry_text names x ++ t) (entries_both names xs ys)
 
 -- the lines of all runs before these were written
-pub record Between (names : List (List ℕ)) (before : SinkState) (waiting : List ℕ) (after : SinkState)
+pub record WroteUpTo (names : List (List ℕ)) (before : SinkState) (waiting : List ℕ) (after : SinkState)
     (waits : List ℕ) (runs left : PacedRun) : Type 0 where
-  pub fits : IsPacedRun left
   pub front : List ℕ
   pub whole : front ++ entries_text names (paced_entries left) ≡ entries_text names (paced_entries runs)
   pub wrote : Writes before waiting (Ok tt) after waits front
+
+-- which are the same whatever the names of hosts
+pub record Between (before : SinkState) (waiting : List ℕ) (after : SinkState) (waits : List ℕ)
+    (runs left : PacedRun) : Type 0 where
+  pub fits : IsPacedRun left
+  pub upto : (names : List (List ℕ)) → WroteUpTo names before waiting after waits runs left
 
 -- what of a list of entries comes to nothing on both sides
 none_of : {B : Type 0} (f : Entry → List B) (xs ys : List Entry) → flat_map f xs ≡ [] → flat_map f ys ≡ []

@@ -10,33 +10,34 @@ use crate::frame_ids::write_frame_id;
 use crate::line_texts::{ClosedText, ConnectText, IssText, RecvText, SendText};
 use crate::texts::{EntryStart, HeadText, UpdateText, WindowText};
 use crate::writer::Writer;
-use flow_state::{CallView, EntryView, ReplyView, SegView};
+use flow_state::{CallView, EntryAt, ReplyView, SegView};
 use tas_model::{FrameId, Head};
 use tas_num::{IoFault, Seq, Sink};
 
-/// Writes the line of an entry.
+/// Writes the line of an entry. Each part is read just where it is written.
 pub fn write_entry<K: Sink>(
     writer: &mut Writer,
     sink: &mut K,
     names: &[&[u8]],
-    entry: &EntryView<'_>,
+    entry: &EntryAt<'_>,
 ) -> Result<(), IoFault>
     ensures { Writes (K.state sink.old) writer.old result (K.state sink.new) writer.new
-        (entry_text (map (λ n. n.now) names.now) (seen_entry entry.now)) }
+        (entry_text (map (λ n. n.now) names.now) entry.now) }
 {
     let start = EntryStart {
-        tick: entry.tick,
-        caller: entry.caller,
-        number: entry.number,
+        tick: entry.tick(),
+        caller: entry.caller(),
+        number: entry.number(),
     };
     writer.put_text(sink, &start)?;
-    write_call(writer, sink, names, &entry.call)?;
+    write_call(writer, sink, names, &entry.call())?;
     writer.put(sink, b" = ")?;
-    write_reply(writer, sink, &entry.reply)?;
+    write_reply(writer, sink, &entry.reply())?;
     writer.put(sink, b"\n")
 }
 
 /// Writes what was asked.
+#[inline(always)]
 fn write_call<K: Sink>(
     writer: &mut Writer,
     sink: &mut K,
@@ -101,6 +102,7 @@ fn write_rx<K: Sink>(
 }
 
 /// Writes what was answered.
+#[inline(always)]
 fn write_reply<K: Sink>(
     writer: &mut Writer,
     sink: &mut K,

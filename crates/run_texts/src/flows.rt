@@ -13,7 +13,7 @@ use crate::line_texts::{ClosedLine, FlowLine, ReadText, StateLine};
 use crate::stretches::write_stretch;
 use crate::texts::FlowName;
 use crate::writer::Writer;
-use flow_state::{FlowRecord, ReplyView, StretchView};
+use flow_state::{FlowRecord, StretchView};
 use tas_num::{IoFault, Sink};
 
 /// Writes the lines of a flow: its ends, its entries, its state and the bytes that were read. `number` is its opening
@@ -161,18 +161,8 @@ fn given_in<'a>(stretch: StretchView<'a>) -> &'a [u8]
     ensures { result.now ≡ bytes_read (seen_stretch stretch.entry) }
 {
     match stretch {
-        StretchView::One(entry) => given(entry.reply),
+        StretchView::One(entry) => entry.given(),
         StretchView::Quiet(_) => &[],
         StretchView::Paced(_) => &[],
-    }
-}
-
-/// The bytes that a reply gave to the application.
-fn given<'a>(reply: ReplyView<'a>) -> &'a [u8]
-    ensures { result.now ≡ given_bytes (seen_reply reply.entry) }
-{
-    match reply {
-        ReplyView::Got { bytes, .. } => bytes,
-        _ => &[],
     }
 }

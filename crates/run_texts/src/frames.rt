@@ -13,7 +13,7 @@ ghost use Rattle.run_texts.specs.Frames.{AreShort, IsInOrder};
 ghost use Rattle.run_texts.specs.Writes.{Writes};
 
 use crate::writer::Writer;
-use flow_state::{EntryView, FlowRecord, ReplyView, SegView, StretchView};
+use flow_state::{EntryAt, FlowRecord, ReplyView, SegView, StretchView};
 use host_rounds::{LogEvent, LogLine};
 use pcap_frames::{write_header, write_record_head};
 use segment_fields::{Flags, Segment, write};
@@ -167,11 +167,11 @@ fn add_stretch<'a>(
 fn add_entry<'a>(
     frames: &mut Vec<Frame<'a>>,
     tuple: FourTuple,
-    entry: EntryView<'a>,
+    entry: EntryAt<'a>,
 ) -> Result<(), AllocError>
-    ensures { OnOk result (Adds frames.old.items frames.new.items (entry_frames tuple (seen_entry entry.entry))) }
+    ensures { OnOk result (Adds frames.old.items frames.new.items (entry_frames tuple entry.entry)) }
 {
-    add_segment(frames, entry.tick, tuple, segment_in(entry.reply))
+    add_segment(frames, entry.tick(), tuple, segment_in(entry.reply()))
 }
 
 /// Adds the answers that segments of no flow got.

@@ -2,7 +2,9 @@ ghost use Rattle.std.specs.Prelude.{◌≡◌, ℕ, ◌≤◌, length, codes, if
 
 use crate::buffer::Buffer;
 use crate::text::{Text, add, add_number, add_wide};
-use crate::texts::{AddrText, FlowName, PortText, TupleText, phase_name, reason_name};
+use crate::texts::{
+    AddrText, EntryStart, FlowName, PortText, TupleText, WindowText, phase_name, reason_name,
+};
 use crate::whole::Counts;
 use tas_model::{FourTuple, Phase, Reason};
 
@@ -72,6 +74,32 @@ impl Text for RecvText {
     fn add_to(&self, waiting: &mut Buffer) {
         add(waiting, b"recv ");
         add_number(waiting, self.0);
+    }
+}
+
+/// The line of a Control: what an entry's line begins with, and the window and threshold that came of it.
+#[derive(Clone, Copy)]
+pub struct ControlLine {
+    pub start: EntryStart,
+    pub window: WindowText,
+}
+
+impl Text for ControlLine {
+    ghost use Rattle.std.specs.Prelude.{[]};
+    ghost use Rattle.tas_runs.specs.Report.{entry_text};
+    ghost use Rattle.flow_state.specs.Stretches.{control_entry};
+
+    ghost text = { λ t. entry_text [] (control_entry t.start.caller t.start.number t.start.tick t.window.cwnd
+        t.window.ssthresh) };
+
+    ghost most = { 90 };
+
+    fn add_to(&self, waiting: &mut Buffer) {
+        self.start.add_to(waiting);
+        add(waiting, b"control");
+        add(waiting, b" = ");
+        self.window.add_to(waiting);
+        add(waiting, b"\n");
     }
 }
 

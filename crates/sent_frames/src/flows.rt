@@ -4,13 +4,13 @@ ghost use Rattle.std.specs.Prelude.{take, drop, nat_lt, IfOk, OnOk};
 ghost use Rattle.tas_model.specs.declared.entry.Entry.{Entry};
 ghost use Rattle.tas_model.specs.LegalHistory.{last_tick, Legal};
 ghost use Rattle.tas_model.specs.Outputs as outputs;
-ghost use Rattle.flow_state.specs.Views.{seen_entry, seen_stretch, IsFit};
+ghost use Rattle.flow_state.specs.Views.{seen_stretch, IsFit};
 ghost use Rattle.run_texts.specs.Frames.{AreAllShort};
 ghost use Rattle.scenario_runs.specs.Worlds.{World, host_at, frames_of_entries};
 ghost use Rattle.sent_frames.specs.Sending.{addresses_of, of_tick, AreUpTo, entry_frames, sent_by, sent_before};
 
 use crate::frames::{Origin, Sender, push_segment};
-use flow_state::{EntryView, FlowRecord, StretchView, Stretches};
+use flow_state::{EntryAt, FlowRecord, StretchView, Stretches};
 use link_script::SentList;
 use run_texts::segment_in;
 use std::alloc::{AllocError, Global};
@@ -42,28 +42,6 @@ pub fn collect_flow(
     if history.sent() == number {
         return Ok(number);
     }
-    collect_newest(alloc, sender, flow, number, tick, history, sent)
-}
-
-/// The same by the newest entries.
-fn collect_newest(
-    alloc: Global,
-    sender: &Sender<'_>,
-    flow: u32,
-    number: u64,
-    tick: u32,
-    history: &FlowRecord,
-    sent: &mut SentList,
-) -> Result<u64, AllocError>
-    requires hosts { length sender.now.addresses.now < 2 ^ 32 }
-    requires number { number ≡ sent_before tick history.now.entries }
-    requires last { AreUpTo tick sent.old }
-    ensures frames { (world : World) → sender.now.addresses.now ≡ addresses_of world → OnOk result (sent.new
-        ≡ sent.old ++ of_tick tick (frames_of_entries sender.now.host flow 0 (host_at world history.now.tuple.raddr)
-        history.now.tuple history.now.entries)) }
-    ensures number { IfOk result (λ n. n ≡ sent_by history.now.entries) }
-    ensures last { OnOk result (AreUpTo tick sent.new) }
-{
     let tuple = history.tuple();
     let origin = Origin {
         host: sender.host,
@@ -126,7 +104,7 @@ fn ended_before(stretch: StretchView<'_>, tick: u32) -> bool
         → outputs.sent (filter (λ (x : Entry). nat_lt x.tick tick) (seen_stretch stretch.entry)) ≡ [] }
 {
     match stretch {
-        StretchView::One(entry) => entry.tick < tick,
+        StretchView::One(entry) => entry.tick() < tick,
         StretchView::Quiet(run) => run.tick + run.more < tick,
         StretchView::Paced(runs) => runs.tick <= tick,
     }
@@ -163,21 +141,21 @@ fn collect_entry(
     origin: &Origin,
     number: u64,
     tick: u32,
-    entry: EntryView<'_>,
+    entry: EntryAt<'_>,
     sent: &mut SentList,
 ) -> Result<u64, AllocError>
     requires few { number + 1 < 2 ^ 64 }
-    requires room { AreAllShort (outputs.sent (seen_entry entry ∷ [])) }
+    requires room { AreAllShort (outputs.sent (entry ∷ [])) }
     requires last { AreUpTo tick sent.old }
     ensures frames { OnOk result (sent.new
-        ≡ sent.old ++ of_tick tick (entry_frames origin.now number (seen_entry entry.entry ∷ []))) }
-    ensures number { IfOk result (λ n. n ≡ number + sent_by (seen_entry entry.entry ∷ [])) }
+        ≡ sent.old ++ of_tick tick (entry_frames origin.now number (entry.entry ∷ []))) }
+    ensures number { IfOk result (λ n. n ≡ number + sent_by (entry.entry ∷ [])) }
     ensures last { OnOk result (AreUpTo tick sent.new) }
 {
-    let Some(seg) = segment_in(entry.reply) else {
+    let Some(seg) = segment_in(entry.reply()) else {
         return Ok(number);
     };
-    if entry.tick == tick {
+    if entry.tick() == tick {
         push_segment(alloc, origin, number, tick, seg, sent)?;
     }
     Ok(number + 1)

@@ -1,4 +1,4 @@
-use Rattle.std.proofs.Common.{sym, ◌∙◌, ap, subst}
+use Rattle.std.proofs.Common.{sym, subst}
 use Rattle.flow_state.specs.declared.stretch.Stretch.TheVariants.{Paced}
 use Rattle.flow_state.specs.Stretches.{AllWithin}
 use Rattle.flow_state.proofs.Pacing.{put_joined, within_take}

@@ -1,9 +1,8 @@
-use Rattle.std.proofs.Common.{◌≡◌, ◌++◌, ◌∷◌, [], List, ap, subst, sym, ◌∙◌, arith}
+use Rattle.std.proofs.Common.{◌≡◌, ◌++◌, List, ap, subst, sym, ◌∙◌, arith}
 use Rattle.tas_model.specs.declared.entry.Entry.{Entry}
 use Rattle.tas_model.specs.LegalHistory.{last_tick}
-use Rattle.flow_state.specs.declared.stretch.Stretch.{Stretch}
 use Rattle.flow_state.specs.declared.stretch.Stretch.TheVariants.{Quiet}
-use Rattle.flow_state.specs.Stretches.{AllWithin, entries_of, quiet_tick, run_entries}
+use Rattle.flow_state.specs.Stretches.{AllWithin, entries_of, run_entries}
 use Rattle.flow_state.proofs.Pacing.{entries_push}
 use Rattle.flow_state.proofs.Runs.{within_push}
 use Rattle.flow_state.proofs.stretch.add_quiet.Goals as goal

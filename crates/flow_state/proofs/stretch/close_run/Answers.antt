@@ -1,4 +1,4 @@
-use Rattle.std.proofs.Common.{◌<◌, ◌≤◌, ◌-◌, List, length, sym, ap, subst, arith}
+use Rattle.std.proofs.Common.{◌<◌, ◌≤◌, ◌-◌, List, length, sym, subst, arith}
 use Rattle.tas_model.specs.LegalHistory.{last_tick}
 use Rattle.flow_state.specs.declared.stretch.Stretch.{Stretch}
 use Rattle.flow_state.specs.Stretches.{AllWithin, entries_of}

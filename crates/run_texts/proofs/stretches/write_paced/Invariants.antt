@@ -1,11 +1,9 @@
-use Rattle.std.proofs.Common.{map}
 use Rattle.run_texts.proofs.Paced.{Between}
 use Rattle.run_texts.proofs.stretches.write_paced.Given as goal
 
 abbrev pub invariant-loop-left : goal.invariant-loop-left
 invariant-loop-left g l =
-    Between (map (λ n. n.now) l.names) (g.K.Sink.state l.fn.sink) l.fn.writer (g.K.Sink.state l.sink) l.writer l.runs
-    l.left
+    Between (g.K.Sink.state l.fn.sink) l.fn.writer (g.K.Sink.state l.sink) l.writer l.runs l.left
 
 abbrev pub decreases-loop-left : goal.decreases-loop-left
 decreases-loop-left g l = l.left.more
