@@ -24,16 +24,23 @@ pub fn write_entry<K: Sink>(
     ensures { Writes (K.state sink.old) writer.old result (K.state sink.new) writer.new
         (entry_text (map (λ n. n.now) names.now) entry.now) }
 {
-    let start = EntryStart {
-        tick: entry.tick(),
-        caller: entry.caller(),
-        number: entry.number(),
-    };
-    writer.put_text(sink, &start)?;
+    writer.put_text(sink, &start_of(entry))?;
     write_call(writer, sink, names, &entry.call())?;
     writer.put(sink, b" = ")?;
     write_reply(writer, sink, &entry.reply())?;
     writer.put(sink, b"\n")
+}
+
+/// What the line of an entry begins with.
+#[inline(always)]
+fn start_of(entry: &EntryAt<'_>) -> EntryStart
+    ensures { result ≡ record { tick = entry.now.tick; caller = entry.now.caller; number = entry.now.number } }
+{
+    EntryStart {
+        tick: entry.tick(),
+        caller: entry.caller(),
+        number: entry.number(),
+    }
 }
 
 /// Writes what was asked.
