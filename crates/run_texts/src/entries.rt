@@ -3,7 +3,7 @@ ghost use Rattle.tas_runs.specs.Report.{line, hex, data_text, seg_text, call_tex
 ghost use Rattle.tas_runs.specs.Report.{frame_text};
 ghost use Rattle.tas_model.specs.declared.entry.Call.TheVariants as calls;
 ghost use Rattle.tas_model.specs.declared.entry.Reply.TheVariants as replies;
-ghost use Rattle.flow_state.specs.Views.{seen_seg, seen_call, seen_reply, seen_entry};
+ghost use Rattle.flow_state.specs.Views.{seen_seg, seen_call, seen_reply};
 ghost use Rattle.run_texts.specs.Writes.{Writes};
 
 use crate::frame_ids::write_frame_id;

@@ -2,11 +2,11 @@ ghost use Rattle.std.specs.Prelude.{◌≡◌, ℕ, ◌+◌, ◌*◌, ◌^◌, �
 ghost use Rattle.std.specs.Prelude.{codes, decimal};
 ghost use Rattle.tas_model.specs.Endpoint.{Endpoint, phase as phase_of};
 ghost use Rattle.tas_model.specs.LegalHistory.{replay};
-ghost use Rattle.tas_model.specs.Outputs.{given_bytes, bytes_read};
+ghost use Rattle.tas_model.specs.Outputs.{bytes_read};
 ghost use Rattle.host_rounds.specs.Logs.{Flow};
 ghost use Rattle.tas_runs.specs.Report.{line, hex, hex_bytes, read_text, state_text, tuple_text, entries_text};
 ghost use Rattle.tas_runs.specs.Report.{flow_lines};
-ghost use Rattle.flow_state.specs.Views.{seen_reply, seen_stretch};
+ghost use Rattle.flow_state.specs.Views.{seen_stretch};
 ghost use Rattle.run_texts.specs.Writes.{Writes};
 
 use crate::line_texts::{ClosedLine, FlowLine, ReadText, StateLine};

@@ -5,7 +5,7 @@ ghost use Rattle.tas_runs.specs.SentFrames.{ticks_from};
 ghost use Rattle.host_rounds.specs.Logs.{HostRun};
 ghost use Rattle.tas_model.specs.Segments.{bare as bare_of};
 ghost use Rattle.tas_model.specs.Outputs.{segments_in};
-ghost use Rattle.flow_state.specs.Views.{seen_seg, seen_reply, seen_entry, seen_stretch};
+ghost use Rattle.flow_state.specs.Views.{seen_seg, seen_reply, seen_stretch};
 ghost use Rattle.tas_core.specs.Stretches.{lines_in, lines_of};
 ghost use Rattle.run_texts.specs.Frames.{frame_before, Adds, seen_frame, segments_of, frames_in, entry_frames};
 ghost use Rattle.run_texts.specs.Frames.{flow_frames, answer_frames, host_frames, all_frames, history_of, seen_host};

@@ -1,4 +1,4 @@
-use Rattle.std.proofs.Common.{rules, map, ℕ, ◌+◌, ◌++◌, ◌∷◌, [], List, ap, sym, ◌∙◌, append-nil}
+use Rattle.std.proofs.Common.{rules, ℕ, ◌+◌, ◌++◌, ◌∷◌, [], List, ap, sym, ◌∙◌, append-nil}
 use Rattle.tas_model.specs.declared.entry.Entry.{Entry}
 use Rattle.tas_runs.specs.Report.{entry_text, entries_text}
 use Rattle.flow_state.specs.declared.paced.PacedRun.{PacedRun}
