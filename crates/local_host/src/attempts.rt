@@ -1,4 +1,4 @@
-ghost use Rattle.std.specs.Prelude.{◌≡◌, ◌++◌, ◌∷◌, ◌+◌, ◌<◌, ◌^◌, [], List, All, map, set, Option, IfOk, OnOk};
+ghost use Rattle.std.specs.Prelude.{◌≡◌, ◌++◌, ◌∷◌, ◌+◌, ◌<◌, ◌^◌, [], List, All, map, Option, IfOk, OnOk};
 ghost use Rattle.host_rounds.specs.Hosts.{Live};
 ghost use Rattle.local_host.specs.declared.attempts.Attempt as specs;
 ghost use Rattle.local_host.specs.declared.attempts.Trial as trials;
@@ -167,20 +167,8 @@ fn put(
     let Some(flow) = trial.flow else {
         return Ok(());
     };
-    put_flow(flows, spare, attempt.place, flow)
-}
-
-/// The flow goes back to its place, and what stood in for it is kept. The error is want of memory.
-fn put_flow(
-    flows: &mut Vec<LiveFlow>,
-    spare: &mut Vec<LiveFlow>,
-    place: usize,
-    flow: LiveFlow,
-) -> Result<(), AllocError>
-    ensures { OnOk result (flows.new.items ≡ set flows.old.items place flow) }
-{
-    if place < flows.len() {
-        let stand_in = mem::replace(&mut flows[place], flow);
+    if attempt.place < flows.len() {
+        let stand_in = mem::replace(&mut flows[attempt.place], flow);
         spare.push(stand_in)?;
     }
     Ok(())
