@@ -1,6 +1,6 @@
 ghost use Rattle.std.specs.Prelude.{◌≤◌};
 
-use flow_state::{CallView, EntryView, FlowRecord, ReplyView};
+use flow_state::{CallView, EntryView, FlowHistory, ReplyView};
 use scenario_ranges::what_is_read_is_in_range;
 use scenario_text::read_scenario;
 use std::alloc::Global;
@@ -207,7 +207,7 @@ fn reads<R: Abort>(rt: &R, flows: &FlowList, word: &[u8]) -> Result<(), Fail> {
 }
 
 /// How many segments of a flow this core received.
-fn received_by(flow: &FlowRecord, core: u32) -> usize {
+fn received_by(flow: &FlowHistory, core: u32) -> usize {
     let mut count = 0;
     for i in 0..flow.entries() {
         if is_received_by(flow.entry(i), core) {

@@ -1,5 +1,5 @@
 use fast_tx::FastTx;
-use flow_state::{Answer, AppCalls, CallIn, FlowRecord};
+use flow_state::{Answer, AppCalls, CallIn, FlowHistory, FlowRecord};
 use segment_fields::{Flags, Segment};
 use slow_handshake::SlowRx;
 use slow_timeout::TimerWork;
@@ -191,5 +191,25 @@ fn both_sides_close_at_once(rt: HostRuntime) -> Result<(), Fail> {
     );
     assert_eq!(rt; nothing, Some(Answer::Nothing));
     assert!(rt; matches!((closing, waiting), (Phase::Closing, Phase::TimeWait)));
+    Ok(())
+}
+
+/// What is left of a flow that read 64 bytes and was then reset.
+fn reset_after_a_read(alloc: Global) -> Result<FlowHistory, AllocError> {
+    let mut record = established(alloc)?;
+    let bytes = [7; 64];
+    let _ack = rx(&mut record, 4, segment(16, 1001, 5001, &bytes));
+    let _read = received(&mut record, 4);
+    let _nothing = rx(&mut record, 5, segment(4, 1065, 0, &[]));
+    Ok(record.into_history())
+}
+
+#[test]
+fn a_history_alone_tells_where_it_led(rt: HostRuntime) -> Result<(), Fail> {
+    let history = reset_after_a_read(rt.alloc())?;
+    assert!(rt; matches!(history.phase(), Phase::Closed));
+    assert!(rt; matches!(history.reason(), Some(Reason::Reset)));
+    assert_eq!(rt; history.read_count(), 64);
+    assert_eq!(rt; history.entries(), 6);
     Ok(())
 }

@@ -11,3 +11,4 @@ pub mod Looking
 pub mod Acting
 pub mod Ticking
 pub mod Pacing
+pub mod Leaving

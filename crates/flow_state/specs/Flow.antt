@@ -27,6 +27,17 @@ pub record Flow : Type 0 where
   pub spare_entries : ℕ  -- how many entries it can take without more memory
   pub spare_bytes : ℕ  -- how many bytes of payload these can have in all
 
+-- a flow's history alone
+pub record History : Type 0 where
+  pub id : FlowId
+  pub tuple : FourTuple
+  pub params : HostParams
+  pub entries : List Entry
+
+-- what is left of a flow's record: its history
+abbrev pub left_of : Flow → History
+left_of f = record { id = f.id; tuple = f.tuple; params = f.params; entries = f.entries }
+
 -- the entry that comes next
 abbrev pub next_entry : List Entry → Caller → ℕ → Call → Reply → Entry
 next_entry h caller tick call reply = record {

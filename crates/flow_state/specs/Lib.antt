@@ -11,5 +11,6 @@ pub mod Application
 pub mod Counts
 pub mod Record
 pub mod Inside
+pub mod Histories
 pub mod App
 pub mod Views

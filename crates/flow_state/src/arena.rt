@@ -130,6 +130,16 @@ impl Arena {
         self.came.shrink_to_fit();
     }
 
+    /// The bytes and the segments that are kept. The room behind the bytes is given back with them.
+    pub fn into_lists(self) -> (Vec<u8>, Vec<CameSlot>)
+        ensures bytes { result.0.items ≡ self.memory.bytes }
+        ensures came { result.1.items ≡ self.memory.came }
+    {
+        let mut bytes = self.bytes;
+        bytes.truncate(self.used);
+        (bytes, self.came)
+    }
+
     /// Makes the call by the engine, and keeps the bytes of its entry and the segment that it brings. Where the engine
     /// does not answer the call, nothing changes.
     pub fn answer<E: Engine>(

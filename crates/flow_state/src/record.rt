@@ -10,7 +10,8 @@ ghost use Rattle.tas_model.specs.Valid.{InRange};
 ghost use Rattle.flow_state.specs.Stands.{Stands, IsNear, HasRings};
 ghost use Rattle.flow_state.specs.Calls.{call_of, offer_of, answer_of, reply_bytes, payload_of, seg_of, cost_of};
 ghost use Rattle.flow_state.specs.Calls.{IsSmall, IsTimely};
-ghost use Rattle.flow_state.specs.Flow.{Flow, reply_to, last_reply, first_passive, first_connect, ticked_on};
+ghost use Rattle.flow_state.specs.Flow.{Flow, left_of, reply_to, last_reply, first_passive, first_connect};
+ghost use Rattle.flow_state.specs.Flow.{ticked_on};
 ghost use Rattle.flow_state.specs.Released.{released_parts};
 ghost use Rattle.flow_state.specs.Application.{application_of};
 ghost use Rattle.flow_state.specs.Stretches.{entries_of, entries_in, StretchWithin};
@@ -25,6 +26,7 @@ use crate::call::{Answer, CallIn};
 use crate::came::came_by;
 use crate::counts::CallerCounts;
 use crate::engine::{Clock, Engine, need};
+use crate::history::FlowHistory;
 use crate::open::{connect_parts, passive_parts};
 use crate::parts::Parts;
 use crate::slot::{CameSlot, connect_slot, passive_slot};
@@ -190,6 +192,27 @@ impl FlowRecord {
         self.stretches.shrink_to_fit();
         self.counts.trim();
         self.arena.trim();
+    }
+
+    /// Its history, which is all that is left of it. The memory of its endpoint is given back.
+    #[inline(always)]
+    pub fn into_history(self) -> FlowHistory
+        ensures { result ≡ left_of self }
+    {
+        let parts = self.parts;
+        let (bytes, came) = self.arena.into_lists();
+        FlowHistory {
+            id: self.id,
+            tuple: parts.tuple,
+            params: parts.params,
+            phase: parts.phase,
+            reason: parts.reason,
+            read: parts.rx.base(),
+            made: self.made,
+            stretches: self.stretches,
+            bytes,
+            came,
+        }
     }
 
     /// Which flow it is.

@@ -22,13 +22,17 @@ use Rattle.host_rounds.specs.Upkeep.{quieted}
 use Rattle.local_host.specs.declared.live.Holder as code
 use Rattle.local_host.specs.declared.live.Holder.TheVariants as holders
 
--- what a run leaves of the flow that is recorded
+-- the flow that is recorded
 abbrev pub flow_in : records.Flow → Flow
 flow_in r = record { id = r.id; tuple = r.tuple; params = r.params; entries = r.entries }
 
--- the record has a history of the endpoint, with parameters in their ranges
-abbrev pub IsLegal : records.Flow → Type 0
-IsLegal r = InRange r.params × Legal r.params r.entries
+-- the flow that the history is of
+abbrev pub flow_left : records.History → Flow
+flow_left h = record { id = h.id; tuple = h.tuple; params = h.params; entries = h.entries }
+
+-- it is a history of the endpoint, with parameters in their ranges
+abbrev pub IsLegal : records.History → Type 0
+IsLegal h = InRange h.params × Legal h.params h.entries
 
 -- the flow with one entry more
 abbrev pub called : Flow → Caller → (tick : ℕ) → Call → (offer : List ℕ) → Flow

@@ -23,7 +23,7 @@ ghost use Rattle.local_host.specs.Index.{IsSound, AreAtRest, is_standing, standi
 ghost use Rattle.local_host.specs.Index.{given_in, AreMarked, is_settled};
 ghost use Rattle.local_host.specs.Ports.{MayAsk};
 ghost use Rattle.local_host.specs.Script.{asked_all, asked_live};
-ghost use Rattle.local_host.specs.Live.{flow_in, holder_in, IsLegal};
+ghost use Rattle.local_host.specs.Live.{flow_left, holder_in, IsLegal};
 
 use crate::arrival::{Arrival, Packet, Taking};
 use crate::attempts::Attempt;
@@ -32,7 +32,7 @@ use crate::live::{Holder, LiveFlow};
 use crate::parts::{FLOWS_FOR_THREADS, Sending, Timing, work_all};
 use crate::script::Shown;
 use crate::slot_marks::SlotMarks;
-use flow_state::{Answer, CallIn, FlowRecord};
+use flow_state::{Answer, CallIn, FlowHistory};
 use segment_fields::Segment;
 use std::alloc::{AllocError, Global};
 use std::collections::HashMap;
@@ -134,13 +134,13 @@ impl Flows {
         &self.table.flows[i]
     }
 
-    /// The records of all flows, in the order of their opening. The error is want of memory.
-    pub fn into_records(self, alloc: Global) -> Result<Vec<FlowRecord>, AllocError>
-        ensures flows { IfOk result (λ records. map flow_in records.items ≡ flows_of self) }
-        ensures legal { IfOk result (λ records. Each IsLegal records.items) }
+    /// The histories of all flows, in the order of their opening. The error is want of memory.
+    pub fn into_histories(self, alloc: Global) -> Result<Vec<FlowHistory>, AllocError>
+        ensures flows { IfOk result (λ histories. map flow_left histories.items ≡ flows_of self) }
+        ensures legal { IfOk result (λ histories. Each IsLegal histories.items) }
     {
         let table = self.table;
-        records_of(alloc, table.flows)
+        histories_of(alloc, table.flows)
     }
 
     /// The place of the flow that the index has under this four-tuple.
@@ -671,22 +671,23 @@ fn is_settled_at(flows: &[LiveFlow], place: usize) -> bool
     }
 }
 
-/// The records of these flows, in their order. The error is want of memory.
+/// The histories of these flows, in their order. The error is want of memory.
 ///
-/// Of the flows no more is kept than was not moved yet, but for a piece, as they may be most of a run's memory.
-fn records_of(alloc: Global, flows: Vec<LiveFlow>) -> Result<Vec<FlowRecord>, AllocError>
-    ensures flows { IfOk result (λ records. map flow_in records.items ≡ flows_of flows.items) }
-    ensures legal { IfOk result (λ records. Each IsLegal records.items) }
+/// The last flow leaves first, and of the flows no more is kept than was not moved yet, but for a piece, as they may be
+/// most of a run's memory.
+fn histories_of(alloc: Global, flows: Vec<LiveFlow>) -> Result<Vec<FlowHistory>, AllocError>
+    ensures flows { IfOk result (λ histories. map flow_left histories.items ≡ flows_of flows.items) }
+    ensures legal { IfOk result (λ histories. Each IsLegal histories.items) }
 {
     let mut flows = flows;
-    flows.reverse();
-    let mut records = Vec::with_capacity(alloc, flows.len())?;
+    let mut histories = Vec::with_capacity(alloc, flows.len())?;
     'moving: while let Some(flow) = flows.pop() {
-        let record = flow.into_record()?;
-        records.push(record)?;
+        let history = flow.into_history()?;
+        histories.push(history)?;
         give_room_back(&mut flows);
     }
-    Ok(records)
+    histories.reverse();
+    Ok(histories)
 }
 
 /// Gives back the room of those that left, where a piece of them did.

@@ -25,7 +25,7 @@ ghost use Rattle.local_host.specs.SideWork.{IsSidePhase};
 ghost use Rattle.local_host.specs.Trying.{AreAnswered, CanTryIt};
 ghost use Rattle.local_host.specs.Index.{is_standing, passes_at, standing_places, AreAtRest};
 ghost use Rattle.local_host.specs.Script.{asked_all, asked_live};
-ghost use Rattle.local_host.specs.Live.{flow_in, holder_in, IsLegal, connected_by};
+ghost use Rattle.local_host.specs.Live.{flow_left, holder_in, IsLegal, connected_by};
 ghost use Rattle.local_host.specs.Ports.{IsConnecting, MayAsk};
 
 use crate::arrival::{Arrival, Packet, Taking};
@@ -36,7 +36,7 @@ use crate::flows::{FIRST_PORT, Flows};
 use crate::live::{Holder, LiveFlow};
 use crate::numbers::NumberSource;
 use crate::script::Shown;
-use flow_state::{Answer, CallIn, FlowRecord};
+use flow_state::{Answer, CallIn, FlowHistory};
 use segment_fields::Segment;
 use slow_handshake::stray;
 use std::alloc::{AllocError, Global};
@@ -91,8 +91,8 @@ pub enum Connecting {
 pub struct HostEnd {
     /// Its log.
     pub log: HostLog,
-    /// The records of its flows, in the order of their opening.
-    pub flows: Vec<FlowRecord>,
+    /// The histories of its flows, in the order of their opening.
+    pub flows: Vec<FlowHistory>,
 }
 
 impl LocalHost {
@@ -153,10 +153,10 @@ impl LocalHost {
     /// What it leaves after its last tick. The error is want of memory.
     pub fn finish(self) -> Result<HostEnd, AllocError>
         ensures log { IfOk result (λ end. end.log ≡ self.log) }
-        ensures flows { IfOk result (λ end. map flow_in end.flows.items ≡ flows_of self.flows) }
+        ensures flows { IfOk result (λ end. map flow_left end.flows.items ≡ flows_of self.flows) }
         ensures legal { IfOk result (λ end. Each IsLegal end.flows.items) }
     {
-        let flows = self.flows.into_records(self.alloc)?;
+        let flows = self.flows.into_histories(self.alloc)?;
         Ok(HostEnd {
             log: self.log,
             flows,

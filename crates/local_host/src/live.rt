@@ -19,7 +19,7 @@ ghost use Rattle.local_host.specs.Lanes.{is_taken, worked_frame};
 ghost use Rattle.local_host.specs.Index.{is_standing, is_settled};
 ghost use Rattle.local_host.specs.Lacking.{LacksTicks};
 ghost use Rattle.local_host.specs.declared.live.Holder.TheVariants as Holder;
-ghost use Rattle.local_host.specs.Live.{flow_in, holder_in, IsLegal, opened_live, IsNext};
+ghost use Rattle.local_host.specs.Live.{flow_in, flow_left, holder_in, IsLegal, opened_live, IsNext};
 ghost use Rattle.local_host.specs.Ports.{MayAsk};
 
 use crate::arrival::{Arrival, Packet, Taking};
@@ -29,7 +29,7 @@ use crate::sleep::{AWAKE, Sleep, rest, wake};
 use capture_items::is_same_tuple;
 use fast_rx::FastRx;
 use fast_tx::{FastTx, next_out};
-use flow_state::{Answer, AppCalls, CallIn, FlowRecord, Stage};
+use flow_state::{Answer, AppCalls, CallIn, FlowHistory, FlowRecord, Stage};
 use segment_fields::Segment;
 use slow_handshake::SlowRx;
 use slow_timeout::TimerWork;
@@ -505,23 +505,24 @@ impl LiveFlow {
     /// Its record, which may lack quiet ticks at the end of its history.
     pub fn record(&self) -> &FlowRecord
         ensures lacks { LacksTicks result.now self.now.flow }
-        ensures legal { IsLegal result.now }
+        ensures legal { InRange result.now.params × Legal result.now.params result.now.entries }
     {
         // Its history is legal, with parameters in their ranges.
         let _parts = self.history.parts();
         &self.history
     }
 
-    /// Its record, which is all that it leaves. The error is want of memory.
-    pub fn into_record(self) -> Result<FlowRecord, AllocError>
-        ensures flow { IfOk result (λ r. flow_in r ≡ self.flow) }
+    /// Its history, which is all that it leaves. The error is want of memory.
+    #[inline(always)]
+    pub fn into_history(self) -> Result<FlowHistory, AllocError>
+        ensures flow { IfOk result (λ h. flow_left h ≡ self.flow) }
         ensures legal { IfOk result IsLegal }
     {
-        let mut history = self.history;
-        wake(&mut history, &self.sleep)?;
+        let mut record = self.history;
+        wake(&mut record, &self.sleep)?;
         // Its history is legal, with parameters in their ranges.
-        let _parts = history.parts();
-        Ok(history)
+        let _parts = record.parts();
+        Ok(record.into_history())
     }
 }
 

@@ -21,7 +21,7 @@ ghost use Rattle.tas_model.specs.declared.entry.Caller.TheVariants.{Slow};
 ghost use Rattle.host_rounds.specs.Deliveries.{received, delivered};
 ghost use Rattle.core_rounds.specs.CoreTicks.{IsCoresTick, rest_phase};
 ghost use Rattle.local_host.specs.Arriving.{arrival_in, came};
-ghost use Rattle.local_host.specs.Live.{flow_in, IsLegal};
+ghost use Rattle.local_host.specs.Live.{flow_left, IsLegal};
 
 use crate::arrival::{Arrival, arrival_of, arrivals_of};
 use crate::host::{HostEnd, LocalHost};
@@ -92,7 +92,7 @@ impl LocalReplay {
     /// What its host leaves after the last tick. The error is want of memory.
     pub fn finish(self) -> Result<HostEnd, AllocError>
         ensures log { IfOk result (λ end. end.log ≡ self.host.log) }
-        ensures flows { IfOk result (λ end. map flow_in end.flows.items ≡ flows_of self.host.flows) }
+        ensures flows { IfOk result (λ end. map flow_left end.flows.items ≡ flows_of self.host.flows) }
         ensures legal { IfOk result (λ end. Each IsLegal end.flows.items) }
     {
         self.host.finish()

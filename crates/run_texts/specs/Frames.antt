@@ -77,8 +77,8 @@ abbrev pub all_frames : List HostRun → List Sent
 all_frames hosts = flat_map host_frames hosts
 
 -- ----- as the definitions of runs have them
--- the flow that a record is of
-abbrev pub history_of : states.Flow → Flow
+-- the flow that a history is of
+abbrev pub history_of : states.History → Flow
 history_of f = record { id = f.id; tuple = f.tuple; params = f.params; entries = f.entries }
 
 -- a host with these flows and this log

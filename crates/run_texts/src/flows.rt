@@ -13,7 +13,7 @@ use crate::line_texts::{ClosedLine, FlowLine, ReadText, StateLine};
 use crate::stretches::write_stretch;
 use crate::texts::FlowName;
 use crate::writer::Writer;
-use flow_state::{FlowRecord, StretchView};
+use flow_state::{FlowHistory, StretchView};
 use tas_num::{IoFault, Sink};
 
 /// Writes the lines of a flow: its ends, its entries, its state and the bytes that were read. `number` is its opening
@@ -23,7 +23,7 @@ pub fn write_flow<K: Sink>(
     sink: &mut K,
     names: &[&[u8]],
     number: u64,
-    flow: &FlowRecord,
+    flow: &FlowHistory,
 ) -> Result<(), IoFault>
     ensures { Writes (K.state sink.old) writer.old result (K.state sink.new) writer.new
         (flow_lines (map (λ n. n.now) names.now) number
@@ -45,7 +45,7 @@ fn write_ends<K: Sink>(
     writer: &mut Writer,
     sink: &mut K,
     number: u64,
-    flow: &FlowRecord,
+    flow: &FlowHistory,
 ) -> Result<(), IoFault>
     ensures { Writes (K.state sink.old) writer.old result (K.state sink.new) writer.new
         (line (codes "flow " ++ decimal number ++ codes " slot " ++ decimal flow.now.id.slot ++ codes "."
@@ -66,7 +66,7 @@ fn write_entries<K: Sink>(
     writer: &mut Writer,
     sink: &mut K,
     names: &[&[u8]],
-    flow: &FlowRecord,
+    flow: &FlowHistory,
 ) -> Result<(), IoFault>
     ensures { Writes (K.state sink.old) writer.old result (K.state sink.new) writer.new
         (entries_text (map (λ n. n.now) names.now) flow.now.entries) }
@@ -79,31 +79,34 @@ fn write_entries<K: Sink>(
 }
 
 /// Writes the state that the entries lead to, and after CLOSED the reason.
-fn write_state<K: Sink>(writer: &mut Writer, sink: &mut K, flow: &FlowRecord) -> Result<(), IoFault>
+fn write_state<K: Sink>(
+    writer: &mut Writer,
+    sink: &mut K,
+    flow: &FlowHistory,
+) -> Result<(), IoFault>
     ensures { Writes (K.state sink.old) writer.old result (K.state sink.new) writer.new
         (line (codes "state " ++ state_text (replay flow.now.params flow.now.entries))) }
 {
-    let parts = flow.parts();
-    let phase = parts.phase;
-    match parts.reason {
+    let phase = flow.phase();
+    match flow.reason() {
         Some(reason) => writer.put_text(sink, &ClosedLine { phase, reason }),
         None => writer.put_text(sink, &StateLine(phase)),
     }
 }
 
 /// Writes how many bytes were read, and which.
-fn write_read<K: Sink>(writer: &mut Writer, sink: &mut K, flow: &FlowRecord) -> Result<(), IoFault>
+fn write_read<K: Sink>(writer: &mut Writer, sink: &mut K, flow: &FlowHistory) -> Result<(), IoFault>
     ensures { Writes (K.state sink.old) writer.old result (K.state sink.new) writer.new
         (line (read_text (bytes_read flow.now.entries))) }
 {
-    write_counted(writer, sink, flow, count_read(flow))
+    write_counted(writer, sink, flow, flow.read_count())
 }
 
 /// Writes the bytes that were read, of which there are so many, behind their count.
 fn write_counted<K: Sink>(
     writer: &mut Writer,
     sink: &mut K,
-    flow: &FlowRecord,
+    flow: &FlowHistory,
     count: u128,
 ) -> Result<(), IoFault>
     requires { count ≡ length (bytes_read flow.now.entries) }
@@ -119,7 +122,7 @@ fn write_counted<K: Sink>(
 fn write_bytes_read<K: Sink>(
     writer: &mut Writer,
     sink: &mut K,
-    flow: &FlowRecord,
+    flow: &FlowHistory,
     count: u128,
 ) -> Result<(), IoFault>
     requires { count ≡ length (bytes_read flow.now.entries) }
@@ -133,18 +136,11 @@ fn write_bytes_read<K: Sink>(
     }
 }
 
-/// How many bytes were read in a flow: the place of the first unread byte.
-pub fn count_read(flow: &FlowRecord) -> u128
-    ensures { result ≡ length (bytes_read flow.now.entries) }
-{
-    flow.parts().rx.base()
-}
-
 /// Writes the digits of the bytes that were read.
 fn write_digits_read<K: Sink>(
     writer: &mut Writer,
     sink: &mut K,
-    flow: &FlowRecord,
+    flow: &FlowHistory,
 ) -> Result<(), IoFault>
     ensures { Writes (K.state sink.old) writer.old result (K.state sink.new) writer.new
         (hex_bytes (bytes_read flow.now.entries)) }

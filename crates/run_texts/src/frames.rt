@@ -13,7 +13,7 @@ ghost use Rattle.run_texts.specs.Frames.{AreShort, IsInOrder};
 ghost use Rattle.run_texts.specs.Writes.{Writes};
 
 use crate::writer::Writer;
-use flow_state::{EntryAt, FlowRecord, ReplyView, SegView, StretchView};
+use flow_state::{EntryAt, FlowHistory, ReplyView, SegView, StretchView};
 use host_rounds::{LogEvent, LogLine};
 use pcap_frames::{write_header, write_record_head};
 use segment_fields::{Flags, Segment, write};
@@ -37,7 +37,7 @@ pub struct Frame<'a> {
 /// What a host sent: by its flows, in the order of their opening, and by its answers to segments of no flow.
 #[derive(Clone, Copy)]
 pub struct HostFrames<'a> {
-    pub flows: &'a [FlowRecord],
+    pub flows: &'a [FlowHistory],
     pub log: &'a [LogStretch],
 }
 
@@ -127,7 +127,7 @@ fn add_host<'a>(frames: &mut Vec<Frame<'a>>, host: &HostFrames<'a>) -> Result<()
 }
 
 /// Adds the segments that the flows sent.
-fn add_flows<'a>(frames: &mut Vec<Frame<'a>>, flows: &'a [FlowRecord]) -> Result<(), AllocError>
+fn add_flows<'a>(frames: &mut Vec<Frame<'a>>, flows: &'a [FlowHistory]) -> Result<(), AllocError>
     ensures { OnOk result (Adds frames.old.items frames.new.items (flat_map flow_frames (map history_of flows.now))) }
 {
     for flow in flows {
@@ -137,7 +137,7 @@ fn add_flows<'a>(frames: &mut Vec<Frame<'a>>, flows: &'a [FlowRecord]) -> Result
 }
 
 /// Adds the segments that a flow sent.
-fn add_flow<'a>(frames: &mut Vec<Frame<'a>>, flow: &'a FlowRecord) -> Result<(), AllocError>
+fn add_flow<'a>(frames: &mut Vec<Frame<'a>>, flow: &'a FlowHistory) -> Result<(), AllocError>
     ensures { OnOk result (Adds frames.old.items frames.new.items (flow_frames (history_of flow.now))) }
 {
     let stretches = flow.stretches();

@@ -21,7 +21,7 @@ mod texts;
 mod whole;
 mod writer;
 
-pub use flows::{count_read, write_flow};
+pub use flows::write_flow;
 pub use frames::{
     Frame, HostFrames, SentFrames, answer_in, segment_in, write_capture_header, write_frames,
 };

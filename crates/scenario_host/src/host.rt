@@ -6,7 +6,7 @@ ghost use Rattle.host_rounds.specs.Deliveries.{received_serially, delivered};
 ghost use Rattle.host_rounds.specs.SerialOrder.{ask_phase, serial_tick};
 ghost use Rattle.core_rounds.specs.CoreTicks.{IsCoresTick};
 ghost use Rattle.local_host.specs.Arriving.{arrival_in};
-ghost use Rattle.local_host.specs.Live.{flow_in, IsLegal};
+ghost use Rattle.local_host.specs.Live.{flow_left, IsLegal};
 ghost use Rattle.scenario_ranges.specs.Ranges.{IsInRange, IsHostInRange};
 ghost use Rattle.scenario_runs.specs.Applications.{Script, has_ended, turn};
 ghost use Rattle.scenario_runs.specs.Worlds.{site_of, scripts_of, numbers_of, address_in};
@@ -162,7 +162,7 @@ impl<'a> ScenarioHost<'a> {
     /// What the host leaves after its last tick. The error is want of memory.
     pub fn finish(self) -> Result<HostEnd, AllocError>
         ensures log { IfOk result (λ end. end.log ≡ self.entry.host.log) }
-        ensures flows { IfOk result (λ end. map flow_in end.flows.items ≡ flows_of self.entry.host.flows) }
+        ensures flows { IfOk result (λ end. map flow_left end.flows.items ≡ flows_of self.entry.host.flows) }
         ensures legal { IfOk result (λ end. Each IsLegal end.flows.items) }
     {
         self.host.finish()

@@ -6,11 +6,11 @@ use Rattle.scenario_text.specs.declared.scenario.Scenario.{Scenario}
 use Rattle.scenario_text.specs.declared.scenario.HostLine.{HostLine}
 use Rattle.scenario_runs.specs.Worlds.{World}
 use Rattle.local_host.specs.declared.host.HostEnd.{HostEnd}
-use Rattle.local_host.specs.Live.{flow_in}
+use Rattle.local_host.specs.Live.{flow_left}
 use Rattle.scenario_world.specs.declared.world.WorldEnd.{WorldEnd}
 
 abbrev pub host_run : HostLine → HostEnd → HostRun
-host_run h end = record { name = h.name; addr = h.params.addr; log = end.log; flows = map flow_in end.flows.items }
+host_run h end = record { name = h.name; addr = h.params.addr; log = end.log; flows = map flow_left end.flows.items }
 
 -- host by host
 abbrev pub host_runs : List HostLine → List HostEnd → List HostRun
@@ -36,7 +36,7 @@ log_of s end =
 -- this is what the host left
 pub record IsEnd (host : Host) (end : HostEnd) : Type 0 where
   pub log : end.log ≡ host.log
-  pub flows : map flow_in end.flows.items ≡ flows_of host.flows
+  pub flows : map flow_left end.flows.items ≡ flows_of host.flows
 
 abbrev pub AreEnds : World → List HostEnd → Type 0
 AreEnds [] [] = ⊤

@@ -2,60 +2,60 @@ ghost use Rattle.std.specs.Prelude.{◌≡◌, ◌<◌, length, slice_get, Some}
 ghost use Rattle.host_rounds.specs.Lists.{Each};
 ghost use Rattle.local_host.specs.Live.{IsLegal};
 
-use flow_state::FlowRecord;
+use flow_state::FlowHistory;
 use std::marker::Model;
 use tas_core::HostLog;
 use tas_model::Bytes;
 
-/// The records of a host's flows in the order of their opening, seen as their list. Each has a legal history.
+/// The histories of a host's flows in the order of their opening, seen as their list. Each is a legal one.
 #[derive(Drop)]
 pub struct FlowList {
-    records: Vec<FlowRecord>,
+    histories: Vec<FlowHistory>,
 }
 
 impl Model for FlowList {
     ghost use Rattle.std.specs.Prelude.{List};
-    ghost use Rattle.flow_state.specs.Flow.{Flow};
+    ghost use Rattle.flow_state.specs.Flow.{History};
     ghost use Rattle.host_rounds.specs.Lists.{Each};
     ghost use Rattle.local_host.specs.Live.{IsLegal};
 
-    ghost Value = { List Flow };
+    ghost Value = { List History };
 
-    ghost view = { λ f. f.records.items };
+    ghost view = { λ f. f.histories.items };
 
-    ghost invariant = { λ f. Each IsLegal f.records.items };
+    ghost invariant = { λ f. Each IsLegal f.histories.items };
 }
 
 impl FlowList {
-    /// These records.
-    pub fn of(records: Vec<FlowRecord>) -> FlowList
-        requires legal { Each IsLegal records.items }
-        ensures { result ≡ records.items }
+    /// These histories.
+    pub fn of(histories: Vec<FlowHistory>) -> FlowList
+        requires legal { Each IsLegal histories.items }
+        ensures { result ≡ histories.items }
     {
-        FlowList { records }
+        FlowList { histories }
     }
 
     /// How many flows were opened.
     pub fn len(&self) -> usize
         ensures { result ≡ length self.now }
     {
-        self.records.len()
+        self.histories.len()
     }
 
-    /// The record of the flow that was opened as number `i`, counted from 0.
-    pub fn item(&self, i: usize) -> &FlowRecord
+    /// The history of the flow that was opened as number `i`, counted from 0.
+    pub fn item(&self, i: usize) -> &FlowHistory
         requires { i < length self.now }
         ensures { slice_get self.now i ≡ Some result.now }
     {
-        &self.records[i]
+        &self.histories[i]
     }
 
-    /// All records.
-    pub fn as_slice(&self) -> &[FlowRecord]
-        ensures records { result.now ≡ self.now }
+    /// All histories.
+    pub fn as_slice(&self) -> &[FlowHistory]
+        ensures histories { result.now ≡ self.now }
         ensures legal { Each IsLegal self.now }
     {
-        self.records.as_slice()
+        self.histories.as_slice()
     }
 }
 

@@ -8,7 +8,7 @@ ghost use Rattle.tas_round.specs.Runs.{host_in, log_in};
 ghost use Rattle.tas_round.specs.Written.{WroteText};
 
 use crate::logs::{FlowList, HostRun, HostRuns, RunLog};
-use flow_state::FlowRecord;
+use flow_state::FlowHistory;
 use run_texts::{
     Counts, Writer, write_counts, write_end, write_flow, write_host, write_log, write_title,
 };
@@ -158,7 +158,7 @@ fn put_flow<K: Sink>(
     sink: &mut K,
     names: &[&[u8]],
     i: usize,
-    flow: &FlowRecord,
+    flow: &FlowHistory,
 ) -> Result<(), IoFault>
     ensures { Writes (K.state sink.old) writer.old result (K.state sink.new) writer.new
         (flow_lines (map (λ n. n.now) names.now) i (history_of flow.now)) }

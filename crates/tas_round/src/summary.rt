@@ -7,8 +7,8 @@ ghost use Rattle.tas_round.specs.Runs.{host_in, log_in};
 ghost use Rattle.tas_round.specs.Written.{WroteText};
 
 use crate::logs::{HostRun, HostRuns, RunLog};
-use flow_state::FlowRecord;
-use run_texts::{Summary, Writer, count_read, write_summary_lines};
+use flow_state::FlowHistory;
+use run_texts::{Summary, Writer, write_summary_lines};
 use std::alloc::Global;
 use tas_model::Reason;
 use tas_num::{IoFault, Sink};
@@ -59,7 +59,7 @@ fn summary_of(clients: u32, log: &RunLog) -> Option<Summary>
 }
 
 /// The flows of the host with this name, none where there is no such host.
-fn flows_on<'a>(name: &[u8], hosts: &'a HostRuns) -> &'a [FlowRecord]
+fn flows_on<'a>(name: &[u8], hosts: &'a HostRuns) -> &'a [FlowHistory]
     ensures { map history_of result.now ≡ texts.flows_on name.now (map host_in hosts.now) }
 {
     for i in 0..hosts.len() {
@@ -79,7 +79,7 @@ fn is_named(host: &HostRun, name: &[u8]) -> bool
 }
 
 /// How many bytes were read in these flows, where they are fewer than 2^128.
-fn count_all(flows: &[FlowRecord]) -> Option<u128>
+fn count_all(flows: &[FlowHistory]) -> Option<u128>
     ensures some { IfSome result (λ count. count ≡ length (texts.all_read (map history_of flows.now))) }
     ensures none { result ≡ None → 2 ^ 128 ≤ length (texts.all_read (map history_of flows.now)) }
 {
@@ -92,23 +92,23 @@ fn count_all(flows: &[FlowRecord]) -> Option<u128>
 }
 
 /// The count and how many bytes were read in the flow, where that is below 2^128.
-fn add_read(count: u128, flow: &FlowRecord) -> Option<u128>
+fn add_read(count: u128, flow: &FlowHistory) -> Option<u128>
     ensures some { IfSome result (λ sum. sum ≡ count + length (bytes_read flow.now.entries)) }
     ensures none { result ≡ None → 2 ^ 128 ≤ count + length (bytes_read flow.now.entries) }
 {
-    count.checked_add(count_read(flow))
+    count.checked_add(flow.read_count())
 }
 
 /// How many of these flows were closed by both of their ends.
-fn count_done(flows: &[FlowRecord]) -> usize
+fn count_done(flows: &[FlowHistory]) -> usize
     ensures { result ≡ count_by texts.is_done (map history_of flows.now) }
 {
     flows.iter().filter(|flow| is_done(flow)).count()
 }
 
 /// Whether the flow was closed by both of its ends.
-fn is_done(flow: &FlowRecord) -> bool
+fn is_done(flow: &FlowHistory) -> bool
     ensures { result ≡ texts.is_done (history_of flow.now) }
 {
-    matches!(flow.parts().reason, Some(Reason::Done))
+    matches!(flow.reason(), Some(Reason::Done))
 }
