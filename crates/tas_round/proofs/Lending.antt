@@ -45,7 +45,7 @@ legal_more before after x h more all same one =
     subst (Each AreLegal) (sym (ap (map seen_host) more ∙ map-append seen_host before (x ∷ [])))
     (each_and AreLegal (map seen_host before) (seen_host x) all here)
   where
-    flows_legal : (rs : List records.Flow) → Each IsLegal rs
+    flows_legal : (rs : List records.History) → Each IsLegal rs
         → Each (λ (f : Flow). InRange f.params × Legal f.params f.entries) (map history_of rs)
     flows_legal [] all = tt
     flows_legal (r ∷ rs) all = (all.0, flows_legal rs all.1)

@@ -58,7 +58,7 @@ none_left name (x ∷ xs) (suc i) e = none_left name xs i (omega (arith, e))
 
 -- ----- flows
 -- the bytes of one flow more
-pub all_read_more : (fs : List records.Flow) (i before after : ℕ) (f : records.Flow) → slice_get fs i ≡ Some f
+pub all_read_more : (fs : List records.History) (i before after : ℕ) (f : records.History) → slice_get fs i ≡ Some f
     → before ≡ length (all_read (map history_of (take i fs))) → after ≡ before + length (bytes_read f.entries)
     → after ≡ length (all_read (map history_of (take (i + 1) fs)))
 all_read_more fs i before after f here so_far more =
@@ -75,14 +75,14 @@ all_read_more fs i before after f here so_far more =
     omega (arith, so_far, more, len)
 
 -- those of a flow and of all in front of it are as many as all at most
-pub all_read_within : (fs : List records.Flow) (i : ℕ) (f : records.Flow) → slice_get fs i ≡ Some f
+pub all_read_within : (fs : List records.History) (i : ℕ) (f : records.History) → slice_get fs i ≡ Some f
     → length (all_read (map history_of (take i fs))) + length (bytes_read f.entries)
     ≤ length (all_read (map history_of fs))
 all_read_within [] i f here = absurd (cc (here))
 all_read_within (x ∷ xs) zero f here =
     let same : x ≡ f = cc (here) in
     let own : length (bytes_read x.entries) ≡ length (bytes_read f.entries) =
-    ap (λ (g : records.Flow). length (bytes_read g.entries)) same in
+    ap (λ (g : records.History). length (bytes_read g.entries)) same in
     let all : length (all_read (map history_of (x ∷ xs)))
     ≡ length (bytes_read x.entries) + length (all_read (map history_of xs)) =
     length-append (bytes_read x.entries) (all_read (map history_of xs)) in
@@ -98,10 +98,10 @@ all_read_within (x ∷ xs) (suc i) f here =
     length-append (bytes_read x.entries) (all_read (map history_of xs)) in
     omega (arith, rest, front, all)
 
-pub all_read_whole : (fs : List records.Flow) (n count : ℕ) → length fs ≤ n
+pub all_read_whole : (fs : List records.History) (n count : ℕ) → length fs ≤ n
     → count ≡ length (all_read (map history_of (take n fs))) → count ≡ length (all_read (map history_of fs))
 all_read_whole fs n count e so_far =
-    so_far ∙ ap (λ (l : List records.Flow). length (all_read (map history_of l))) (take_all n fs e)
+    so_far ∙ ap (λ (l : List records.History). length (all_read (map history_of l))) (take_all n fs e)
 
 -- a test of what the elements stand for
 pub count_mapped : {X Y : Type 0} (p : Y → Bool) (f : X → Y) (xs : List X)

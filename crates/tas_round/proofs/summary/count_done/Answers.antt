@@ -8,7 +8,7 @@ use Rattle.run_texts.specs.Frames.{history_of}
 use Rattle.tas_round.proofs.Summing.{count_mapped}
 use Rattle.tas_round.proofs.summary.count_done.Goals as goal
 
-abbrev test : records.Flow → Bool
+abbrev test : records.History → Bool
 test f = is_done (history_of f)
 
 pub returns : goal.returns

@@ -10,7 +10,7 @@ loop-i-preserved c =
 
 pub returns-then-is_named : goal.returns-then-is_named
 returns-then-is_named c =
-    ap (map history_of) c.as_slice.ensures.records
+    ap (map history_of) c.as_slice.ensures.histories
     ∙ (found_there c.args.name.now c.args.hosts.now c.loop-i.i c.item-host.result.now c.item-host.ensures
     (sym c.is_named.ensures ∙ c.if-is_named.true) ∙ c.loop-i.invariant)
 
