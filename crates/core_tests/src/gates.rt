@@ -130,7 +130,7 @@ impl Gate for Hold {
 }
 
 /// The log of a scenario's run on so many cores.
-fn run_on<R: Threads + Wait + Sync, G: Gate>(
+fn run_on<R: Threads + Wait + Sync, G: Gate + Sync>(
     rt: &R,
     alloc: Global,
     text: &[u8],

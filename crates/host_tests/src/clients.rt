@@ -80,7 +80,7 @@ fn talk<G: Gate>(shared: &Shared, client: &mut Client, number: u32, tick: u32, g
 }
 
 /// Both applications talk side by side.
-pub fn both_talk<R: Threads + Sync, G: Gate>(
+pub fn both_talk<R: Threads + Sync, G: Gate + Sync>(
     rt: &R,
     shared: &Shared,
     first: &mut Client,
@@ -105,7 +105,7 @@ pub fn both_talk<R: Threads + Sync, G: Gate>(
 }
 
 /// Each core has its turns.
-fn take_turns<R: Threads + Wait + Sync, G: Gate>(
+fn take_turns<R: Threads + Wait + Sync, G: Gate + Sync>(
     rt: &R,
     shared: &Shared,
     workers: &mut [CoreWorker],
@@ -119,7 +119,7 @@ fn take_turns<R: Threads + Wait + Sync, G: Gate>(
 }
 
 /// The cores have their turns while the applications talk in the next tick, each on a thread of its own.
-fn beside<R: Threads + Wait + Sync, G: Gate>(
+fn beside<R: Threads + Wait + Sync, G: Gate + Sync>(
     rt: &R,
     shared: &Shared,
     workers: &mut [CoreWorker],
@@ -148,7 +148,7 @@ fn beside<R: Threads + Wait + Sync, G: Gate>(
 }
 
 /// All cores and both applications are about at once.
-pub fn side_by_side<R: Threads + Wait + Sync, G: Gate>(
+pub fn side_by_side<R: Threads + Wait + Sync, G: Gate + Sync>(
     rt: &R,
     shared: &Shared,
     cores: &mut Cores,

@@ -72,7 +72,7 @@ impl Gate for Hold {
 
 /// All peers open connections, and one piece of each is handled while the applications talk. `None` where it didn't
 /// come to that.
-fn run_gated<R: Threads + Wait + Sync, G: Gate>(
+fn run_gated<R: Threads + Wait + Sync, G: Gate + Sync>(
     rt: &R,
     alloc: Global,
     shared: &Shared,
@@ -90,7 +90,7 @@ fn run_gated<R: Threads + Wait + Sync, G: Gate>(
 }
 
 /// The same on a host of its own.
-fn is_run<R: Threads + Wait + Sync, G: Gate>(rt: &R, alloc: Global, gate: &G) -> bool {
+fn is_run<R: Threads + Wait + Sync, G: Gate + Sync>(rt: &R, alloc: Global, gate: &G) -> bool {
     let Some((shared, mut host)) = started(rt, alloc) else {
         return false;
     };

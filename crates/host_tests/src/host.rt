@@ -84,7 +84,7 @@ pub fn deliver_all<R: Wait>(
 }
 
 /// All cores have their turns, in so many threads.
-pub fn work_all<R: Threads + Wait + Sync, G: Gate>(
+pub fn work_all<R: Threads + Wait + Sync, G: Gate + Sync>(
     rt: &R,
     shared: &Shared,
     workers: &mut [CoreWorker],

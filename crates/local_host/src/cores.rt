@@ -35,7 +35,7 @@ pub struct SideWork<'a> {
 /// Cores take the frames of flows that stand at these places, each the core that it was steered to, and applications
 /// make attempts, side by side where these are many or someone watches. `spare` has flows that stand in for those that
 /// others have. The error is want of memory.
-pub fn take_on_cores<'a, R: Threads + Sync, G: Gate>(
+pub fn take_on_cores<'a, R: Threads + Sync, G: Gate + Sync>(
     rt: &R,
     alloc: Global,
     flows: &mut Vec<LiveFlow>,

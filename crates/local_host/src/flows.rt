@@ -341,7 +341,7 @@ impl Flows {
 
     /// Cores take frames and applications make attempts, each on a thread of its own where the frames are many or
     /// someone watches. The error is want of memory.
-    pub fn take_on_cores<'a, R: Threads + Sync, G: Gate>(
+    pub fn take_on_cores<'a, R: Threads + Sync, G: Gate + Sync>(
         &mut self,
         rt: &R,
         alloc: Global,

@@ -602,7 +602,7 @@ impl LocalHost {
     /// path. The answer are all other frames, in their order: they are the slow path's. Where a frame comes twice, all
     /// are left. A thread passes the gate's points, 64 * `host` + 2 * core before a frame and one more after it. The
     /// error is want of memory.
-    pub fn receive_on_cores<'a, R: Threads + Sync, G: Gate>(
+    pub fn receive_on_cores<'a, R: Threads + Sync, G: Gate + Sync>(
         &mut self,
         rt: &R,
         tick: u32,
@@ -632,7 +632,7 @@ impl LocalHost {
     /// it was. A thread passes the gate's points 64 * `host` + 62 before an attempt and 64 * `host` + 63 after it.
     /// Where a frame comes twice, and where neither frames are many nor someone watches, no attempt is made. The error
     /// is want of memory.
-    pub fn work_on_cores<'a, R: Threads + Sync, G: Gate>(
+    pub fn work_on_cores<'a, R: Threads + Sync, G: Gate + Sync>(
         &mut self,
         rt: &R,
         tick: u32,

@@ -45,7 +45,7 @@ pub struct Lane<'a> {
 }
 
 /// The lanes work side by side, each on a thread of its own.
-pub fn work_all<R: Threads + Sync, G: Gate>(
+pub fn work_all<R: Threads + Sync, G: Gate + Sync>(
     rt: &R,
     lanes: &mut Vec<Lane<'_>>,
     host: u32,
@@ -63,7 +63,7 @@ pub fn work_all<R: Threads + Sync, G: Gate>(
     work_each(rt, lanes, host, tick, gate);
 }
 
-fn work_each<R: Threads + Sync, G: Gate>(
+fn work_each<R: Threads + Sync, G: Gate + Sync>(
     rt: &R,
     lanes: &mut [Lane<'_>],
     host: u32,

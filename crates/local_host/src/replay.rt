@@ -118,7 +118,7 @@ impl LocalReplay {
 
     /// One tick on a host with cores: the slow path, the frames of the batch by the cores, what they leave by the slow
     /// path, the application, and what may go. The error is want of memory.
-    pub fn play_on_cores<R: Threads + Wait + Sync, G: Gate>(
+    pub fn play_on_cores<R: Threads + Wait + Sync, G: Gate + Sync>(
         &mut self,
         rt: &R,
         tick: u32,

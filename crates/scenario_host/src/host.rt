@@ -108,7 +108,7 @@ impl<'a> ScenarioHost<'a> {
     /// One tick on cores: the slow path, the frames that cores take side by side, those that they left, the call of
     /// each application, and what may go. The error is want of memory, and leaves a host without flows and
     /// applications.
-    pub fn play_on_cores<R: Threads + Wait + Sync, G: Gate>(
+    pub fn play_on_cores<R: Threads + Wait + Sync, G: Gate + Sync>(
         &mut self,
         rt: &R,
         tick: u32,

@@ -30,7 +30,7 @@ use tas_num::Gate;
 const GROUPS: u32 = 64;
 
 /// A tick of a host and its scripts on cores. The error is want of memory.
-pub(crate) fn play_tick_on_cores<R: Threads + Wait + Sync, G: Gate>(
+pub(crate) fn play_tick_on_cores<R: Threads + Wait + Sync, G: Gate + Sync>(
     rt: &R,
     alloc: Global,
     host: &mut LocalHost,
@@ -99,7 +99,7 @@ fn attempts_of<'a>(
 
 /// Cores take frames side by side, and beside them applications make attempts. The answer are the frames that cores
 /// left, in their order, and the attempts with the answers of those that were made. The error is want of memory.
-fn work_on_cores<'a, R: Threads + Wait + Sync, G: Gate>(
+fn work_on_cores<'a, R: Threads + Wait + Sync, G: Gate + Sync>(
     rt: &R,
     alloc: Global,
     host: &mut LocalHost,

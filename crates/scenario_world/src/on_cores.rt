@@ -34,7 +34,7 @@ const FRAMES_FOR_THREADS: usize = 1024;
 
 /// Plays a scenario to its end on hosts with so many cores each, from 1 to 16: the first tick after which all scripts
 /// have ended, all flows are closed and no frame is on the link, or its limit. The error is want of memory.
-pub fn play_scenario_on_cores<R: Threads + Wait + Sync, G: Gate>(
+pub fn play_scenario_on_cores<R: Threads + Wait + Sync, G: Gate + Sync>(
     rt: &R,
     alloc: Global,
     s: &Scenario,
@@ -60,7 +60,7 @@ pub fn play_scenario_on_cores<R: Threads + Wait + Sync, G: Gate>(
 }
 
 /// Plays a tick of all hosts, each on its cores. The error is want of memory.
-pub fn play_tick_on_cores<'a, R: Threads + Wait + Sync, G: Gate>(
+pub fn play_tick_on_cores<'a, R: Threads + Wait + Sync, G: Gate + Sync>(
     rt: &R,
     alloc: Global,
     s: &Scenario,
@@ -84,7 +84,7 @@ pub fn play_tick_on_cores<'a, R: Threads + Wait + Sync, G: Gate>(
 
 /// The hosts play a tick side by side, each on its cores, in which these frames are due. The error is want of memory,
 /// and leaves hosts in their seats.
-fn play_hosts_on_cores<'a, R: Threads + Wait + Sync, G: Gate>(
+fn play_hosts_on_cores<'a, R: Threads + Wait + Sync, G: Gate + Sync>(
     rt: &R,
     alloc: Global,
     s: &Scenario,
@@ -107,7 +107,7 @@ fn play_hosts_on_cores<'a, R: Threads + Wait + Sync, G: Gate>(
 }
 
 /// The hosts in these seats play a tick side by side.
-fn play_seats<R: Threads + Wait + Sync, G: Gate>(
+fn play_seats<R: Threads + Wait + Sync, G: Gate + Sync>(
     rt: &R,
     alloc: Global,
     s: &Scenario,
@@ -141,7 +141,7 @@ fn threads_for<G: Gate>(hosts: usize, frames: usize, gate: &G) -> usize
 }
 
 /// The host in this seat plays a tick.
-fn play_seat<R: Threads + Wait + Sync, G: Gate>(
+fn play_seat<R: Threads + Wait + Sync, G: Gate + Sync>(
     rt: &R,
     alloc: Global,
     s: &Scenario,
@@ -166,7 +166,7 @@ fn play_seat<R: Threads + Wait + Sync, G: Gate>(
 }
 
 /// The host plays a tick on its cores, which have its number. The error is want of memory.
-fn play_host_on_cores<R: Threads + Wait + Sync, G: Gate>(
+fn play_host_on_cores<R: Threads + Wait + Sync, G: Gate + Sync>(
     rt: &R,
     alloc: Global,
     s: &Scenario,

@@ -23,7 +23,7 @@ use tas_round::{Mode, ReplayFault, RunLog, replay, replay_serially, run, run_ser
 
 /// The log of the run that is asked for, of the input that these bytes are; for a made scenario they are not looked at.
 /// Without cores it waits for nobody. The error is that they are none of its kind, or want of memory.
-pub fn run_of<R: Threads + Wait + Sync, G: Gate>(
+pub fn run_of<R: Threads + Wait + Sync, G: Gate + Sync>(
     rt: &R,
     alloc: Global,
     request: &Request,
@@ -57,7 +57,7 @@ fn serial_run_of(alloc: Global, input: Input, bytes: &[u8]) -> Result<RunLog, St
 }
 
 /// The log of a run of this input on so many cores.
-fn run_on_cores<R: Threads + Wait + Sync, G: Gate>(
+fn run_on_cores<R: Threads + Wait + Sync, G: Gate + Sync>(
     rt: &R,
     alloc: Global,
     input: Input,
@@ -93,7 +93,7 @@ fn scenario_run(alloc: Global, bytes: &[u8]) -> Result<RunLog, Stop>
 }
 
 /// The log of a run of a scenario on so many cores.
-fn scenario_on_cores<R: Threads + Wait + Sync, G: Gate>(
+fn scenario_on_cores<R: Threads + Wait + Sync, G: Gate + Sync>(
     rt: &R,
     alloc: Global,
     count: u32,
@@ -125,7 +125,7 @@ fn made_run(alloc: Global, clients: u32) -> Result<RunLog, Stop>
 }
 
 /// The log of a run, on so many cores, of the scenario that is made for so many clients. The error is want of memory.
-fn made_on_cores<R: Threads + Wait + Sync, G: Gate>(
+fn made_on_cores<R: Threads + Wait + Sync, G: Gate + Sync>(
     rt: &R,
     alloc: Global,
     clients: u32,
@@ -185,7 +185,7 @@ fn capture_replay(alloc: Global, local: Ipv4Addr, loose: bool, bytes: &[u8]) -> 
 }
 
 /// The log of a replay, on so many cores, of a capture on the host with this address.
-fn capture_on_cores<R: Threads + Wait + Sync, G: Gate>(
+fn capture_on_cores<R: Threads + Wait + Sync, G: Gate + Sync>(
     rt: &R,
     alloc: Global,
     local: Ipv4Addr,

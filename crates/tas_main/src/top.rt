@@ -29,7 +29,7 @@ use tas_round::{RunLog, write_capture, write_report, write_summary};
 /// Runs what the words ask for, and answers the status that the program ends with. The output goes to `sink`. Where the
 /// status is not 0, a fault line goes to `faults`; if that fails, the status stays. With cores it starts threads and
 /// waits for them, and its clauses say what holds where it returns; without cores it waits for nobody.
-pub fn tas<R: Threads + Wait + Sync, S: Source, K: Sink, F: Sink, G: Gate>(
+pub fn tas<R: Threads + Wait + Sync, S: Source, K: Sink, F: Sink, G: Gate + Sync>(
     rt: &R,
     alloc: Global,
     words: &[String],
@@ -97,7 +97,7 @@ fn told<F: Sink>(faults: &mut F, stop: Stop) -> u8
 }
 
 /// Runs the input that the source has, and writes what was asked for. Answers whether the run is stalled.
-fn serve<R: Threads + Wait + Sync, S: Source, K: Sink, G: Gate>(
+fn serve<R: Threads + Wait + Sync, S: Source, K: Sink, G: Gate + Sync>(
     rt: &R,
     alloc: Global,
     words: &[String],

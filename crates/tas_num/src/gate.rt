@@ -2,7 +2,7 @@ ghost use Rattle.std.specs.Prelude.{◌≡◌, false};
 
 /// Points that the workers of a run pass. A gate has no meaning of its own: a test holds one worker at a point until
 /// another has passed a point of its own, and so shows that both ran at once.
-pub trait Gate: Sync {
+pub trait Gate {
     /// A worker passes this point.
     fn pass(&self, point: u32);
 

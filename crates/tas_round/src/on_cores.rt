@@ -13,7 +13,7 @@ use std::thread::Threads;
 use tas_num::Gate;
 
 /// Replays a capture on a host with so many cores.
-pub(crate) fn replay_on_cores<R: Threads + Wait + Sync, G: Gate>(
+pub(crate) fn replay_on_cores<R: Threads + Wait + Sync, G: Gate + Sync>(
     rt: &R,
     alloc: Global,
     local: u32,
@@ -39,7 +39,7 @@ pub(crate) fn replay_on_cores<R: Threads + Wait + Sync, G: Gate>(
 }
 
 /// The replay after all batches of these items, each of which is read where it stands when its tick comes.
-fn run_batches<R: Threads + Wait + Sync, G: Gate>(
+fn run_batches<R: Threads + Wait + Sync, G: Gate + Sync>(
     rt: &R,
     alloc: Global,
     local: u32,

@@ -60,7 +60,7 @@ pub struct Ending {
 
 /// Replays a capture on the host with the address `local`, tick by tick. With `loose` no checksum of a frame is looked
 /// at. `OutOfMemory` is want of memory; `Pcap` says why the bytes are no capture.
-pub fn replay<R: Threads + Wait + Sync, G: Gate>(
+pub fn replay<R: Threads + Wait + Sync, G: Gate + Sync>(
     rt: &R,
     alloc: Global,
     local: u32,

@@ -21,7 +21,7 @@ use tas_model::Bytes;
 use tas_num::Gate;
 
 /// Runs a scenario to its end, tick by tick. The error is want of memory.
-pub fn run<R: Threads + Wait + Sync, G: Gate>(
+pub fn run<R: Threads + Wait + Sync, G: Gate + Sync>(
     rt: &R,
     alloc: Global,
     s: &Scenario,
@@ -42,7 +42,7 @@ pub fn run<R: Threads + Wait + Sync, G: Gate>(
 }
 
 /// The same on hosts with so many cores each. The error is want of memory.
-fn run_on_cores<R: Threads + Wait + Sync, G: Gate>(
+fn run_on_cores<R: Threads + Wait + Sync, G: Gate + Sync>(
     rt: &R,
     alloc: Global,
     s: &Scenario,
