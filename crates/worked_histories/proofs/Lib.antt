@@ -1,0 +1,4 @@
+pub mod WorkedProgress
+pub mod WorkedReceiving
+pub mod WorkedEndings
+pub mod WorkedReading

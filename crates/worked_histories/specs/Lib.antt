@@ -1,0 +1,5 @@
+pub mod Beginnings
+pub mod WorkedProgress
+pub mod WorkedReceiving
+pub mod WorkedEndings
+pub mod WorkedReading
