@@ -10,6 +10,7 @@ use Rattle.worked_histories.specs.Beginnings.{patient_params}
 use Rattle.worked_histories.specs.WorkedReceiving.{
   numbers_after_going_back,
   no_update_after_the_end,
+  no_update_after_both_ends,
   acceptable_by_either_end,
   bytes_past_a_full_ring,
   touching_bytes_are_joined,
@@ -23,6 +24,11 @@ numbers_after_going_back_legal = legal_by patient_params numbers_after_going_bac
 pub no_update_after_the_end_legal : Legal patient_params no_update_after_the_end
 unfolding nearest rx rx_later rx_syn_sent going ticks control step
 no_update_after_the_end_legal = legal_by patient_params no_update_after_the_end
+    (record { opens = tt; reply = refl; number = refl }, refl, refl, refl)
+
+pub no_update_after_both_ends_legal : Legal patient_params no_update_after_both_ends
+unfolding nearest rx rx_later rx_syn_sent going ticks control step
+no_update_after_both_ends_legal = legal_by patient_params no_update_after_both_ends
     (record { opens = tt; reply = refl; number = refl }, refl, refl, refl)
 
 pub acceptable_by_either_end_legal : Legal patient_params acceptable_by_either_end

@@ -41,6 +41,17 @@ no_update_after_the_end =
     ∷ entry (App 0) 3 0 (calls.Recv 1) replies.End
     ∷ []
 
+-- So it is where this side ended its own stream before.
+abbrev pub no_update_after_both_ends : List Entry
+no_update_after_both_ends =
+    established 1000
+    ++ entry (App 0) 0 0 calls.Shut replies.Ok
+    ∷ entry (Core 0) 1 0 calls.Emit (replies.Sent (segment 17 1001 5001 256 None []))
+    ∷ entry Slow 2 0 (calls.Rx peers (segment 25 5001 1001 1000 None (replicate 130 7))) (ack 1002 5132 126)
+    ∷ entry (App 0) 1 0 (calls.Recv 1) (replies.Got (7 ∷ []) None)
+    ∷ entry (App 0) 2 0 (calls.Recv 1) (replies.Got (7 ∷ []) None)
+    ∷ []
+
 -- A segment with bytes is acceptable where its first or its last place lies in the window, and not where only what is
 -- between them does (RFC 9293, section 3.10.7.4, first).
 abbrev pub acceptable_by_either_end : List Entry

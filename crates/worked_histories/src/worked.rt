@@ -13,8 +13,8 @@ ghost use Rattle.worked_histories.specs.WorkedProgress.{opened_window, probe_is_
 ghost use Rattle.worked_histories.specs.WorkedProgress.{open_window_moves, tries_at_a_closed_window};
 ghost use Rattle.worked_histories.specs.WorkedProgress.{answers_to_a_probe};
 ghost use Rattle.worked_histories.specs.WorkedReceiving.{numbers_after_going_back, no_update_after_the_end};
-ghost use Rattle.worked_histories.specs.WorkedReceiving.{acceptable_by_either_end, bytes_past_a_full_ring};
-ghost use Rattle.worked_histories.specs.WorkedReceiving.{touching_bytes_are_joined};
+ghost use Rattle.worked_histories.specs.WorkedReceiving.{no_update_after_both_ends, acceptable_by_either_end};
+ghost use Rattle.worked_histories.specs.WorkedReceiving.{bytes_past_a_full_ring, touching_bytes_are_joined};
 ghost use Rattle.worked_histories.specs.WorkedEndings.{bucket_is_filled_by_ticks, wait_after_fin_wait_2};
 ghost use Rattle.worked_histories.specs.WorkedEndings.{wait_after_closing, fin_has_a_place};
 ghost use Rattle.worked_histories.specs.WorkedEndings.{shut_twice, close_in_syn_sent};
@@ -51,6 +51,7 @@ pub fn worked_receiving()
     ensures numbers_after_going_back { Legal patient_params numbers_after_going_back }
     // Reading after the peer's end offers no window (RFC 9293, section 3.8.6.2.2).
     ensures no_update_after_the_end { Legal patient_params no_update_after_the_end }
+    ensures no_update_after_both_ends { Legal patient_params no_update_after_both_ends }
     // A segment is acceptable by its first or its last place (RFC 9293, section 3.10.7.4, first).
     ensures acceptable_by_either_end { Legal patient_params acceptable_by_either_end }
     // Bytes at an own window of 0 are no duplicate acknowledgement (RFC 5681, section 2).
