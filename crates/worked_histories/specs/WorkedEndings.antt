@@ -21,10 +21,10 @@ bucket_is_filled_by_ticks =
     ∷ entry (Core 0) 3 0 calls.Emit (replies.Sent (segment 16 1129 5001 256 None (replicate 64 7)))
     ∷ entry (Core 0) 4 0 calls.Emit (replies.Sent (segment 24 1193 5001 256 None (replicate 58 7)))
     ∷ entry (Core 0) 5 0 (calls.Rx peers (segment 16 5001 1251 1000 None [])) replies.Nothing
-    ∷ entry (App 0) 1 0 (calls.Send 100) (replies.Took (replicate 100 7))
-    ∷ entry (Core 0) 6 0 calls.Emit (replies.Sent (segment 16 1251 5001 256 None (replicate 6 7)))
     ∷ entry Slow 2 1 calls.Tick replies.Quiet
-    ∷ entry (Core 0) 7 1 calls.Emit (replies.Sent (segment 16 1257 5001 256 None (replicate 64 7)))
+    ∷ entry (App 0) 1 1 (calls.Send 100) (replies.Took (replicate 100 7))
+    ∷ entry (Core 0) 6 1 calls.Emit (replies.Sent (segment 16 1251 5001 256 None (replicate 64 7)))
+    ∷ entry (Core 0) 7 1 calls.Emit (replies.Sent (segment 16 1315 5001 256 None (replicate 6 7)))
     ∷ entry Slow 3 1 calls.Control (replies.Window 506 65535)
     ∷ entry Slow 4 2 calls.Tick replies.Quiet
     ∷ entry (Core 0) 8 2 calls.Emit (replies.Sent (segment 24 1321 5001 256 None (replicate 30 7)))
@@ -34,8 +34,8 @@ bucket_is_filled_by_ticks =
     ∷ []
 
 -- ----- the end
--- TIME-WAIT lasts four timeouts from the peer's FIN, and the same FIN again does not begin it anew (RFC 9293, section
--- 3.6.1).
+-- TIME-WAIT lasts four timeouts from the peer's FIN, and neither that FIN again nor an acknowledgement begins it anew
+-- (RFC 9293, section 3.6.1).
 abbrev pub wait_after_fin_wait_2 : List Entry
 wait_after_fin_wait_2 =
     established 1000
@@ -49,13 +49,14 @@ wait_after_fin_wait_2 =
     ∷ entry Slow 6 7 calls.Tick replies.Quiet
     ∷ entry Slow 7 7 (calls.Rx peers (segment 17 5001 1002 1000 None [])) (ack 1002 5002 256)
     ∷ entry Slow 8 8 calls.Tick replies.Quiet
-    ∷ entry Slow 9 9 calls.Tick replies.Quiet
-    ∷ entry Slow 10 10 calls.Tick replies.Quiet
-    ∷ entry Slow 11 11 calls.Tick replies.Quiet
-    ∷ entry Slow 12 12 calls.Tick replies.Quiet
-    ∷ entry Slow 13 13 calls.Tick replies.Quiet
-    ∷ entry Slow 14 14 calls.Tick replies.Quiet
-    ∷ entry Slow 15 15 calls.Tick replies.Expired
+    ∷ entry Slow 9 8 (calls.Rx peers (segment 16 5002 1002 1000 None [])) replies.Nothing
+    ∷ entry Slow 10 9 calls.Tick replies.Quiet
+    ∷ entry Slow 11 10 calls.Tick replies.Quiet
+    ∷ entry Slow 12 11 calls.Tick replies.Quiet
+    ∷ entry Slow 13 12 calls.Tick replies.Quiet
+    ∷ entry Slow 14 13 calls.Tick replies.Quiet
+    ∷ entry Slow 15 14 calls.Tick replies.Quiet
+    ∷ entry Slow 16 15 calls.Tick replies.Expired
     ∷ []
 
 -- In CLOSING it lasts as long from the acknowledgement of the own FIN, and that of the bytes before it is none (RFC

@@ -167,8 +167,8 @@ open_window_moves =
     ∷ entry Slow 10 9 calls.Tick replies.Resend
     ∷ []
 
--- Each window of 0 that is taken ends the doubling of the probes' interval, and one of an old segment does not (RFC
--- 9293, sections 3.8.6.1 and 3.10.7.4, fifth).
+-- Each window of 0 that is taken ends the doubling of the probes' interval, and one of an old segment does not. The
+-- timer goes on meanwhile, and a probe that is due stays so (RFC 9293, sections 3.8.6.1 and 3.10.7.4, fifth).
 abbrev pub tries_at_a_closed_window : List Entry
 tries_at_a_closed_window =
     established 0
@@ -184,13 +184,16 @@ tries_at_a_closed_window =
     ∷ entry Slow 8 7 calls.Tick replies.Quiet
     ∷ entry Slow 9 8 calls.Tick replies.Quiet
     ∷ entry Slow 10 9 calls.Tick replies.Probe
-    ∷ entry (Core 0) 3 9 (calls.Rx peers (segment 16 5004 1001 0 None [])) replies.Nothing
     ∷ entry Slow 11 10 calls.Tick replies.Quiet
     ∷ entry Slow 12 11 calls.Tick replies.Quiet
+    ∷ entry (Core 0) 3 11 (calls.Rx peers (segment 16 5004 1001 0 None [])) replies.Nothing
     ∷ entry Slow 13 12 calls.Tick replies.Probe
+    ∷ entry (Core 0) 4 12 (calls.Rx peers (segment 16 5004 1001 0 None [])) replies.Nothing
+    ∷ entry (Core 0) 5 12 calls.Emit (replies.Sent (segment 24 1001 5002 255 None (1 ∷ [])))
     ∷ []
 
--- Answers to a probe are no duplicates, as the window is 0 (RFC 5681, section 2): Control hears of no loss.
+-- Answers to a probe are no duplicates, as the window is 0 (RFC 5681, section 2): Control hears of no loss. The own
+-- number is past the probe (RFC 9293, section 3.8.6.1).
 abbrev pub answers_to_a_probe : List Entry
 answers_to_a_probe =
     established 0
@@ -203,4 +206,5 @@ answers_to_a_probe =
     ∷ entry (Core 0) 3 3 (calls.Rx peers (segment 16 5001 1001 0 None [])) replies.Nothing
     ∷ entry (Core 0) 4 3 (calls.Rx peers (segment 16 5001 1001 0 None [])) replies.Nothing
     ∷ entry Slow 5 3 calls.Control (replies.Window 800 65535)
+    ∷ entry (Core 0) 5 3 (calls.Rx peers (segment 24 5001 1001 0 None (7 ∷ []))) (ack 1002 5002 255)
     ∷ []

@@ -53,16 +53,20 @@ no_update_after_both_ends =
     ∷ []
 
 -- A segment with bytes is acceptable where its first or its last place lies in the window, and not where only what is
--- between them does (RFC 9293, section 3.10.7.4, first).
+-- between them does (RFC 9293, section 3.10.7.4, first). A reset that is acceptable and not at the next place gets an
+-- ACK, and one that is not acceptable gets nothing; of bytes those in the window are received.
 abbrev pub acceptable_by_either_end : List Entry
 acceptable_by_either_end =
     established 1000
     ++ entry (Core 0) 1 0 (calls.Rx peers (segment 24 5001 1001 1000 None (replicate 250 7))) (ack 1001 5251 6)
-    ∷ entry (Core 0) 2 0 (calls.Rx peers (segment 24 5250 1001 1000 None (7 ∷ 1 ∷ 2 ∷ 3 ∷ 4 ∷ 5 ∷ 6 ∷ 99 ∷ [])))
-    (ack 1001 5251 6)
-    ∷ entry (Core 0) 3 0 (calls.Rx peers (segment 24 5250 1001 1000 None (7 ∷ 1 ∷ 2 ∷ []))) (ack 1001 5253 4)
-    ∷ entry (Core 0) 4 0 (calls.Rx peers (segment 24 5253 1001 1000 None (3 ∷ 4 ∷ 5 ∷ 6 ∷ 99 ∷ []))) (ack 1001 5257 0)
-    ∷ entry (Core 0) 5 0 (calls.Rx peers (segment 24 5256 1001 1000 None (6 ∷ 99 ∷ []))) (ack 1001 5257 0)
+    ∷ entry Slow 2 0 (calls.Rx peers (segment 4 5249 0 0 None (replicate 2 9))) replies.Nothing
+    ∷ entry Slow 3 0 (calls.Rx peers (segment 4 5249 0 0 None (replicate 3 9))) (ack 1001 5251 6)
+    ∷ entry Slow 4 0 (calls.Rx peers (segment 4 5250 0 0 None (replicate 7 9))) (ack 1001 5251 6)
+    ∷ entry Slow 5 0 (calls.Rx peers (segment 4 5250 0 0 None (replicate 8 9))) replies.Nothing
+    ∷ entry Slow 6 0 (calls.Rx peers (segment 4 5256 0 0 None (replicate 2 9))) (ack 1001 5251 6)
+    ∷ entry Slow 7 0 (calls.Rx peers (segment 4 5257 0 0 None (replicate 1 9))) replies.Nothing
+    ∷ entry (Core 0) 2 0 (calls.Rx peers (segment 24 5250 1001 1000 None (7 ∷ 1 ∷ 2 ∷ []))) (ack 1001 5253 4)
+    ∷ entry (Core 0) 3 0 (calls.Rx peers (segment 24 5253 1001 1000 None (3 ∷ 4 ∷ 5 ∷ 6 ∷ 99 ∷ []))) (ack 1001 5257 0)
     ∷ entry (App 0) 0 0 (calls.Recv 256)
     (replies.Got (replicate 250 7 ++ 1 ∷ 2 ∷ 3 ∷ 4 ∷ 5 ∷ 6 ∷ []) (Some ((segment 16 1001 5257 256 None []).head)))
     ∷ []
