@@ -131,7 +131,7 @@ close_in_syn_sent =
     ∷ entry Slow 0 0 (calls.Rx peers (segment 18 5000 1001 1000 (Some 200) [])) (reset 1001)
     ∷ []
 
--- So does who leaves in SYN-RECEIVED.
+-- So does who leaves in SYN-RECEIVED, where the standard sends a FIN.
 abbrev pub close_in_syn_received : List Entry
 close_in_syn_received =
     syn_received

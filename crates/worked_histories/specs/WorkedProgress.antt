@@ -9,7 +9,7 @@ use Rattle.tas_model.specs.WorkedRules.{peers, syn_received, established}
 use Rattle.worked_histories.specs.Beginnings.{ack, reset}
 
 -- ----- what is acknowledged for the first time
--- What is acknowledged for the first time begins the timer and its doubling anew (RFC 6298, sections 5.3 and 5.7).
+-- What is acknowledged for the first time begins the timer and its doubling anew (RFC 6298, section 5).
 abbrev pub timer_begins_anew : List Entry
 timer_begins_anew =
     established 1000

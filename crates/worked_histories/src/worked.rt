@@ -24,7 +24,7 @@ ghost use Rattle.worked_histories.specs.WorkedReading.{all_flags, all_letters, b
 
 /// What something new begins anew, and what it does not: timer, doubling, duplicates and probes.
 pub fn worked_progress()
-    // What is acknowledged for the first time begins timer and doubling anew (RFC 6298, sections 5.3 and 5.7),
+    // What is acknowledged for the first time begins timer and doubling anew (RFC 6298, section 5),
     ensures timer_begins_anew { Legal patient_params timer_begins_anew }
     // and the count of duplicates (RFC 5681, section 2).
     ensures duplicates_begin_anew { Legal patient_params duplicates_begin_anew }
