@@ -78,6 +78,17 @@ MayAct step host (GivesUp k call) = IsLastCall call
 MayAct step host (Notes event) = MayNote host event
 MayAct step host (Listens port) = (name : List ℕ) × (step ≡ steps.Listen name port)
 
+-- A line tells of a call of the application with this number.
+abbrev pub IsLineOf : (number : ℕ) → LogEvent → Type 0
+IsLineOf n (events.Listen app port ok) = app ≡ n
+IsLineOf n (events.AcceptNotYet app port) = app ≡ n
+IsLineOf n (events.ConnectRefused app raddr rport no_port) = app ≡ n
+IsLineOf n _ = ⊥
+
+abbrev pub NotesOwn : (number : ℕ) → Act → Type 0
+NotesOwn n (Notes event) = IsLineOf n event
+NotesOwn n _ = Unit {0}
+
 -- ----- names
 abbrev pub Names : Type 0
 Names = List (List ℕ × Bound)
@@ -127,25 +138,26 @@ pub record Acted (numbers : Numbers) (t : ℕ) (step : Step) (x y : Turn) : Type
   pub may : MayAct step x.host act
   pub left : y.host ≡ leaves numbers t x.script.number x.host act
   pub named : MayName x act y.script.names
+  pub own : NotesOwn x.script.number act
 
 rests : (numbers : Numbers) (t : ℕ) (step : Step) (x y : Turn) → y.host ≡ x.host → y.script.names ≡ x.script.names
     → Acted numbers t step x y
-rests numbers t step x y host names = record { act = Rests; may = tt; left = host; named = names }
+rests numbers t step x y host names = record { act = Rests; may = tt; left = host; named = names; own = tt }
 
 listens_acts : (numbers : Numbers) (taken : Bool) (t : ℕ) (name : List ℕ) (port : ℕ) (x : Turn)
     → Acted numbers t (steps.Listen name port) x (listens_where taken t name port x)
 listens_acts numbers true t name port x =
-    record { act = Notes (events.Listen x.script.number port false); may = tt; left = refl; named = refl }
+    record { act = Notes (events.Listen x.script.number port false); may = tt; left = refl; named = refl; own = refl }
 listens_acts numbers false t name port x =
-    record { act = Listens port; may = (name, refl); left = refl; named = (name, refl) }
+    record { act = Listens port; may = (name, refl); left = refl; named = (name, refl); own = tt }
 
 one_acts : (numbers : Numbers) (ready : Option ℕ) (t : ℕ) (step : Step) (socket : List ℕ) (port : ℕ) (x : Turn)
     → position (is_ready port) x.host.flows ≡ ready
     → Acted numbers t step x (accepts_one ready t socket port x)
 one_acts numbers None t step socket port x at =
-    record { act = Notes (events.AcceptNotYet x.script.number port); may = tt; left = refl; named = refl }
+    record { act = Notes (events.AcceptNotYet x.script.number port); may = tt; left = refl; named = refl; own = refl }
 one_acts numbers (Some k) t step socket port x at =
-    record { act = Accepts k; may = (port, at); left = refl; named = (socket, refl) }
+    record { act = Accepts k; may = (port, at); left = refl; named = (socket, refl); own = tt }
 
 accepts_acts : (numbers : Numbers) (port : Option ℕ) (t : ℕ) (step : Step) (socket : List ℕ) (x : Turn)
     → Acted numbers t step x (accepts port t socket x)
@@ -158,13 +170,14 @@ where_acts : (numbers : Numbers) (left : Bool) (slot t : ℕ) (step : Step) (soc
     → Acted numbers t step x
     (opens_where left numbers slot (first_port + ports_given x.host) t socket raddr rport x)
 where_acts numbers true slot t step socket raddr rport x left =
-    record { act = Connects slot _; may = (refl, left); left = refl; named = (socket, refl) }
+    record { act = Connects slot _; may = (refl, left); left = refl; named = (socket, refl); own = tt }
 where_acts numbers false slot t step socket raddr rport x left =
     record {
       act = Notes (events.ConnectRefused x.script.number raddr rport true);
       may = left;
       left = refl;
       named = refl;
+      own = refl;
     }
 
 connects_acts : (numbers : Numbers) (free : Option ℕ) (t : ℕ) (step : Step) (socket : List ℕ) (raddr rport : ℕ)
@@ -175,6 +188,7 @@ connects_acts numbers None t step socket raddr rport x =
       may = tt;
       left = refl;
       named = refl;
+      own = refl;
     }
 connects_acts numbers (Some slot) t step socket raddr rport x =
     where_acts numbers (nat_lt (first_port + ports_given x.host) (2 ^ 16)) slot t step socket raddr rport x refl
@@ -200,6 +214,7 @@ connects_on_acts numbers true t step socket raddr rport x =
       may = tt;
       left = refl;
       named = (waits_names _ x.script, (socket, at));
+      own = tt;
     })
 
 sends_acts : (numbers : Numbers) (t : ℕ) (step : Step) (socket bytes : List ℕ) (x : Turn)
@@ -209,6 +224,7 @@ sends_acts numbers t step socket bytes x = socket_acts numbers t step socket _ x
   may = tt;
   left = refl;
   named = (sent_names _ (length bytes) x.script, (socket, at));
+  own = tt;
 })
 
 receives_acts : (numbers : Numbers) (t : ℕ) (step : Step) (socket : List ℕ) (all : Option ℕ) (x : Turn)
@@ -218,6 +234,7 @@ receives_acts numbers t step socket all x = socket_acts numbers t step socket _ 
   may = tt;
   left = refl;
   named = (received_names _ all x.script, (socket, at));
+  own = tt;
 })
 
 pub step_acts : (numbers : Numbers) (address : List ℕ → ℕ) (t : ℕ) (step : Step) (x : Turn)
@@ -237,6 +254,7 @@ step_acts numbers address t (steps.Shut socket) x =
       may = tt;
       left = refl;
       named = (refl, (socket, at));
+      own = tt;
     })
 step_acts numbers address t (steps.Close socket) x =
     socket_acts numbers t _ socket _ x (λ k at. record {
@@ -244,6 +262,7 @@ step_acts numbers address t (steps.Close socket) x =
       may = tt;
       left = refl;
       named = (socket, at, refl);
+      own = tt;
     })
 step_acts numbers address t (steps.Abort socket) x =
     socket_acts numbers t _ socket _ x (λ k at. record {
@@ -251,6 +270,7 @@ step_acts numbers address t (steps.Abort socket) x =
       may = tt;
       left = refl;
       named = (socket, at, refl);
+      own = tt;
     })
 step_acts numbers address t (steps.Wait ticks) x =
     rests numbers t _ x _ refl (done_names (x.script.done + 1 == ticks) (x.script.done + 1) x.script)

@@ -38,7 +38,7 @@ AllStand t (l ∷ ls) [] = ⊥
 AllStand t (l ∷ ls) (site ∷ sites) = Stands l.params t site.host × AllStand t ls sites
 
 -- it holds of a tick of each host that stands before it
-abbrev OfEachRound : Scenario → (HostTick → Type 0) → Type 0
+abbrev pub OfEachRound : Scenario → (HostTick → Type 0) → Type 0
 OfEachRound s Fact =
     (p : HostParams) (t : ℕ) (due : Due ℕ) (b a : Site (List Script)) → Round (scripts_of s p) t due b a
     → Stands p t b.host → Fact (record {
@@ -94,7 +94,7 @@ ticks_hold s Fact (suc most) t world end run each stand = (
       (rounds_stand s world t 0 s.hosts world run.0 run.1 stand),
 )
 
-ticks_stand : (s : Scenario) (most t : ℕ) (world : World) (end : End) → RunsFrom s most t world end
+pub ticks_stand : (s : Scenario) (most t : ℕ) (world : World) (end : End) → RunsFrom s most t world end
     → AllStand t s.hosts world → AllStand end.ticks s.hosts end.world
 ticks_stand s zero t world end same stand = subst (λ (e : End). AllStand e.ticks s.hosts e.world) (sym same) stand
 ticks_stand s (suc most) t world end run stand =
@@ -125,7 +125,7 @@ start_stands s (l ∷ ls) = (
   start_stands s ls,
 )
 
-run_holds : (s : Scenario) (log : RunLog) (run : Run s log) (Fact : HostTick → Type 0) → OfEachRound s Fact
+pub run_holds : (s : Scenario) (log : RunLog) (run : Run s log) (Fact : HostTick → Type 0) → OfEachRound s Fact
     → InEachTick s log run Fact
 run_holds s log run Fact each =
     ticks_hold s Fact s.limit 0 (at_start s) run.0 run.1 each (start_stands s s.hosts)

@@ -21,13 +21,13 @@ use Rattle.scenario_laws.specs.Turns.{OfEachScript, is_ask, is_turn_of, turn_on,
 use Rattle.scenario_laws.proofs.Goes.{turn_goes}
 
 -- ----- one script
-abbrev Act : Type 0
+abbrev pub Act : Type 0
 Act = Action ℕ
 
-abbrev turn_in : Scenario → HostParams → Act → ℕ → ℕ
+abbrev pub turn_in : Scenario → HostParams → Act → ℕ → ℕ
 turn_in s p a n = one_if (is_by (scripts_of s p) (OfScript n) a)
 
-abbrev turns_in : Scenario → HostParams → List Act → ℕ → ℕ
+abbrev pub turns_in : Scenario → HostParams → List Act → ℕ → ℕ
 turns_in s p [] n = 0
 turns_in s p (a ∷ rest) n = turn_in s p a n + turns_in s p rest n
 
@@ -327,7 +327,7 @@ one_asked s p t k low host (b ∷ bs) rise (Some x) h =
         )
 
 -- ----- a tick
-asked_is : (s : Scenario) (p : HostParams) (t : ℕ) (o : Option Script) (site : Site (List Script))
+pub asked_is : (s : Scenario) (p : HostParams) (t : ℕ) (o : Option Script) (site : Site (List Script))
     → (asked_of (numbers_of p) (address_in s.hosts) t o site).scripts ≡ asked_where s p t site.host o site.scripts
 asked_is s p t None site = refl
 asked_is s p t (Some x) site = refl
@@ -379,7 +379,7 @@ all_turned s p t low site (m ∷ order) rise =
     (all_turned s p t low next order (deed_rises s p t low site m rise))
 
 -- ----- what is due
-turns_filter : (s : Scenario) (p : HostParams) (n : ℕ) (xs : List Act)
+pub turns_filter : (s : Scenario) (p : HostParams) (n : ℕ) (xs : List Act)
     → turns_in s p (filter (is_by (scripts_of s p) (OfScript n)) xs) n ≡ turns_in s p xs n
 turns_filter s p n [] = refl
 turns_filter s p n (a ∷ xs) = by_test (is_by (scripts_of s p) (OfScript n) a) refl (turns_filter s p n xs) where
@@ -392,23 +392,23 @@ turns_filter s p n (a ∷ xs) = by_test (is_by (scripts_of s p) (OfScript n) a) 
   by_test false h rest = let none_here : turn_in s p a n ≡ 0 = ap one_if h in omega arith
 
 -- timers and frames ask nothing
-timers_pass : (s : Scenario) (p : HostParams) (n i : ℕ) (ls : List Live) (rest : List Act)
+pub timers_pass : (s : Scenario) (p : HostParams) (n i : ℕ) (ls : List Live) (rest : List Act)
     → turns_in s p (timers_from i ls ++ rest) n ≡ turns_in s p rest n
 timers_pass s p n i [] rest = refl
 timers_pass s p n i (l ∷ ls) rest =
     let more : turns_in s p (timers_from (i + 1) ls ++ rest) n ≡ turns_in s p rest n =
     timers_pass s p n (i + 1) ls rest in omega arith
 
-frames_pass : (s : Scenario) (p : HostParams) (n : ℕ) (frames : List Arrival) (rest : List Act)
+pub frames_pass : (s : Scenario) (p : HostParams) (n : ℕ) (frames : List Arrival) (rest : List Act)
     → turns_in s p (map Frame frames ++ rest) n ≡ turns_in s p rest n
 frames_pass s p n [] rest = refl
 frames_pass s p n (x ∷ xs) rest =
     let more : turns_in s p (map Frame xs ++ rest) n ≡ turns_in s p rest n = frames_pass s p n xs rest in omega arith
 
-abbrev asks_of : List Script → List Act
+abbrev pub asks_of : List Script → List Act
 asks_of bs = map Ask (map (λ (x : Script). x.number) bs)
 
-later_none : (s : Scenario) (p : HostParams) (n low : ℕ) (bs : List Script) → n < low → NumbersRise low bs
+pub later_none : (s : Scenario) (p : HostParams) (n low : ℕ) (bs : List Script) → n < low → NumbersRise low bs
     → turns_in s p (asks_of bs) n ≡ 0
 later_none s p n low [] small rise = refl
 later_none s p n low (b ∷ bs) small rise =

@@ -113,7 +113,7 @@ called by t call l worker kind = record {
   over = over_push l.flow.params l.flow.entries _;
 }
 
-swept_worked : (t : ℕ) (l : Live) → Worked t l (swept l)
+pub swept_worked : (t : ℕ) (l : Live) → Worked t l (swept l)
 swept_worked t l =
     on_cond (Worked t l) (is_over l) _ _
     (λ h. record {
@@ -126,7 +126,7 @@ swept_worked t l =
       over = λ g. g;
     }) (λ h. stays t l)
 
-timed_worked : (by : Caller) (t : ℕ) (l : Live) → IsWorker by → Worked t l (timed by t l)
+pub timed_worked : (by : Caller) (t : ℕ) (l : Live) → IsWorker by → Worked t l (timed by t l)
 timed_worked by t l worker = by_over (is_over l) where
   m : Live
   m = with_call l by t calls.Tick []
@@ -141,7 +141,7 @@ timed_worked by t l worker = by_over (is_over l) where
       both t l m _ (called by t calls.Tick l worker tt)
       (by_due (is_control_tick m.flow.params.fixed t && is_running m))
 
-emits_worked : (by : Caller) (t : ℕ) (l : Live) → IsWorker by → Worked t l (emits by t l)
+pub emits_worked : (by : Caller) (t : ℕ) (l : Live) → IsWorker by → Worked t l (emits by t l)
 emits_worked by t l worker = by_going (going (endpoint l)) where
   by_going : (o : Option Going) → Worked t l (emits_where o by t l)
   by_going None = stays t l
@@ -161,12 +161,12 @@ all_stay : (t : ℕ) (ls : List Live) → AllWorked t ls ls
 all_stay t [] = tt
 all_stay t (l ∷ ls) = (stays t l, all_stay t ls)
 
-map_worked : (t : ℕ) (f : Live → Live) → ((l : Live) → Worked t l (f l)) → (ls : List Live)
+pub map_worked : (t : ℕ) (f : Live → Live) → ((l : Live) → Worked t l (f l)) → (ls : List Live)
     → AllWorked t ls (map f ls)
 map_worked t f each [] = tt
 map_worked t f each (l ∷ ls) = (each l, map_worked t f each ls)
 
-at_worked : (t n : ℕ) (f : Live → Live) → ((l : Live) → Worked t l (f l)) → (ls : List Live)
+pub at_worked : (t n : ℕ) (f : Live → Live) → ((l : Live) → Worked t l (f l)) → (ls : List Live)
     → AllWorked t ls (change_at n f ls)
 at_worked t n f each [] = tt
 at_worked t zero f each (l ∷ ls) = (each l, all_stay t ls)
@@ -219,46 +219,59 @@ pub record Keeps (s : Scenario) (p : HostParams) (t : ℕ) (I : At → Type 0) :
   pub turn : (site : At) (k : ℕ) (x : Script) → find (λ (b : Script). b.number == k) site.scripts ≡ Some x
       → NumbersRise 0 site.scripts → I site → I (with_turn (turn_on s p t site.host x) site.scripts)
 
+-- what workers do keeps the fact
+pub record WorkKeeps (t : ℕ) (I : At → Type 0) : Type 0 where
+  pub flows : (site : At) (ms : List Live) → AllWorked t site.host.flows ms → I site
+      → I (on_host (λ (host : Host). record host { flows = ms }) site)
+  pub line : (site : At) (event : LogEvent) → IsFrameLine event → I site
+      → I (on_host (λ (host : Host). logged host t event) site)
+  pub syn : (site : At) (slot number : ℕ) (frame : FrameId) (tuple : FourTuple) (seg : Seg)
+      → is_listening site.host tuple.lport ≡ true → I site
+      → I (on_host (λ (host : Host). opened_for slot number t host frame tuple seg) site)
+
+work_of : (s : Scenario) (p : HostParams) (t : ℕ) (I : At → Type 0) → Keeps s p t I → WorkKeeps t I
+work_of s p t I keeps = record { flows = keeps.flows; line = keeps.line; syn = keeps.syn }
+
 -- ----- frames
-syn_keeps : (s : Scenario) (p : HostParams) (I : At → Type 0) (full : Bool) (free : Option ℕ) (number t : ℕ) (site : At)
-    (frame : FrameId) (tuple : FourTuple) (seg : Seg) → Keeps s p t I → is_listening site.host tuple.lport ≡ true
+syn_keeps : (p : HostParams) (I : At → Type 0) (full : Bool) (free : Option ℕ) (number t : ℕ) (site : At)
+    (frame : FrameId) (tuple : FourTuple) (seg : Seg) → WorkKeeps t I → is_listening site.host tuple.lport ≡ true
     → I site → I (on_host (λ (host : Host). opened_by_syn full free number t host frame tuple seg) site)
-syn_keeps s p I true free number t site frame tuple seg keeps listening i =
+syn_keeps p I true free number t site frame tuple seg keeps listening i =
     keeps.line site (events.Dropped frame true) tt i
-syn_keeps s p I false None number t site frame tuple seg keeps listening i =
+syn_keeps p I false None number t site frame tuple seg keeps listening i =
     keeps.line site (events.Dropped frame false) tt i
-syn_keeps s p I false (Some slot) number t site frame tuple seg keeps listening i =
+syn_keeps p I false (Some slot) number t site frame tuple seg keeps listening i =
     keeps.syn site slot number frame tuple seg listening i
 
 and_left : (a b : Bool) → (a && b) ≡ true → a ≡ true
 and_left true b h = refl
 and_left false b h = absurd (true≢false (sym h))
 
-no_flow_keeps : (s : Scenario) (p : HostParams) (I : At → Type 0) (opening listening : Bool) (number t : ℕ) (site : At)
-    (frame : FrameId) (tuple : FourTuple) (seg : Seg) → Keeps s p t I
+no_flow_keeps : (p : HostParams) (I : At → Type 0) (opening listening : Bool) (number t : ℕ) (site : At)
+    (frame : FrameId) (tuple : FourTuple) (seg : Seg) → WorkKeeps t I
     → (opening ≡ true → is_listening site.host tuple.lport ≡ true) → I site
     → I (on_host (λ (host : Host). met_no_flow opening listening number t host frame tuple seg) site)
-no_flow_keeps s p I true listening number t site frame tuple seg keeps listens i =
-    syn_keeps s p I (is_full site.host tuple.lport) (lowest_free site.host) number t site frame tuple seg keeps
+no_flow_keeps p I true listening number t site frame tuple seg keeps listens i =
+    syn_keeps p I (is_full site.host tuple.lport) (lowest_free site.host) number t site frame tuple seg keeps
     (listens refl) i
-no_flow_keeps s p I false listening number t site frame tuple seg keeps listens i = keeps.line site _ tt i
+no_flow_keeps p I false listening number t site frame tuple seg keeps listens i = keeps.line site _ tt i
 
-arrived_keeps : (s : Scenario) (p : HostParams) (I : At → Type 0) (known : Bool) (by : Caller) (number t : ℕ)
-    (site : At) (frame : FrameId) (tuple : FourTuple) (seg : Seg) → Keeps s p t I → IsWorker by → I site
+arrived_keeps : (p : HostParams) (I : At → Type 0) (known : Bool) (by : Caller) (number t : ℕ)
+    (site : At) (frame : FrameId) (tuple : FourTuple) (seg : Seg) → WorkKeeps t I → IsWorker by → I site
     → I (on_host (λ (host : Host). arrived known (received by t frame seg) number t host frame tuple seg) site)
-arrived_keeps s p I true by number t site frame tuple seg keeps worker i =
+arrived_keeps p I true by number t site frame tuple seg keeps worker i =
     keeps.flows site _ (first_worked t (is_indexed_as tuple) (received by t frame seg)
     (λ l. called by t (calls.Rx frame seg) l worker tt) site.host.flows) i
-arrived_keeps s p I false by number t site frame tuple seg keeps worker i =
-    no_flow_keeps s p I (is_listening site.host tuple.lport && opens seg) (is_listening site.host tuple.lport) number t
+arrived_keeps p I false by number t site frame tuple seg keeps worker i =
+    no_flow_keeps p I (is_listening site.host tuple.lport && opens seg) (is_listening site.host tuple.lport) number t
     site frame tuple seg keeps (and_left (is_listening site.host tuple.lport) (opens seg)) i
 
-packet_keeps : (s : Scenario) (p : HostParams) (I : At → Type 0) (by : Caller) (t : ℕ) (site : At) (frame : FrameId)
-    (packet : Packet) → Keeps s p t I → IsWorker by → I site
+pub packet_keeps : (p : HostParams) (I : At → Type 0) (by : Caller) (t : ℕ) (site : At) (frame : FrameId)
+    (packet : Packet) → WorkKeeps t I → IsWorker by → I site
     → I (on_host (λ (host : Host). delivered_packet (received by) (numbers_of p) t host frame packet) site)
-packet_keeps s p I by t site frame (Damaged rule) keeps worker i = keeps.line site (events.Refused frame rule) tt i
-packet_keeps s p I by t site frame (Segment tuple seg) keeps worker i =
-    arrived_keeps s p I (is_known site.host tuple) by (next_number (numbers_of p) site.host tuple) t site frame tuple
+packet_keeps p I by t site frame (Damaged rule) keeps worker i = keeps.line site (events.Refused frame rule) tt i
+packet_keeps p I by t site frame (Segment tuple seg) keeps worker i =
+    arrived_keeps p I (is_known site.host tuple) by (next_number (numbers_of p) site.host tuple) t site frame tuple
     seg keeps worker i
 
 -- ----- deeds
@@ -275,7 +288,7 @@ action_keeps : (s : Scenario) (p : HostParams) (I : At → Type 0) (t : ℕ) (si
 action_keeps s p I t site by (Timer n) keeps worker rise i =
     keeps.flows site _ (at_worked t n (timed by t) (λ l. timed_worked by t l worker) site.host.flows) i
 action_keeps s p I t site by (Frame x) keeps worker rise i =
-    packet_keeps s p I by t site x.frame x.packet keeps worker i
+    packet_keeps p I by t site x.frame x.packet (work_of s p t I keeps) worker i
 action_keeps s p I t site by (Ask k) keeps worker rise i = turn_keeps s p I t k site keeps rise i _ refl
 action_keeps s p I t site by (Emission n) keeps worker rise i =
     keeps.flows site _ (at_worked t n (emits by t) (λ l. emits_worked by t l worker) site.host.flows) i

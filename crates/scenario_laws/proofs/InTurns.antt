@@ -67,7 +67,7 @@ tick_of t frames b a =
     }
 
 -- it holds of a tick of a host in which each of its applications had one turn
-abbrev OfEachTurned : Scenario → (HostTick → Type 0) → Type 0
+abbrev pub OfEachTurned : Scenario → (HostTick → Type 0) → Type 0
 OfEachTurned s Fact =
     (t : ℕ) (frames : List Arrival) (b a : Site (List Script)) → HadTurns s (tick_of t frames b a)
     → Fact (tick_of t frames b a)
@@ -98,7 +98,7 @@ from_turned s Fact (suc most) t world end run each rise =
       λ goes_on. from_turned s Fact most (t + 1) run.0 end (run.3 goes_on) each here.1,
     )
 
-ticks_turned : (s : Scenario) (log : RunLog) (run : Run s log) (Fact : HostTick → Type 0) → OfEachTurned s Fact
+pub ticks_turned : (s : Scenario) (log : RunLog) (run : Run s log) (Fact : HostTick → Type 0) → OfEachTurned s Fact
     → InEachTick s log run Fact
 ticks_turned s log run Fact each =
     from_turned s Fact s.limit 0 (at_start s) run.0 run.1 each (start_rises s s.hosts)

@@ -22,3 +22,6 @@ pub mod AllControlled
 pub mod Goes
 pub mod AllTurned
 pub mod InTurns
+mod LowestSlots
+mod Counted
+mod Sent

@@ -437,6 +437,135 @@ hosts_most f world h (site ∷ sites) flow =
           other_host (f.host == h) (f.flow == k) (f.number == m) (above_test f.host h g)) in
           let all : sent_as f ((flows ++ log) ++ rest) ≡ sent_as f flows + sent_as f rest = sum in omega arith
 
+-- ----- frames of no flow
+below_log : (f : FrameId) (world : World) (host n : ℕ) (ls : List LogLine) → f.number < n
+    → sent_as f (frames_of_log world host n ls) ≡ 0
+below_log f world host n [] low = refl
+below_log f world host n (l ∷ ls) low =
+    by_answer (answer_on l.event) (λ k. below_log f world host (n + k) ls (omega arith)) where
+      rest_of : List Sent → List Sent
+      rest_of answer = frames_of_log world host (n + length answer) ls
+
+      by_answer : (o : Option (FourTuple × Head)) → ((k : ℕ) → sent_as f (frames_of_log world host (n + k) ls) ≡ 0)
+          → sent_as f (frames_of_answer world host n l.tick o ++ rest_of (frames_of_answer world host n l.tick o)) ≡ 0
+      by_answer None rest = rest 0
+      by_answer (Some a) rest =
+          none_more (is_of f (name host no_flow n)) _
+          (other_number (f.host == host) (f.flow == no_flow) (f.number == n) (below_test f.number n low)) (rest 1)
+
+log_most : (f : FrameId) (world : World) (host n : ℕ) (ls : List LogLine)
+    → sent_as f (frames_of_log world host n ls) ≤ 1
+log_most f world host n [] = omega arith
+log_most f world host n (l ∷ ls) =
+    by_answer (answer_on l.event) (λ k. log_most f world host (n + k) ls) where
+      rest_of : List Sent → List Sent
+      rest_of answer = frames_of_log world host (n + length answer) ls
+
+      rest : List Sent
+      rest = frames_of_log world host (n + 1) ls
+
+      late : f.number < n + 1 → one_if (is_of f (name host no_flow n)) + sent_as f rest ≤ 1
+      late h =
+          let none : sent_as f rest ≡ 0 = below_log f world host (n + 1) ls h in
+          let one : one_if (is_of f (name host no_flow n)) ≤ 1 = one_most (is_of f (name host no_flow n)) in omega arith
+
+      by_number : Compared f.number n → sent_as f rest ≤ 1
+          → one_if (is_of f (name host no_flow n)) + sent_as f rest ≤ 1
+      by_number (Below h) most = late (omega arith)
+      by_number (Same h) most = late (omega arith)
+      by_number (Above h) most =
+          let none : one_if (is_of f (name host no_flow n)) + 0 ≡ 0 =
+          none_more (is_of f (name host no_flow n)) 0
+          (other_number (f.host == host) (f.flow == no_flow) (f.number == n) (above_test f.number n h)) refl in
+          omega arith
+
+      by_answer : (o : Option (FourTuple × Head)) → ((k : ℕ) → sent_as f (frames_of_log world host (n + k) ls) ≤ 1)
+          → sent_as f (frames_of_answer world host n l.tick o ++ rest_of (frames_of_answer world host n l.tick o)) ≤ 1
+      by_answer None few = few 0
+      by_answer (Some a) few = by_number (compared f.number n) (few 1)
+
+-- no flow has so high a number
+above_flows : (f : FrameId) (world : World) (host n : ℕ) (ls : List Live) → n + length ls ≤ f.flow
+    → sent_as f (frames_of_flows world host n ls) ≡ 0
+above_flows f world host n [] high = refl
+above_flows f world host n (l ∷ ls) high =
+    let to : ℕ = host_at world l.flow.tuple.raddr in
+    let one : sent_as f (frames_of_entries host n 0 to l.flow.tuple l.flow.entries) ≡ 0 =
+    entries_none f host n 0 to l.flow.tuple l.flow.entries (λ m h.
+    other_flow (f.host == host) (f.flow == n) (f.number == m) (above_test f.flow n (omega arith))) in
+    let rest : sent_as f (frames_of_flows world host (n + 1) ls) ≡ 0 =
+    above_flows f world host (n + 1) ls (omega arith) in
+    sent_append f (frames_of_entries host n 0 to l.flow.tuple l.flow.entries) _ ∙ (omega arith)
+
+-- fewer flows were opened on each host than the number is that means none
+abbrev pub AreFew : World → Type 0
+AreFew [] = Unit {0}
+AreFew (site ∷ sites) = (length site.host.flows ≤ no_flow) × AreFew sites
+
+host_most : (f : FrameId) (world : World) (h : ℕ) (ls : List Live) (log : List LogLine) → length ls ≤ no_flow
+    → sent_as f (frames_of_flows world h 0 ls ++ frames_of_log world h 0 log) ≤ 1
+host_most f world h ls log few =
+    sum_most (by_flow (compared f.flow no_flow)) where
+      flows : List Sent
+      flows = frames_of_flows world h 0 ls
+
+      answers : List Sent
+      answers = frames_of_log world h 0 log
+
+      sum_most : sent_as f flows + sent_as f answers ≤ 1 → sent_as f (flows ++ answers) ≤ 1
+      sum_most most =
+          let sum : sent_as f (flows ++ answers) ≡ sent_as f flows + sent_as f answers = sent_append f flows answers in
+          omega arith
+
+      high : no_flow ≤ f.flow → sent_as f flows + sent_as f answers ≤ 1
+      high above =
+          let none : sent_as f flows ≡ 0 = above_flows f world h 0 ls (omega arith) in
+          let most : sent_as f answers ≤ 1 = log_most f world h 0 log in omega arith
+
+      by_flow : Compared f.flow no_flow → sent_as f flows + sent_as f answers ≤ 1
+      by_flow (Below g) =
+          let none : sent_as f answers ≡ 0 =
+          log_none f world h 0 log (λ m.
+          other_flow (f.host == h) (f.flow == no_flow) (f.number == m) (below_test f.flow no_flow g)) in
+          let most : sent_as f flows ≤ 1 = flows_most f world h 0 ls in omega arith
+      by_flow (Same g) = high (omega arith)
+      by_flow (Above g) = high (omega arith)
+
+pub all_most : (f : FrameId) (world : World) (h : ℕ) (sites : World) → AreFew sites
+    → sent_as f (frames_of_hosts world h sites) ≤ 1
+all_most f world h [] few = omega arith
+all_most f world h (site ∷ sites) few =
+    by_host (compared f.host h) (all_most f world (h + 1) sites few.1) where
+      here : List Sent
+      here = frames_of_flows world h 0 site.host.flows ++ frames_of_log world h 0 site.host.log
+
+      rest : List Sent
+      rest = frames_of_hosts world (h + 1) sites
+
+      sum : sent_as f (here ++ rest) ≡ sent_as f here + sent_as f rest
+      sum = sent_append f here rest
+
+      late : f.host < h + 1 → sent_as f (here ++ rest) ≤ 1
+      late g =
+          let none : sent_as f rest ≡ 0 = hosts_none f world (h + 1) sites g in
+          let most : sent_as f here ≤ 1 = host_most f world h site.host.flows site.host.log few.0 in
+          let all : sent_as f (here ++ rest) ≡ sent_as f here + sent_as f rest = sum in omega arith
+
+      by_host : Compared f.host h → sent_as f rest ≤ 1 → sent_as f (here ++ rest) ≤ 1
+      by_host (Below g) most = late (omega arith)
+      by_host (Same g) most = late (omega arith)
+      by_host (Above g) most =
+          let other : (k m : ℕ) → is_of f (name h k m) ≡ false =
+          (λ k m. other_host (f.host == h) (f.flow == k) (f.number == m) (above_test f.host h g)) in
+          let flows : sent_as f (frames_of_flows world h 0 site.host.flows) ≡ 0 =
+          flows_none f world h 0 site.host.flows (λ k m low. other k m) in
+          let log : sent_as f (frames_of_log world h 0 site.host.log) ≡ 0 =
+          log_none f world h 0 site.host.log (other no_flow) in
+          let both : sent_as f here ≡ sent_as f (frames_of_flows world h 0 site.host.flows)
+          + sent_as f (frames_of_log world h 0 site.host.log) =
+          sent_append f (frames_of_flows world h 0 site.host.flows) (frames_of_log world h 0 site.host.log) in
+          let all : sent_as f (here ++ rest) ≡ sent_as f here + sent_as f rest = sum in omega arith
+
 -- ----- what comes to a host in a tick
 pub comes_once : (f : FrameId) (lines : LinkLines) (world : World) (t h : ℕ) → f.flow < no_flow
     → coming f (arrivals_at lines (sent_in world) t h) ≤ 1

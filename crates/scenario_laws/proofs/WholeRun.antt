@@ -1,20 +1,27 @@
--- In a whole run a frame of a flow stands in one place at most: each is due in one tick alone.
+-- In a whole run a frame stands in one place at most: each is due in one tick alone.
 use Rattle.std.proofs.Common.{◌≡◌, ℕ, zero, suc, ◌+◌, ◌≤◌, ◌<◌, ◌==◌, ◌&&◌, not, Bool, true, false, List, [], ◌∷◌}
 use Rattle.std.proofs.Common.{◌++◌, length, map, filter, nat_le, nat_lt, refl, sym, subst, ap, arith, tests}
 use Rattle.std.proofs.Common.{if◌then◌else◌}
+use Rattle.std.proofs.Common.{Option, Some, None}
 use Rattle.std.specs.List.{flat_map}
+use Rattle.std.proofs.lemmas.List.{length-append}
 use Rattle.tas_model.specs.declared.entry.FourTuple.{FourTuple}
 use Rattle.tas_model.specs.declared.entry.FrameId.{FrameId}
+use Rattle.tas_model.specs.declared.entry.Head.{Head}
+use Rattle.tas_model.specs.declared.entry.HostParams.{HostParams}
 use Rattle.tas_model.specs.declared.entry.Seg.{Seg}
 use Rattle.tas_model.specs.declared.entry.Entry.{Entry}
 use Rattle.tas_model.specs.Outputs.{segments_in}
-use Rattle.tas_model.specs.Segments.{one_if}
+use Rattle.tas_model.specs.Segments.{one_if, bare}
 use Rattle.host_rounds.specs.Logs.{RunLog}
-use Rattle.host_rounds.specs.Hosts.{Live, flows_of}
+use Rattle.host_rounds.specs.Hosts.{Live, Numbers, flows_of}
 use Rattle.host_rounds.specs.Deliveries.{same_frame}
-use Rattle.host_rounds.specs.Passing.{AllGrew, Grew, Went}
+use Rattle.host_rounds.specs.declared.log.LogLine.{LogLine}
+use Rattle.host_rounds.specs.Openings.{Opening, AreOpened}
+use Rattle.host_rounds.specs.Passing.{AllGrew, Grew, LogGrew, Went}
 use Rattle.host_rounds.specs.Places.{uses, uses_live, uses_flows, uses_hosts, coming}
 use Rattle.host_rounds.proofs.OnePlace.{round_adds}
+use Rattle.host_rounds.proofs.Keeps.{openings, length_is}
 use Rattle.host_rounds.proofs.Runs.{flows_uses}
 use Rattle.link_script.specs.LinkLines.{LinkLines}
 use Rattle.link_script.specs.declared.frames.Sent.{Sent}
@@ -23,13 +30,13 @@ use Rattle.scenario_text.specs.declared.scenario.Scenario.{Scenario}
 use Rattle.scenario_text.specs.declared.scenario.HostLine.{HostLine}
 use Rattle.scenario_runs.specs.Worlds.{World, site_of, host_at, frames_of_segments, frames_of_entries, frames_of_flows}
 use Rattle.scenario_runs.specs.Worlds.{frames_of_log, frames_of_hosts, no_flow, sent_in, arrival, scripts_of, due_at}
-use Rattle.scenario_runs.specs.Worlds.{at_start, is_at_rest}
+use Rattle.scenario_runs.specs.Worlds.{at_start, is_at_rest, answer_on, frames_of_answer, numbers_of}
 use Rattle.scenario_runs.specs.Runs.{AreRounds, End, RunsFrom, hosts_of, Run}
 use Rattle.scenario_runs.proofs.ByMoves.{scenarios_by_moves}
 use Rattle.scenario_laws.proofs.OneTick.{tick_went}
-use Rattle.scenario_laws.proofs.AllTicks.{AllStand, of_line, rounds_stand, start_stands}
+use Rattle.scenario_laws.proofs.AllTicks.{AllStand, of_line, rounds_stand, ticks_stand, start_stands}
 use Rattle.scenario_laws.proofs.OneName.{named, named_append, is_of, sent_as, AreFirst, arrivals_named, order_named}
-use Rattle.scenario_laws.proofs.OneName.{coming_named, hosts_first, log_none, other_flow, below_test, hosts_most}
+use Rattle.scenario_laws.proofs.OneName.{coming_named, hosts_first, AreFew, all_most}
 
 -- ----- how many frames were sent that pass a test of their name and tick
 abbrev counted : (FrameId → ℕ → Bool) → List Sent → ℕ
@@ -115,26 +122,55 @@ AllWent t [] az = Unit {0}
 AllWent t (b ∷ bs) [] = ⊥
 AllWent t (b ∷ bs) (a ∷ az) = Went t b.host a.host × AllWent t bs az
 
-hosts_grow : (f : FrameId) (test : FrameId → ℕ → Bool) (world next : World) (t h : ℕ) (before after : World)
-    → f.flow < no_flow → AllWent t before after
-    → counted (of_name f test) (frames_of_hosts world h before)
-    ≤ counted (of_name f test) (frames_of_hosts next h after)
-hosts_grow f test world next t h [] after flow went = omega arith
-hosts_grow f test world next t h (b ∷ bs) [] flow went = absurd went
-hosts_grow f test world next t h (b ∷ bs) (a ∷ az) flow went =
-    let q : FrameId → ℕ → Bool = of_name f test in
+answer_same : (test : FrameId → ℕ → Bool) (world next : World) (host n t : ℕ) (o : Option (FourTuple × Head))
+    → counted test (frames_of_answer world host n t o) ≡ counted test (frames_of_answer next host n t o)
+answer_same test world next host n t None = refl
+answer_same test world next host n t (Some a) =
+    segments_same test host no_flow n t (host_at world a.0.raddr) (host_at next a.0.raddr) a.0 a.0
+    (bare a.1 ∷ [])
+
+answer_length : (world next : World) (host n t : ℕ) (o : Option (FourTuple × Head))
+    → length (frames_of_answer world host n t o) ≡ length (frames_of_answer next host n t o)
+answer_length world next host n t None = refl
+answer_length world next host n t (Some a) = refl
+
+lines_more : (test : FrameId → ℕ → Bool) (world next : World) (host n : ℕ) (xs more : List LogLine)
+    → counted test (frames_of_log world host n xs) ≤ counted test (frames_of_log next host n (xs ++ more))
+lines_more test world next host n [] more = omega arith
+lines_more test world next host n (x ∷ xs) more =
+    let o : Option (FourTuple × Head) = answer_on x.event in
+    let a : List Sent = frames_of_answer world host n x.tick o in
+    let b : List Sent = frames_of_answer next host n x.tick o in
+    let c : List Sent = frames_of_log world host (n + length a) xs in
+    let d : List Sent = frames_of_log next host (n + length b) (xs ++ more) in
+    let here : counted test a ≡ counted test b = answer_same test world next host n x.tick o in
+    let rest : counted test c ≤ counted test d =
+    subst (λ (k : ℕ). counted test c ≤ counted test (frames_of_log next host (n + k) (xs ++ more)))
+    (answer_length world next host n x.tick o) (lines_more test world next host (n + length a) xs more) in
+    let before : counted test (a ++ c) ≡ counted test a + counted test c = counted_append test a c in
+    let after : counted test (b ++ d) ≡ counted test b + counted test d = counted_append test b d in
+    omega arith
+
+log_grow : (test : FrameId → ℕ → Bool) (world next : World) (host t : ℕ) (xs ys : List LogLine) → LogGrew t xs ys
+    → counted test (frames_of_log world host 0 xs) ≤ counted test (frames_of_log next host 0 ys)
+log_grow test world next host t xs ys grew =
+    subst (λ (zs : List LogLine). counted test (frames_of_log world host 0 xs)
+    ≤ counted test (frames_of_log next host 0 zs)) (sym grew.1) (lines_more test world next host 0 xs grew.0)
+
+hosts_grow : (q : FrameId → ℕ → Bool) (world next : World) (t h : ℕ) (before after : World) → AllWent t before after
+    → counted q (frames_of_hosts world h before) ≤ counted q (frames_of_hosts next h after)
+hosts_grow q world next t h [] after went = omega arith
+hosts_grow q world next t h (b ∷ bs) [] went = absurd went
+hosts_grow q world next t h (b ∷ bs) (a ∷ az) went =
     let i : List Sent = frames_of_flows world h 0 b.host.flows in
     let j : List Sent = frames_of_log world h 0 b.host.log in
     let k : List Sent = frames_of_hosts world (h + 1) bs in
     let l : List Sent = frames_of_flows next h 0 a.host.flows in
     let m : List Sent = frames_of_log next h 0 a.host.log in
     let n : List Sent = frames_of_hosts next (h + 1) az in
-    let none : sent_as f j ≡ 0 =
-    log_none f world h 0 b.host.log (λ u.
-    other_flow (f.host == h) (f.flow == no_flow) (f.number == u) (below_test f.flow no_flow flow)) in
-    let few : counted q j ≤ sent_as f j = counted_most f test j in
     let flows : counted q i ≤ counted q l = flows_grow q world next h 0 t b.host.flows a.host.flows went.0.flows in
-    let rest : counted q k ≤ counted q n = hosts_grow f test world next t (h + 1) bs az flow went.1 in
+    let log : counted q j ≤ counted q m = log_grow q world next h t b.host.log a.host.log went.0.log in
+    let rest : counted q k ≤ counted q n = hosts_grow q world next t (h + 1) bs az went.1 in
     let a0 : counted q ((i ++ j) ++ k) ≡ counted q (i ++ j) + counted q k = counted_append q (i ++ j) k in
     let a1 : counted q (i ++ j) ≡ counted q i + counted q j = counted_append q i j in
     let b0 : counted q ((l ++ m) ++ n) ≡ counted q (l ++ m) + counted q n = counted_append q (l ++ m) n in
@@ -298,10 +334,9 @@ rounds_went s whole t h (l ∷ ls) (b ∷ bs) (a ∷ az) rounds stand = (
 abbrev HasPlaced : FrameId → Scenario → (tick : ℕ) → World → Type 0
 HasPlaced f s t world = uses_in_all f world ≤ counted (of_name f (past s.link t)) (sent_in world)
 
-tick_placed : (f : FrameId) (s : Scenario) (t : ℕ) (world next : World) → f.flow < no_flow
-    → AreRounds s world t 0 world next → AllStand t s.hosts world → HasPlaced f s t world
+tick_placed : (f : FrameId) (s : Scenario) (t : ℕ) (world next : World) → AreRounds s world t 0 world next → AllStand t s.hosts world → HasPlaced f s t world
     → HasPlaced f s (t + 1) next
-tick_placed f s t world next flow rounds stand placed =
+tick_placed f s t world next rounds stand placed =
     let all : List Sent = sent_in world in
     let a : uses_in_all f next ≤ uses_in_all f world + named_to f 0 (due s.link all t) =
     rounds_use f s world t 0 s.hosts world next rounds stand in
@@ -314,21 +349,21 @@ tick_placed f s t world next flow rounds stand placed =
     ≤ counted (of_name f (past s.link (t + 1))) all = all_past f s.link t all in
     let g : counted (of_name f (past s.link (t + 1))) all
     ≤ counted (of_name f (past s.link (t + 1))) (sent_in next) =
-    hosts_grow f (past s.link (t + 1)) world next t 0 world next flow
+    hosts_grow (of_name f (past s.link (t + 1))) world next t 0 world next
     (rounds_went s world t 0 s.hosts world next rounds stand) in
     omega arith
 
-runs_place : (f : FrameId) (s : Scenario) (most t : ℕ) (world : World) (end : End) → f.flow < no_flow
+runs_place : (f : FrameId) (s : Scenario) (most t : ℕ) (world : World) (end : End)
     → RunsFrom s most t world end → AllStand t s.hosts world → HasPlaced f s t world
     → HasPlaced f s end.ticks end.world
-runs_place f s zero t world end flow same stand placed =
+runs_place f s zero t world end same stand placed =
     subst (λ (e : End). HasPlaced f s e.ticks e.world) (sym same) placed
-runs_place f s (suc most) t world end flow run stand placed =
+runs_place f s (suc most) t world end run stand placed =
     let next : World = run.0 in
     let later : AllStand (t + 1) s.hosts next = rounds_stand s world t 0 s.hosts world next run.1 stand in
-    let after : HasPlaced f s (t + 1) next = tick_placed f s t world next flow run.1 stand placed in
+    let after : HasPlaced f s (t + 1) next = tick_placed f s t world next run.1 stand placed in
     by_rest (is_at_rest s t next) refl run.2 run.3 after
-    (λ rest. runs_place f s most (t + 1) next end flow rest later after)
+    (λ rest. runs_place f s most (t + 1) next end rest later after)
   where
     by_rest : {next : World} (b : Bool) → is_at_rest s t next ≡ b
         → (is_at_rest s t next ≡ true → end ≡ record { world = next; ticks = t + 1; stalled = false })
@@ -353,15 +388,37 @@ hosts_use f (l ∷ ls) (site ∷ sites) =
     let rest : uses_hosts f (hosts_of ls sites) ≤ uses_in_all f sites = hosts_use f ls sites in
     omega arith
 
-pub runs_once : (s : Scenario) (log : RunLog) (frame : FrameId) → frame.flow < no_flow → Run s log
-    → uses_hosts frame log.hosts ≤ 1
-runs_once s log f flow run =
+-- fewer flows are opened than may be named
+opened_few : (numbers : Numbers) (p : HostParams) (before os : List Opening) → AreOpened numbers p before os
+    → length before ≤ no_flow → length before + length os ≤ no_flow
+opened_few numbers p before [] opened few = omega arith
+opened_few numbers p before (o ∷ os) opened few =
+    let one : length before < no_flow = opened.0.few in
+    let more : length (before ++ o ∷ []) ≡ length before + 1 = length-append before (o ∷ []) in
+    let rest : length (before ++ o ∷ []) + length os ≤ no_flow =
+    opened_few numbers p (before ++ o ∷ []) os opened.1 (omega arith) in omega arith
+
+all_few : (t : ℕ) (lines : List HostLine) (world : World) → AllStand t lines world → AreFew world
+all_few t [] [] stand = tt
+all_few t [] (site ∷ sites) stand = absurd stand
+all_few t (l ∷ ls) [] stand = absurd stand
+all_few t (l ∷ ls) (site ∷ sites) stand =
+    let few : 0 + length (openings site.host.flows) ≤ no_flow =
+    opened_few (numbers_of l.params) l.params [] (openings site.host.flows) stand.0.right.opened (omega arith) in
+    let same : length (openings site.host.flows) ≡ length site.host.flows = length_is site.host.flows in
+    (omega arith, all_few t ls sites stand.1)
+
+pub runs_once : (s : Scenario) (log : RunLog) (frame : FrameId) → Run s log → uses_hosts frame log.hosts ≤ 1
+runs_once s log f run =
     let end : End = run.0 in
     let none : uses_in_all f (at_start s) ≡ 0 = start_uses f s s.hosts in
     let placed : HasPlaced f s end.ticks end.world =
-    runs_place f s s.limit 0 (at_start s) end flow run.1 (start_stands s s.hosts) (omega arith) in
+    runs_place f s s.limit 0 (at_start s) end run.1 (start_stands s s.hosts) (omega arith) in
     let few : counted (of_name f (past s.link end.ticks)) (sent_in end.world) ≤ sent_as f (sent_in end.world) =
     counted_most f (past s.link end.ticks) (sent_in end.world) in
-    let one : sent_as f (sent_in end.world) ≤ 1 = hosts_most f end.world 0 end.world flow in
+    let stand : AllStand end.ticks s.hosts end.world =
+    ticks_stand s s.limit 0 (at_start s) end run.1 (start_stands s s.hosts) in
+    let one : sent_as f (sent_in end.world) ≤ 1 =
+    all_most f end.world 0 end.world (all_few end.ticks s.hosts end.world stand) in
     let hosts : uses_hosts f (hosts_of s.hosts end.world) ≤ uses_in_all f end.world = hosts_use f s.hosts end.world in
     subst (λ (r : RunLog). uses_hosts f r.hosts ≤ 1) (sym run.2) (omega arith)

@@ -5,3 +5,6 @@ pub mod Turns
 pub mod Ports
 pub mod Kills
 pub mod Sockets
+pub mod Slots
+pub mod Counts
+pub mod Sends

@@ -22,8 +22,9 @@ pub fn frames_have_one_place()
     // a frame of a flow comes once at most in a tick,
     ensures once { (s : Scenario) (log : RunLog) (run : Run s log) (frame : FrameId) → frame.flow < no_flow
         → InEachTick s log run (λ x. coming frame x.frames ≤ 1) }
-    // and it stands in one place at most of all that a run leaves, of whatever host.
-    ensures ended { (s : Scenario) (log : RunLog) (frame : FrameId) → frame.flow < no_flow → Run s log
+    // and each frame, also one of no flow, stands in one place at most of all that a run leaves, of whatever host: so a
+    // segment of no flow is answered once at most.
+    ensures ended { (s : Scenario) (log : RunLog) (frame : FrameId) → Run s log
         → uses_hosts frame log.hosts ≤ 1 }
 {}
 

@@ -7,3 +7,4 @@ pub mod Ends
 pub mod Texts
 pub mod Origins
 pub mod WorkedEnds
+mod Faithful

@@ -1,6 +1,9 @@
-ghost use Rattle.std.specs.Prelude.{◌≡◌, ℕ, ◌≤◌, List, [], ◌∷◌, Ok};
+ghost use Rattle.std.specs.Prelude.{◌≡◌, ℕ, ◌≤◌, List, [], ◌∷◌, Ok, Contains};
 ghost use Rattle.host_rounds.specs.Lists.{Each};
 ghost use Rattle.host_rounds.specs.Logs.{HostRun, RunLog};
+ghost use Rattle.link_script.specs.LinkLines.{LinkLines};
+ghost use Rattle.link_script.specs.declared.script.LinkAct.TheVariants as acts;
+ghost use Rattle.link_script.specs.declared.script.Target.{Target};
 ghost use Rattle.scenario_text.specs.declared.scenario.Scenario.{Scenario};
 ghost use Rattle.scenario_text.specs.Reads.{reads};
 ghost use Rattle.scenario_runs.specs.Runs.{Run};
@@ -10,6 +13,16 @@ ghost use Rattle.worked_scenarios.specs.WorkedLinks.{own_host};
 ghost use Rattle.two_ends.specs.Ends.{IsFaithful, HearsOtherEnd, ReadsOtherEnd};
 ghost use Rattle.two_ends.specs.Origins.{TookWhatWasSent};
 ghost use Rattle.two_ends.specs.WorkedEnds.{other_end_counts};
+
+/// A link is faithful exactly where none of its lines corrupts a frame, whatever else they do: lose frames, double them
+/// or delay them.
+pub fn links_are_faithful_where_no_line_corrupts()
+    ensures faithful { (lines : LinkLines)
+        → ((target : Target) (place : ℕ) → Contains lines.acts (target, acts.Corrupt place) → ⊥)
+        → IsFaithful lines }
+    ensures corrupt { (lines : LinkLines) (target : Target) (place : ℕ)
+        → Contains lines.acts (target, acts.Corrupt place) → IsFaithful lines → ⊥ }
+{}
 
 /// In every run of a scenario without `corrupt` lines, whatever the order of its ticks: each segment that a flow took
 /// is one that a flow of the run with the four-tuple reversed has sent, or a reset by which a host answered a segment

@@ -1,0 +1,4 @@
+pub mod WorkedHosts
+pub mod WorkedFrames
+pub mod WorkedRecords
+pub mod WorkedRest
