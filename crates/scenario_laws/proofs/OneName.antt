@@ -1,11 +1,13 @@
--- In a tick a frame of a flow comes once at most: no two frames of flows bear one name.
+-- In a tick a frame comes once at most: no two frames bear one name.
 use Rattle.std.proofs.Common.{◌≡◌, ℕ, zero, suc, ◌+◌, ◌≤◌, ◌<◌, ◌==◌, ◌&&◌, Bool, true, false, List, [], ◌∷◌}
 use Rattle.std.proofs.Common.{◌++◌, length, map, filter, Option, Some, None, refl, sym, subst, ap, ◌∙◌, arith, tests}
 use Rattle.std.proofs.Common.{true≢false, if◌then◌else◌}
 use Rattle.std.specs.List.{flat_map}
+use Rattle.std.proofs.lemmas.List.{length-append}
 use Rattle.tas_model.specs.declared.entry.FourTuple.{FourTuple}
 use Rattle.tas_model.specs.declared.entry.FrameId.{FrameId}
 use Rattle.tas_model.specs.declared.entry.Head.{Head}
+use Rattle.tas_model.specs.declared.entry.HostParams.{HostParams}
 use Rattle.tas_model.specs.declared.entry.Seg.{Seg}
 use Rattle.tas_model.specs.declared.entry.Entry.{Entry}
 use Rattle.tas_model.specs.Outputs.{segments_in}
@@ -13,7 +15,9 @@ use Rattle.tas_model.specs.Segments.{one_if}
 use Rattle.host_rounds.specs.declared.log.LogLine.{LogLine}
 use Rattle.host_rounds.specs.Lists.{Each}
 use Rattle.host_rounds.specs.Logs.{RunLog}
-use Rattle.host_rounds.specs.Hosts.{Live}
+use Rattle.host_rounds.specs.Hosts.{Live, Numbers}
+use Rattle.host_rounds.specs.Openings.{Opening, AreOpened}
+use Rattle.host_rounds.proofs.Keeps.{openings, length_is}
 use Rattle.host_rounds.specs.Deliveries.{same_frame}
 use Rattle.host_rounds.specs.Places.{coming}
 use Rattle.link_script.specs.LinkLines.{LinkLines}
@@ -24,9 +28,11 @@ use Rattle.link_script.specs.DueFrames.{act_on, is_due, copies_under, coming_of,
 use Rattle.scenario_text.specs.declared.scenario.Scenario.{Scenario}
 use Rattle.scenario_runs.specs.Worlds.{World, host_at, frames_of_segments, frames_of_entries, frames_of_flows, no_flow}
 use Rattle.scenario_runs.specs.Worlds.{answer_on, frames_of_answer, frames_of_log, frames_of_hosts, sent_in, arrival}
-use Rattle.scenario_runs.specs.Worlds.{at_start, arrivals_at}
+use Rattle.scenario_runs.specs.Worlds.{at_start, arrivals_at, numbers_of}
+use Rattle.scenario_text.specs.declared.scenario.HostLine.{HostLine}
 use Rattle.scenario_runs.specs.Runs.{AreRounds, End, RunsFrom, Run}
 use Rattle.scenario_laws.specs.Ticks.{HostTick, OfEachHost, FromTick, InEachTick}
+use Rattle.scenario_laws.proofs.AllTicks.{AllStand, rounds_stand, start_stands}
 
 -- ----- how many frames bear a name
 abbrev pub named : FrameId → List Sent → ℕ
@@ -400,43 +406,6 @@ flows_most f world host n (l ∷ ls) = by_flow (compared f.flow n) (flows_most f
       other_flow (f.host == host) (f.flow == n) (f.number == m) (above_test f.flow n h)) in
       let sum : sent_as f (here ++ rest) ≡ sent_as f here + sent_as f rest = sent_append f here rest in omega arith
 
-pub hosts_most : (f : FrameId) (world : World) (h : ℕ) (sites : World) → f.flow < no_flow
-    → sent_as f (frames_of_hosts world h sites) ≤ 1
-hosts_most f world h [] flow = omega arith
-hosts_most f world h (site ∷ sites) flow =
-    by_host (compared f.host h) (hosts_most f world (h + 1) sites flow) where
-      flows : List Sent
-      flows = frames_of_flows world h 0 site.host.flows
-
-      log : List Sent
-      log = frames_of_log world h 0 site.host.log
-
-      rest : List Sent
-      rest = frames_of_hosts world (h + 1) sites
-
-      sum : sent_as f ((flows ++ log) ++ rest) ≡ sent_as f flows + sent_as f rest
-      sum =
-          let none : sent_as f log ≡ 0 =
-          log_none f world h 0 site.host.log (λ m.
-          other_flow (f.host == h) (f.flow == no_flow) (f.number == m) (below_test f.flow no_flow flow)) in
-          let both : sent_as f (flows ++ log) ≡ sent_as f flows + sent_as f log = sent_append f flows log in
-          sent_append f (flows ++ log) rest ∙ (omega arith)
-
-      late : f.host < h + 1 → sent_as f ((flows ++ log) ++ rest) ≤ 1
-      late g =
-          let none : sent_as f rest ≡ 0 = hosts_none f world (h + 1) sites g in
-          let most : sent_as f flows ≤ 1 = flows_most f world h 0 site.host.flows in
-          let all : sent_as f ((flows ++ log) ++ rest) ≡ sent_as f flows + sent_as f rest = sum in omega arith
-
-      by_host : Compared f.host h → sent_as f rest ≤ 1 → sent_as f ((flows ++ log) ++ rest) ≤ 1
-      by_host (Below g) most = late (omega arith)
-      by_host (Same g) most = late (omega arith)
-      by_host (Above g) most =
-          let none : sent_as f flows ≡ 0 =
-          flows_none f world h 0 site.host.flows (λ k m low.
-          other_host (f.host == h) (f.flow == k) (f.number == m) (above_test f.host h g)) in
-          let all : sent_as f ((flows ++ log) ++ rest) ≡ sent_as f flows + sent_as f rest = sum in omega arith
-
 -- ----- frames of no flow
 below_log : (f : FrameId) (world : World) (host n : ℕ) (ls : List LogLine) → f.number < n
     → sent_as f (frames_of_log world host n ls) ≡ 0
@@ -501,6 +470,26 @@ above_flows f world host n (l ∷ ls) high =
 abbrev pub AreFew : World → Type 0
 AreFew [] = Unit {0}
 AreFew (site ∷ sites) = (length site.host.flows ≤ no_flow) × AreFew sites
+
+-- fewer flows are opened than may be named
+opened_few : (numbers : Numbers) (p : HostParams) (before os : List Opening) → AreOpened numbers p before os
+    → length before ≤ no_flow → length before + length os ≤ no_flow
+opened_few numbers p before [] opened few = omega arith
+opened_few numbers p before (o ∷ os) opened few =
+    let one : length before < no_flow = opened.0.few in
+    let more : length (before ++ o ∷ []) ≡ length before + 1 = length-append before (o ∷ []) in
+    let rest : length (before ++ o ∷ []) + length os ≤ no_flow =
+    opened_few numbers p (before ++ o ∷ []) os opened.1 (omega arith) in omega arith
+
+pub all_few : (t : ℕ) (lines : List HostLine) (world : World) → AllStand t lines world → AreFew world
+all_few t [] [] stand = tt
+all_few t [] (site ∷ sites) stand = absurd stand
+all_few t (l ∷ ls) [] stand = absurd stand
+all_few t (l ∷ ls) (site ∷ sites) stand =
+    let few : 0 + length (openings site.host.flows) ≤ no_flow =
+    opened_few (numbers_of l.params) l.params [] (openings site.host.flows) stand.0.right.opened (omega arith) in
+    let same : length (openings site.host.flows) ≡ length site.host.flows = length_is site.host.flows in
+    (omega arith, all_few t ls sites stand.1)
 
 host_most : (f : FrameId) (world : World) (h : ℕ) (ls : List Live) (log : List LogLine) → length ls ≤ no_flow
     → sent_as f (frames_of_flows world h 0 ls ++ frames_of_log world h 0 log) ≤ 1
@@ -567,9 +556,9 @@ all_most f world h (site ∷ sites) few =
           let all : sent_as f (here ++ rest) ≡ sent_as f here + sent_as f rest = sum in omega arith
 
 -- ----- what comes to a host in a tick
-pub comes_once : (f : FrameId) (lines : LinkLines) (world : World) (t h : ℕ) → f.flow < no_flow
+pub comes_once : (f : FrameId) (lines : LinkLines) (world : World) (t h : ℕ) → AreFew world
     → coming f (arrivals_at lines (sent_in world) t h) ≤ 1
-comes_once f lines world t h flow =
+comes_once f lines world t h few =
     let all : List Sent = sent_in world in
     let here : List Sent = filter (λ (x : Sent). x.to == h) (due lines all t) in
     let a : coming f (map arrival here) ≡ named f here = arrivals_named f here in
@@ -578,29 +567,31 @@ comes_once f lines world t h flow =
     order_named f (flat_map (coming_of lines t) all) in
     let d : named f (flat_map (coming_of lines t) all) ≤ sent_as f all =
     all_named f lines t all (hosts_first world 0 world) in
-    let e : sent_as f all ≤ 1 = hosts_most f world 0 world flow in
+    let e : sent_as f all ≤ 1 = all_most f world 0 world few in
     omega arith
 
 -- ----- in each tick
 abbrev ComesOnce : FrameId → HostTick → Type 0
 ComesOnce f x = coming f x.frames ≤ 1
 
-hosts_once : (f : FrameId) (s : Scenario) (whole : World) (t h : ℕ) (before after : World) → f.flow < no_flow
+hosts_once : (f : FrameId) (s : Scenario) (whole : World) (t h : ℕ) (before after : World) → AreFew whole
     → AreRounds s whole t h before after → OfEachHost s (ComesOnce f) whole t h before after
-hosts_once f s whole t h [] [] flow rounds = tt
-hosts_once f s whole t h [] (a ∷ az) flow rounds = absurd rounds
-hosts_once f s whole t h (b ∷ bs) [] flow rounds = absurd rounds
-hosts_once f s whole t h (b ∷ bs) (a ∷ az) flow rounds =
-    (comes_once f s.link whole t h flow, hosts_once f s whole t (h + 1) bs az flow rounds.1)
+hosts_once f s whole t h [] [] few rounds = tt
+hosts_once f s whole t h [] (a ∷ az) few rounds = absurd rounds
+hosts_once f s whole t h (b ∷ bs) [] few rounds = absurd rounds
+hosts_once f s whole t h (b ∷ bs) (a ∷ az) few rounds =
+    (comes_once f s.link whole t h few, hosts_once f s whole t (h + 1) bs az few rounds.1)
 
 from_once : (f : FrameId) (s : Scenario) (most t : ℕ) (world : World) (end : End) (run : RunsFrom s most t world end)
-    → f.flow < no_flow → FromTick s (ComesOnce f) most t world end run
-from_once f s zero t world end run flow = tt
-from_once f s (suc most) t world end run flow = (
-  hosts_once f s world t 0 world run.0 flow run.1,
-  λ goes_on. from_once f s most (t + 1) run.0 end (run.3 goes_on) flow,
+    → AllStand t s.hosts world → FromTick s (ComesOnce f) most t world end run
+from_once f s zero t world end run stand = tt
+from_once f s (suc most) t world end run stand = (
+  hosts_once f s world t 0 world run.0 (all_few t s.hosts world stand) run.1,
+  λ goes_on. from_once f s most (t + 1) run.0 end (run.3 goes_on)
+      (rounds_stand s world t 0 s.hosts world run.0 run.1 stand),
 )
 
-pub ticks_once : (s : Scenario) (log : RunLog) (run : Run s log) (frame : FrameId) → frame.flow < no_flow
+pub ticks_once : (s : Scenario) (log : RunLog) (run : Run s log) (frame : FrameId)
     → InEachTick s log run (λ x. coming frame x.frames ≤ 1)
-ticks_once s log run frame flow = from_once frame s s.limit 0 (at_start s) run.0 run.1 flow
+ticks_once s log run frame =
+    from_once frame s s.limit 0 (at_start s) run.0 run.1 (start_stands s s.hosts)

@@ -36,7 +36,7 @@ use Rattle.scenario_runs.proofs.ByMoves.{scenarios_by_moves}
 use Rattle.scenario_laws.proofs.OneTick.{tick_went}
 use Rattle.scenario_laws.proofs.AllTicks.{AllStand, of_line, rounds_stand, ticks_stand, start_stands}
 use Rattle.scenario_laws.proofs.OneName.{named, named_append, is_of, sent_as, AreFirst, arrivals_named, order_named}
-use Rattle.scenario_laws.proofs.OneName.{coming_named, hosts_first, AreFew, all_most}
+use Rattle.scenario_laws.proofs.OneName.{coming_named, hosts_first, all_few, all_most}
 
 -- ----- how many frames were sent that pass a test of their name and tick
 abbrev counted : (FrameId → ℕ → Bool) → List Sent → ℕ
@@ -387,26 +387,6 @@ hosts_use f (l ∷ ls) (site ∷ sites) =
     flows_uses f site.host.flows in
     let rest : uses_hosts f (hosts_of ls sites) ≤ uses_in_all f sites = hosts_use f ls sites in
     omega arith
-
--- fewer flows are opened than may be named
-opened_few : (numbers : Numbers) (p : HostParams) (before os : List Opening) → AreOpened numbers p before os
-    → length before ≤ no_flow → length before + length os ≤ no_flow
-opened_few numbers p before [] opened few = omega arith
-opened_few numbers p before (o ∷ os) opened few =
-    let one : length before < no_flow = opened.0.few in
-    let more : length (before ++ o ∷ []) ≡ length before + 1 = length-append before (o ∷ []) in
-    let rest : length (before ++ o ∷ []) + length os ≤ no_flow =
-    opened_few numbers p (before ++ o ∷ []) os opened.1 (omega arith) in omega arith
-
-all_few : (t : ℕ) (lines : List HostLine) (world : World) → AllStand t lines world → AreFew world
-all_few t [] [] stand = tt
-all_few t [] (site ∷ sites) stand = absurd stand
-all_few t (l ∷ ls) [] stand = absurd stand
-all_few t (l ∷ ls) (site ∷ sites) stand =
-    let few : 0 + length (openings site.host.flows) ≤ no_flow =
-    opened_few (numbers_of l.params) l.params [] (openings site.host.flows) stand.0.right.opened (omega arith) in
-    let same : length (openings site.host.flows) ≡ length site.host.flows = length_is site.host.flows in
-    (omega arith, all_few t ls sites stand.1)
 
 pub runs_once : (s : Scenario) (log : RunLog) (frame : FrameId) → Run s log → uses_hosts frame log.hosts ≤ 1
 runs_once s log f run =

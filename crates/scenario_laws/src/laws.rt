@@ -8,7 +8,7 @@ ghost use Rattle.host_rounds.specs.Passing.{AreTimed, Went};
 ghost use Rattle.host_rounds.specs.Standing.{AreApart, AreFiled};
 ghost use Rattle.host_rounds.specs.Histories.{HasSentAll};
 ghost use Rattle.scenario_text.specs.declared.scenario.Scenario.{Scenario};
-ghost use Rattle.scenario_runs.specs.Worlds.{no_flow, all_ended, is_at_rest};
+ghost use Rattle.scenario_runs.specs.Worlds.{all_ended, is_at_rest};
 ghost use Rattle.scenario_runs.specs.Runs.{Run};
 ghost use Rattle.scenario_laws.specs.Ticks.{InEachTick};
 ghost use Rattle.scenario_laws.specs.Ends.{OfEachLine, IsNamed, HasOpened, IsBefore, last_world};
@@ -19,11 +19,11 @@ pub fn frames_have_one_place()
     // It gets as many places as it comes,
     ensures place { (s : Scenario) (log : RunLog) (run : Run s log) (frame : FrameId) → InEachTick s log run (λ x.
         uses frame x.after ≡ uses frame x.before + coming frame x.frames) }
-    // a frame of a flow comes once at most in a tick,
-    ensures once { (s : Scenario) (log : RunLog) (run : Run s log) (frame : FrameId) → frame.flow < no_flow
+    // it comes once at most in a tick,
+    ensures once { (s : Scenario) (log : RunLog) (run : Run s log) (frame : FrameId)
         → InEachTick s log run (λ x. coming frame x.frames ≤ 1) }
-    // and each frame, also one of no flow, stands in one place at most of all that a run leaves, of whatever host: so a
-    // segment of no flow is answered once at most.
+    // and it stands in one place at most of all that a run leaves, of whatever host. So it is of each frame, those of no
+    // flow among them: a segment of no flow is answered once at most.
     ensures ended { (s : Scenario) (log : RunLog) (frame : FrameId) → Run s log
         → uses_hosts frame log.hosts ≤ 1 }
 {}
