@@ -1,7 +1,8 @@
 -- What words ask for: words of a form ask for a run; a made scenario has from 1 to 1,000 clients, and there are from 1
 -- to 16 cores.
 use Rattle.std.proofs.Common.{◌≡◌, ℕ, zero, suc, ◌≤◌, ◌&&◌, not, Bool, true, false, List, [], ◌∷◌, Option, Some, None}
-use Rattle.std.proofs.Common.{is_some, fold, bytes_eq, codes, decimal, subst, refl, sym, if◌then◌else◌, arith}
+use Rattle.std.proofs.Common.{is_some, fold, bytes_eq, codes, decimal, subst, refl, sym, ap, ◌∙◌, if◌then◌else◌, arith}
+use Rattle.std.proofs.Common.{true≢false}
 use Rattle.std.specs.Prelude.{⊤}
 use Rattle.program_words.specs.Words as forms
 use Rattle.program_words.specs.Words.{Form, Unknown, Run, Bulk, Replay, Options, Progress, Refused, Reads, WantsCores}
@@ -159,3 +160,24 @@ form_is_asked (Run cores pcap) is = (_, refl)
 form_is_asked (Bulk clients cores) is = (_, refl)
 form_is_asked (Replay text cores pcap loose) is = (_, (is.0, is.1, refl))
 form_is_asked Unknown is = absurd is
+
+-- ----- cores
+is_none : (o : Option ℕ) → is_some o ≡ false → o ≡ None
+is_none None h = refl
+is_none (Some n) h = absurd (true≢false h)
+
+-- words that name no cores ask for none,
+pub asked_serially : (form : Form) (r : Request) → forms.names_cores form ≡ false → Asks form r → r.cores ≡ None
+asked_serially (Run cores pcap) r none asked = ap (λ (x : Request). x.cores) asked ∙ is_none cores none
+asked_serially (Bulk clients cores) r none asked = ap (λ (x : Request). x.cores) asked ∙ is_none cores none
+asked_serially (Replay text cores pcap loose) r none asked =
+    ap (λ (x : Request). x.cores) asked.2 ∙ is_none cores none
+asked_serially Unknown r none asked = absurd asked
+
+-- and those that do for some
+pub asked_on_cores : (form : Form) (r : Request) → forms.names_cores form ≡ true → Asks form r
+    → is_some r.cores ≡ true
+asked_on_cores (Run cores pcap) r some asked = ap (λ (x : Request). is_some x.cores) asked ∙ some
+asked_on_cores (Bulk clients cores) r some asked = ap (λ (x : Request). is_some x.cores) asked ∙ some
+asked_on_cores (Replay text cores pcap loose) r some asked = ap (λ (x : Request). is_some x.cores) asked.2 ∙ some
+asked_on_cores Unknown r some asked = absurd asked

@@ -159,6 +159,13 @@ Asks (Replay text cores pcap loose) r =
 abbrev pub IsAsked : (words : List (List ℕ)) → Type 0
 IsAsked words = (r : Request) × Asks (form_of words) r
 
+-- Words of this form name cores.
+abbrev pub names_cores : Form → Bool
+names_cores Unknown = false
+names_cores (Run cores pcap) = is_some cores
+names_cores (Bulk clients cores) = is_some cores
+names_cores (Replay text cores pcap loose) = is_some cores
+
 -- of how many clients a made scenario is, where it is one
 abbrev pub HasClients : Input → Type 0
 HasClients (Made clients) = (1 ≤ clients) × (clients ≤ 1000)

@@ -7,5 +7,5 @@ mod forms;
 mod reading;
 mod requests;
 
-pub use reading::{WordsFault, read_words};
+pub use reading::{WordsFault, names_cores, read_words};
 pub use requests::{Input, Request};

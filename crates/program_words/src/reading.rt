@@ -44,6 +44,18 @@ pub fn read_words(alloc: Global, words: &[String]) -> Result<Request, WordsFault
     }
 }
 
+/// Whether the words name cores, as those of a form of the program with `--cores` do. It takes no memory.
+pub fn names_cores(words: &[String]) -> bool
+    ensures { result ≡ forms.names_cores (forms.form_of (map string_bytes words.now)) }
+{
+    match form_of(words) {
+        Form::Unknown => false,
+        Form::Run { cores, .. } | Form::Bulk { cores, .. } | Form::Replay { cores, .. } => {
+            cores.is_some()
+        }
+    }
+}
+
 /// Whether words of this form are of a form of the program.
 fn is_form(form: &Form<'_>) -> bool
     ensures is { result ≡ true → forms.IsForm (form_in form.now) }
