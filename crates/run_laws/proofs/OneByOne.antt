@@ -1,11 +1,10 @@
 -- The rules one by one.
-use Rattle.std.proofs.Common.{◌≡◌, ◌≢◌, ℕ, zero, suc, ◌+◌, ◌-◌, ◌<◌, ◌==◌, ◌&&◌, not, Bool, true, false, cond}
+use Rattle.std.proofs.Common.{◌≡◌, ◌≢◌, ℕ, zero, suc, ◌+◌, ◌-◌, ◌<◌, ◌==◌, ◌&&◌, not, Bool, true, false}
 use Rattle.std.proofs.Common.{List, [], ◌∷◌, ◌++◌, length, min, take, drop, position, nat_lt, ◌^◌, Option, Some, None}
-use Rattle.std.proofs.Common.{Contains, refl, sym, subst, ap, ◌∙◌, true≢false, arith, tests}
+use Rattle.std.proofs.Common.{Contains, refl, sym, ap, ◌∙◌, true≢false, arith, tests}
 use Rattle.std.specs.List.{list_any, position_or_len}
 use Rattle.std.proofs.Common.{◌||◌, slice_index_or}
 use Rattle.std.proofs.lemmas.List.{length-take, length-drop, length-append}
-use Rattle.tas_model.specs.declared.entry.Call.TheVariants as calls
 use Rattle.tas_model.specs.declared.entry.Reply.TheVariants as replies
 use Rattle.host_rounds.specs.Lists.{Each}
 use Rattle.host_rounds.specs.Hosts.{Live, Host, Holder, Listener, Waiting, Application, GivenUp, Numbers, is_over}

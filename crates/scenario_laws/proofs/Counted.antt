@@ -1,6 +1,6 @@
 -- An application makes at most one call in a tick.
 use Rattle.std.proofs.Common.{◌≡◌, ℕ, zero, suc, ◌+◌, ◌≤◌, ◌<◌, ◌==◌, ◌&&◌, Bool, true, false, List, [], ◌∷◌, ◌++◌}
-use Rattle.std.proofs.Common.{map, fold, filter, max, Option, Some, None, refl, sym, subst, ap, ◌∙◌, true≢false, arith}
+use Rattle.std.proofs.Common.{map, fold, max, Option, Some, None, refl, sym, subst, ap, ◌∙◌, arith}
 use Rattle.std.proofs.Common.{tests}
 use Rattle.std.specs.List.{find}
 use Rattle.tas_model.specs.declared.entry.HostParams.{HostParams}
@@ -17,7 +17,7 @@ use Rattle.host_rounds.specs.declared.log.LogEvent.{LogEvent}
 use Rattle.host_rounds.specs.declared.log.LogEvent.TheVariants as events
 use Rattle.host_rounds.specs.Lists.{Each, change_at}
 use Rattle.host_rounds.specs.Logs.{HostRun, RunLog}
-use Rattle.host_rounds.specs.Hosts.{Live, Host, Holder, Waiting, Application, GivenUp, Numbers, with_call, flows_of, run_of}
+use Rattle.host_rounds.specs.Hosts.{Live, Host, Holder, Waiting, Application, GivenUp, Numbers, with_call, flows_of}
 use Rattle.host_rounds.specs.Hosts.{new_flow, opened_in, first_entry, next_number}
 use Rattle.host_rounds.specs.Upkeep.{all_swept, swept, timed, emits}
 use Rattle.host_rounds.specs.Deliveries.{Arrival}
@@ -28,21 +28,20 @@ use Rattle.host_rounds.proofs.AllLegal.{each_map, each_at, each_push}
 use Rattle.scenario_text.specs.declared.scenario.Step.{Step}
 use Rattle.scenario_text.specs.declared.scenario.Scenario.{Scenario}
 use Rattle.scenario_text.specs.declared.scenario.HostLine.{HostLine}
-use Rattle.scenario_runs.specs.Applications.{Script, Turn, is_concerned, let_go, aborted_where, is_killed_at, goes_on}
+use Rattle.scenario_runs.specs.Applications.{Script, Turn, is_concerned, aborted_where, is_killed_at, goes_on}
 use Rattle.scenario_runs.specs.Applications.{turn_where}
 use Rattle.scenario_runs.specs.Worlds.{numbers_of, address_in, asked_of, scripts_of, site_of}
 use Rattle.scenario_runs.specs.Runs.{Run}
-use Rattle.scenario_laws.specs.Counts.{is_by_app, is_call_at, calls_in, calls_of, is_told, told_in, calls_at}
-use Rattle.scenario_laws.specs.Turns.{turn_on, HadTurns}
+use Rattle.scenario_laws.specs.Counts.{is_by_app, calls_in, calls_of, is_told, told_in, calls_at}
+use Rattle.scenario_laws.specs.Turns.{turn_on}
 use Rattle.scenario_laws.proofs.Acts.{Act, Rests, Calls, Accepts, Connects, GivesUp, Notes, Listens, leaves, step_acts}
 use Rattle.scenario_laws.proofs.Acts.{NotesOwn, IsLineOf}
-use Rattle.scenario_laws.proofs.AllTurned.{NumbersRise, turn_in, turns_in, turns_filter, timers_pass, frames_pass}
-use Rattle.scenario_laws.proofs.AllTurned.{later_none, asks_of, found_number, deed_rises}
-use Rattle.scenario_laws.proofs.InTurns.{tick_of}
-use Rattle.scenario_laws.proofs.Deeds.{At, IsWorkerEntry, Worked, OfEachFlow, call_low, WorkKeeps, packet_keeps}
+use Rattle.scenario_laws.proofs.AllTurned.{NumbersRise, turns_in, turns_filter, timers_pass, frames_pass}
+use Rattle.scenario_laws.proofs.AllTurned.{later_none, asks_of, found_number}
+use Rattle.scenario_laws.proofs.Deeds.{At, IsWorkerEntry, call_low, WorkKeeps, packet_keeps}
 use Rattle.scenario_laws.proofs.Deeds.{AreByWorkers, AllWorked, at_worked, map_worked, timed_worked, emits_worked}
 use Rattle.scenario_laws.proofs.Deeds.{swept_worked, IsFrameLine, opened_for}
-use Rattle.scenario_laws.proofs.AllKept.{Stays, Leads, each_host}
+use Rattle.scenario_laws.proofs.AllKept.{Leads, each_host}
 
 -- ----- counts
 abbrev calls_live : (n u : ℕ) → List Live → ℕ
@@ -206,7 +205,7 @@ act_counts n u t most k numbers host (Accepts flow) own i =
     let before : count n u host ≤ most = i.most in
     let more = at_adds n u t k flow calls.Accept [] host.flows i.low in
     let same = held_same n u flow (Application k)
-        (change_at flow (λ (l : Live). with_call l (App k) t calls.Accept []) host.flows) in
+    (change_at flow (λ (l : Live). with_call l (App k) t calls.Accept []) host.flows) in
     record {
       low = each_at (IsUpTo t) flow _ (λ l one. one) _ (called_low t k flow calls.Accept [] host.flows i.low);
       most = omega arith;
@@ -221,7 +220,7 @@ act_counts n u t most k numbers host (GivesUp flow call) own i =
     let before : count n u host ≤ most = i.most in
     let more = at_adds n u t k flow call [] host.flows i.low in
     let same = held_same n u flow GivenUp
-        (change_at flow (λ (l : Live). with_call l (App k) t call []) host.flows) in
+    (change_at flow (λ (l : Live). with_call l (App k) t call []) host.flows) in
     record {
       low = each_at (IsUpTo t) flow _ (λ l one. one) _ (called_low t k flow call [] host.flows i.low);
       most = omega arith;
@@ -334,7 +333,7 @@ all_count : (s : Scenario) (p : HostParams) (n u t most : ℕ) (site : At) (deed
 all_count s p n u t most site [] workers i = weaker n u t most _ site.host (omega arith) i
 all_count s p n u t most site (m ∷ deeds) workers i =
     let rest = all_count s p n u t (most + deed_adds s p n (t == u) m.action) (does (scripts_of s p) t site m) deeds
-        workers.1 (done_counts s p n u t most site m.by m.action workers.0 i) in
+    workers.1 (done_counts s p n u t most site m.by m.action workers.0 i) in
     weaker n u t _ _ _ (omega arith) rest
 
 -- all deeds add one at most, and none in another tick

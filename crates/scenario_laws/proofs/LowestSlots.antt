@@ -1,5 +1,5 @@
 -- Each flow that is opened gets the lowest free slot.
-use Rattle.std.proofs.Common.{◌≡◌, ℕ, zero, suc, ◌+◌, ◌≤◌, ◌<◌, ◌==◌, ◌&&◌, ◌||◌, not, Bool, true, false, cond}
+use Rattle.std.proofs.Common.{◌≡◌, ℕ, zero, suc, ◌+◌, ◌≤◌, ◌<◌, ◌==◌, ◌&&◌, ◌||◌, not, Bool, true, false}
 use Rattle.std.proofs.Common.{List, [], ◌∷◌, ◌++◌, length, map, take, drop, fold, Option, Some, None, if◌then◌else◌}
 use Rattle.std.proofs.Common.{refl, sym, subst, ap, ◌∙◌, arith, tests, append_assoc, append-nil}
 use Rattle.std.specs.List.{list_any}
@@ -9,12 +9,10 @@ use Rattle.tas_model.specs.declared.entry.FrameId.{FrameId}
 use Rattle.tas_model.specs.declared.entry.Seg.{Seg}
 use Rattle.tas_model.specs.declared.entry.Entry.{Entry}
 use Rattle.tas_model.specs.declared.entry.Caller.{Caller}
-use Rattle.host_rounds.specs.Lists.{Each, change_first, change_at}
+use Rattle.host_rounds.specs.Lists.{change_first, change_at}
 use Rattle.host_rounds.specs.Logs.{RunLog}
 use Rattle.host_rounds.specs.Hosts.{Live, Host, Holder, Numbers, next_number, with_call, is_known, is_indexed_as}
 use Rattle.host_rounds.specs.Hosts.{is_listening, is_full, is_in_slot, free_from, lowest_free, opened_in}
-use Rattle.host_rounds.specs.Histories.{HasHistory}
-use Rattle.host_rounds.specs.EveryTick.{InEveryTick}
 use Rattle.host_rounds.specs.Upkeep.{swept, all_swept, timed, emits}
 use Rattle.host_rounds.specs.Deliveries.{Packet, Damaged, Segment, received, opens, opened_by_syn, met_no_flow, arrived}
 use Rattle.host_rounds.specs.Deliveries.{delivered_packet}
@@ -29,7 +27,7 @@ use Rattle.scenario_runs.specs.Runs.{Run}
 use Rattle.scenario_runs.specs.Worlds.{scripts_of}
 use Rattle.scenario_runs.proofs.ByMoves.{scenarios_by_moves}
 use Rattle.scenario_laws.specs.Ticks.{InEachTick}
-use Rattle.scenario_laws.specs.Slots.{slot_of, slots_of, is_slot, is_taken, IsLowestFree, GotLowest, OpenedLowest}
+use Rattle.scenario_laws.specs.Slots.{slot_of, slots_of, is_slot, is_taken, IsLowestFree, GotLowest}
 use Rattle.scenario_laws.specs.Slots.{OpenedInLowest}
 use Rattle.scenario_laws.proofs.AllTicks.{run_holds}
 

@@ -1,5 +1,5 @@
 -- What a Send takes are the next bytes of its script's text.
-use Rattle.std.proofs.Common.{◌≡◌, ◌≢◌, ℕ, zero, suc, ◌+◌, ◌==◌, Bool, true, false, List, [], ◌∷◌, ◌++◌, length, take, drop}
+use Rattle.std.proofs.Common.{◌≡◌, ℕ, zero, suc, ◌==◌, Bool, true, false, List, [], ◌∷◌, ◌++◌, length, take, drop}
 use Rattle.std.proofs.Common.{slice_get, max, Option, Some, None, if◌then◌else◌, refl, sym, subst, ap, ◌∙◌, true≢false}
 use Rattle.std.proofs.Common.{arith, tests, min, not, ◌&&◌}
 use Rattle.tas_model.specs.declared.entry.HostParams.{HostParams}
@@ -9,25 +9,25 @@ use Rattle.tas_model.specs.declared.entry.Call.TheVariants as calls
 use Rattle.tas_model.specs.declared.entry.Reply.{Reply}
 use Rattle.tas_model.specs.declared.entry.Reply.TheVariants as replies
 use Rattle.tas_model.specs.Endpoint.{Endpoint, send_room}
-use Rattle.tas_model.specs.Segments.{Outcome, unchanged}
+use Rattle.tas_model.specs.Segments.{unchanged}
 use Rattle.tas_model.specs.ApplicationCalls.{Column, Opening, Over, Running, column, send_in}
 use Rattle.tas_model.specs.LegalHistory.{step, replay, reply_or, shown, last_tick}
 use Rattle.host_rounds.specs.Lists.{change_at}
 use Rattle.host_rounds.specs.Logs.{RunLog}
-use Rattle.host_rounds.specs.Hosts.{Live, Host, with_call, last_reply, answer_of, at_flow}
+use Rattle.host_rounds.specs.Hosts.{Live, Host, with_call, last_reply, answer_of}
 use Rattle.host_rounds.specs.Scripts.{Site}
 use Rattle.host_rounds.specs.Rounds.{Ask, Deed}
 use Rattle.scenario_text.specs.declared.scenario.Scenario.{Scenario}
 use Rattle.scenario_text.specs.declared.scenario.Step.{Step}
 use Rattle.scenario_text.specs.declared.scenario.Step.TheVariants as steps
-use Rattle.scenario_runs.specs.Applications.{Script, Turn, stepped, done_or, sent_on, sends, most, called, flow_of}
+use Rattle.scenario_runs.specs.Applications.{Script, Turn, done_or, sent_on, sends, most, flow_of}
 use Rattle.scenario_runs.specs.Applications.{bound_in, filling, is_killed_at, goes_on, turn_where, on_flow}
 use Rattle.scenario_runs.specs.Worlds.{numbers_of, address_in}
 use Rattle.scenario_runs.specs.Runs.{Run}
 use Rattle.scenario_laws.specs.Ticks.{InEachTick}
-use Rattle.scenario_laws.specs.Turns.{OfEachScript, turn_on, HadTurn, at_first, reached}
+use Rattle.scenario_laws.specs.Turns.{OfEachScript, turn_on, HadTurn, reached}
 use Rattle.scenario_laws.specs.Sends.{sending, TakesNext, TookNext, HadSends}
-use Rattle.scenario_laws.proofs.InTurns.{tick_of, ticks_turned}
+use Rattle.scenario_laws.proofs.InTurns.{ticks_turned}
 
 -- ----- the reply
 -- A Send's reply that shows bytes shows the first of those offered.
@@ -70,8 +70,8 @@ last_push r (y ∷ ys) x = last_push y.reply ys x
 
 answer_at : (n : ℕ) (f : Live → Live) (ls : List Live) (took : List ℕ)
     → elim (slice_get (change_at n f ls) n) [
-        | None ↦ replies.Nothing
-        | Some l ↦ last_reply replies.Nothing l.flow.entries
+      | None ↦ replies.Nothing
+      | Some l ↦ last_reply replies.Nothing l.flow.entries
     ] ≡ replies.Took took
     → (l : Live) × (last_reply replies.Nothing (f l).flow.entries ≡ replies.Took took)
 answer_at n f [] took h = absurd (cc (h))

@@ -1,27 +1,23 @@
 -- In a whole run a frame stands in one place at most: each is due in one tick alone.
-use Rattle.std.proofs.Common.{◌≡◌, ℕ, zero, suc, ◌+◌, ◌≤◌, ◌<◌, ◌==◌, ◌&&◌, not, Bool, true, false, List, [], ◌∷◌}
+use Rattle.std.proofs.Common.{◌≡◌, ℕ, zero, suc, ◌+◌, ◌≤◌, ◌==◌, ◌&&◌, not, Bool, true, false, List, [], ◌∷◌}
 use Rattle.std.proofs.Common.{◌++◌, length, map, filter, nat_le, nat_lt, refl, sym, subst, ap, arith, tests}
 use Rattle.std.proofs.Common.{if◌then◌else◌}
 use Rattle.std.proofs.Common.{Option, Some, None}
 use Rattle.std.specs.List.{flat_map}
-use Rattle.std.proofs.lemmas.List.{length-append}
 use Rattle.tas_model.specs.declared.entry.FourTuple.{FourTuple}
 use Rattle.tas_model.specs.declared.entry.FrameId.{FrameId}
 use Rattle.tas_model.specs.declared.entry.Head.{Head}
-use Rattle.tas_model.specs.declared.entry.HostParams.{HostParams}
 use Rattle.tas_model.specs.declared.entry.Seg.{Seg}
 use Rattle.tas_model.specs.declared.entry.Entry.{Entry}
 use Rattle.tas_model.specs.Outputs.{segments_in}
 use Rattle.tas_model.specs.Segments.{one_if, bare}
 use Rattle.host_rounds.specs.Logs.{RunLog}
-use Rattle.host_rounds.specs.Hosts.{Live, Numbers, flows_of}
+use Rattle.host_rounds.specs.Hosts.{Live, flows_of}
 use Rattle.host_rounds.specs.Deliveries.{same_frame}
 use Rattle.host_rounds.specs.declared.log.LogLine.{LogLine}
-use Rattle.host_rounds.specs.Openings.{Opening, AreOpened}
 use Rattle.host_rounds.specs.Passing.{AllGrew, Grew, LogGrew, Went}
 use Rattle.host_rounds.specs.Places.{uses, uses_live, uses_flows, uses_hosts, coming}
 use Rattle.host_rounds.proofs.OnePlace.{round_adds}
-use Rattle.host_rounds.proofs.Keeps.{openings, length_is}
 use Rattle.host_rounds.proofs.Runs.{flows_uses}
 use Rattle.link_script.specs.LinkLines.{LinkLines}
 use Rattle.link_script.specs.declared.frames.Sent.{Sent}
@@ -30,7 +26,7 @@ use Rattle.scenario_text.specs.declared.scenario.Scenario.{Scenario}
 use Rattle.scenario_text.specs.declared.scenario.HostLine.{HostLine}
 use Rattle.scenario_runs.specs.Worlds.{World, site_of, host_at, frames_of_segments, frames_of_entries, frames_of_flows}
 use Rattle.scenario_runs.specs.Worlds.{frames_of_log, frames_of_hosts, no_flow, sent_in, arrival, scripts_of, due_at}
-use Rattle.scenario_runs.specs.Worlds.{at_start, is_at_rest, answer_on, frames_of_answer, numbers_of}
+use Rattle.scenario_runs.specs.Worlds.{at_start, is_at_rest, answer_on, frames_of_answer}
 use Rattle.scenario_runs.specs.Runs.{AreRounds, End, RunsFrom, hosts_of, Run}
 use Rattle.scenario_runs.proofs.ByMoves.{scenarios_by_moves}
 use Rattle.scenario_laws.proofs.OneTick.{tick_went}
@@ -334,7 +330,8 @@ rounds_went s whole t h (l ∷ ls) (b ∷ bs) (a ∷ az) rounds stand = (
 abbrev HasPlaced : FrameId → Scenario → (tick : ℕ) → World → Type 0
 HasPlaced f s t world = uses_in_all f world ≤ counted (of_name f (past s.link t)) (sent_in world)
 
-tick_placed : (f : FrameId) (s : Scenario) (t : ℕ) (world next : World) → AreRounds s world t 0 world next → AllStand t s.hosts world → HasPlaced f s t world
+tick_placed : (f : FrameId) (s : Scenario) (t : ℕ) (world next : World) → AreRounds s world t 0 world next
+    → AllStand t s.hosts world → HasPlaced f s t world
     → HasPlaced f s (t + 1) next
 tick_placed f s t world next rounds stand placed =
     let all : List Sent = sent_in world in

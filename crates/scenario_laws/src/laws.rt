@@ -22,8 +22,8 @@ pub fn frames_have_one_place()
     // it comes once at most in a tick,
     ensures once { (s : Scenario) (log : RunLog) (run : Run s log) (frame : FrameId)
         → InEachTick s log run (λ x. coming frame x.frames ≤ 1) }
-    // and it stands in one place at most of all that a run leaves, of whatever host. So it is of each frame, those of no
-    // flow among them: a segment of no flow is answered once at most.
+    // and it stands in one place at most of all that a run leaves, of whatever host. So it is of each frame, those of
+    // no flow among them: a segment of no flow is answered once at most.
     ensures ended { (s : Scenario) (log : RunLog) (frame : FrameId) → Run s log
         → uses_hosts frame log.hosts ≤ 1 }
 {}

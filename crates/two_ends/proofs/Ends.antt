@@ -1,17 +1,15 @@
 -- Both ends: what a flow took is what its other end sent.
-use Rattle.std.proofs.Common.{◌≡◌, ℕ, ◌+◌, ◌*◌, ◌^◌, ◌<◌, ◌≤◌, Bool, true, false, List, [], ◌∷◌, ◌++◌, length, filter}
-use Rattle.std.proofs.Common.{Some, None, refl, sym, subst, ap, ◌∙◌, arith, true≢false}
+use Rattle.std.proofs.Common.{◌≡◌, ℕ, ◌+◌, ◌*◌, ◌^◌, ◌<◌, ◌≤◌, true, List, [], ◌∷◌, ◌++◌, length}
+use Rattle.std.proofs.Common.{Some, None, refl, sym, subst, ◌∙◌, arith, true≢false}
 use Rattle.tas_model.specs.declared.entry.FourTuple.{FourTuple}
 use Rattle.tas_model.specs.declared.entry.HostParams.{HostParams}
 use Rattle.tas_model.specs.declared.entry.Entry.{Entry}
 use Rattle.tas_model.specs.declared.entry.Call.{Call}
 use Rattle.tas_model.specs.declared.entry.Call.TheVariants as calls
-use Rattle.tas_model.specs.declared.entry.Head.{Head}
 use Rattle.tas_model.specs.declared.entry.Seg.{Seg}
 use Rattle.tas_model.specs.Segments.{bare}
 use Rattle.tas_model.specs.LegalHistory.{Legal, replay}
 use Rattle.tas_model.specs.Outputs.{sent, accepted}
-use Rattle.tas_model.specs.OneStream.{OneStream}
 use Rattle.tas_model.specs.Valid.{InRange}
 use Rattle.tas_model.proofs.StreamLaw.{got_is_prefix}
 use Rattle.tas_model.proofs.MovesLaws.{read_is_of_stream}
@@ -20,7 +18,7 @@ use Rattle.host_rounds.specs.declared.log.LogEvent.{LogEvent}
 use Rattle.host_rounds.specs.declared.log.LogEvent.TheVariants as events
 use Rattle.host_rounds.specs.Lists.{Each}
 use Rattle.host_rounds.specs.Logs.{Flow, HostRun, RunLog}
-use Rattle.host_rounds.specs.Hosts.{Live, Host, Numbers, same_tuple, flows_of}
+use Rattle.host_rounds.specs.Hosts.{Live, Numbers, same_tuple, flows_of}
 use Rattle.host_rounds.specs.Passing.{ticks_in}
 use Rattle.host_rounds.specs.Histories.{HasHistory}
 use Rattle.host_rounds.specs.Openings.{Opening, opening_of, AreOpened}
@@ -32,19 +30,19 @@ use Rattle.scenario_runs.specs.Applications.{Script}
 use Rattle.scenario_runs.specs.Worlds.{World, numbers_of, at_start}
 use Rattle.scenario_runs.specs.Runs.{hosts_of, End, RunsFrom, Run}
 use Rattle.scenario_runs.specs.Histories.{AreInRange}
-use Rattle.sent_streams.specs.Streams.{IsOf, Takes, AllTaken, told_end}
+use Rattle.sent_streams.specs.Streams.{IsOf, Takes, AllTaken}
 use Rattle.sent_streams.proofs.Sent.{sent_is_of}
 use Rattle.sent_streams.proofs.Taken.{taken_is}
 use Rattle.sent_streams.proofs.Spending.{time_bounds}
 use Rattle.sent_streams.proofs.Ending.{end_is_last}
-use Rattle.two_ends.specs.Ends.{reversed, flows_in, other_ends, IsFaithful, HearsOtherEnd, ReadsOf, ReadsOtherEnd}
+use Rattle.two_ends.specs.Ends.{reversed, flows_in, other_ends, IsFaithful, HearsOtherEnd, ReadsOtherEnd}
 use Rattle.two_ends.specs.Origins.{as_read, IsReset}
 use Rattle.two_ends.proofs.Lists.{each_left, each_right, each_filter, filter_tells, each_as, each_both, each_under}
 use Rattle.two_ends.proofs.Lists.{each_given, each_always, each_self}
-use Rattle.two_ends.proofs.Back.{SentLive, AnswerHas, LineHas, SentHost}
-use Rattle.two_ends.proofs.Heard.{same_is, same_self, AnswerResets, LineResets, Heard, HeardLive, HeardHost}
+use Rattle.two_ends.proofs.Back.{SentLive, LineHas}
+use Rattle.two_ends.proofs.Heard.{same_self, LineResets, Heard}
 use Rattle.two_ends.proofs.Frames.{SentSite}
-use Rattle.two_ends.proofs.Worlds.{HasTicks, IsRightSite, AllRight, SentWorld, HeardWorld, run_heard, run_right}
+use Rattle.two_ends.proofs.Worlds.{HasTicks, AllRight, run_heard, run_right}
 
 -- ----- from worlds to logs
 -- a fact of each flow of a world

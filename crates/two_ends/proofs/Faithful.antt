@@ -1,6 +1,6 @@
 -- Which links are faithful.
-use Rattle.std.proofs.Common.{◌≡◌, ℕ, zero, suc, ◌<◌, true, false, List, [], ◌∷◌, length, Contains, slice_index_or}
-use Rattle.std.proofs.Common.{refl, sym, subst, ap, ◌∙◌, true≢false, arith}
+use Rattle.std.proofs.Common.{◌≡◌, ℕ, zero, suc, ◌<◌, false, List, [], ◌∷◌, length, Contains, slice_index_or}
+use Rattle.std.proofs.Common.{refl, subst, ap, true≢false, arith}
 use Rattle.host_rounds.specs.Lists.{Each}
 use Rattle.link_script.specs.LinkLines.{LinkLines}
 use Rattle.link_script.specs.declared.script.LinkAct.{LinkAct}

@@ -1,10 +1,10 @@
 -- What all that was sent has, each frame has that comes of it, where the link damages nothing.
-use Rattle.std.proofs.Common.{◌≡◌, ℕ, ◌+◌, ◌==◌, Bool, true, false, cond, List, [], ◌∷◌, ◌++◌, length, map, filter}
-use Rattle.std.proofs.Common.{Option, Some, None, refl, sym, subst, ap, ◌∙◌, nat_le, if◌then◌else◌}
+use Rattle.std.proofs.Common.{◌≡◌, ℕ, ◌+◌, ◌==◌, Bool, true, false, List, [], ◌∷◌, ◌++◌, length, map, filter}
+use Rattle.std.proofs.Common.{Option, Some, None, refl, sym, subst, ap, ◌∙◌, nat_le}
 use Rattle.std.specs.List.{flat_map}
 use Rattle.std.specs.Map.{lookup}
 use Rattle.segment_fields.specs.Fields.{Fields}
-use Rattle.segment_fields.specs.Canon.{canon, borne_mss}
+use Rattle.segment_fields.specs.Canon.{canon}
 use Rattle.segment_fields.specs.Text.{refusal, fields_in}
 use Rattle.segment_fields.specs.Refusals.{number_of}
 use Rattle.segment_fields.specs.declared.segment.Refused.{Refused}
@@ -13,18 +13,17 @@ use Rattle.tas_model.specs.declared.entry.FourTuple.{FourTuple}
 use Rattle.tas_model.specs.declared.entry.FrameId.{FrameId}
 use Rattle.tas_model.specs.declared.entry.Seg.{Seg}
 use Rattle.tas_model.specs.declared.entry.Entry.{Entry}
-use Rattle.tas_model.specs.Segments.{bare, is_syn}
+use Rattle.tas_model.specs.Segments.{bare}
 use Rattle.tas_model.specs.Outputs.{segments_in, sent}
 use Rattle.tas_model.proofs.Tests.{on_cond}
 use Rattle.host_rounds.specs.declared.log.LogLine.{LogLine}
 use Rattle.host_rounds.specs.declared.log.LogEvent.{LogEvent}
 use Rattle.host_rounds.specs.declared.log.LogEvent.TheVariants as events
 use Rattle.host_rounds.specs.Lists.{Each}
-use Rattle.host_rounds.specs.Hosts.{Live, Host}
-use Rattle.host_rounds.specs.Deliveries.{Arrival, Packet}
+use Rattle.host_rounds.specs.Hosts.{Live}
 use Rattle.host_rounds.specs.Scripts.{Site}
 use Rattle.host_rounds.proofs.Lists.{each_append}
-use Rattle.tas_runs.specs.Records.{Content, Damaged, Remote, Local, due_content, receiver_tuple, segment_of}
+use Rattle.tas_runs.specs.Records.{Content, Damaged, Remote, due_content, receiver_tuple, segment_of}
 use Rattle.tas_runs.specs.SentFrames.{sent_fields}
 use Rattle.link_script.specs.declared.frames.Sent.{Sent}
 use Rattle.link_script.specs.declared.script.Target.{Target}

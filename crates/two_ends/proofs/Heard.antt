@@ -1,7 +1,7 @@
 -- What each frame that comes has, each segment has that a flow took.
 use Rattle.std.proofs.Common.{◌≡◌, ℕ, ◌+◌, ◌&&◌, ◌==◌, not, Bool, true, false, cond, List, [], ◌∷◌, ◌++◌, map, fold}
-use Rattle.std.proofs.Common.{filter, slice_get, Option, Some, None, refl, sym, subst, ap, ◌∙◌, true≢false, arith}
-use Rattle.std.proofs.Common.{eq-eqb, eqb}
+use Rattle.std.proofs.Common.{filter, Option, Some, None, refl, sym, subst, true≢false, arith}
+use Rattle.std.proofs.Common.{eq-eqb}
 use Rattle.std.proofs.lemmas.Bool.Decides.{nat_tests}
 use Rattle.tas_model.specs.declared.entry.FourTuple.{FourTuple}
 use Rattle.tas_model.specs.declared.entry.FrameId.{FrameId}
@@ -14,8 +14,7 @@ use Rattle.tas_model.specs.declared.entry.Call.{Call}
 use Rattle.tas_model.specs.declared.entry.Call.TheVariants as calls
 use Rattle.tas_model.specs.declared.entry.Reply.{Reply}
 use Rattle.tas_model.specs.NextSegment.{Going, going}
-use Rattle.tas_model.specs.Segments.{bare, is_syn, is_rst, is_ack, stray_reply}
-use Rattle.tas_model.specs.Receive.{is_heard}
+use Rattle.tas_model.specs.Segments.{bare, is_syn, is_rst, is_ack}
 use Rattle.tas_model.proofs.Tests.{on_cond}
 use Rattle.host_rounds.specs.declared.log.LogLine.{LogLine}
 use Rattle.host_rounds.specs.declared.log.LogEvent.{LogEvent}
@@ -25,7 +24,7 @@ use Rattle.host_rounds.specs.Hosts.{Live, Host, Numbers, next_number, endpoint, 
 use Rattle.host_rounds.specs.Hosts.{same_tuple, is_indexed_as, is_listening, is_full, lowest_free}
 use Rattle.host_rounds.specs.Upkeep.{swept, all_swept, controlled, timed, timed_unless, emits, emits_where}
 use Rattle.host_rounds.specs.Deliveries.{Packet, Damaged, Segment, Arrival, same_frame, received, opens, answer_in}
-use Rattle.host_rounds.specs.Deliveries.{listener_reply, stray_answer, opened_by_syn, met_no_flow, arrived}
+use Rattle.host_rounds.specs.Deliveries.{stray_answer, opened_by_syn, met_no_flow, arrived}
 use Rattle.host_rounds.specs.Deliveries.{delivered_packet}
 use Rattle.host_rounds.specs.Scripts.{Site, Scripts}
 use Rattle.host_rounds.specs.Moves.{Move, Calls, Opens, Notes, Holds, Listens, moved, MayMove, IsAppCall, IsCallLine}

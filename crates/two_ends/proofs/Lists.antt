@@ -1,7 +1,7 @@
 -- Lists: facts of each item, forth and back.
 use Rattle.std.proofs.Common.{◌≡◌, ℕ, zero, suc, Bool, true, false, cond}
 use Rattle.std.proofs.Common.{List, [], ◌∷◌, ◌++◌, Contains, arith, map, filter, refl, sym}
-use Rattle.std.proofs.Common.{subst, ◌∙◌, true≢false}
+use Rattle.std.proofs.Common.{◌∙◌, true≢false}
 use Rattle.host_rounds.specs.Lists.{Each, change_first, change_at}
 
 pub each_left : {X : Type 0} (P : X → Type 0) (xs ys : List X) → Each P (xs ++ ys) → Each P xs

@@ -1,30 +1,28 @@
 -- Each segment that a flow took was sent to it, where the link damages nothing.
-use Rattle.std.proofs.Common.{◌≡◌, ℕ, List, [], ◌∷◌, Contains, Option, Some, None, refl, sym, subst, ap}
+use Rattle.std.proofs.Common.{◌≡◌, ℕ, List, [], ◌∷◌, Contains, Some, None, refl, sym, subst, ap}
 use Rattle.tas_model.specs.declared.entry.FourTuple.{FourTuple}
-use Rattle.tas_model.specs.declared.entry.Head.{Head}
 use Rattle.tas_model.specs.declared.entry.Seg.{Seg}
 use Rattle.tas_model.specs.declared.entry.Entry.{Entry}
 use Rattle.tas_model.specs.declared.entry.Call.{Call}
 use Rattle.tas_model.specs.declared.entry.Call.TheVariants as calls
-use Rattle.tas_model.specs.Segments.{bare}
 use Rattle.tas_model.specs.Outputs.{sent}
 use Rattle.host_rounds.specs.declared.log.LogLine.{LogLine}
 use Rattle.host_rounds.specs.declared.log.LogEvent.{LogEvent}
 use Rattle.host_rounds.specs.declared.log.LogEvent.TheVariants as events
 use Rattle.host_rounds.specs.Lists.{Each}
-use Rattle.host_rounds.specs.Logs.{Flow, HostRun, RunLog}
-use Rattle.host_rounds.specs.Hosts.{Live, Host}
+use Rattle.host_rounds.specs.Logs.{HostRun, RunLog}
+use Rattle.host_rounds.specs.Hosts.{Live}
 use Rattle.host_rounds.specs.Scripts.{Site}
 use Rattle.scenario_text.specs.declared.scenario.Scenario.{Scenario}
 use Rattle.scenario_text.specs.declared.scenario.HostLine.{HostLine}
 use Rattle.scenario_runs.specs.Applications.{Script}
 use Rattle.scenario_runs.specs.Worlds.{World, at_start, answer_on}
 use Rattle.scenario_runs.specs.Runs.{hosts_of, End, RunsFrom, Run}
-use Rattle.two_ends.specs.Ends.{reversed, flows_in, IsFaithful}
+use Rattle.two_ends.specs.Ends.{flows_in, IsFaithful}
 use Rattle.two_ends.specs.Origins.{as_read, lines_in, Origin, OfFlow, OfHost, HasOrigin, TookWhatWasSent}
 use Rattle.two_ends.proofs.Lists.{each_as, each_both, each_left, each_right, each_contained}
-use Rattle.two_ends.proofs.Back.{SentLive, LineHas, SentHost}
-use Rattle.two_ends.proofs.Heard.{LineResets, Heard, HeardLive, HeardHost}
+use Rattle.two_ends.proofs.Back.{SentLive, LineHas}
+use Rattle.two_ends.proofs.Heard.{LineResets, Heard, HeardLive}
 use Rattle.two_ends.proofs.Frames.{SentSite}
 use Rattle.two_ends.proofs.Worlds.{AllRight, run_heard, run_right}
 use Rattle.two_ends.proofs.Ends.{InWorld, InLog, LinesReset, log_too, log_of_all, world_of_log, lines_reset}

@@ -5,21 +5,20 @@ use Rattle.tas_model.specs.declared.entry.FourTuple.{FourTuple}
 use Rattle.tas_model.specs.declared.entry.HostParams.{HostParams}
 use Rattle.tas_model.specs.declared.entry.Seg.{Seg}
 use Rattle.host_rounds.specs.Lists.{Each}
-use Rattle.host_rounds.specs.Hosts.{Live, Host, is_over}
+use Rattle.host_rounds.specs.Hosts.{Live}
 use Rattle.host_rounds.specs.Passing.{ticks_of, AreTimed}
 use Rattle.host_rounds.specs.Scripts.{Site}
 use Rattle.host_rounds.specs.Rounds.{Round}
-use Rattle.host_rounds.proofs.AllLegal.{AreLegal}
 use Rattle.host_rounds.proofs.AllOpened.{IsRight, round_right}
 use Rattle.host_rounds.proofs.AllTimed.{round_timed}
 use Rattle.scenario_text.specs.declared.scenario.Scenario.{Scenario}
 use Rattle.scenario_text.specs.declared.scenario.HostLine.{HostLine}
 use Rattle.scenario_runs.specs.Applications.{Script}
-use Rattle.scenario_runs.specs.Worlds.{World, site_of, at_start, numbers_of, scripts_of, due_at, is_at_rest, all_ended}
+use Rattle.scenario_runs.specs.Worlds.{World, site_of, at_start, numbers_of, scripts_of, due_at, is_at_rest}
 use Rattle.scenario_runs.specs.Runs.{AreRounds, IsTick, End, RunsFrom}
 use Rattle.scenario_runs.proofs.ByMoves.{scenarios_by_moves}
 use Rattle.two_ends.specs.Ends.{IsFaithful}
-use Rattle.two_ends.proofs.Back.{SentHost, round_back}
+use Rattle.two_ends.proofs.Back.{round_back}
 use Rattle.two_ends.proofs.Heard.{HeardHost, round_heard}
 use Rattle.two_ends.specs.Origins.{as_read}
 use Rattle.two_ends.proofs.Frames.{SentSite, due_come}

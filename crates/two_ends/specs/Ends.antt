@@ -1,5 +1,5 @@
 -- The two ends of a connection in a run of a scenario.
-use Rattle.std.specs.Prelude.{◌≡◌, ℕ, Bool, true, false, List, [], ◌∷◌, ◌++◌, filter}
+use Rattle.std.specs.Prelude.{◌≡◌, Bool, true, false, List, [], ◌∷◌, ◌++◌, filter}
 use Rattle.tas_model.specs.declared.entry.FourTuple.{FourTuple}
 use Rattle.tas_model.specs.LegalHistory.{replay}
 use Rattle.tas_model.specs.OneStream.{OneStream, IsPrefixOf}

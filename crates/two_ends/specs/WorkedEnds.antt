@@ -1,5 +1,5 @@
 -- How many other ends the flows of worked runs have.
-use Rattle.std.specs.Prelude.{ℕ, List, [], ◌∷◌, ◌++◌, length, map, Result, Ok, Err}
+use Rattle.std.specs.Prelude.{ℕ, List, [], length, map, Result, Ok, Err}
 use Rattle.host_rounds.specs.Logs.{Flow, HostRun}
 use Rattle.scenario_text.specs.declared.reading.ScenarioFault.{ScenarioFault}
 use Rattle.scenario_text.specs.declared.scenario.Scenario.{Scenario}

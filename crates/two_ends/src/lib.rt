@@ -5,7 +5,6 @@
 mod laws;
 
 pub use laws::{
-    links_are_faithful_where_no_line_corrupts,
-    two_ends_are_one_stream, what_is_read_was_sent, what_is_taken_was_sent,
-    worked_flows_have_other_ends,
+    links_are_faithful_where_no_line_corrupts, two_ends_are_one_stream, what_is_read_was_sent,
+    what_is_taken_was_sent, worked_flows_have_other_ends,
 };

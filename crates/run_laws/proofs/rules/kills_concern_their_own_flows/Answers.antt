@@ -1,4 +1,5 @@
-use Rattle.run_laws.proofs.OneByOne.{own_flows, others_flows, given_up_flows, waiting_flows, closed_flows, elsewhere_flows}
+use Rattle.run_laws.proofs.OneByOne.{own_flows, others_flows, given_up_flows, waiting_flows, closed_flows}
+use Rattle.run_laws.proofs.OneByOne.{elsewhere_flows}
 use Rattle.run_laws.proofs.rules.kills_concern_their_own_flows.Goals as goal
 
 pub returns-clause-own : goal.returns-clause-own
