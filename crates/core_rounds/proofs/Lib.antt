@@ -1,2 +1,3 @@
 pub mod CoresFrames
 pub mod CoresRounds
+pub mod SharedRounds

@@ -1,1 +1,2 @@
 pub mod CoreTicks
+pub mod SharedTicks

@@ -1,3 +1,4 @@
+//! The laws of ticks with cores, which lead to those of `host_rounds`.
 ghost use Rattle.std.specs.Prelude.{ℕ};
 ghost use Rattle.host_rounds.specs.Lists.{Each};
 ghost use Rattle.host_rounds.specs.Histories.{HasHistory};
@@ -5,10 +6,25 @@ ghost use Rattle.host_rounds.specs.Scripts.{Site, Scripts};
 ghost use Rattle.host_rounds.specs.Moves.{AreByMoves};
 ghost use Rattle.host_rounds.specs.Rounds.{Due, Round};
 ghost use Rattle.core_rounds.specs.CoreTicks.{IsCoresTick};
+ghost use Rattle.core_rounds.specs.SharedTicks.{IsSharedTick, tick_without_cores};
 
 /// A tick with cores is a right one, whatever the scripts are and whatever order the cores' frames had.
 pub fn cores_ticks_are_right<S, A>()
     ensures { (scripts : Scripts S A) (t : ℕ) (due : Due A) (before after : Site S) → AreByMoves scripts
         → Each HasHistory before.host.flows → IsCoresTick scripts t due before after
         → Round scripts t due before after }
+{}
+
+/// A tick of a host whose cores and applications share its flows is a right one, whatever the scripts are and in
+/// whatever order they did their deeds, also on one flow.
+pub fn shared_ticks_are_right<S, A>()
+    ensures { (scripts : Scripts S A) (t : ℕ) (due : Due A) (before after : Site S) → AreByMoves scripts
+        → Each HasHistory before.host.flows → IsSharedTick scripts t due before after
+        → Round scripts t due before after }
+{}
+
+/// A tick in which the slow path takes all frames, and the applications ask after them, is one of these.
+pub fn ticks_without_cores_are_shared<S, A>()
+    ensures { (scripts : Scripts S A) (t : ℕ) (due : Due A) (before : Site S)
+        → IsSharedTick scripts t due before (tick_without_cores scripts t due before) }
 {}

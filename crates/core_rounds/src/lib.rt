@@ -1,7 +1,7 @@
 //! A tick of a host with cores: what cores take and applications ask side by side, and what the slow path and the
-//! applications do after it; and the law that such a tick is a right one.
+//! applications do after it; and the laws that such ticks are right ones.
 #![tactic(auto)]
 
 mod laws;
 
-pub use laws::cores_ticks_are_right;
+pub use laws::{cores_ticks_are_right, shared_ticks_are_right, ticks_without_cores_are_shared};
