@@ -1,0 +1,3 @@
+pub mod Orders
+pub mod Indexing
+pub mod Merging

@@ -1,0 +1,4 @@
+pub mod Books
+pub mod Deeds
+pub mod Indexes
+pub mod Words

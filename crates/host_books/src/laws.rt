@@ -1,0 +1,48 @@
+//! The laws of orders of deeds, and of the index that each deed leaves right.
+ghost use Rattle.std.specs.Prelude.{◌≡◌, ℕ, false, List, map, fold};
+ghost use Rattle.tas_model.specs.declared.entry.FlowId.{FlowId};
+ghost use Rattle.tas_model.specs.Endpoint.{is_closed};
+ghost use Rattle.tas_model.specs.LegalHistory.{Legal};
+ghost use Rattle.host_rounds.specs.Hosts.{Holder, is_indexed_as};
+ghost use Rattle.host_rounds.specs.Scripts.{Scripts};
+ghost use Rattle.host_rounds.specs.Rounds as rounds;
+ghost use Rattle.host_rounds.specs.Rounds.{does};
+ghost use Rattle.flow_lock.specs.Orders.{Order, known_of, put, played};
+ghost use Rattle.flow_lock.specs.declared.view.Deed.{Deed};
+ghost use Rattle.flow_lock.specs.declared.view.Held.{Held};
+ghost use Rattle.host_books.specs.Books.{Book, Setting, live_in, site_of, IsAt, IsFirstAt};
+ghost use Rattle.host_books.specs.Deeds.{AreCoreDeeds, AreDoneAs, with_holder};
+ghost use Rattle.host_books.specs.Indexes.{endpoint_of, AreIndexed, KeepsClosed};
+
+/// What an order of deeds in the table leaves is what the host is after the same deeds in the words of a run: frames
+/// that cores took, and segments that they sent.
+pub fn orders_are_of_cores<S, A>()
+    ensures { (scripts : Scripts S A) (t : ℕ) (s : Setting) (state : S) (known : List Held) (order : Order)
+        (deeds : List (rounds.Deed A)) → AreCoreDeeds t s.books known order deeds
+        → fold (does scripts t) (site_of s known state) deeds ≡ site_of s (played known order) state }
+{}
+
+/// So it is where applications asked beside the cores, one call an ask. The books and the scripts move along.
+pub fn orders_are_of_all<S, A>()
+    ensures { (scripts : Scripts S A) (t : ℕ) (s : Setting) (state : S) (known : List Held) (order : Order)
+        (deeds : List (rounds.Deed A)) (after : List Book) (next : S)
+        → AreDoneAs scripts t s state known order deeds after next
+        → fold (does scripts t) (site_of s known state) deeds
+        ≡ site_of (record s { books = after }) (played known order) next }
+{}
+
+/// A flow that isn't closed is the first that the index has under its four-tuple, and the only one.
+pub fn open_flows_are_found()
+    ensures { (books : List Book) (known : List Held) (place : ℕ) (id : FlowId) → AreIndexed books known
+        → IsAt place id books → is_closed (endpoint_of (known_of id known)) ≡ false
+        → IsFirstAt (is_indexed_as (known_of id known).tuple) place (map (live_in known) books) }
+{}
+
+/// A deed done on the legal history that is known leaves the index right, and so does another holder.
+pub fn deeds_keep_the_index()
+    ensures done { (books : List Book) (known : List Held) (d : Deed) → AreIndexed books known
+        → d.before ≡ known_of d.flow known → Legal d.before.params d.before.entries → KeepsClosed d
+        → AreIndexed books (put known d) }
+    ensures held { (books : List Book) (known : List Held) (place : ℕ) (holds : Holder → Holder)
+        → AreIndexed books known → AreIndexed (with_holder place holds books) known }
+{}

@@ -1,0 +1,21 @@
+//! The law of words for deeds: what each turn's deeds are in other words, put together as the order says.
+ghost use Rattle.std.specs.Prelude.{◌≡◌, ◌≢◌, ℕ, Bool, List, [], length, filter};
+ghost use mathlib.Core.Option as O;
+ghost use lib.ListN.{get_elem?};
+ghost use Rattle.flow_lock.specs.Orders.{Order, of};
+ghost use Rattle.flow_lock.specs.declared.view.Deed.{Deed};
+ghost use Rattle.host_books.specs.Words.{merged, AreWords};
+
+/// Where each turn has a word for each of its deeds, the words have one order, too. Each word stands where its deed
+/// does, and those that pass a test, where they are all of one turn, stand as they do there.
+pub fn orders_are_merged<M>()
+    ensures len { (order : Order) (words : ℕ → List M) → AreWords order words
+        → length (merged order words) ≡ length order }
+    ensures placed { (order : Order) (words : ℕ → List M) → AreWords order words
+        → (k : ℕ) (x : ℕ × Deed) → get_elem? order k ≡ O.some x
+        → (j : ℕ) × (get_elem? (of x.0 order) j ≡ O.some x.1)
+        × (get_elem? (merged order words) k ≡ get_elem? (words x.0) j) }
+    ensures filtered { (order : Order) (words : ℕ → List M) → AreWords order words
+        → (test : M → Bool) (p : ℕ) → ((q : ℕ) → q ≢ p → filter test (words q) ≡ [])
+        → filter test (merged order words) ≡ filter test (words p) }
+{}
