@@ -1,3 +1,5 @@
 pub mod CoresFrames
 pub mod CoresRounds
 pub mod SharedRounds
+pub mod Filters
+pub mod Shares

@@ -1,2 +1,3 @@
 pub mod CoreTicks
 pub mod SharedTicks
+pub mod Shares

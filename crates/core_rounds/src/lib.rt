@@ -4,4 +4,6 @@
 
 mod laws;
 
-pub use laws::{cores_ticks_are_right, shared_ticks_are_right, ticks_without_cores_are_shared};
+pub use laws::{
+    cores_ticks_are_right, shared_ticks_are_right, shares_are_done, ticks_without_cores_are_shared,
+};
