@@ -12,7 +12,7 @@ use Rattle.flow_lock.specs.declared.view.Deed.{Deed}
 use Rattle.flow_lock.specs.declared.view.Turn.{Turn}
 use Rattle.flow_lock.specs.declared.view.View.{View}
 use Rattle.flow_lock.specs.declared.view.History.{History}
-use Rattle.app_reaper.specs.OneCall.{history, history_with, IsUse, IsCallRefused}
+use Rattle.app_reaper.specs.OneCall.{history, history_with, IsUse}
 use Rattle.app_reaper.specs.declared.one_call.CallFault.{CallFault}
 use Rattle.app_reaper.specs.declared.one_call.CallFault.TheVariants.{Busy, OutOfMemory}
 use Rattle.libtas_sockets.specs.Answers.{fault_in}
@@ -21,7 +21,7 @@ use Rattle.libtas_sockets.specs.Calling.{IsCalled, HasCalled, after_close, after
 use Rattle.libtas_sockets.specs.declared.socket.Socket.{Socket}
 use Rattle.libtas_sockets.specs.declared.socket_error.SocketError.{SocketError}
 use Rattle.libtas_sockets.specs.declared.socket_error.SocketError.TheVariants as errors
-use Rattle.app_deeds.specs.Deeds.{Grows, IsCall, AreOfCall, HasDone, left_by_close, left_by_abort}
+use Rattle.app_deeds.specs.Deeds.{Grows, AreOfCall, HasDone, left_by_close, left_by_abort}
 
 -- ----- turns
 pub noted_none : (ts : List Turn) → noted [] [] [] ts ≡ ts
