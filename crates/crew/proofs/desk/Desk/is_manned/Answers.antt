@@ -1,0 +1,22 @@
+-- Answers of the proof of desk/Desk/is_manned.
+use Rattle.std.proofs.Common.{◌∷◌, ℕ, [], sym, ◌∙◌, subst, arith}
+use Rattle.std.specs.Prelude.{Option, None}
+use mathlib.Core.Option as O
+use Rattle.atomic_table.specs.Table.{Me, Allows, step}
+use Rattle.crew.specs.declared.handover.View.{View}
+use Rattle.crew.specs.Desks.{asks}
+use Rattle.crew.proofs.Handing.{Law, asks_it}
+use Rattle.crew.proofs.desk.Desk.is_manned.Goals as goal
+
+pub load-requires : goal.load-requires
+load-requires g c =
+    let M : Type 0 = Me (Option g.row.W.Denot) (View g.row.W.Denot) in
+    let manned = c.requires.0 in
+    let id = c.requires.1 in
+    let slots = c.self.inside.table.shared.table_id.slots in
+    let inv = c.self.invariant in (
+      id.0 ∙ sym c.self.view_is,
+      omega arith,
+      subst (λ (q : ℕ × M). Allows (Law g.W.Job.can g.W.Job.made) slots q.0 q.1 1 (λ n. n) (asks (step slots 1 0 0 O.none) q.1))
+          (λ i. (sym id.1 i, sym id.2 i)) (asks_it g.W.Job.can g.W.Job.made slots manned ((0, None) ∷ [])),
+    )

@@ -1,0 +1,31 @@
+-- Answers of the proof of desk/Desk/look.
+use Rattle.std.proofs.Common.{◌∷◌, ap, sym, ◌∙◌, subst, arith}
+use Rattle.std.specs.Prelude.{Option, Some}
+use mathlib.Core.Option as O
+use Rattle.atomic_table.specs.Table.{Me, rest, Allows, step}
+use Rattle.crew.specs.declared.handover.View.{View}
+use Rattle.crew.specs.Desks.{looks}
+use Rattle.crew.proofs.Handing.{Law, looks_at}
+use Rattle.crew.proofs.desk.Desk.look.Goals as goal
+
+pub load-word-requires : goal.load-word-requires
+load-word-requires g c =
+    let M : Type 0 = Me (Option g.row.W.Denot) (View g.row.W.Denot) in
+    let free = c.requires in
+    let slots = c.self.inside.table.shared.table_id.slots in
+    let inv = c.self.invariant in (
+      free.0 ∙ sym c.self.view_is,
+      omega arith,
+      subst (λ (m : M). Allows (Law g.W.Job.can g.W.Job.made) slots c.args.worker.now.seat.id m 0 (λ n. n) (looks g.W.Job.can g.W.Job.made (step slots 0 0 0 O.none) m))
+          (sym free.1) (looks_at g.W.Job.can g.W.Job.made slots c.args.worker.now.seat.id),
+    )
+
+pub exchange-requires : goal.exchange-requires
+exchange-requires g c =
+    let M : Type 0 = Me (Option g.row.W.Denot) (View g.row.W.Denot) in
+    let e = c.load-word.ensures in
+    let x = e.2.1 c.if-word-ne-JOB.false in
+    let carried = ap (λ (m : M). m.1) x.2 in (
+      e.0 ∙ (c.requires.0 ∙ sym c.self.view_is),
+      (Some x.0, carried ∙ ap (λ l. (0, Some x.0) ∷ l) (sym (ap rest carried))),
+    )

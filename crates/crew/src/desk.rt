@@ -1,0 +1,226 @@
+//! A place at which one thread hands jobs to another, one at a time, and gets each back once it is done.
+ghost use Rattle.std.specs.Prelude.{◌≡◌, ◌<◌, IfOk, IfSome, OnSome, IsTrue, Some, None, true};
+ghost use Rattle.atomic_table.specs.Seated.{TableId};
+ghost use Rattle.crew.specs.Desks.{IsAtRest, IsIdle, IsOut, IsStopped, IsAway, IsFree, IsAtWork, IsGone, IsFound};
+
+use crate::handover::{
+    Arrive, Ask, Clear, HandBack, HandOut, Handover, Look, Part, Stop, TakeBack, View,
+};
+use crate::job::Job;
+use atomic_table::{Seat, Table};
+use std::alloc::{AllocError, Global};
+use std::hint::spin_loop;
+use std::marker::Model;
+use std::sync::Wait;
+use std::sync::atomic::{AtomicBool, Ordering};
+use tas_num::Gate;
+
+/// The word that says how things stand: 0 at first, and then one of these.
+const STATE: usize = 0;
+
+const JOB: u64 = 1;
+
+const DONE: u64 = 2;
+
+const STOP: u64 = 3;
+
+/// The word that says whether a thread is behind the desk: 0 at first, and then this.
+const MANNED: usize = 1;
+
+const THERE: u64 = 1;
+
+/// How often a thread looks before it sleeps: about as long as the system takes to wake one that sleeps.
+const LOOKS: u32 = 2_000;
+
+/// A desk. A contract sees its identity.
+#[derive(Drop)]
+pub struct Desk<W: Job + Drop> {
+    table: Table<Option<W>, View<W>, (), Handover<W>, Global>,
+    worker_sleeps: AtomicBool,
+    dispatcher_sleeps: AtomicBool,
+}
+
+impl<W: Job + Drop> Model for Desk<W> {
+    ghost Value = { TableId };
+
+    ghost view = { λ d. d.table.shared.table_id };
+
+    ghost invariant = { λ d. (d.table.shared.table_id.words ≡ 2) × (d.table.shared.table_id.slots ≡ 1) };
+}
+
+/// The side that hands jobs out.
+#[derive(Drop)]
+pub struct Dispatcher<W> {
+    seat: Seat<Option<W>, View<W>>,
+}
+
+/// The side that works on them.
+#[derive(Drop)]
+pub struct Worker<W> {
+    seat: Seat<Option<W>, View<W>>,
+}
+
+/// What a worker's look at its desk found.
+#[derive(Drop)]
+enum Found<W> {
+    Job(W),
+    /// Nothing, and this as the word's last bits.
+    Nothing(u32),
+    Stop,
+}
+
+impl<W: Job + Drop> Desk<W> {
+    /// A desk with nothing on it, and its two sides.
+    pub fn new(alloc: Global) -> Result<(Desk<W>, Dispatcher<W>, Worker<W>), AllocError>
+        ensures dispatcher { IfOk result (λ d. IsAtRest d.0 d.1.seat) }
+        ensures worker { IfOk result (λ d. IsAway d.0 d.2.seat) }
+    {
+        let (table, mut seat) = Table::vacant(alloc, &[0u64, 0], 1, &())?;
+        table.shared.load::<Clear>(&mut seat, STATE);
+        let worker = Worker {
+            seat: table.shared.split_seat::<Part>(&mut seat),
+        };
+        let desk = Desk {
+            table,
+            worker_sleeps: AtomicBool::new(false),
+            dispatcher_sleeps: AtomicBool::new(false),
+        };
+        Ok((desk, Dispatcher { seat }, worker))
+    }
+
+    /// Whether a thread is behind the desk. Once it was there, it is.
+    pub fn is_manned(&self, dispatcher: &mut Dispatcher<W>) -> bool
+        requires { IsAtRest self.now dispatcher.old.seat }
+        ensures rests { IsAtRest self.now dispatcher.new.seat }
+        ensures manned { IsTrue result → IsIdle self.now dispatcher.new.seat }
+        ensures known { IsIdle self.now dispatcher.old.seat → IsTrue result }
+    {
+        self.table.shared.load::<Ask>(&mut dispatcher.seat, MANNED) == THERE
+    }
+
+    /// Hands a job out.
+    pub fn send(&self, dispatcher: &mut Dispatcher<W>, job: W)
+        requires idle { IsIdle self.now dispatcher.old.seat }
+        requires can { W.can job }
+        ensures { IsOut self.now job dispatcher.new.seat }
+    {
+        let shared = &self.table.shared;
+        drop(shared.exchange(&mut dispatcher.seat, 0, Some(job)));
+        shared.swap::<HandOut>(&mut dispatcher.seat, STATE, JOB);
+        if self.worker_sleeps.load(Ordering::SeqCst) {
+            shared.wake_one(STATE);
+        }
+    }
+
+    /// Says that no more jobs come.
+    pub fn stop(&self, dispatcher: &mut Dispatcher<W>)
+        requires { IsAtRest self.now dispatcher.old.seat }
+        ensures { IsStopped self.now dispatcher.new.seat }
+    {
+        let shared = &self.table.shared;
+        shared.swap::<Stop>(&mut dispatcher.seat, STATE, STOP);
+        shared.wake_one(STATE);
+    }
+
+    /// Waits for the job that is out, and takes it back.
+    pub fn receive<R: Wait>(&self, rt: &R, dispatcher: &mut Dispatcher<W>) -> W
+        requires { (x : W) × IsOut self.now x dispatcher.old.seat }
+        ensures made { (x : W) → IsOut self.now x dispatcher.old.seat → W.made x result }
+        ensures idle { IsIdle self.now dispatcher.new.seat }
+    {
+        let mut looks = 0;
+        for _ in rt.forever() {
+            if let Some(job) = self.take_back(dispatcher) {
+                return job;
+            }
+            looks = self.rest(rt, &self.dispatcher_sleeps, looks, JOB as u32);
+        }
+        unreachable!()
+    }
+
+    /// The job that is out, where it is done.
+    fn take_back(&self, dispatcher: &mut Dispatcher<W>) -> Option<W>
+        requires { (x : W) × IsOut self.now x dispatcher.old.seat }
+        ensures made { IfSome result (λ y. (x : W) → IsOut self.now x dispatcher.old.seat → W.made x y) }
+        ensures idle { OnSome result (IsIdle self.now dispatcher.new.seat) }
+        ensures none { result ≡ None → (x : W) → IsOut self.now x dispatcher.old.seat → IsOut self.now x dispatcher.new.seat }
+    {
+        let shared = &self.table.shared;
+        if shared.load::<TakeBack>(&mut dispatcher.seat, STATE) != DONE {
+            return None;
+        }
+        let Some(job) = shared.exchange(&mut dispatcher.seat, 0, None) else {
+            unreachable!()
+        };
+        Some(job)
+    }
+
+    /// Waits a little: the caller may look again at once, or this sleeps while the word's last bits are these.
+    fn rest<R: Wait>(&self, rt: &R, sleeps: &AtomicBool, looks: u32, word: u32) -> u32 {
+        if looks < LOOKS {
+            spin_loop();
+            return looks + 1;
+        }
+        sleeps.store(true, Ordering::SeqCst);
+        self.table.shared.park(rt, STATE, word);
+        sleeps.store(false, Ordering::SeqCst);
+        looks
+    }
+
+    /// Works on each job that is handed out, until no more come.
+    pub fn serve<R: Wait, G: Gate>(&self, rt: &R, gate: &G, worker: &mut Worker<W>)
+        requires { IsAway self.now worker.old.seat }
+        ensures { IsGone self.now worker.new.seat }
+    {
+        self.table
+            .shared
+            .swap::<Arrive>(&mut worker.seat, MANNED, THERE);
+        let mut looks = 0;
+        for _ in rt.forever() {
+            match self.look(worker) {
+                Found::Stop => return,
+                Found::Job(job) => {
+                    looks = 0;
+                    self.work_on(rt, gate, worker, job);
+                }
+                Found::Nothing(word) => looks = self.rest(rt, &self.worker_sleeps, looks, word),
+            }
+        }
+        unreachable!()
+    }
+
+    /// Takes the job that was handed out, where there is one.
+    fn look(&self, worker: &mut Worker<W>) -> Found<W>
+        requires { IsFree self.now worker.old.seat }
+        ensures { IsFound W.can self.now worker.new.seat result }
+    {
+        let shared = &self.table.shared;
+        let word = shared.load::<Look>(&mut worker.seat, STATE);
+        if word == STOP {
+            return Found::Stop;
+        }
+        if word != JOB {
+            return Found::Nothing((word % 4) as u32);
+        }
+        let Some(job) = shared.exchange(&mut worker.seat, 0, None) else {
+            unreachable!()
+        };
+        Found::Job(job)
+    }
+
+    /// Works on a job, and hands it back.
+    fn work_on<R: Wait, G: Gate>(&self, rt: &R, gate: &G, worker: &mut Worker<W>, job: W)
+        requires can { W.can job }
+        requires work { IsAtWork self.now job worker.old.seat }
+        ensures { IsFree self.now worker.new.seat }
+    {
+        let mut job = job;
+        job.work(rt, gate);
+        let shared = &self.table.shared;
+        drop(shared.exchange(&mut worker.seat, 0, Some(job)));
+        shared.swap::<HandBack>(&mut worker.seat, STATE, DONE);
+        if self.dispatcher_sleeps.load(Ordering::SeqCst) {
+            shared.wake_one(STATE);
+        }
+    }
+}

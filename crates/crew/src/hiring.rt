@@ -1,0 +1,170 @@
+//! Threads that start before a run, and end after it.
+ghost use Rattle.std.specs.Prelude.{◌≡◌, ◌+◌, ◌≤◌, ◌∷◌, ◌++◌, [], length, All, IfOk, IfErr, OnErr, vec_capacity};
+ghost use Rattle.std.specs.Arc.{arc_value};
+ghost use Rattle.std.specs.Thread.{IsSync};
+ghost use Rattle.crew.specs.Desks.{IsAway};
+ghost use Rattle.crew.specs.Crews.{IsReady, HasStopped, desks_of, Continues};
+
+use crate::crew::Crew;
+use crate::desk::{Desk, Worker};
+use crate::job::Job;
+use crate::post::{Post, take_post};
+use std::alloc::{AllocError, Global};
+use std::sync::{Arc, Wait};
+use std::thread;
+use std::thread::Threads;
+use tas_num::Gate;
+
+/// What is done with a crew.
+pub trait Run<W: Job + Drop> {
+    type Answer;
+
+    /// It may run.
+    ghost can: { Self → Type 0 };
+
+    /// What it answers.
+    ghost gives: { Self → Self.Answer → Type 0 };
+
+    /// Runs. The crew that it leaves is the one that it was lent.
+    fn run<R: Threads + Wait + Sync, G: Gate + Sync>(
+        self,
+        rt: &R,
+        gate: &G,
+        crew: &mut Crew<W>,
+    ) -> Self::Answer
+        requires { can self }
+        ensures gives { gives self result }
+        ensures crew { crew.new ≡ crew.old };
+}
+
+/// Runs with so many threads beside the caller's, each of which ends before this returns. One that can't be started is
+/// never sent a job. The error is want of memory for the desks; nothing was run then.
+pub fn with_crew<W: Job + Drop + Send, R: Threads + Wait + Sync, G: Gate + Sync, X: Run<W> + Drop>(
+    rt: &R,
+    gate: &G,
+    alloc: Global,
+    threads: usize,
+    run: X,
+) -> Result<X::Answer, AllocError>
+    requires { X.can run }
+    ensures { IfOk result (X.gives run) }
+{
+    let posts = Vec::with_capacity(alloc, threads)?;
+    let Ended { posts, answer } = hire(rt, gate, alloc, threads, posts, run);
+    drop(posts);
+    answer
+}
+
+/// What a run answered, and the posts that it had, whose threads are told to end.
+struct Ended<W: Job + Drop, A> {
+    posts: Vec<Post<W>>,
+    answer: Result<A, AllocError>,
+}
+
+/// Runs with these threads and so many more.
+fn hire<W: Job + Drop + Send, R: Threads + Wait + Sync, G: Gate + Sync, X: Run<W> + Drop>(
+    rt: &R,
+    gate: &G,
+    alloc: Global,
+    more: usize,
+    posts: Vec<Post<W>>,
+    run: X,
+) -> Ended<W, X::Answer>
+    requires can { X.can run }
+    requires ready { All IsReady posts.items }
+    requires room { length posts.items + more ≤ vec_capacity posts }
+    ensures gives { IfOk result.answer (X.gives run) }
+    ensures stopped { All HasStopped result.posts.items }
+    ensures desks { Continues (desks_of posts.items) (desks_of result.posts.items) }
+{
+    let mut posts = posts;
+    if more == 0 {
+        return run_with(rt, gate, posts, run);
+    }
+    let (desk, worker) = match man(alloc, &mut posts) {
+        Ok(made) => made,
+        Err(error) => {
+            stop_all(&mut posts);
+            return Ended {
+                posts,
+                answer: Err(error),
+            };
+        }
+    };
+    let fewer = more - 1;
+    let (_, ended) = thread::join(
+        rt,
+        ||
+            requires { IsAway (arc_value desk) worker.seat }
+        {
+            let mut worker = worker;
+            desk.serve(rt, gate, &mut worker);
+        },
+        || -> Ended<W, X::Answer>
+            requires { IsSync R.row × X.can run × All IsReady posts.items × (length posts.items + fewer ≤ vec_capacity posts) }
+            ensures gives { IfOk result.answer (X.gives run) }
+            ensures stopped { All HasStopped result.posts.items }
+            ensures desks { Continues (desks_of posts.items) (desks_of result.posts.items) }
+        { hire(rt, gate, alloc, fewer, posts, run) },
+    );
+    ended
+}
+
+/// A desk more. The answer is the side of it that works.
+fn man<W: Job + Drop>(
+    alloc: Global,
+    posts: &mut Vec<Post<W>>,
+) -> Result<(Arc<Desk<W>, Global>, Worker<W>), AllocError>
+    requires ready { All IsReady posts.old.items }
+    requires room { length posts.old.items + 1 ≤ vec_capacity posts.old }
+    ensures away { IfOk result (λ d. IsAway (arc_value d.0) d.1.seat) }
+    ensures desk { IfOk result (λ d. desks_of posts.new.items ≡ desks_of posts.old.items ++ arc_value d.0 ∷ []) }
+    ensures ready { All IsReady posts.new.items }
+    ensures room { vec_capacity posts.new ≡ vec_capacity posts.old }
+    ensures len { IfOk result (λ d. length posts.new.items ≡ length posts.old.items + 1) }
+    ensures none { IfErr result (λ _. posts.new.items ≡ posts.old.items) }
+{
+    let (desk, dispatcher, worker) = Desk::new(alloc)?;
+    let desk = Arc::new(alloc, desk)?;
+    let theirs = Arc::try_clone(&desk)?;
+    posts.push_reserved(Post { desk, dispatcher });
+    Ok((theirs, worker))
+}
+
+/// Runs with these threads, and tells them to end.
+fn run_with<W: Job + Drop, R: Threads + Wait + Sync, G: Gate + Sync, X: Run<W>>(
+    rt: &R,
+    gate: &G,
+    posts: Vec<Post<W>>,
+    run: X,
+) -> Ended<W, X::Answer>
+    requires can { X.can run }
+    requires ready { All IsReady posts.items }
+    ensures gives { IfOk result.answer (X.gives run) }
+    ensures stopped { All HasStopped result.posts.items }
+    ensures desks { desks_of result.posts.items ≡ desks_of posts.items }
+{
+    let mut crew = Crew { posts };
+    let answer = run.run(rt, gate, &mut crew);
+    let mut posts = crew.posts;
+    stop_all(&mut posts);
+    Ended {
+        posts,
+        answer: Ok(answer),
+    }
+}
+
+/// Tells the threads of these posts to end.
+fn stop_all<W: Job + Drop>(posts: &mut Vec<Post<W>>)
+    requires { All IsReady posts.old.items }
+    ensures stopped { All HasStopped posts.new.items }
+    ensures desks { desks_of posts.new.items ≡ desks_of posts.old.items }
+    ensures len { length posts.new.items ≡ length posts.old.items }
+    ensures room { vec_capacity posts.new ≡ vec_capacity posts.old }
+{
+    if let Some(mut post) = take_post(posts) {
+        post.stop();
+        stop_all(posts);
+        posts.push_reserved(post);
+    }
+}

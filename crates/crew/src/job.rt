@@ -1,0 +1,17 @@
+//! What threads work on.
+use std::sync::Wait;
+use tas_num::Gate;
+
+/// What a thread works on. It moves to the thread and back.
+pub trait Job {
+    /// It may be worked on.
+    ghost can: { Self → Type 0 };
+
+    /// What work makes of it.
+    ghost made: { Self → Self → Type 0 };
+
+    /// Works on it, on whatever thread. The gate is the phase's, whose points the work may pass.
+    fn work<R: Wait, G: Gate>(&mut self, rt: &R, gate: &G)
+        requires { can self.old }
+        ensures { made self.old self.new };
+}
