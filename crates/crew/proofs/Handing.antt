@@ -1,15 +1,18 @@
 -- Each step at a desk keeps its rule.
-use Rattle.std.proofs.Common.{◌≡◌, ◌≢◌, ℕ, zero, suc, Bool, true, false, List, [], ◌∷◌, slice_set, slice_index, ◌++◌, ◌⊎◌, sym, refl, ap, ◌∙◌}
+use Rattle.std.proofs.Common.{◌≡◌, ◌≢◌, ℕ, zero, suc, Bool, true, false, List, [], ◌∷◌, slice_set, slice_index, ◌++◌}
+use Rattle.std.proofs.Common.{◌⊎◌, sym, refl, ap, ◌∙◌}
 use Rattle.std.proofs.Common.{subst, inl, inr, arith, true≢false}
 use Rattle.std.specs.Prelude.{Option, Some, None}
 use mathlib.Core.Option as O
 use mathlib.Core.Option.{some-injective, some-ne-none}
 use lib.ListN.{get_elem?}
-use Rattle.atomic_table.specs.Table.{State, Me, step, keeps, takes, gives, Allows, Splits, opening, Act, Valid, stepped, Step}
-use Rattle.atomic_table.specs.Table.{carried_after}
+use Rattle.atomic_table.specs.Table.{State, Me, step, keeps, takes, gives, Allows, Splits, opening, Act, Valid}
+use Rattle.atomic_table.specs.Table.{stepped, Step, carried_after}
 use Rattle.crew.specs.declared.handover.View.{View}
-use Rattle.crew.specs.declared.handover.View.TheVariants.{Whole, Both, Unmanned, Idle, Sent, Stopped, Away, Free, Works, Gone}
-use Rattle.crew.specs.Desks.{Fits, IsNew, IsManned, Sides, Lawful, at_rest, clears, asks, hands_out, takes_back, stops, arrives, looks, hands_back}
+use Rattle.crew.specs.declared.handover.View.TheVariants.{Whole, Both, Unmanned, Idle, Sent, Stopped}
+use Rattle.crew.specs.declared.handover.View.TheVariants.{Away, Free, Works, Gone}
+use Rattle.crew.specs.Desks.{Fits, IsNew, IsManned, Sides, Lawful, at_rest}
+use Rattle.crew.specs.Desks.{clears, asks, hands_out, takes_back, stops, arrives, looks, hands_back}
 
 module _ {W : Type 0} where
   -- which side a view is
@@ -103,8 +106,8 @@ module _ {W : Type 0} where
         record { word = 0; manned = 0; home = O.some None; words = refl; homes = refl; sides = ((refl, refl), refl) }
 
     -- both sides at once, at the first place
-    new_at : (n m : ℕ) (h : O.Option (Option W)) (vs : List (View W)) (v : View W) → ((w : View W) → Fits can made n h v w → ⊥)
-        → Sides can made n m h vs → get_elem? vs 0 ≡ O.some v
+    new_at : (n m : ℕ) (h : O.Option (Option W)) (vs : List (View W)) (v : View W)
+        → ((w : View W) → Fits can made n h v w → ⊥) → Sides can made n m h vs → get_elem? vs 0 ≡ O.some v
         → (vs ≡ v ∷ []) × IsNew can made n h v × (m ≡ 0)
     new_at n m h [] v none s at = absurd s
     new_at n m h (x ∷ []) v none s at =
@@ -142,14 +145,15 @@ module _ {W : Type 0} where
           home = law.home;
           words = law.words;
           homes = law.homes;
-          sides = subst (λ vs. Sides can made law.word law.manned law.home (slice_set vs 0 Unmanned ++ Away ∷ [])) (sym p.0)
-              (p.1, p.2);
+          sides = subst (λ vs. Sides can made law.word law.manned law.home (slice_set vs 0 Unmanned ++ Away ∷ []))
+              (sym p.0) (p.1, p.2);
         }
 
     -- ----- the dispatcher
     unmanned_asks : (n : ℕ) (h : O.Option (Option W)) (w : View W) → Fits can made n h Unmanned w → IsManned 1 w
         → Fits can made n h Idle w
-    unmanned_asks n h Free f m = (λ e. let z = f.0 in absurd (omega arith), λ e. let z = f.0 in absurd (omega arith), f.1)
+    unmanned_asks n h Free f m =
+        let z = f.0 in (λ e. absurd (omega arith), λ e. absurd (omega arith), f.1)
     unmanned_asks n h Away f m = absurd (omega arith)
     unmanned_asks n h Whole f m = absurd f
     unmanned_asks n h Both f m = absurd f
@@ -188,7 +192,8 @@ module _ {W : Type 0} where
             home = law.home;
             words = second_same law.words;
             homes = law.homes;
-            sides = subst (λ vs. Sides can made law.word law.manned law.home (slice_set vs 0 Idle)) (sym p.1) (p.2, p.3);
+            sides = subst (λ vs. Sides can made law.word law.manned law.home (slice_set vs 0 Idle)) (sym p.1)
+                (p.2, p.3);
           },
           (second_word law.words ∙ i.1, refl),
         )
@@ -196,8 +201,8 @@ module _ {W : Type 0} where
         let p = dispatcher_at law.word law.manned law.home s.views Unmanned refl law.sides at in
         by_word p.0 p.1 p.2 p.3 law.manned refl
       where
-        kept : (v w : View W) → s.views ≡ Unmanned ∷ w ∷ [] → Fits can made law.word law.home v w → IsManned law.manned w
-            → Law (stepped s 1 (slice_index s.words 1) 0 c v keeps)
+        kept : (v w : View W) → s.views ≡ Unmanned ∷ w ∷ [] → Fits can made law.word law.home v w
+            → IsManned law.manned w → Law (stepped s 1 (slice_index s.words 1) 0 c v keeps)
         kept v w vs f m =
             record {
               word = law.word;
@@ -403,7 +408,8 @@ module _ {W : Type 0} where
     -- a job waits for the worker, or no more come, or there is nothing
     waits_is : (n : ℕ) (h : O.Option (Option W)) (d : View W) → Fits can made n h d Free
         → ((n ≢ 1) × (n ≢ 3))
-        ⊎ (((n ≡ 1) × ((x : W) × (d ≡ Sent x) × can x × (h ≡ O.some (Some x)))) ⊎ ((n ≡ 3) × (d ≡ Stopped) × (h ≡ O.none)))
+        ⊎ (((n ≡ 1) × ((x : W) × (d ≡ Sent x) × can x × (h ≡ O.some (Some x))))
+        ⊎ ((n ≡ 3) × (d ≡ Stopped) × (h ≡ O.none)))
     waits_is n h Unmanned f = let z = f.0 in inl (λ e. absurd (omega arith), λ e. absurd (omega arith))
     waits_is n h Idle f = inl (f.0, f.1)
     waits_is n h (Sent x) (inl f) = inr (inl (f.0, (x, refl, f.1, f.2)))
@@ -532,3 +538,12 @@ module _ {W : Type 0} where
     taken_back st n x m m' e told =
         let t : takes_back can made st (Sent x, []) n m' =
         subst (λ (u : Me (Option W) (View W)). takes_back can made st u n m') e told in t
+
+    -- a step that is allowed where the seat is known by other names
+    pub allowed_at : (slots i : ℕ) (f : ℕ → ℕ) (st : Step (Option W))
+        → (play : Step (Option W) → Me (Option W) (View W) → ℕ → Me (Option W) (View W) → Type 0)
+        → (id known : ℕ) (me knows : Me (Option W) (View W)) → id ≡ known → me ≡ knows
+        → Allows Law slots known knows i f (play st knows) → Allows Law slots id me i f (play st me)
+    allowed_at slots i f st play id known me knows e m it =
+        subst (λ (q : ℕ × Me (Option W) (View W)). Allows Law slots q.0 q.1 i f (play st q.1))
+        (λ j. (sym e j, sym m j)) it

@@ -1,6 +1,6 @@
--- A desk: what holds of it between any two steps, and what each step tells. Its first word says how things stand (0
--- nothing yet, 1 a job waits or is worked on, 2 the last one is done, 3 no more come), and its second whether a thread is
--- behind it.
+-- A desk: what holds of it between any two steps, and what each step tells. Its first word says how things stand: 0
+-- nothing yet, 1 a job waits or is worked on, 2 the last one is done, 3 no more come. The second says whether a thread
+-- is behind it.
 use Rattle.std.specs.Prelude.{◌≡◌, ◌≢◌, ℕ, Bool, true, false, List, [], ◌∷◌, ◌⊎◌, Option, Some, None, ⊤}
 use mathlib.Core.Option as O
 use Rattle.atomic_table.specs.Table.{State, Me, Step}
@@ -9,7 +9,8 @@ use Rattle.atomic_table.specs.declared.shared.Seat.{Seat}
 use Rattle.crew.specs.declared.desk.Found.{Found}
 use Rattle.crew.specs.declared.desk.Found.TheVariants as found
 use Rattle.crew.specs.declared.handover.View.{View}
-use Rattle.crew.specs.declared.handover.View.TheVariants.{Whole, Both, Unmanned, Idle, Sent, Stopped, Away, Free, Works, Gone}
+use Rattle.crew.specs.declared.handover.View.TheVariants.{Whole, Both, Unmanned, Idle, Sent, Stopped}
+use Rattle.crew.specs.declared.handover.View.TheVariants.{Away, Free, Works, Gone}
 
 -- ----- sides
 -- the view is cut in two: who hands jobs out, and who takes them
@@ -158,3 +159,7 @@ abbrev pub IsFound : {W : Type 0} → (can : W → Type 0) → TableId → Seat 
 IsFound can t s (found.Job x) = can x × IsAtWork t x s
 IsFound can t s (found.Nothing n) = IsFree t s
 IsFound can t s found.Stop = IsGone t s
+
+-- whatever job is out still is
+abbrev pub IsStillOut : {W : Type 0} → TableId → (before after : Seat (Option W) (View W)) → Type 0
+IsStillOut {W} t s r = (x : W) → IsOut t x s → IsOut t x r

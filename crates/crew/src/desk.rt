@@ -1,7 +1,8 @@
 //! A place at which one thread hands jobs to another, one at a time, and gets each back once it is done.
 ghost use Rattle.std.specs.Prelude.{◌≡◌, ◌<◌, IfOk, IfSome, OnSome, IsTrue, Some, None, true};
 ghost use Rattle.atomic_table.specs.Seated.{TableId};
-ghost use Rattle.crew.specs.Desks.{IsAtRest, IsIdle, IsOut, IsStopped, IsAway, IsFree, IsAtWork, IsGone, IsFound};
+ghost use Rattle.crew.specs.Desks.{IsAtRest, IsIdle, IsOut, IsStillOut, IsStopped};
+ghost use Rattle.crew.specs.Desks.{IsAway, IsFree, IsAtWork, IsGone, IsFound};
 
 use crate::handover::{
     Arrive, Ask, Clear, HandBack, HandOut, Handover, Look, Part, Stop, TakeBack, View,
@@ -30,7 +31,7 @@ const MANNED: usize = 1;
 const THERE: u64 = 1;
 
 /// How often a thread looks before it sleeps: about as long as the system takes to wake one that sleeps.
-const LOOKS: u32 = 2_000;
+const LOOKS: u32 = 500;
 
 /// A desk. A contract sees its identity.
 #[derive(Drop)]
@@ -143,7 +144,7 @@ impl<W: Job + Drop> Desk<W> {
         requires { (x : W) × IsOut self.now x dispatcher.old.seat }
         ensures made { IfSome result (λ y. (x : W) → IsOut self.now x dispatcher.old.seat → W.made x y) }
         ensures idle { OnSome result (IsIdle self.now dispatcher.new.seat) }
-        ensures none { result ≡ None → (x : W) → IsOut self.now x dispatcher.old.seat → IsOut self.now x dispatcher.new.seat }
+        ensures none { result ≡ None → IsStillOut self.now dispatcher.old.seat dispatcher.new.seat }
     {
         let shared = &self.table.shared;
         if shared.load::<TakeBack>(&mut dispatcher.seat, STATE) != DONE {

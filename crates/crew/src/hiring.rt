@@ -83,13 +83,7 @@ fn hire<W: Job + Drop + Send, R: Threads + Wait + Sync, G: Gate + Sync, X: Run<W
     }
     let (desk, worker) = match man(alloc, &mut posts) {
         Ok(made) => made,
-        Err(error) => {
-            stop_all(&mut posts);
-            return Ended {
-                posts,
-                answer: Err(error),
-            };
-        }
+        Err(error) => return stopped(posts, Err(error)),
     };
     let fewer = more - 1;
     let (_, ended) = thread::join(
@@ -101,7 +95,10 @@ fn hire<W: Job + Drop + Send, R: Threads + Wait + Sync, G: Gate + Sync, X: Run<W
             desk.serve(rt, gate, &mut worker);
         },
         || -> Ended<W, X::Answer>
-            requires { IsSync R.row × X.can run × All IsReady posts.items × (length posts.items + fewer ≤ vec_capacity posts) }
+            requires sync { IsSync R.row }
+            requires can { X.can run }
+            requires ready { All IsReady posts.items }
+            requires room { length posts.items + fewer ≤ vec_capacity posts }
             ensures gives { IfOk result.answer (X.gives run) }
             ensures stopped { All HasStopped result.posts.items }
             ensures desks { Continues (desks_of posts.items) (desks_of result.posts.items) }
@@ -146,12 +143,19 @@ fn run_with<W: Job + Drop, R: Threads + Wait + Sync, G: Gate + Sync, X: Run<W>>(
 {
     let mut crew = Crew { posts };
     let answer = run.run(rt, gate, &mut crew);
-    let mut posts = crew.posts;
+    stopped(crew.posts, Ok(answer))
+}
+
+/// This answer, once the threads of these posts are told to end.
+fn stopped<W: Job + Drop, A>(posts: Vec<Post<W>>, answer: Result<A, AllocError>) -> Ended<W, A>
+    requires { All IsReady posts.items }
+    ensures answer { result.answer ≡ answer }
+    ensures stopped { All HasStopped result.posts.items }
+    ensures desks { desks_of result.posts.items ≡ desks_of posts.items }
+{
+    let mut posts = posts;
     stop_all(&mut posts);
-    Ended {
-        posts,
-        answer: Ok(answer),
-    }
+    Ended { posts, answer }
 }
 
 /// Tells the threads of these posts to end.

@@ -10,5 +10,6 @@ pub returns-clause-ready : goal.returns-clause-ready
 returns-clause-ready g c =
     subst (All (IsReady {W = g.row.W.Denot})) (sym c.push_reserved.ensures.items)
     (All-push IsReady _ _ c.requires.ready record {
-      rests = subst (λ t. IsAtRest t c.in_ok-desk.dispatcher.seat) (sym c.in_ok-desk-2.ensures.ok) c.in_ok-desk.ensures.dispatcher;
+      rests = subst (λ t. IsAtRest t c.in_ok-desk.dispatcher.seat) (sym c.in_ok-desk-2.ensures.ok)
+          c.in_ok-desk.ensures.dispatcher;
     })

@@ -1,11 +1,11 @@
 -- Answers of the proof of desk/Desk/is_manned.
-use Rattle.std.proofs.Common.{◌∷◌, ℕ, [], sym, ◌∙◌, subst, arith}
+use Rattle.std.proofs.Common.{◌∷◌, [], sym, ◌∙◌, arith}
 use Rattle.std.specs.Prelude.{Option, None}
 use mathlib.Core.Option as O
-use Rattle.atomic_table.specs.Table.{Me, Allows, step}
+use Rattle.atomic_table.specs.Table.{Me, step}
 use Rattle.crew.specs.declared.handover.View.{View}
 use Rattle.crew.specs.Desks.{asks}
-use Rattle.crew.proofs.Handing.{Law, asks_it}
+use Rattle.crew.proofs.Handing.{allowed_at, asks_it}
 use Rattle.crew.proofs.desk.Desk.is_manned.Goals as goal
 
 pub load-requires : goal.load-requires
@@ -17,6 +17,6 @@ load-requires g c =
     let inv = c.self.invariant in (
       id.0 ∙ sym c.self.view_is,
       omega arith,
-      subst (λ (q : ℕ × M). Allows (Law g.W.Job.can g.W.Job.made) slots q.0 q.1 1 (λ n. n) (asks (step slots 1 0 0 O.none) q.1))
-          (λ i. (sym id.1 i, sym id.2 i)) (asks_it g.W.Job.can g.W.Job.made slots manned ((0, None) ∷ [])),
+      allowed_at _ _ slots 1 (λ n. n) (step slots 1 0 0 O.none) asks _ _ _ _ id.1 id.2
+          (asks_it g.W.Job.can g.W.Job.made slots manned ((0, None) ∷ [])),
     )

@@ -1,11 +1,11 @@
 -- Answers of the proof of desk/Desk/look.
-use Rattle.std.proofs.Common.{◌∷◌, ap, sym, ◌∙◌, subst, arith}
+use Rattle.std.proofs.Common.{refl, ◌∷◌, ap, sym, ◌∙◌, arith}
 use Rattle.std.specs.Prelude.{Option, Some}
 use mathlib.Core.Option as O
-use Rattle.atomic_table.specs.Table.{Me, rest, Allows, step}
+use Rattle.atomic_table.specs.Table.{Me, rest, step}
 use Rattle.crew.specs.declared.handover.View.{View}
 use Rattle.crew.specs.Desks.{looks}
-use Rattle.crew.proofs.Handing.{Law, looks_at}
+use Rattle.crew.proofs.Handing.{allowed_at, looks_at}
 use Rattle.crew.proofs.desk.Desk.look.Goals as goal
 
 pub load-word-requires : goal.load-word-requires
@@ -16,8 +16,8 @@ load-word-requires g c =
     let inv = c.self.invariant in (
       free.0 ∙ sym c.self.view_is,
       omega arith,
-      subst (λ (m : M). Allows (Law g.W.Job.can g.W.Job.made) slots c.args.worker.now.seat.id m 0 (λ n. n) (looks g.W.Job.can g.W.Job.made (step slots 0 0 0 O.none) m))
-          (sym free.1) (looks_at g.W.Job.can g.W.Job.made slots c.args.worker.now.seat.id),
+      allowed_at _ _ slots 0 (λ n. n) (step slots 0 0 0 O.none) (looks g.W.Job.can g.W.Job.made) _ _ _ _ refl free.1
+          (looks_at g.W.Job.can g.W.Job.made slots c.args.worker.now.seat.id),
     )
 
 pub exchange-requires : goal.exchange-requires

@@ -1,11 +1,11 @@
 -- Answers of the proof of desk/Desk/new.
-use Rattle.std.proofs.Common.{ℕ, sym, subst, arith}
+use Rattle.std.proofs.Common.{arith}
 use Rattle.std.specs.Prelude.{Option}
 use mathlib.Core.Option as O
-use Rattle.atomic_table.specs.Table.{Me, Allows, step}
+use Rattle.atomic_table.specs.Table.{Me, step}
 use Rattle.crew.specs.declared.handover.View.{View}
 use Rattle.crew.specs.Desks.{clears}
-use Rattle.crew.proofs.Handing.{Law, clears_it}
+use Rattle.crew.proofs.Handing.{allowed_at, clears_it}
 use Rattle.crew.proofs.desk.Desk.new.Goals as goal
 
 pub load-requires : goal.load-requires
@@ -16,6 +16,6 @@ load-requires g c =
     let words = e.0 in (
       e.2,
       omega arith,
-      subst (λ (q : ℕ × M). Allows (Law g.W.Job.can g.W.Job.made) slots q.0 q.1 0 (λ n. n) (clears (step slots 0 0 0 O.none) q.1))
-          (λ i. (sym e.3 i, sym e.4 i)) (clears_it g.W.Job.can g.W.Job.made slots),
+      allowed_at _ _ slots 0 (λ n. n) (step slots 0 0 0 O.none) clears _ _ _ _ e.3 e.4
+          (clears_it g.W.Job.can g.W.Job.made slots),
     )

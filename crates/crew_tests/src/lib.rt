@@ -1,0 +1,10 @@
+//! Tests of crews of threads: that each job is worked on once a phase, that jobs of a phase are worked on at once, and
+//! that every way out of a run ends its threads. This crate has tests alone.
+#![tactic(auto)]
+
+#[cfg(test)]
+mod at_once;
+#[cfg(test)]
+mod phases;
+#[cfg(test)]
+mod task;
