@@ -2,3 +2,5 @@ pub mod Books
 pub mod Deeds
 pub mod Indexes
 pub mod Words
+pub mod Tries
+pub mod Ticks
