@@ -1,5 +1,5 @@
 //! The frames of a tick are handed out to the cores of their groups, while groups move.
-ghost use Rattle.std.specs.Prelude.{◌≡◌, ◌<◌, ◌≤◌, ◌+◌, ◌++◌, ◌∷◌, [], All, List, filter, IfOk, OnErr};
+ghost use Rattle.std.specs.Prelude.{◌≡◌, ◌<◌, ◌≤◌, ◌+◌, ◌++◌, ◌∷◌, [], All, List, length, filter, IfOk, OnErr};
 ghost use Rattle.std.specs.Prelude.{vec_len, vec_capacity};
 ghost use Rattle.frame_steering.specs.Handing.{is_of, moves_of, moves_but, waits, IsMovedIf, AreMoved, AreHandedOut};
 
@@ -32,6 +32,7 @@ pub fn hand_out<R: Wait>(
     requires groups { All (λ group. group < 64) groups.now }
     requires moves { All (λ (m : GroupMove). m.group < 64) moves.now }
     ensures own { steer.new.place ≡ steer.old.place }
+    ensures len { IfOk result (λ handed. length handed.items ≡ length groups.now) }
     ensures below { IfOk result (λ handed. All (λ core. core < cores) handed.items) }
     ensures handed { IfOk result (λ handed.
         AreHandedOut cores steer.old.tables moves.now groups.now handed.items steer.new.tables) }

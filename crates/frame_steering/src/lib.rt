@@ -2,5 +2,7 @@
 #![tactic(auto)]
 
 mod handing;
+mod laws;
 
 pub use handing::{GroupMove, hand_out};
+pub use laws::each_frame_goes_to_one_core;
