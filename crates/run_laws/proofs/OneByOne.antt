@@ -43,24 +43,15 @@ same_test n = grind (arith, tests)
 other_test : (a b : ℕ) → a ≢ b → (a == b) ≡ false
 other_test a b h = grind (arith, tests, h)
 
--- what the kill makes of this holder of the flow
-abbrev concerns : (app : ℕ) → Host → Live → Holder → Bool
-concerns app host l holder =
-    elim holder [
-      | Application other ↦ other == app
-      | Waiting ↦ not (is_over l) && has_listener app l.flow.tuple.lport host
-      | GivenUp ↦ false
-    ]
-
 pub own_flows : (app : ℕ) (host : Host) (l : Live) → l.holder ≡ Application app → is_concerned app host l ≡ true
-own_flows app host l h = ap (concerns app host l) h ∙ same_test app
+own_flows app host l h = rw (h, is_concerned) (same_test app)
 
 pub others_flows : (app other : ℕ) (host : Host) (l : Live) → l.holder ≡ Application other → other ≢ app
     → is_concerned app host l ≡ false
-others_flows app other host l h differ = ap (concerns app host l) h ∙ other_test other app differ
+others_flows app other host l h differ = rw (h, is_concerned) (other_test other app differ)
 
 pub given_up_flows : (app : ℕ) (host : Host) (l : Live) → l.holder ≡ GivenUp → is_concerned app host l ≡ false
-given_up_flows app host l h = ap (concerns app host l) h
+given_up_flows app host l h = rw (h, is_concerned) refl
 
 any_later : (a b : Bool) → b ≡ true → (a || b) ≡ true
 any_later true b h = refl
@@ -106,14 +97,12 @@ only_others app port (x ∷ xs) each = by_app (x.app == app) refl (only_others a
 pub waiting_flows : (app : ℕ) (host : Host) (l : Live) (x : Listener) → l.holder ≡ Waiting → is_over l ≡ false
     → Contains host.listeners x → x.app ≡ app → x.port ≡ l.flow.tuple.lport → is_concerned app host l ≡ true
 waiting_flows app host l x h alive among mine here =
-    ap (concerns app host l) h
-    ∙ ap (λ (b : Bool). not b && has_listener app l.flow.tuple.lport host) alive
-    ∙ listens_there app l.flow.tuple.lport host.listeners x among mine here
+    rw (h, is_concerned, alive) (listens_there app l.flow.tuple.lport host.listeners x among mine here)
 
 pub closed_flows : (app : ℕ) (host : Host) (l : Live) → l.holder ≡ Waiting → is_over l ≡ true
     → is_concerned app host l ≡ false
 closed_flows app host l h over =
-    ap (concerns app host l) h ∙ ap (λ (b : Bool). not b && has_listener app l.flow.tuple.lport host) over
+    rw (h, is_concerned, over) refl
 
 and_false : (b : Bool) → (b && false) ≡ false
 and_false true = refl
@@ -123,9 +112,7 @@ pub elsewhere_flows : (app : ℕ) (host : Host) (l : Live) → l.holder ≡ Wait
     → Each (λ (x : Listener). x.port ≡ l.flow.tuple.lport → x.app ≢ app) host.listeners
     → is_concerned app host l ≡ false
 elsewhere_flows app host l h each =
-    ap (concerns app host l) h
-    ∙ ap (λ (b : Bool). not (is_over l) && b) (only_others app l.flow.tuple.lport host.listeners each)
-    ∙ and_false (not (is_over l))
+    rw (h, is_concerned, only_others app l.flow.tuple.lport host.listeners each) (and_false (not (is_over l)))
 
 -- ----- send
 pub offer_length : (bytes : List ℕ) (done : ℕ) → length (take most (drop done bytes)) ≡ min 65536 (length bytes - done)
