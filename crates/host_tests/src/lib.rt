@@ -15,6 +15,11 @@ pub mod hosts;
 mod opening;
 #[cfg(test)]
 mod packets;
+pub mod readers;
+#[cfg(test)]
+mod reading;
+#[cfg(test)]
+mod sleeping;
 #[cfg(test)]
 mod starting;
 #[cfg(test)]
