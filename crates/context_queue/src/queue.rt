@@ -81,6 +81,13 @@ impl ContextQueue {
         Ok((ContextQueue { line }, ReceiverPass { senders: 0, pass }))
     }
 
+    /// How many notes it holds at most.
+    pub fn room(&self) -> usize
+        ensures { result ≡ self.now.room }
+    {
+        self.line.capacity()
+    }
+
     /// The pass of the next sender. Senders are numbered from 0 in the order in which they are made. It takes no
     /// memory, and fails only where all numbers were given; then nothing changes.
     pub fn sender(&self, _alloc: Global, r: &mut ReceiverPass) -> Result<SenderPass, AllocError>

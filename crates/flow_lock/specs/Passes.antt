@@ -106,11 +106,12 @@ abbrev pub IsOne : View → Type 0
 IsOne v = v.slow ≡ false → v.parts ≡ 1
 
 -- what holds of the slow path's pass: its marks are its view's, one for each slot, and it counts the passes that are
--- out
-pub record IsSlow (s : Seen) (ms : List Mark) (out : ℕ) : Type 0 where
+-- out and the flows that were opened
+pub record IsSlow (s : Seen) (ms : List Mark) (out all : ℕ) : Type 0 where
   pub slow : s.view.slow ≡ true
   pub marks : s.view.marks ≡ ms
   pub long : length ms ≡ s.table.slots
   pub near : length ms ≤ 1024
   pub passes : out + s.view.parts ≡ 4097
   pub few : All (λ m. m.generation ≤ s.view.opened) ms
+  pub count : s.view.opened ≡ all

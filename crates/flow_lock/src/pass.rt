@@ -31,6 +31,8 @@ pub struct SlowPass<R> {
     pub(crate) marks: Vec<Mark>,
     /// How many passes were split off and not joined.
     pub(crate) passes: u32,
+    /// How many flows were opened.
+    pub(crate) opened: u32,
 }
 
 impl<R> Model for SlowPass<R> {
@@ -38,7 +40,7 @@ impl<R> Model for SlowPass<R> {
 
     ghost view = { λ p. p.pass };
 
-    ghost invariant = { λ p. IsSlow p.pass p.marks.items p.passes };
+    ghost invariant = { λ p. IsSlow p.pass p.marks.items p.passes p.opened };
 }
 
 impl<R> SlowPass<R> {
@@ -53,6 +55,14 @@ impl<R> SlowPass<R> {
             slot: slot as u32,
             generation: self.marks[slot].generation.saturating_add(1),
         })
+    }
+
+    /// How many flows were opened. After 4,294,967,295 no more can be, as each opening of a slot has a generation of its
+    /// own.
+    pub fn opened(&self) -> u32
+        ensures { result ≡ self.now.view.opened }
+    {
+        self.opened
     }
 
     /// Whether this pass opened the flow and hasn't freed it.

@@ -50,6 +50,7 @@ impl<R: Recorded + Drop> FlowTable<R> {
             doomed: false,
         };
         put_mark(&mut slow.marks, slot, mark);
+        slow.opened += 1;
         Ok((flow, Pin { flow }))
     }
 

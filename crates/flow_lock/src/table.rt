@@ -55,6 +55,7 @@ impl<R: Recorded + Drop> FlowTable<R> {
             pass: Pass { seat },
             marks,
             passes: 0,
+            opened: 0,
         };
         Ok((FlowTable { table, slots }, slow))
     }

@@ -52,4 +52,5 @@ invariant_of-slow-2 g c =
       few = subst (All (λ (x : Mark). x.generation ≤ c.free_word.new.pass.view.opened)) (sym new)
           (All-set (λ (x : Mark). x.generation ≤ c.free_word.new.pass.view.opened) c.slow.inside.marks.items f.slot m
           (omega arith) (λ k d lt. omega (arith, i.few k d lt)));
+      count = opened ∙ i.count;
     }
