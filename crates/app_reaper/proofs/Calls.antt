@@ -3,11 +3,13 @@ use Rattle.std.proofs.Common.{◌≡◌, ap, sym, ◌∙◌, refl, subst, ℕ}
 use Rattle.std.specs.Prelude.{Option, Result, Ok, Err, IfOk, IfErr}
 use Rattle.tas_model.specs.declared.entry.Caller.{Caller}
 use Rattle.tas_model.specs.declared.entry.FlowId.{FlowId}
+use Rattle.tas_model.specs.LegalHistory.{Legal, replay}
 use Rattle.flow_state.specs.declared.call.CallIn.{CallIn}
 use Rattle.flow_state.specs.declared.call.Answer.{Answer}
 use Rattle.flow_state.specs.declared.parts.Parts.{Parts}
 use Rattle.flow_state.specs.Flow.{Flow}
-use Rattle.flow_lock.specs.Answers.{IsTaken, Holds}
+use Rattle.flow_state.specs.Stands.{Stands}
+use Rattle.flow_lock.specs.Answers.{HasSeen, IsKnownOf, IsTaken, Holds}
 use Rattle.flow_lock.specs.Histories.{IsLonger}
 use Rattle.flow_lock.specs.Steps.{gave}
 use Rattle.flow_lock.specs.declared.view.History.{History}
@@ -15,6 +17,12 @@ use Rattle.flow_lock.specs.declared.view.View.{View}
 use Rattle.app_reaper.specs.declared.one_call.CallFault.{CallFault}
 use Rattle.app_reaper.specs.declared.one_call.CallFault.TheVariants.{OutOfMemory}
 use Rattle.app_reaper.specs.OneCall.{history, IsOwn, IsUse, IsMade, IsCall, IsCallRefused}
+
+-- the flow's own record, once its parts were read
+pub own_taken : (id : FlowId) (v : View) (r : Flow) → r.id ≡ id → Legal r.params r.entries
+    → Stands r.parts (replay r.params r.entries) → HasSeen v id (history r) → IsKnownOf v id (history r) → IsOwn id v r
+own_taken id v r own legal stands seen known =
+    record { own = own; legal = legal; stands = stands; seen = seen; known = known }
 
 -- what was taken may be given back with more behind it
 pub taken_holds : (id : FlowId) (r : Flow) (after : History) (v u : View) → IsTaken id (history r) v u

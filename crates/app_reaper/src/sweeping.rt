@@ -19,8 +19,8 @@ pub enum Swept {
 }
 
 /// Dooms a closed flow, frees its slot and files its record, unless another pass has pinned it. The record gives back
-/// the memory that it has no use for any more. The error is want of
-/// memory, and leaves the table as it was; the flow stays live then, and its record comes out when the table is closed.
+/// the memory that it has no use for any more. The error is want of memory, and leaves the table as it was; the flow
+/// stays live then, and its record comes out when the table is closed.
 pub fn sweep(
     table: &FlowTable<FlowRecord>,
     slow: &mut SlowPass<FlowRecord>,
