@@ -5,3 +5,4 @@ pub mod Waiting
 pub mod Answering
 pub mod Receiving
 pub mod Ends
+mod Apart

@@ -1,5 +1,6 @@
 -- An application connects to a port of a host.
-use Rattle.std.specs.Prelude.{◌≡◌, ℕ, ◌+◌, ◌==◌, ◌&&◌, ◌||◌, not, Bool, List, [], ◌∷◌, ◌++◌}
+use Rattle.std.specs.Prelude.{◌≡◌, ℕ, ◌+◌, ◌==◌, ◌&&◌, ◌||◌, not, Bool, true, false, List, [], ◌∷◌, ◌++◌, All}
+use Rattle.std.specs.Prelude.{if◌then◌else◌}
 use Rattle.std.specs.Prelude.{Option, Some, Result, Ok, Err}
 use Rattle.std.specs.List.{filter, find}
 use Rattle.tas_num.specs.declared.seq.Seq.{Seq}
@@ -97,6 +98,10 @@ IsJoined id tuple a b (Err (errors.Moved x y)) =
     × (b ≡ record (with_view b.pass.view a) { begun = a.begun ++ record { id = id; tuple = tuple } ∷ [] })
 IsJoined id tuple a b (Err e) = ⊥
 
+-- each socket is on a flow that the slow path has open
+abbrev pub AreOpen : List Mark → Application → Type 0
+AreOpen marks a = All (λ (f : FlowId). is_open_in marks f ≡ true) a.sockets
+
 -- the application has a socket on the slot that comes next
 abbrev pub IsOnNext : Socket → Application → Opener → Type 0
 IsOnNext s a o = (id : FlowId) × (next_in o.pass.view.marks ≡ Some id) × (s ≡ socket_on id) × IsSocket a s
@@ -119,11 +124,16 @@ next_tuple o raddr rport =
 abbrev pub numbers_given : Openings → Openings
 numbers_given o = record o { ports = o.ports + 1; next_iss = next_after o.next_iss }
 
--- the lists after a connect that pinned no begun flow
+-- a flow was opened: the answer is a socket, or a refused pin
+abbrev pub does_open : Result Socket SocketError → Bool
+does_open (Ok s) = true
+does_open (Err (errors.Stale x)) = true
+does_open (Err (errors.Moved x y)) = true
+does_open (Err e) = false
+
+-- The lists after a connect that pinned no begun flow: one that opened none uses up no port and no first number.
 abbrev pub after_connect : Result Socket SocketError → Openings → Openings
-after_connect (Err errors.NoFlowSlot) o = o
-after_connect (Err errors.NoPort) o = o
-after_connect result o = numbers_given o
+after_connect result o = if does_open result then numbers_given o else o
 
 -- a connect that pins no begun flow, by its answer
 abbrev pub IsConnection : (raddr rport tick : ℕ) → Openings → (before after : Application) → (before after : Opener)

@@ -11,7 +11,7 @@ ghost use Rattle.slow_handshake.specs.Openings.{all_ports};
 ghost use Rattle.app_reaper.specs.OneCall.{history};
 ghost use Rattle.libtas_sockets.specs.Apps.{IsSocket, socket_on};
 ghost use Rattle.libtas_sockets.specs.Connecting.{fits, id_of, still_begun, begun_for, looked_up, IsTakenUp, opener};
-ghost use Rattle.libtas_sockets.specs.Connecting.{IsOpening, IsConnection, IsConnectionAs, after_connect};
+ghost use Rattle.libtas_sockets.specs.Connecting.{IsOpening, IsConnection, IsConnectionAs, after_connect, does_open};
 ghost use Rattle.libtas_sockets.specs.Connecting.{first_history};
 
 use crate::app::App;
@@ -22,7 +22,7 @@ use crate::socket_error::SocketError;
 use app_reaper::PinList;
 use flow_lock::{FlowTable, Pin, SlowPass};
 use flow_state::FlowRecord;
-use slow_handshake::SlowPath;
+use slow_handshake::{NumberSource, SlowPath};
 use tas_model::{Caller, FlowId, FourTuple, HostParams};
 use tas_num::Seq;
 
@@ -30,9 +30,10 @@ impl App {
     /// Opens a connection to a port of a host, from the next port. Where an earlier connect to it opened a flow that
     /// couldn't be pinned, that flow is pinned, and none is opened; `Stale` and `Moved` leave it begun, and so does
     /// `SlotInUse`, which comes exactly where the application has a socket on its slot. Else `NoFlowSlot` comes exactly
-    /// where every slot has a flow, and else `NoPort` where all ports were given. Once a port and a first number were
-    /// given, memory may be wanting, or there is a socket on the slot that comes next (`SlotInUse`; by the table's rule
-    /// there is none, as a slot with a pin has a flow): nothing is opened then.
+    /// where every slot has a flow, else `NoPort` where all ports were given, and else `SlotInUse` where the application
+    /// has a socket on the slot that comes next: never, where the slow path has the flow of each socket open (law
+    /// `no_socket_is_in_the_way`). After 4,294,967,295 openings, and where memory is wanting, nothing is opened. No
+    /// port and no first number is used up where nothing is opened.
     pub fn connect(
         &mut self,
         t: &FlowTable<FlowRecord>,
@@ -45,7 +46,6 @@ impl App {
     ) -> Result<Socket, SocketError>
         requires pass { (self.old.pass.table ≡ t.now) × MayAct self.old.pass.view }
         requires slow { (sp.old.table ≡ t.now) × MayAct sp.old.view }
-        requires few { sp.old.view.opened < 4294967295 }
         requires ranges { InRange slow.old.params }
         ensures begun { IfSome (begun_for (Target.To raddr rport) sp.old self.old)
             (λ b. IsTakenUp b.id (looked_up (Target.To raddr rport) sp.old self.old) self.new result) }
@@ -58,6 +58,9 @@ impl App {
             (result ≡ Err SocketError.NoFlowSlot ↔ next_in sp.old.view.marks ≡ None) }
         ensures ports { IfNone (begun_for (Target.To raddr rport) sp.old self.old)
             (result ≡ Err SocketError.NoPort ↔ IsSome (next_in sp.old.view.marks) × (slow.old.ports ≡ all_ports)) }
+        ensures next_in_use { IfNone (begun_for (Target.To raddr rport) sp.old self.old)
+            (IfSome (next_in sp.old.view.marks) (λ id. slow.old.ports < all_ports
+            → result ≡ Err (SocketError.SlotInUse (socket_on id)) ↔ IsSocket self.old (socket_on id))) }
         ensures opened { IfNone (begun_for (Target.To raddr rport) sp.old self.old)
             (IsConnection raddr rport tick slow.old (looked_up (Target.To raddr rport) sp.old self.old) self.new
             (opener sp.old pins.old.list) (opener sp.new pins.new.list) result) }
@@ -74,31 +77,35 @@ impl App {
         let Ok(lport) = slow.next_port() else {
             return Err(SocketError::NoPort);
         };
-        let iss = slow.next_iss();
         let tuple = FourTuple {
             laddr: slow.params().addr,
             lport,
             raddr,
             rport,
         };
-        self.open(t, slow.params(), sp, pins, id, tuple, iss, tick)
+        let iss = slow.first_number(tuple);
+        let connected = self.open(t, slow.params(), sp, pins, id, tuple, iss, tick);
+        if opens(&connected) {
+            slow.connected();
+        }
+        connected
     }
 
-    /// `connect` with the ends and the first number given. It never answers `NoPort`.
-    pub fn connect_as(
+    /// `connect` with the ends given, and with the first number that the source has for them. It never answers
+    /// `NoPort`.
+    pub fn connect_as<N: NumberSource>(
         &mut self,
         t: &FlowTable<FlowRecord>,
-        slow: &mut SlowPath,
+        params: &HostParams,
         sp: &mut SlowPass<FlowRecord>,
         pins: &mut PinList,
         tuple: FourTuple,
-        iss: Seq,
+        numbers: &N,
         tick: u32,
     ) -> Result<Socket, SocketError>
         requires pass { (self.old.pass.table ≡ t.now) × MayAct self.old.pass.view }
         requires slow { (sp.old.table ≡ t.now) × MayAct sp.old.view }
-        requires few { sp.old.view.opened < 4294967295 }
-        requires ranges { InRange slow.old.params }
+        requires ranges { InRange params.now }
         ensures begun { IfSome (begun_for (Target.Of tuple) sp.old self.old)
             (λ b. IsTakenUp b.id (looked_up (Target.Of tuple) sp.old self.old) self.new result) }
         ensures in_use { IfSome (begun_for (Target.Of tuple) sp.old self.old)
@@ -107,10 +114,13 @@ impl App {
             (opener sp.new pins.new.list ≡ opener sp.old pins.old.list) }
         ensures slots { IfNone (begun_for (Target.Of tuple) sp.old self.old)
             (result ≡ Err SocketError.NoFlowSlot ↔ next_in sp.old.view.marks ≡ None) }
+        ensures next_in_use { IfNone (begun_for (Target.Of tuple) sp.old self.old)
+            (IfSome (next_in sp.old.view.marks) (λ id.
+            result ≡ Err (SocketError.SlotInUse (socket_on id)) ↔ IsSocket self.old (socket_on id))) }
         ensures opened { IfNone (begun_for (Target.Of tuple) sp.old self.old)
-            (IsConnectionAs tuple iss tick slow.old.params (looked_up (Target.Of tuple) sp.old self.old) self.new
+            (IsConnectionAs tuple (N.number numbers.now tuple) tick params.now
+            (looked_up (Target.Of tuple) sp.old self.old) self.new
             (opener sp.old pins.old.list) (opener sp.new pins.new.list) result) }
-        ensures kept { slow.new ≡ slow.old }
     {
         forget_ended(&mut self.begun, sp, &Target::Of(tuple));
         if let Some(id) = begun_for(&self.begun, &Target::Of(tuple)) {
@@ -119,7 +129,8 @@ impl App {
         let Some(id) = sp.next_flow() else {
             return Err(SocketError::NoFlowSlot);
         };
-        self.open(t, slow.params(), sp, pins, id, tuple, iss, tick)
+        let iss = numbers.first_number(tuple);
+        self.open(t, params, sp, pins, id, tuple, iss, tick)
     }
 
     /// Pins a begun flow, which is then no longer begun.
@@ -157,7 +168,6 @@ impl App {
     ) -> Result<Socket, SocketError>
         requires pass { (self.old.pass.table ≡ t.now) × MayAct self.old.pass.view }
         requires slow { (sp.old.table ≡ t.now) × MayAct sp.old.view }
-        requires few { sp.old.view.opened < 4294967295 }
         requires ranges { InRange params.now }
         requires next { next_in sp.old.view.marks ≡ Some id }
         requires slot { id.slot < t.now.slots }
@@ -167,6 +177,9 @@ impl App {
     {
         if is_slot_in_use(&self.sockets, id) {
             return Err(SocketError::SlotInUse(Socket(id.slot)));
+        }
+        if sp.opened() == u32::MAX {
+            return Err(SocketError::OutOfMemory);
         }
         make_room(&mut self.sockets)?;
         if self.begun.reserve(1).is_err() || pins.reserve().is_err() {
@@ -188,6 +201,16 @@ impl App {
             }
         }
     }
+}
+
+/// Whether a flow was opened: the answer is a socket, or a refused pin.
+fn opens(connected: &Result<Socket, SocketError>) -> bool
+    ensures { result ≡ does_open connected.now }
+{
+    matches!(
+        connected,
+        Ok(_) | Err(SocketError::Stale(_) | SocketError::Moved(..))
+    )
 }
 
 /// Opens the next flow for the record, and answers the slow path's pin.

@@ -7,6 +7,7 @@ mod begun;
 mod calls;
 mod connecting;
 mod ending;
+mod laws;
 mod pinning;
 mod received;
 mod socket;
@@ -14,6 +15,7 @@ mod socket_error;
 
 pub use app::App;
 pub use begun::{Begun, Target};
+pub use laws::no_socket_is_in_the_way;
 pub use received::Received;
 pub use socket::Socket;
 pub use socket_error::SocketError;

@@ -2,12 +2,14 @@
 //! where no flow is.
 #![tactic(auto)]
 
+mod numbers;
 mod openings;
 mod rx;
 mod slow_path;
 mod strays;
 mod syn_sent;
 
+pub use numbers::NumberSource;
 pub use openings::{ListenRefused, Listener, NoPort, PassiveFlow, SynAnswer};
 pub use rx::SlowRx;
 pub use slow_path::SlowPath;

@@ -5,11 +5,12 @@ ghost use Rattle.slow_handshake.specs.Openings.{no_openings, is_taken, is_owned_
 ghost use Rattle.slow_handshake.specs.Openings.{all_ports, readied, is_named, first_ready, waiting_for, backlog_of};
 ghost use Rattle.slow_handshake.specs.Openings.{waits_for, told};
 
+use crate::numbers::NumberSource;
 use crate::openings::{ListenRefused, Listener, NoPort, PassiveFlow, SynAnswer};
 use segment_fields::Segment;
 use std::alloc::{AllocError, Global};
 use std::marker::Model;
-use tas_model::{FlowId, HostParams};
+use tas_model::{FlowId, FourTuple, HostParams};
 use tas_num::Seq;
 
 /// The first of the ports for own connections.
@@ -46,6 +47,15 @@ impl Model for SlowPath {
     } };
 
     ghost invariant = { λ s. s.ports ≤ 16384 };
+}
+
+/// The first number is that of the parameters, and then each 64,000 past the one before, modulo 2^32.
+impl NumberSource for SlowPath {
+    ghost number = { λ path tuple. path.next_iss };
+
+    fn first_number(&self, _tuple: FourTuple) -> Seq {
+        self.next_iss
+    }
 }
 
 /// The flow is past SYN-RECEIVED, where it stands in the list.
@@ -109,19 +119,29 @@ impl SlowPath {
         self.listeners.iter().any(|listener| listener.port == port)
     }
 
-    /// A port for an own connection: 49152, 49153 and so on, each once. The error: all 16,384 were given.
-    pub fn next_port(&mut self) -> Result<u16, NoPort>
-        ensures port { IfOk result (λ port. port ≡ first_port + self.old.ports) }
-        ensures ok { OnOk result (self.new ≡ record self.old { ports = self.old.ports + 1 }) }
-        ensures none { IsErr result ↔ self.old.ports ≡ all_ports }
-        ensures err { OnErr result (self.new ≡ self.old) }
+    /// The port that the next own connection is given: 49152, 49153 and so on, each once. The error: all 16,384 were
+    /// given.
+    pub fn next_port(&self) -> Result<u16, NoPort>
+        ensures port { IfOk result (λ port. port ≡ first_port + self.now.ports) }
+        ensures left { IfOk result (λ _. self.now.ports < all_ports) }
+        ensures none { IsErr result ↔ self.now.ports ≡ all_ports }
     {
         if self.ports >= PORTS {
             return Err(NoPort);
         }
-        let port = FIRST_PORT + self.ports;
+        Ok(FIRST_PORT + self.ports)
+    }
+
+    /// An own connection was opened, and has the next port and the next first number.
+    pub fn connected(&mut self)
+        requires left { self.old.ports < all_ports }
+        ensures { self.new ≡ record self.old {
+          ports = self.old.ports + 1;
+          next_iss = next_after self.old.next_iss;
+        } }
+    {
+        self.next_iss();
         self.ports += 1;
-        Ok(port)
     }
 
     /// A first sequence number: that of the parameters, and then each 64,000 past the one before, modulo 2^32 (RFC

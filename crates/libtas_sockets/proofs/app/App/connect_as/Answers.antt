@@ -8,7 +8,7 @@ use Rattle.libtas_sockets.proofs.Waiting.{begun_near, still_near}
 use Rattle.libtas_sockets.proofs.app.App.connect_as.Goals as goal
 
 pub invariant_of-self : goal.invariant_of-self
-invariant_of-self c =
+invariant_of-self g c =
     let i = c.self.inside in
     let d = c.forget_ended.new.begun.items in
     sound_begun i.pass i.begun.items d i.sockets.list
@@ -17,7 +17,7 @@ invariant_of-self c =
     c.self.invariant
 
 pub invariant_of-self-in_default : goal.invariant_of-self-in_default
-invariant_of-self-in_default c =
+invariant_of-self-in_default g c =
     let i = c.self.inside in
     let d = c.forget_ended.new.begun.items in
     sound_begun i.pass i.begun.items d i.sockets.list
@@ -26,7 +26,7 @@ invariant_of-self-in_default c =
     c.self.invariant
 
 pub take_up-requires-clause-slot : goal.take_up-requires-clause-slot
-take_up-requires-clause-slot c =
+take_up-requires-clause-slot g c =
     let i = c.self.inside in
     let d = c.forget_ended.new.begun.items in
     let table : i.pass.table ≡ c.args.t.now =
