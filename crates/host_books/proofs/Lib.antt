@@ -4,3 +4,4 @@ pub mod Merging
 pub mod Telling
 mod Ticks
 mod AloneCalls
+pub mod Gathering

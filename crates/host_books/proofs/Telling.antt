@@ -30,7 +30,8 @@ use Rattle.host_books.specs.Books.{Book, Setting, IsAt}
 use Rattle.host_books.specs.Deeds.{Makes, IsFrameOf, IsSendOf, IsAskOf, IsDoneAs, with_holder}
 use Rattle.host_books.specs.Indexes.{endpoint_of, AreIndexed, KeepsClosed}
 use Rattle.host_books.specs.Tries.{place_of, Adds, Try, reply_on, IsTry, MayPrecede, Word, IsFrameWord, IsSendWord}
-use Rattle.host_books.specs.Tries.{IsTryWord, IsWord, AreTries, AreApart, deed_of, told_of, deed_in, ToldAs}
+use Rattle.host_books.specs.Tries.{IsTryWord, IsWord, AreTries, AreApart, deed_of, told_of, ToldAs}
+use Rattle.host_books.specs.Words.{deed_in}
 use Rattle.host_books.proofs.Orders.{same_self}
 use Rattle.host_books.proofs.Indexing.{found, has_place, still_indexed, held_indexed}
 
@@ -255,27 +256,16 @@ module _ {S A : Type 0} (scripts : Scripts S A) (t : ℕ) where
       seconds [] m = tt
       seconds (z ∷ zs) m = (m.0.1, seconds zs m.1)
 
-  abbrev Apart : List (Try S A) → List (Word S A) → Type 0
-  Apart xs vs = Each (λ (x : Try S A). Each (λ (v : Word S A). Each (MayPrecede scripts t x) v.tries) vs) xs
-
   still_all : (s r : Setting) (state next : S) (xs : List (Try S A)) (vs : List (Word S A))
       → ((y : Try S A) → Each (λ (x : Try S A). MayPrecede scripts t x y) xs → IsTry scripts t s state y
       → IsTry scripts t r next y)
-      → Apart xs vs → AreTries scripts t s state vs → AreTries scripts t r next vs
+      → Each (λ (v : Word S A). Each (λ (x : Try S A). Each (MayPrecede scripts t x) v.tries) xs) vs
+      → AreTries scripts t s state vs → AreTries scripts t r next vs
   still_all s r state next xs [] still may tries = tt
   still_all s r state next xs (v ∷ vs) still may tries = (
-    still_one s r state next xs v.tries still (firsts xs may) tries.0,
-    still_all s r state next xs vs still (seconds xs may) tries.1,
+    still_one s r state next xs v.tries still may.0 tries.0,
+    still_all s r state next xs vs still may.1 tries.1,
   )
-    where
-      firsts : (zs : List (Try S A)) → Apart zs (v ∷ vs)
-          → Each (λ (x : Try S A). Each (MayPrecede scripts t x) v.tries) zs
-      firsts [] m = tt
-      firsts (z ∷ zs) m = (m.0.0, firsts zs m.1)
-
-      seconds : (zs : List (Try S A)) → Apart zs (v ∷ vs) → Apart zs vs
-      seconds [] m = tt
-      seconds (z ∷ zs) m = (m.0.1, seconds zs m.1)
 
   heads : {X : Type 0} (a b : X) (xs ys : List X) → a ∷ xs ≡ b ∷ ys → a ≡ b
   heads a b xs ys e = cc e

@@ -1,6 +1,6 @@
 -- Deeds in the words of a run, wherever they stand in the order: what a turn alone can say of them. A core's needs the
 -- history that it was done on, and an application's ask also how far its script was.
-use Rattle.std.specs.Prelude.{◌≡◌, ℕ, suc, cond, false, List, [], ◌∷◌, ◌⊎◌, Some, ⊤}
+use Rattle.std.specs.Prelude.{◌≡◌, ℕ, suc, cond, false, List, [], ◌∷◌, ◌⊎◌, Some}
 use Rattle.tas_model.specs.declared.entry.FlowId.{FlowId}
 use Rattle.tas_model.specs.declared.entry.Seg.{Seg}
 use Rattle.tas_model.specs.declared.entry.Caller.{Caller}
@@ -26,6 +26,7 @@ use Rattle.flow_lock.specs.declared.view.History.{History}
 use Rattle.host_books.specs.Books.{Book, Setting, host_of, site_of, IsAt}
 use Rattle.host_books.specs.Deeds.{asked_as, with_holder, AreDoneAs}
 use Rattle.host_books.specs.Indexes.{endpoint_of, AreIndexed}
+use Rattle.host_books.specs.Words.{ArePairs}
 
 -- the flow's place among the books: how many stand before its own
 abbrev pub place_of : FlowId → List Book → ℕ
@@ -116,12 +117,13 @@ IsWord t books w = IsFrameWord t w ⊎ (IsSendWord t books w ⊎ IsTryWord t w)
 abbrev pub AreTries : {S A : Type 0} → Scripts S A → (t : ℕ) → Setting → S → List (Word S A) → Type 0
 AreTries {S} {A} scripts t s state words = Each (λ (w : Word S A). Each (IsTry scripts t s state) w.tries) words
 
--- And it is so still when those before it were made.
+-- The tries of the one word may come before those of the other.
+abbrev pub LetsPass : {S A : Type 0} → Scripts S A → (t : ℕ) → Word S A → Word S A → Type 0
+LetsPass {S} {A} scripts t w v = Each (λ (x : Try S A). Each (MayPrecede scripts t x) v.tries) w.tries
+
+-- And each is so still when those before it were made.
 abbrev pub AreApart : {S A : Type 0} → Scripts S A → (t : ℕ) → List (Word S A) → Type 0
-AreApart scripts t [] = ⊤
-AreApart {S} {A} scripts t (w ∷ ws) =
-    Each (λ (x : Try S A). Each (λ (v : Word S A). Each (MayPrecede scripts t x) v.tries) ws) w.tries
-    × AreApart scripts t ws
+AreApart scripts t words = ArePairs (LetsPass scripts t) words
 
 -- ----- orders
 abbrev pub deed_of : {S A : Type 0} → Word S A → Deed
@@ -129,9 +131,6 @@ deed_of w = w.deed
 
 abbrev pub told_of : {S A : Type 0} → Word S A → rounds.Deed A
 told_of w = w.told
-
-abbrev pub deed_in : (ℕ × Deed) → Deed
-deed_in x = x.1
 
 -- The order is these deeds of a run, one after the other, each by a worker, and leaves the index right.
 pub record ToldAs {S A : Type 0} (scripts : Scripts S A) (t : ℕ) (s : Setting) (state : S) (known : List Held)

@@ -16,7 +16,8 @@ ghost use Rattle.host_books.specs.Books.{Book, Setting, live_in, site_of, IsAt, 
 ghost use Rattle.host_books.specs.Deeds.{AreCoreDeeds, AreDoneAs, with_holder};
 ghost use Rattle.host_books.specs.Indexes.{endpoint_of, AreIndexed, KeepsClosed};
 ghost use Rattle.host_books.specs.Ticks.{IsTickOfPhases};
-ghost use Rattle.host_books.specs.Tries.{Word, IsWord, AreTries, AreApart, ToldAs, deed_of, told_of, deed_in};
+ghost use Rattle.host_books.specs.Tries.{Word, IsWord, AreTries, AreApart, ToldAs, deed_of, told_of};
+ghost use Rattle.host_books.specs.Words.{deed_in};
 
 /// What an order of deeds in the table leaves is what the host is after the same deeds in the words of a run: frames
 /// that cores took, and segments that they sent.

@@ -11,4 +11,4 @@ pub use laws::{
     deeds_keep_the_index, open_flows_are_found, orders_are_of_all, orders_are_of_cores,
     ticks_of_phases_are_shared, words_are_done,
 };
-pub use words::orders_are_merged;
+pub use words::{orders_are_merged, words_are_gathered};

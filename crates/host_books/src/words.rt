@@ -1,10 +1,10 @@
-//! The law of words for deeds: what each turn's deeds are in other words, put together as the order says.
-ghost use Rattle.std.specs.Prelude.{◌≡◌, ◌≢◌, ℕ, Bool, List, [], length, filter};
+//! The laws of words for deeds: what each turn's deeds are in other words, put together as the order says.
+ghost use Rattle.std.specs.Prelude.{◌≡◌, ◌≢◌, ℕ, Bool, List, [], length, map, filter, IsPermutation};
 ghost use mathlib.Core.Option as O;
 ghost use lib.ListN.{get_elem?};
 ghost use Rattle.flow_lock.specs.Orders.{Order, of};
 ghost use Rattle.flow_lock.specs.declared.view.Deed.{Deed};
-ghost use Rattle.host_books.specs.Words.{merged, AreWords};
+ghost use Rattle.host_books.specs.Words.{merged, AreWords, deed_in, AreOf, AreBelow, joined, joined_below};
 
 /// Where each turn has a word for each of its deeds, the words have one order, too. Each word stands where its deed
 /// does, and those that pass a test, where they are all of one turn, stand as they do there.
@@ -18,4 +18,14 @@ pub fn orders_are_merged<M>()
     ensures filtered { (order : Order) (words : ℕ → List M) → AreWords order words
         → (test : M → Bool) (p : ℕ) → ((q : ℕ) → q ≢ p → filter test (words q) ≡ [])
         → filter test (merged order words) ≡ filter test (words p) }
+{}
+
+/// Words of each turn's deeds, put together as the order says, are the words of all its deeds, and have what the words
+/// of all turns have.
+pub fn words_are_gathered<M, B>()
+    ensures deeds { (deed : M → Deed) (order : Order) (words : ℕ → List M) → AreOf deed order words
+        → map deed (merged order words) ≡ map deed_in order }
+    ensures moved { (deed : M → Deed) (has : M → List B) (turns : ℕ) (order : Order) (words : ℕ → List M)
+        → AreBelow turns order → AreOf deed order words
+        → IsPermutation (joined_below has turns words) (joined has (merged order words)) }
 {}
