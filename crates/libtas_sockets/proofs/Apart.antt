@@ -80,7 +80,8 @@ one_open ms f g slot one other =
     let its : (mark_at ms g.slot).generation ≡ g.generation =
     eqb-true (mark_at ms g.slot).generation g.generation (both_are (mark_at ms g.slot).live _ other) in
     let same : f.generation ≡ g.generation = sym mine ∙ (ap (λ k. (mark_at ms k).generation) (sym slot) ∙ its) in
-    ap (λ b. b && eqb f.generation g.generation) (eq-eqb f.slot g.slot (sym slot)) ∙ eq-eqb f.generation g.generation same
+    ap (λ b. b && eqb f.generation g.generation) (eq-eqb f.slot g.slot (sym slot))
+    ∙ eq-eqb f.generation g.generation same
 
 pub none_other : (ms : List Mark) (f : FlowId) (l : List FlowId) → is_open_in ms f ≡ true
     → All (λ (g : FlowId). is_open_in ms g ≡ true) l → list_any (same_flow f) l ≡ false

@@ -30,10 +30,10 @@ impl App {
     /// Opens a connection to a port of a host, from the next port. Where an earlier connect to it opened a flow that
     /// couldn't be pinned, that flow is pinned, and none is opened; `Stale` and `Moved` leave it begun, and so does
     /// `SlotInUse`, which comes exactly where the application has a socket on its slot. Else `NoFlowSlot` comes exactly
-    /// where every slot has a flow, else `NoPort` where all ports were given, and else `SlotInUse` where the application
-    /// has a socket on the slot that comes next: never, where the slow path has the flow of each socket open (law
-    /// `no_socket_is_in_the_way`). After 4,294,967,295 openings, and where memory is wanting, nothing is opened. No
-    /// port and no first number is used up where nothing is opened.
+    /// where every slot has a flow, else `NoPort` where all ports were given, and else `SlotInUse` where the
+    /// application has a socket on the slot that comes next: never, where the slow path has the flow of each socket
+    /// open (law `no_socket_is_in_the_way`). `OutOfMemory` comes after 4,294,967,295 openings too. No port and no first
+    /// number is used up where nothing is opened.
     pub fn connect(
         &mut self,
         t: &FlowTable<FlowRecord>,
