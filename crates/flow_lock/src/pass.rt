@@ -57,8 +57,8 @@ impl<R> SlowPass<R> {
         })
     }
 
-    /// How many flows were opened. After 4,294,967,295 no more can be, as each opening of a slot has a generation of its
-    /// own.
+    /// How many flows were opened. After 4,294,967,295 no more can be, as each opening of a slot has a generation of
+    /// its own.
     pub fn opened(&self) -> u32
         ensures { result ≡ self.now.view.opened }
     {
