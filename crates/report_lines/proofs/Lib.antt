@@ -1,0 +1,12 @@
+pub mod Texts
+pub mod Exactness
+pub mod HexBytes
+pub mod HexDigits
+pub mod FlagLetters
+pub mod Numbers
+pub mod SegTexts
+pub mod OriginTexts
+pub mod FrameTexts
+pub mod EntryTexts
+pub mod EventTexts
+pub mod LineTexts
