@@ -72,7 +72,7 @@ enum Found<W> {
 
 impl<W: Job + Drop> Desk<W> {
     /// A desk with nothing on it, and its two sides.
-    pub fn new(alloc: Global) -> Result<(Desk<W>, Dispatcher<W>, Worker<W>), AllocError>
+    pub(crate) fn new(alloc: Global) -> Result<(Desk<W>, Dispatcher<W>, Worker<W>), AllocError>
         ensures dispatcher { IfOk result (λ d. IsAtRest d.0 d.1.seat) }
         ensures worker { IfOk result (λ d. IsAway d.0 d.2.seat) }
     {
@@ -90,7 +90,7 @@ impl<W: Job + Drop> Desk<W> {
     }
 
     /// Whether a thread is behind the desk. Once it was there, it is.
-    pub fn is_manned(&self, dispatcher: &mut Dispatcher<W>) -> bool
+    pub(crate) fn is_manned(&self, dispatcher: &mut Dispatcher<W>) -> bool
         requires { IsAtRest self.now dispatcher.old.seat }
         ensures rests { IsAtRest self.now dispatcher.new.seat }
         ensures manned { IsTrue result → IsIdle self.now dispatcher.new.seat }
@@ -100,7 +100,7 @@ impl<W: Job + Drop> Desk<W> {
     }
 
     /// Hands a job out.
-    pub fn send(&self, dispatcher: &mut Dispatcher<W>, job: W)
+    pub(crate) fn send(&self, dispatcher: &mut Dispatcher<W>, job: W)
         requires idle { IsIdle self.now dispatcher.old.seat }
         requires can { W.can job }
         ensures { IsOut self.now job dispatcher.new.seat }
@@ -114,7 +114,7 @@ impl<W: Job + Drop> Desk<W> {
     }
 
     /// Says that no more jobs come.
-    pub fn stop(&self, dispatcher: &mut Dispatcher<W>)
+    pub(crate) fn stop(&self, dispatcher: &mut Dispatcher<W>)
         requires { IsAtRest self.now dispatcher.old.seat }
         ensures { IsStopped self.now dispatcher.new.seat }
     {
@@ -124,7 +124,7 @@ impl<W: Job + Drop> Desk<W> {
     }
 
     /// Waits for the job that is out, and takes it back.
-    pub fn receive<R: Wait>(&self, rt: &R, dispatcher: &mut Dispatcher<W>) -> W
+    pub(crate) fn receive<R: Wait>(&self, rt: &R, dispatcher: &mut Dispatcher<W>) -> W
         requires { (x : W) × IsOut self.now x dispatcher.old.seat }
         ensures made { (x : W) → IsOut self.now x dispatcher.old.seat → W.made x result }
         ensures idle { IsIdle self.now dispatcher.new.seat }
@@ -169,7 +169,7 @@ impl<W: Job + Drop> Desk<W> {
     }
 
     /// Works on each job that is handed out, until no more come.
-    pub fn serve<R: Wait, G: Gate>(&self, rt: &R, gate: &G, worker: &mut Worker<W>)
+    pub(crate) fn serve<R: Wait, G: Gate>(&self, rt: &R, gate: &G, worker: &mut Worker<W>)
         requires { IsAway self.now worker.old.seat }
         ensures { IsGone self.now worker.new.seat }
     {

@@ -1,5 +1,5 @@
 //! Threads that start before a run, and end after it.
-ghost use Rattle.std.specs.Prelude.{◌≡◌, ◌+◌, ◌≤◌, ◌∷◌, ◌++◌, [], length, All, IfOk, IfErr, OnErr, vec_capacity};
+ghost use Rattle.std.specs.Prelude.{◌≡◌, ℕ, ◌+◌, ◌≤◌, ◌∷◌, ◌++◌, [], length, All, IfOk, IfErr, OnErr, vec_capacity};
 ghost use Rattle.std.specs.Arc.{arc_value};
 ghost use Rattle.std.specs.Thread.{IsSync};
 ghost use Rattle.crew.specs.Desks.{IsAway};
@@ -22,8 +22,8 @@ pub trait Run<W: Job + Drop> {
     /// It may run.
     ghost can: { Self → Type 0 };
 
-    /// What it answers.
-    ghost gives: { Self → Self.Answer → Type 0 };
+    /// What it answers with a crew of so many threads.
+    ghost gives: { Self → ℕ → Self.Answer → Type 0 };
 
     /// Runs. The crew that it leaves is the one that it was lent.
     fn run<R: Threads + Wait + Sync, G: Gate + Sync>(
@@ -33,7 +33,7 @@ pub trait Run<W: Job + Drop> {
         crew: &mut Crew<W>,
     ) -> Self::Answer
         requires { can self }
-        ensures gives { gives self result }
+        ensures gives { gives self (length crew.old) result }
         ensures crew { crew.new ≡ crew.old };
 }
 
@@ -47,7 +47,7 @@ pub fn with_crew<W: Job + Drop + Send, R: Threads + Wait + Sync, G: Gate + Sync,
     run: X,
 ) -> Result<X::Answer, AllocError>
     requires { X.can run }
-    ensures { IfOk result (X.gives run) }
+    ensures { IfOk result (X.gives run threads) }
 {
     let posts = Vec::with_capacity(alloc, threads)?;
     let Ended { posts, answer } = hire(rt, gate, alloc, threads, posts, run);
@@ -61,31 +61,31 @@ struct Ended<W: Job + Drop, A> {
     answer: Result<A, AllocError>,
 }
 
-/// Runs with these threads and so many more.
+/// Runs with these threads and as many more as make up so many.
 fn hire<W: Job + Drop + Send, R: Threads + Wait + Sync, G: Gate + Sync, X: Run<W> + Drop>(
     rt: &R,
     gate: &G,
     alloc: Global,
-    more: usize,
+    threads: usize,
     posts: Vec<Post<W>>,
     run: X,
 ) -> Ended<W, X::Answer>
     requires can { X.can run }
     requires ready { All IsReady posts.items }
-    requires room { length posts.items + more ≤ vec_capacity posts }
-    ensures gives { IfOk result.answer (X.gives run) }
+    requires fewer { length posts.items ≤ threads }
+    requires room { threads ≤ vec_capacity posts }
+    ensures gives { IfOk result.answer (X.gives run threads) }
     ensures stopped { All HasStopped result.posts.items }
     ensures desks { Continues (desks_of posts.items) (desks_of result.posts.items) }
 {
     let mut posts = posts;
-    if more == 0 {
+    if posts.len() == threads {
         return run_with(rt, gate, posts, run);
     }
     let (desk, worker) = match man(alloc, &mut posts) {
         Ok(made) => made,
         Err(error) => return stopped(posts, Err(error)),
     };
-    let fewer = more - 1;
     let (_, ended) = thread::join(
         rt,
         ||
@@ -98,11 +98,12 @@ fn hire<W: Job + Drop + Send, R: Threads + Wait + Sync, G: Gate + Sync, X: Run<W
             requires sync { IsSync R.row }
             requires can { X.can run }
             requires ready { All IsReady posts.items }
-            requires room { length posts.items + fewer ≤ vec_capacity posts }
-            ensures gives { IfOk result.answer (X.gives run) }
+            requires fewer { length posts.items ≤ threads }
+            requires room { threads ≤ vec_capacity posts }
+            ensures gives { IfOk result.answer (X.gives run threads) }
             ensures stopped { All HasStopped result.posts.items }
             ensures desks { Continues (desks_of posts.items) (desks_of result.posts.items) }
-        { hire(rt, gate, alloc, fewer, posts, run) },
+        { hire(rt, gate, alloc, threads, posts, run) },
     );
     ended
 }
@@ -137,7 +138,7 @@ fn run_with<W: Job + Drop, R: Threads + Wait + Sync, G: Gate + Sync, X: Run<W>>(
 ) -> Ended<W, X::Answer>
     requires can { X.can run }
     requires ready { All IsReady posts.items }
-    ensures gives { IfOk result.answer (X.gives run) }
+    ensures gives { IfOk result.answer (X.gives run (length posts.items)) }
     ensures stopped { All HasStopped result.posts.items }
     ensures desks { desks_of result.posts.items ≡ desks_of posts.items }
 {

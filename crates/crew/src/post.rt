@@ -16,7 +16,7 @@ pub struct Post<W: Job + Drop> {
 
 impl<W: Job + Drop> Post<W> {
     /// Whether a thread is behind the desk.
-    pub fn is_manned(&mut self) -> bool
+    pub(crate) fn is_manned(&mut self) -> bool
         requires { IsReady self.old }
         ensures ready { IsReady self.new }
         ensures manned { IsTrue result → HasThread self.new }
@@ -27,7 +27,7 @@ impl<W: Job + Drop> Post<W> {
     }
 
     /// Hands a job out.
-    pub fn send(&mut self, job: W)
+    pub(crate) fn send(&mut self, job: W)
         requires thread { HasThread self.old }
         requires can { W.can job }
         ensures out { IsOutAt job self.new }
@@ -37,7 +37,7 @@ impl<W: Job + Drop> Post<W> {
     }
 
     /// Waits for the job that is out, and takes it back.
-    pub fn receive<R: Wait>(&mut self, rt: &R) -> W
+    pub(crate) fn receive<R: Wait>(&mut self, rt: &R) -> W
         requires { (x : W) × IsOutAt x self.old }
         ensures made { (x : W) → IsOutAt x self.old → W.made x result }
         ensures ready { IsReady self.new }
@@ -47,7 +47,7 @@ impl<W: Job + Drop> Post<W> {
     }
 
     /// Says that no more jobs come.
-    pub fn stop(&mut self)
+    pub(crate) fn stop(&mut self)
         requires { IsReady self.old }
         ensures stopped { HasStopped self.new }
         ensures desk { desk_of self.new ≡ desk_of self.old }
@@ -57,7 +57,7 @@ impl<W: Job + Drop> Post<W> {
 }
 
 /// Takes the last post away, if there is one.
-pub fn take_post<W: Job + Drop>(posts: &mut Vec<Post<W>>) -> Option<Post<W>>
+pub(crate) fn take_post<W: Job + Drop>(posts: &mut Vec<Post<W>>) -> Option<Post<W>>
     requires { All IsReady posts.old.items }
     ensures one { IfSome result IsReady }
     ensures rest { All IsReady posts.new.items }

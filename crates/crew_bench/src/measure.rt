@@ -34,7 +34,7 @@ impl<'a, C: Clock + Print> Run<Count> for Bench<'a, C> {
 
     ghost can = { λ _. ⊤ };
 
-    ghost gives = { λ _ _. ⊤ };
+    ghost gives = { λ _ _ _. ⊤ };
 
     fn run<R: Threads + Wait + Sync, G: Gate + Sync>(
         self,

@@ -88,7 +88,7 @@ impl<'a> Run<Task> for Meeting<'a> {
 
     ghost can = { λ _. ⊤ };
 
-    ghost gives = { λ _ _. ⊤ };
+    ghost gives = { λ _ _ _. ⊤ };
 
     fn run<R: Threads + Wait + Sync, G: Gate + Sync>(
         self,

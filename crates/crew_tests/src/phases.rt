@@ -27,7 +27,7 @@ impl Run<Task> for Phases {
 
     ghost can = { λ _. ⊤ };
 
-    ghost gives = { λ _ _. ⊤ };
+    ghost gives = { λ _ _ _. ⊤ };
 
     fn run<R: Threads + Wait + Sync, G: Gate + Sync>(
         self,
