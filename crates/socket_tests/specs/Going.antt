@@ -1,8 +1,10 @@
 -- What an application may do next.
-use Rattle.std.specs.Prelude.{◌≡◌, ◌<◌, true, []}
+use Rattle.std.specs.Prelude.{◌≡◌, ℕ, ◌<◌, true, false, List, [], ◌∷◌, map}
 use Rattle.atomic_table.specs.Seated.{TableId}
 use Rattle.flow_lock.specs.Callers.{IsTurned, IsUser, IsKeeper}
 use Rattle.flow_lock.specs.Passes.{Seen}
+use Rattle.flow_lock.specs.declared.view.Turn.{Turn}
+use Rattle.flow_lock.specs.declared.view.View.{View}
 use Rattle.tas_model.specs.declared.entry.FlowId.{FlowId}
 use Rattle.libtas_sockets.specs.Apps.{Application, IsSocket}
 use Rattle.libtas_sockets.specs.declared.socket.Socket.{Socket}
@@ -30,3 +32,21 @@ pub record IsFresh (t : TableId) (s : Seen) : Type 0 where
 -- a pass that has pinned this flow of the table
 abbrev pub MayAsk : TableId → FlowId → Seen → Type 0
 MayAsk t f s = IsUser t f s × (f.slot < t.slots)
+
+-- ----- turns by their names
+abbrev pub turns_of : View → List ℕ
+turns_of v = map (λ (t : Turn). t.name) v.turns
+
+-- the slow path's pass, with the first of the two turns that were made, and the baton; it holds nothing
+pub record HasFirstTurn (t : TableId) (s : Seen) : Type 0 where
+  pub table : s.table ≡ t
+  pub turns : turns_of s.view ≡ 0 ∷ []
+  pub baton : s.view.baton ≡ true
+  pub made : s.view.made ≡ 2
+  pub held : s.view.held ≡ []
+
+-- another pass, with the second of them
+pub record HasSecondTurn (t : TableId) (s : Seen) : Type 0 where
+  pub table : s.table ≡ t
+  pub turns : turns_of s.view ≡ 1 ∷ []
+  pub plain : (s.view.slow ≡ false) × (s.view.baton ≡ false)

@@ -14,12 +14,12 @@ use flow_lock::{FlowTable, Pass, Pin, PinRefused, SlowPass, Word};
 use flow_state::{Answer, CallIn, Engine, FlowRecord};
 use libtas_sockets::{App, Socket, SocketError};
 use segment_fields::{Flags, Segment};
-use slow_handshake::{SlowPath, SlowRx};
+use slow_handshake::SlowRx;
 use std::alloc::{AllocError, Global};
 use tas_model::{Caller, FlowId, FourTuple, FrameId, HostParams};
 use tas_num::Seq;
 
-const PARAMS: HostParams = HostParams {
+pub const PARAMS: HostParams = HostParams {
     addr: 167772162,
     iss: 5000,
     ring: 16384,
@@ -130,7 +130,7 @@ pub fn leave(table: &FlowTable<FlowRecord>, pass: &mut Pass<FlowRecord>, pin: Pi
 }
 
 /// Application 1, with no sockets.
-fn application(alloc: Global, pass: Pass<FlowRecord>) -> Result<App, AllocError>
+pub fn application(alloc: Global, pass: Pass<FlowRecord>) -> Result<App, AllocError>
     requires { (pass.view.pins ≡ []) × (pass.view.held ≡ []) }
     ensures { IfOk result (λ app. (app.pass ≡ pass) × (app.begun ≡ [])) }
 {
@@ -150,11 +150,8 @@ fn connected(
     ensures slow { IfOk result (λ _. IsIdle table.now slow.new) }
     ensures app { IfOk result (λ s. HasOpened table.now s app.new) }
 {
-    let Ok(mut path) = SlowPath::new(alloc, PARAMS) else {
-        return Err(SocketError::OutOfMemory);
-    };
     let mut pins = PinList::new(alloc);
-    app.connect_as(table, &mut path, slow, &mut pins, TUPLE, Seq(5000), 1)
+    app.connect_as(table, &PARAMS, slow, &mut pins, TUPLE, &Seq(5000), 1)
 }
 
 /// Makes a call by a pass that has pinned the flow.

@@ -16,7 +16,7 @@ use tas_model::Caller;
 
 /// Who made which call.
 #[derive(Clone, Copy, PartialEq, Eq, Debug)]
-enum Act {
+pub enum Act {
     Connect,
     Shut,
     SlowAbort,
@@ -32,7 +32,8 @@ fn act_of(entry: EntryView<'_>) -> Act {
     }
 }
 
-fn act_at(flow: &FlowRecord, i: usize) -> Option<Act> {
+/// Who made the entry at this place, and which call, where there is one.
+pub fn act_at(flow: &FlowRecord, i: usize) -> Option<Act> {
     if i >= flow.entries() {
         return None;
     }

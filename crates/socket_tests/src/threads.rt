@@ -79,7 +79,7 @@ fn has_all_of(flow: &FlowRecord, core: u32) -> bool {
 }
 
 /// The record of the one flow.
-fn last_record(
+pub fn last_record(
     alloc: Global,
     table: FlowTable<FlowRecord>,
     slow: SlowPass<FlowRecord>,
