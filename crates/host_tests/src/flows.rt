@@ -37,14 +37,6 @@ fn act_of(entry: EntryView<'_>) -> Act {
     }
 }
 
-/// How many bytes the entry asked for, where it read and was answered NotYet.
-fn asked_in(entry: EntryView<'_>) -> Option<u32> {
-    match (entry.call, entry.reply) {
-        (CallView::Recv { most }, ReplyView::NotYet) => Some(most),
-        _ => None,
-    }
-}
-
 /// The one core and the one application of a flow, and its peer's port.
 #[derive(Clone, Copy)]
 struct Ends {
@@ -79,9 +71,6 @@ fn is_expected(act: Act, ends: Ends) -> bool {
 #[derive(Clone, Copy, Drop)]
 pub struct Summary {
     pub last: Act,
-    /// How many bytes the last entry asked for, where it read and was answered NotYet.
-    pub asked: Option<u32>,
-    pub entries: u64,
     /// The last entry's tick.
     tick: u32,
     /// No tick is below the one before, each entry is of a caller that may make it, what was read is the peer's stream,
@@ -97,8 +86,6 @@ pub struct Summary {
 
 const NOTHING: Summary = Summary {
     last: Act::Other,
-    asked: None,
-    entries: 0,
     tick: 0,
     is_in_order: true,
     received: 0,
@@ -138,8 +125,6 @@ impl Summary {
         };
         let next = Summary {
             last: act,
-            asked: asked_in(entry),
-            entries: self.entries.saturating_add(1),
             tick: entry.tick,
             is_in_order: self.is_in_order && is_next,
             received: self.received.saturating_add(count),

@@ -15,11 +15,6 @@ pub mod hosts;
 mod opening;
 #[cfg(test)]
 mod packets;
-pub mod readers;
-#[cfg(test)]
-mod reading;
-#[cfg(test)]
-mod sleeping;
 #[cfg(test)]
 mod starting;
 #[cfg(test)]

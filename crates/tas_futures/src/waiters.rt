@@ -1,6 +1,6 @@
 //! Where tasks wait for the sides of an application's sockets, and how they are woken.
-ghost use Rattle.std.specs.Prelude.{◌≡◌, ◌≤◌, ◌<◌, ◌⊎◌, ℕ, [], length, true};
-ghost use Rattle.std.specs.Prelude.{false, IsSome, IsSomeAnd, OnOk, OnErr, List, ◌++◌, slice_get};
+ghost use Rattle.std.specs.Prelude.{◌≡◌, ◌≤◌, ◌<◌, ◌⊎◌, List, [], ◌++◌, length, true, false};
+ghost use Rattle.std.specs.Prelude.{IsSome, IsSomeAnd, OnOk, OnErr};
 ghost use Rattle.futures.specs.Task.{Hears, IsArmed, Keeps, Wakes};
 ghost use Rattle.tas_futures.specs.declared.waiters.Place.{Place};
 ghost use Rattle.tas_futures.specs.Waiting.{CannotWait, IsWaiting, KeepsOthers, notified, without_waker};
