@@ -1,11 +1,12 @@
 -- A turn, frame by frame and kick by kick.
-use Rattle.std.proofs.Common.{◌≡◌, ap, sym, ◌∙◌, refl, subst, ℕ, zero, suc, List, [], ◌∷◌, ◌++◌}
+use Rattle.std.proofs.Common.{◌≡◌, ap, sym, ◌∙◌, refl, subst, ℕ, zero, suc, ◌+◌, ◌<◌, ◌≤◌, List, [], ◌∷◌, ◌++◌}
 use Rattle.std.proofs.Common.{append_assoc, append-nil, inl, inr, false, length, arith, tests}
-use Rattle.std.specs.Prelude.{Option, slice_get, nat_lt, Result, Ok, Err, OnErr}
+use Rattle.std.proofs.lemmas.List.{length-append}
+use Rattle.std.specs.Prelude.{Option, Some, slice_get, nat_lt, Result, Ok, Err, OnOk, OnErr}
 use Rattle.tas_model.specs.declared.entry.FlowId.{FlowId}
 use Rattle.flow_lock.specs.Passes.{Seen}
 use Rattle.flow_lock.specs.declared.view.History.{History}
-use Rattle.context_queue.specs.Notes.{Receiver, HasTaken}
+use Rattle.context_queue.specs.Notes.{Place, Receiver, HasTaken}
 use Rattle.context_queue.specs.declared.note.Note.{Note}
 use Rattle.core_worker.specs.Workers.{Common, Worker, Sight, sight_of, with_sight, with_pass, with_kicks}
 use Rattle.core_worker.specs.Workers.{IsFree, HasQueue}
@@ -14,6 +15,7 @@ use Rattle.core_worker.specs.Sending.{IsAllSent, IsPartSent}
 use Rattle.core_worker.specs.Turns.{deferred_by, exceptions_by, placed}
 use Rattle.core_worker.specs.Turns.{IsFrameDone, IsFirstDone, AreFramesDone, IsFrameLeft, AreFramesLeft}
 use Rattle.core_worker.specs.Turns.{kicked_in, IsKicked, IsKickDone, AreKicksDone, AreKicksLeft}
+use Rattle.core_worker.specs.Turns.{HasTakenMore, IsDrained, IsBounded}
 use Rattle.core_worker.specs.declared.frames.Frame.{Frame}
 use Rattle.core_worker.specs.declared.frames.Handled.{Handled}
 use Rattle.core_worker.specs.declared.frames.PassedFrame.{PassedFrame}
@@ -150,24 +152,44 @@ queue_after c note v u n taken first last queue =
     (queue_taken c note v u taken first queue)
 
 -- a loop that takes kicks
-pub record Kicking (c : Common) (tick : ℕ) (first now : Worker) : Type 0 where
-  pub count : ℕ
+pub record Kicking (c : Common) (tick count : ℕ) (first now : Worker) : Type 0 where
   pub done : AreKicksDone c tick count first now
+  pub taken : HasTakenMore count first.kicks now.kicks
   pub core : now.core ≡ first.core
   pub frames : now.frames ≡ first.frames
   pub senders : now.senders ≡ first.senders
   pub free : IsFree c now
   pub queue : HasQueue c now
 
-pub kicking_first : (c : Common) (tick : ℕ) (w : Worker) → IsFree c w → HasQueue c w → Kicking c tick w w
-kicking_first c tick w free queue =
-    record { count = 0; done = refl; core = refl; frames = refl; senders = refl; free = free; queue = queue }
+pub kicking_first : (c : Common) (tick : ℕ) (w : Worker) → IsFree c w → HasQueue c w → Kicking c tick 0 w w
+kicking_first c tick w free queue = record {
+  done = refl;
+  taken = omega arith;
+  core = refl;
+  frames = refl;
+  senders = refl;
+  free = free;
+  queue = queue;
+}
 
-pub kicking_more : (c : Common) (tick : ℕ) (first m w : Worker) → Kicking c tick first m
-    → IsKickDone c (IsAllSent m.core tick) m w → IsFree c w → HasQueue c w → Kicking c tick first w
-kicking_more c tick first m w k d free queue = record {
-  count = suc k.count;
-  done = kicks_more c tick k.count first m w k.done (subst (λ n. IsKickDone c (IsAllSent n tick) m w) k.core d);
+-- one note more
+taken_more : (note : Note) (r q : Receiver) → HasTaken note r q → HasTakenMore 1 r q
+taken_more note r q (from, e) =
+    ap (λ (x : Receiver). length x.taken) e ∙ length-append r.taken (record { from = from; note = note } ∷ [])
+
+pub kicking_more : (c : Common) (tick count : ℕ) (first m w : Worker) → Kicking c tick count first m
+    → IsKickDone c (IsAllSent m.core tick) m w → IsFree c w → HasQueue c w → Kicking c tick (count + 1) first w
+kicking_more c tick count first m w k d free queue = record {
+  done =
+      let next : suc count ≡ count + 1 = omega arith in
+      subst (λ n. AreKicksDone c tick n first w) next
+      (kicks_more c tick count first m w k.done (subst (λ n. IsKickDone c (IsAllSent n tick) m w) k.core d));
+  taken =
+      let one : HasTakenMore 1 m.kicks w.kicks =
+      subst (HasTakenMore 1 m.kicks) (sym (ap (λ (x : Worker). x.kicks) d.after))
+      (taken_more d.note m.kicks d.kicks d.taken) in
+      let before = k.taken in
+      omega arith;
   core = ap (λ (x : Worker). x.core) d.after ∙ k.core;
   frames = ap (λ (x : Worker). x.frames) d.after ∙ k.frames;
   senders = ap (λ (x : Worker). x.senders) d.after ∙ k.senders;
@@ -175,10 +197,54 @@ kicking_more c tick first m w k d free queue = record {
   queue = queue;
 }
 
-pub kicking_stops : (c : Common) (tick : ℕ) (first m w : Worker) → Kicking c tick first m
+pub kicking_stops : (c : Common) (tick count : ℕ) (first m w : Worker) → Kicking c tick count first m
     → IsKickDone c (IsPartSent m.core tick) m w → AreKicksLeft c tick first w
-kicking_stops c tick first m w k d =
-    (k.count, m, k.done, subst (λ n. IsKickDone c (IsPartSent n tick) m w) k.core d)
+kicking_stops c tick count first m w k d =
+    (count, m, k.done, subst (λ n. IsKickDone c (IsPartSent n tick) m w) k.core d)
+
+-- the core's queue has room for so many
+abbrev pub HasRoomOf : Common → (core room : ℕ) → Type 0
+HasRoomOf c core room = (place : Place) × (slice_get c.kicks core ≡ Some place) × (room ≡ place.room)
+
+-- as many were taken as it has room for
+pub all_taken : (c : Common) (core room count : ℕ) (r q : Receiver) → HasRoomOf c core room → HasTakenMore count r q
+    → count ≤ room → room ≤ count → IsDrained c core r q
+all_taken c core room count r q (place, there, is) taken few all =
+    inr (place, there, let t = taken in omega (arith, t, few, all, is))
+
+-- no more were taken than there is room for
+pub within : (c : Common) (core room count : ℕ) (r q : Receiver) → HasRoomOf c core room → HasTakenMore count r q
+    → count ≤ room → IsBounded c core r q
+within c core room count r q (place, there, is) taken few =
+    (place, there, let t = taken in omega (arith, t, few, is))
+
+-- the kick at which memory was wanting was taken too
+pub within_one_more : (c : Common) (tick count room : ℕ) (first m w : Worker)
+    → HasRoomOf c first.core room → Kicking c tick count first m → count < room
+    → IsKickDone c (IsPartSent m.core tick) m w → IsBounded c first.core first.kicks w.kicks
+within_one_more c tick count room first m w (place, there, is) k few d =
+    let one : HasTakenMore 1 m.kicks w.kicks =
+    subst (HasTakenMore 1 m.kicks) (sym (ap (λ (x : Worker). x.kicks) d.after))
+    (taken_more d.note m.kicks d.kicks d.taken) in
+    let before = k.taken in
+    (place, there, omega (arith, one, before, few, is))
+
+-- the same, counted from before the frames, which take no kick
+pub drained_since : {A E : Type 0} (c : Common) (v m w : Worker) (x : Result A E) → m.core ≡ v.core
+    → m.kicks ≡ v.kicks → OnOk x (IsDrained c m.core m.kicks w.kicks) → OnOk x (IsDrained c v.core v.kicks w.kicks)
+drained_since c v m w x core kicks is =
+    subst (λ n. OnOk x (IsDrained c n v.kicks w.kicks)) core
+    (subst (λ r. OnOk x (IsDrained c m.core r w.kicks)) kicks is)
+
+pub bounded_since : (c : Common) (v m w : Worker) → m.core ≡ v.core → m.kicks ≡ v.kicks
+    → IsBounded c m.core m.kicks w.kicks → IsBounded c v.core v.kicks w.kicks
+bounded_since c v m w core kicks is =
+    subst (λ n. IsBounded c n v.kicks w.kicks) core (subst (λ r. IsBounded c m.core r w.kicks) kicks is)
+
+-- no kick was taken
+pub none_taken : (c : Common) (v w : Worker) → HasQueue c v → w.kicks ≡ v.kicks → IsBounded c v.core v.kicks w.kicks
+none_taken c v w (place, there, line) same =
+    let taken = ap (λ (r : Receiver). length r.taken) same in (place, there, omega (arith, taken))
 
 -- ----- loops
 pub no_frame : (l : List Frame) → nat_lt 0 (length l) ≡ false → l ≡ []

@@ -1,12 +1,13 @@
 -- A turn of a core's worker: the frames that were handed to it, one after the other, and then its kicks.
-use Rattle.std.specs.Prelude.{◌≡◌, ℕ, zero, suc, Bool, true, false, ◌==◌, ◌&&◌, nat_lt, if◌then◌else◌, List, [], ◌∷◌}
-use Rattle.std.specs.Prelude.{◌++◌, Option, Some, None, ◌⊎◌}
+use Rattle.std.specs.Prelude.{◌≡◌, ℕ, zero, suc, ◌+◌, ◌≤◌, Bool, true, false, ◌==◌, ◌&&◌, nat_lt, if◌then◌else◌, List, []}
+use Rattle.std.specs.Prelude.{◌∷◌, ◌++◌, length, slice_get, Option, Some, None, ◌⊎◌}
+use Rattle.crossbeam_queue.specs.Fifo.{Held}
 use Rattle.tas_model.specs.declared.entry.FlowId.{FlowId}
 use Rattle.flow_lock.specs.Claims.{flow_at}
 use Rattle.flow_lock.specs.Passes.{Seen}
 use Rattle.flow_lock.specs.declared.view.History.{History}
 use Rattle.flow_lock.specs.declared.view.View.{View}
-use Rattle.context_queue.specs.Notes.{Receiver, HasTaken}
+use Rattle.context_queue.specs.Notes.{Place, Receiver, HasTaken, HoldsRest}
 use Rattle.context_queue.specs.declared.note.Note.{Note}
 use Rattle.core_worker.specs.Workers.{Common, Worker, Sight, sight_of, with_sight}
 use Rattle.core_worker.specs.Handling.{IsHandled, IsUnhandled, setting_of}
@@ -111,8 +112,24 @@ abbrev pub AreKicksLeft : Common → (tick : ℕ) → Worker → Worker → Type
 AreKicksLeft c tick v w =
     (count : ℕ) × (m : Worker) × AreKicksDone c tick count v m × IsKickDone c (IsPartSent v.core tick) m w
 
+-- how many kicks were taken since
+abbrev pub HasTakenMore : (count : ℕ) → (before after : Receiver) → Type 0
+HasTakenMore count r q = length q.taken ≡ length r.taken + count
+
+-- The core's queue was empty at some moment, behind the kicks that were taken; or as many were taken as it has room
+-- for, and those that came meanwhile wait.
+abbrev pub IsDrained : Common → (core : ℕ) → (before after : Receiver) → Type 0
+IsDrained c core r q =
+    Held 0 (HoldsRest q)
+    ⊎ ((place : Place) × (slice_get c.kicks core ≡ Some place) × HasTakenMore place.room r q)
+
+-- no more kicks were taken than the core's queue has room for
+abbrev pub IsBounded : Common → (core : ℕ) → (before after : Receiver) → Type 0
+IsBounded c core r q =
+    (place : Place) × (slice_get c.kicks core ≡ Some place) × (length q.taken ≤ length r.taken + place.room)
+
 -- ----- turns
--- All frames were handled, and then all kicks.
+-- All frames were handled, and then kicks.
 abbrev pub IsTurn : Common → (tick : ℕ) → Worker → Worker → Type 0
 IsTurn c tick v w =
     (m : Worker) × AreFramesDone c tick v.frames v m × AreAllKicksDone c tick m w

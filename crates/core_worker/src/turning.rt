@@ -6,7 +6,7 @@ ghost use Rattle.core_worker.specs.Workers.{with_pass, with_kicks, IsFree, HasQu
 ghost use Rattle.core_worker.specs.Sending.{IsPartSent, IsAllSent};
 ghost use Rattle.core_worker.specs.Turns.{deferred_by, exceptions_by, IsFirstDone, AreFramesDone, IsFrameLeft};
 ghost use Rattle.core_worker.specs.Turns.{AreFramesLeft, kicked_in, IsKicked, AreAllKicksDone, AreKicksLeft, IsTurn};
-ghost use Rattle.core_worker.specs.Turns.{IsTurnStopped};
+ghost use Rattle.core_worker.specs.Turns.{IsTurnStopped, IsDrained, IsBounded};
 
 use crate::frames::{Frame, Handled, Passed, PassedFrame};
 use crate::handling::{Duty, handle};
@@ -22,9 +22,11 @@ use tas_model::FlowId;
 use tas_num::Gate;
 
 impl CoreWorker {
-    /// Handles all frames that were handed to the worker, in their order, and then all its kicks, by sending what may
-    /// go. The gate's point 64 h + 2 k is passed before each frame and the next one after it, on host h and core k.
-    /// The error is want of memory; what was done stands, and each frame that wasn't handled is still in the list.
+    /// Handles all frames that were handed to the worker, in their order, and then its kicks, by sending what may go:
+    /// all that stand in its queue, but no more than that has room for, so that a turn ends whatever is posted
+    /// meanwhile. The gate's point 64 h + 2 k is passed before each frame and the next one after it, on host h and
+    /// core k. The error is want of memory; what was done stands, and each frame that wasn't handled is still in the
+    /// list.
     pub fn turn<R: Wait, G: Gate>(
         &mut self,
         rt: &R,
@@ -40,7 +42,8 @@ impl CoreWorker {
         ensures senders { HasSenders shared.now self.new }
         ensures done { OnOk result (IsTurn shared.now tick self.old self.new) }
         ensures empty { OnOk result (self.new.frames ≡ []) }
-        ensures kicks { OnOk result (Held 0 (HoldsRest self.new.kicks)) }
+        ensures kicks { OnOk result (IsDrained shared.now self.old.core self.old.kicks self.new.kicks) }
+        ensures bounded { IsBounded shared.now self.old.core self.old.kicks self.new.kicks }
         ensures stopped { OnErr result (IsTurnStopped shared.now tick self.old self.new) }
     {
         self.take_frames(rt, shared, tick, gate)?;
@@ -63,6 +66,7 @@ impl CoreWorker {
         ensures empty { OnOk result (self.new.frames ≡ []) }
         ensures left { OnErr result (AreFramesLeft shared.now tick self.old self.new) }
         ensures queue { HasQueue shared.now self.old → HasQueue shared.now self.new }
+        ensures same { (self.new.core ≡ self.old.core) × (self.new.kicks ≡ self.old.kicks) }
     {
         while self.has_frame() {
             self.take_frame(rt, shared, tick, gate)?;
@@ -125,25 +129,26 @@ impl CoreWorker {
         Ok(())
     }
 
-    /// Takes all kicks, and sends what may go of their flows.
+    /// Takes kicks until none is left, or as many as their queue has room for, and sends what may go of their flows.
     fn take_kicks<R: Wait>(&mut self, rt: &R, shared: &Shared, tick: u32) -> Result<(), AllocError>
         requires free { IsFree shared.now self.old }
         requires queue { HasQueue shared.now self.old }
         ensures free { IsFree shared.now self.new }
         ensures queue { HasQueue shared.now self.new }
         ensures done { OnOk result (AreAllKicksDone shared.now tick self.old self.new) }
-        ensures empty { OnOk result (Held 0 (HoldsRest self.new.kicks)) }
+        ensures empty { OnOk result (IsDrained shared.now self.old.core self.old.kicks self.new.kicks) }
+        ensures bounded { IsBounded shared.now self.old.core self.old.kicks self.new.kicks }
         ensures left { OnErr result (AreKicksLeft shared.now tick self.old self.new) }
         ensures frames { self.new.frames ≡ self.old.frames }
         ensures senders { self.new.senders ≡ self.old.senders }
     {
-        for _ in rt.forever() {
+        for _ in 0..shared.kicks(self.core).room() {
             let Some(note) = self.next_kick(rt, shared) else {
                 return Ok(());
             };
             self.kick(shared, tick, note)?;
         }
-        unreachable!()
+        Ok(())
     }
 
     /// The next note of the core's queue.

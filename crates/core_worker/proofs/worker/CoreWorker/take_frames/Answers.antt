@@ -50,3 +50,13 @@ returns-in_err-take_frame-clause-queue g c =
     let h = c.loop-self.invariant.0 in
     let same = c.take_frame.ensures.same in
     same_queue c.args.shared.now c.args.self.now c.take_frame.new.self (same.0 ∙ h.core) (same.1 ∙ h.kicks)
+
+pub returns-clause-same : goal.returns-clause-same
+returns-clause-same g c =
+    let h = c.loop-self.invariant.0 in (h.core, h.kicks)
+
+pub returns-in_err-take_frame-clause-same : goal.returns-in_err-take_frame-clause-same
+returns-in_err-take_frame-clause-same g c =
+    let h = c.loop-self.invariant.0 in
+    let same = c.take_frame.ensures.same in
+    (same.0 ∙ h.core, same.1 ∙ h.kicks)
