@@ -1,5 +1,6 @@
 -- A turn of a core's worker: the frames that were handed to it, one after the other, and then its kicks.
-use Rattle.std.specs.Prelude.{◌≡◌, ℕ, zero, suc, ◌+◌, ◌≤◌, Bool, true, false, ◌==◌, ◌&&◌, nat_lt, if◌then◌else◌, List, []}
+use Rattle.std.specs.Prelude.{◌≡◌, ℕ, zero, suc, ◌+◌, ◌≤◌, Bool, true}
+use Rattle.std.specs.Prelude.{false, ◌==◌, ◌&&◌, nat_lt, if◌then◌else◌, List, []}
 use Rattle.std.specs.Prelude.{◌∷◌, ◌++◌, length, slice_get, Option, Some, None, ◌⊎◌}
 use Rattle.crossbeam_queue.specs.Fifo.{Held}
 use Rattle.tas_model.specs.declared.entry.FlowId.{FlowId}

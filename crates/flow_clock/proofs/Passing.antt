@@ -17,7 +17,8 @@ use Rattle.flow_clock.specs.declared.timing.Timed.{Timed}
 
 -- The flow's own record was taken, and given back with the history that it has after the tick, and with its kick.
 pub flow_timed : (tick : ℕ) (id : FlowId) (r : Flow) (after : History) (v u w : View) (kicks kicks' : List Kick)
-    (path path' : Openings) (x : Result Timed CallFault) → IsOwn id v r → IsTaken id (history r) v u → w ≡ gave id after u
+    (path path' : Openings) (x : Result Timed CallFault) → IsOwn id v r → IsTaken id (history r) v u
+    → w ≡ gave id after u
     → IfOk x (HasPassed tick (history r) after) → IfOk x (λ timed. kicks' ≡ kicks_with r.id after timed kicks)
     → IfOk x (λ timed. path' ≡ path_with r.id after timed path) → IfOk x (IsTimed tick id v w kicks kicks' path path')
 flow_timed tick id r after v u w kicks kicks' path path' (Ok a) own taken given passed kicked told = (

@@ -149,7 +149,8 @@ pub closed_there : (tick at : ℕ) (f : FlowId) (tuple : FourTuple) (a : Timed) 
     → pins' ≡ remove pins at → IsSwept f u w filed filed' doomed doomed' → changes' ≡ changes ++ Remove tuple ∷ []
     → IsServedAt tick at (ledger v pins doomed filed changes kicks path)
     (ledger w pins' doomed' filed' changes' kicks' path'') false
-closed_there tick at f tuple a v u w pins pins' doomed doomed' filed filed' changes changes' kicks kicks' path path' path''
+closed_there tick at f tuple a v u w pins pins' doomed doomed' filed filed' changes changes' kicks kicks' path path'
+    path''
     is q timed told gone swept left =
     let t = subst (IsTimed tick f v u kicks kicks' path path') is timed in
     let here : at + 0 ≡ at = omega arith in (
@@ -186,7 +187,8 @@ pub kept_timed : (slots tick : ℕ) (f : FlowId) (a : Timed) (s n : Seen) (doome
     (kicks kicks' : List Kick) (path path' : Openings) → IsTimed tick f s.view n.view kicks kicks' path path' a
     → AreKept slots s doomed pins
     → AreKept slots n doomed pins
-kept_timed slots tick f a s n doomed pins kicks kicks' path path' t is = kept_after_use slots f t.0 t.1 s n doomed pins t.4 is
+kept_timed slots tick f a s n doomed pins kicks kicks' path path' t is = kept_after_use slots f t.0 t.1 s n doomed
+    pins t.4 is
 
 -- ----- all flows
 -- What holds between two flows: those in front of the place were served.
@@ -202,7 +204,8 @@ pub record Serving (tick from : ℕ) (t : TableId) (first : Ledger) (s : Seen) (
 
 pub serving_begins : (tick from : ℕ) (t : TableId) (s : Seen) (pins doomed : List FlowId) (filed : List Flow)
     (changes : List Change) (kicks : List Kick) (path : Openings) → IsReady t s → AreKept t.slots s doomed pins
-    → Serving tick from t (ledger s.view pins doomed filed changes kicks path) s pins doomed filed changes kicks path from
+    → Serving tick from t (ledger s.view pins doomed filed changes kicks path) s pins doomed filed changes kicks path
+        from
 serving_begins tick from t s pins doomed filed changes kicks path ready kept =
     record { done = []; all = refl; served = refl; ready = ready; rights = no_step s.view; kept = kept }
 
@@ -214,7 +217,8 @@ pub serving_more : (tick from : ℕ) (t : TableId) (first : Ledger) (s n : Seen)
     (ledger n.view pins' doomed' filed' changes' kicks' path') stays
     → at' ≡ at + one_if stays → IsReady t n → KeepsRights s.view n.view → AreKept t.slots n doomed' pins'
     → Serving tick from t first n pins' doomed' filed' changes' kicks' path' at'
-serving_more tick from t first s n pins pins' doomed doomed' filed filed' changes changes' kicks kicks' path path' at at' stays is a e
+serving_more tick from t first s n pins pins' doomed doomed' filed filed' changes changes' kicks kicks' path path' at
+    at' stays is a e
     ready rights kept =
     let left : drop at pins ≡ a.0 ∷ drop at' pins' =
     drop_more pins at a.0 a.1 ∙ ap (λ l. a.0 ∷ l) (sym a.3 ∙ ap (λ k. drop k pins') (sym e)) in
@@ -249,13 +253,16 @@ serving_ends tick from t first s pins doomed filed changes kicks path at is past
     (ledger s.view pins doomed filed changes kicks path))
     (sym all) end
 
-pub serving_stops : (tick from : ℕ) (t : TableId) (first : Ledger) (s n : Seen) (pins pins' doomed doomed' : List FlowId)
+pub serving_stops : (tick from : ℕ) (t : TableId) (first : Ledger) (s n : Seen)
+    (pins pins' doomed doomed' : List FlowId)
     (filed filed' : List Flow) (changes changes' : List Change) (kicks kicks' : List Kick)
     (path path' : Openings) (at : ℕ)
-    → Serving tick from t first s pins doomed filed changes kicks path at → IsRefusedAt at pins s.view n.view → pins' ≡ pins
+    → Serving tick from t first s pins doomed filed changes kicks path at → IsRefusedAt at pins s.view n.view
+    → pins' ≡ pins
     → doomed' ≡ doomed → filed' ≡ filed → changes' ≡ changes → kicks' ≡ kicks → path' ≡ path
     → IsWalkStopped tick from at first (ledger n.view pins' doomed' filed' changes' kicks' path')
-serving_stops tick from t first s n pins pins' doomed doomed' filed filed' changes changes' kicks kicks' path path' at is r p d f c k o =
+serving_stops tick from t first s n pins pins' doomed doomed' filed filed' changes changes' kicks kicks' path path' at
+    is r p d f c k o =
     let rest : pins' ≡ take at pins ++ r.0 ∷ drop (suc at) pins =
     p ∙ (sym (take-append-drop at pins)
     ∙ ap (λ l. take at pins ++ l) (drop_more pins at r.0 r.1)) in
@@ -285,7 +292,8 @@ on_err_stopped (Ok a) p = tt
 on_err_stopped (Err e) p = p
 
 -- both walks, one after the other
-pub on_ok_done : {A E : Type 0} (tick from : ℕ) (v u : View) (pins doomed doomed' : List FlowId) (filed filed' : List Flow)
+pub on_ok_done : {A E : Type 0} (tick from : ℕ) (v u : View) (pins doomed doomed' : List FlowId)
+    (filed filed' : List Flow)
     (changes : List Change) (kicks : List Kick) (path : Openings) (m : Ledger) (x : Result A E)
     → AreSweptAgain doomed (ledger v pins [] filed changes kicks path)
     (ledger u pins doomed' filed' changes kicks path)

@@ -1,5 +1,6 @@
 -- The flows that are known after the time of a tick.
-use Rattle.std.proofs.Common.{◌≡◌, ap, sym, ◌∙◌, refl, subst, ℕ, zero, suc, Bool, true, false, List, [], ◌∷◌, ◌++◌, cond, eqb}
+use Rattle.std.proofs.Common.{◌≡◌, ap, sym, ◌∙◌, refl, subst, ℕ, zero, suc}
+use Rattle.std.proofs.Common.{Bool, true, false, List, [], ◌∷◌, ◌++◌, cond, eqb}
 use Rattle.std.specs.Prelude.{Option, Some, None, slice_get, position, ◌&&◌, Result, Ok, Err, OnOk, OnErr}
 use Rattle.std.proofs.Common.{inl}
 use Rattle.std.proofs.lemmas.Bool.{eqb-true}

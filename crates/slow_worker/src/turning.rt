@@ -16,10 +16,10 @@ use std::sync::Wait;
 impl SlowWorker {
     /// The first turn of a tick: closed flows are given up, and time passes for all others. Every later turn of that
     /// tick handles the frames that wait; but where the first one failed before time had passed for all flows, the next
-    /// one goes on with those for which it hasn't, so that none has two Ticks. Ticks rise. Then each kick that was kept,
-    /// and each flow that the turn's ticks, entries and openings left with something to send, is posted to the queue of
-    /// its core, or kept where that is full. The error is want of memory, or all of 4,294,967,295 numbers for openings
-    /// were given; what was done stands.
+    /// one goes on with those for which it hasn't, so that none has two Ticks. Ticks rise. Then each kick that was
+    /// kept, and each flow that the turn's ticks, entries and openings left with something to send, is posted to the
+    /// queue of its core, or kept where that is full. The error is want of memory, or all of 4,294,967,295 numbers for
+    /// openings were given; what was done stands.
     pub fn turn<R: Wait>(&mut self, rt: &R, shared: &Shared, tick: u32) -> Result<(), AllocError>
         requires sound { IsSound shared.now.table (sight_of self.old) }
         requires risen { HasRisen tick self.old.time }

@@ -1,5 +1,6 @@
 ghost use Rattle.std.specs.Prelude.{◌≡◌, ◌<◌, ◌+◌, ◌++◌, ◌∷◌, true, [], IfOk, IsOk, OnOk, OnErr};
-ghost use Rattle.slow_worker.specs.Workers.{sight_of, with_sight, waiting, first_sight, IsSound, HasSenders, setting_of};
+ghost use Rattle.slow_worker.specs.Workers.{sight_of, with_sight, waiting, first_sight};
+ghost use Rattle.slow_worker.specs.Workers.{IsSound, HasSenders, setting_of};
 ghost use Rattle.slow_worker.specs.Opening.{IsKnown, IsUnknown};
 ghost use Rattle.slow_worker.specs.Serving.{with_line, IsServed, IsUnserved};
 
