@@ -205,7 +205,7 @@ pub record Serving (tick from : ℕ) (t : TableId) (first : Ledger) (s : Seen) (
 pub serving_begins : (tick from : ℕ) (t : TableId) (s : Seen) (pins doomed : List FlowId) (filed : List Flow)
     (changes : List Change) (kicks : List Kick) (path : Openings) → IsReady t s → AreKept t.slots s doomed pins
     → Serving tick from t (ledger s.view pins doomed filed changes kicks path) s pins doomed filed changes kicks path
-        from
+    from
 serving_begins tick from t s pins doomed filed changes kicks path ready kept =
     record { done = []; all = refl; served = refl; ready = ready; rights = no_step s.view; kept = kept }
 

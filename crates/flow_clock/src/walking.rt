@@ -58,7 +58,9 @@ pub fn tick_all(
         (ledger slow.new.view pins.new.list doomed.new.list filed.new.list index.new.pending kicks.new.list path.new)) }
 {
     sweep_again(table, slow, doomed, filed)?;
-    serve_all(table, slow, path, pins, doomed, filed, index, kicks, served, tick)
+    serve_all(
+        table, slow, path, pins, doomed, filed, index, kicks, served, tick,
+    )
 }
 
 /// Tries each doomed flow again. The error is want of memory.
@@ -121,7 +123,9 @@ fn serve_all(
         (ledger slow.new.view pins.new.list doomed.new.list filed.new.list index.new.pending kicks.new.list path.new)) }
 {
     while *served < pins.len() {
-        if serve_at(table, slow, path, pins, *served, doomed, filed, index, kicks, tick)? {
+        if serve_at(
+            table, slow, path, pins, *served, doomed, filed, index, kicks, tick,
+        )? {
             *served += 1;
         }
     }

@@ -33,5 +33,8 @@ both_are (Some x) P Q H s f h is = subst H (sym is) (f x h)
 -- so it has registered at the source of its key
 pub covers : (places : List Place) (key : ℕ) (a b : Context) → IsArmed b → IsWaiting places key a b
     → Covers b (λ s. IsSourceAt places key s)
-covers places key a b armed w = (armed, λ s is. both_are (slice_get places key) _ (λ p. p.source.id) (Hears b) s
-    (λ p h. h.0) w is)
+covers places key a b armed w = (
+  armed,
+  λ s is. both_are (slice_get places key) _ (λ p. p.source.id) (Hears b) s
+      (λ p h. h.0) w is,
+)

@@ -51,13 +51,12 @@ impl Drop for ReadyFuture<'_> {
         ensures places { self.exit.0.1.1.0.now ≡ (seen self.entry).places }
     {
         let ReadyFuture {
-            io:
-                Io {
-                    app: _,
-                    table: _,
-                    waiters: _,
-                    tick: _,
-                },
+            io: Io {
+                app: _,
+                table: _,
+                waiters: _,
+                tick: _,
+            },
             socket: _,
             last: _,
         } = self;

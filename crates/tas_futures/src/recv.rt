@@ -53,13 +53,12 @@ impl Drop for RecvFuture<'_> {
         ensures buffer { self.exit.1.1.0.now ≡ buffer self.entry }
     {
         let RecvFuture {
-            io:
-                Io {
-                    app: _,
-                    table: _,
-                    waiters: _,
-                    tick: _,
-                },
+            io: Io {
+                app: _,
+                table: _,
+                waiters: _,
+                tick: _,
+            },
             socket: _,
             buf: _,
             last: _,

@@ -52,13 +52,12 @@ impl Drop for SendFuture<'_> {
         ensures places { self.exit.0.1.1.0.now ≡ (seen self.entry).places }
     {
         let SendFuture {
-            io:
-                Io {
-                    app: _,
-                    table: _,
-                    waiters: _,
-                    tick: _,
-                },
+            io: Io {
+                app: _,
+                table: _,
+                waiters: _,
+                tick: _,
+            },
             socket: _,
             bytes: _,
             last: _,

@@ -12,9 +12,9 @@ returns-in_err-serve_at-clause-stopped c =
     let e = c.in_err-serve_at.ensures in
     on_err_stopped c.from_residual.result
     (serving_stops c.args.tick c.args.served.now c.args.table.now _ l.slow n.slow l.pins.list n.pins.list
-        l.doomed.list n.doomed.list
+    l.doomed.list n.doomed.list
     l.filed.list n.filed.list l.index.pending n.index.pending l.kicks.list n.kicks.list l.path n.path l.served
-        l.invariant.serving
+    l.invariant.serving
     e.refused e.pins e.doomed e.filed e.pending e.unkicked e.untold)
 
 pub loop-served-smaller-then-branch : goal.loop-served-smaller-then-branch
@@ -35,7 +35,7 @@ loop-served-preserved-then-branch c =
       serving = serving_more c.args.tick c.args.served.now c.args.table.now _ l.slow n.slow l.pins.list n.pins.list
           l.doomed.list
           n.doomed.list l.filed.list n.filed.list l.index.pending n.index.pending l.kicks.list n.kicks.list l.path
-              n.path l.served
+          n.path l.served
           (l.served + 1) c.in_ok-serve_at.field-0 l.invariant.serving e.served
           (ap (λ (b : Bool). l.served + one_if b) (sym c.if-branch.true)) e.slow e.rights e.kept;
       params = e.params ∙ l.invariant.params;
@@ -63,7 +63,7 @@ loop-served-preserved c =
       serving = serving_more c.args.tick c.args.served.now c.args.table.now _ l.slow n.slow l.pins.list n.pins.list
           l.doomed.list
           n.doomed.list l.filed.list n.filed.list l.index.pending n.index.pending l.kicks.list n.kicks.list l.path
-              n.path l.served l.served
+          n.path l.served l.served
           c.in_ok-serve_at.field-0 l.invariant.serving e.served
           (same ∙ ap (λ (b : Bool). l.served + one_if b) (sym c.if-branch.false)) e.slow e.rights e.kept;
       params = e.params ∙ l.invariant.params;
@@ -74,13 +74,13 @@ pub returns-clause-done : goal.returns-clause-done
 returns-clause-done c =
     let l = c.loop-served in
     let past : length l.pins.list ≤ l.served = let t = c.loop-served-test.false in let e = c.len.ensures in omega
-        arith in
+    arith in
     serving_ends c.args.tick c.args.served.now c.args.table.now _ l.slow l.pins.list l.doomed.list l.filed.list
-        l.index.pending
+    l.index.pending
     l.kicks.list l.path l.served l.invariant.serving past
 
 pub returns-in_err-serve_at-clause-rights : goal.returns-in_err-serve_at-clause-rights
 returns-in_err-serve_at-clause-rights c =
     two_steps c.args.slow.now.view c.loop-served.slow.view c.serve_at.new.slow.view
-        c.loop-served.invariant.serving.rights
+    c.loop-served.invariant.serving.rights
     c.in_err-serve_at.ensures.rights

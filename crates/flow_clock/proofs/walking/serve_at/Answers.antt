@@ -14,7 +14,7 @@ returns-in-Err-Busy-clause-served c =
     busy_there c.args.tick c.args.at c.pin.result.now c.args.slow.now.view c.pass_time.new.slow.view
     c.args.pins.now.list c.args.doomed.now.list c.args.filed.now.list c.args.index.now.pending c.args.kicks.now.list
     c.pass_time.new.kicks.list c.args.path.now c.pass_time.new.path c.in-Err-Busy.field-0 _ c.in-Err-Busy.field-0-is
-        c.pin.ensures
+    c.pin.ensures
     c.in-Err-Busy.ensures.refused c.in-Err-Busy.ensures.unkicked c.in-Err-Busy.ensures.untold
 
 pub returns-in-Err-OutOfMemory-clause-kept : goal.returns-in-Err-OutOfMemory-clause-kept
@@ -34,7 +34,7 @@ returns-in_default-clause-served c =
     timed_there c.args.tick c.args.at c.pin.result.now c.args.slow.now.view c.pass_time.new.slow.view
     c.args.pins.now.list c.args.doomed.now.list c.args.filed.now.list c.args.index.now.pending c.args.kicks.now.list
     c.pass_time.new.kicks.list c.args.path.now c.pass_time.new.path c.in-Ok.timed c.in_default.not-Closed
-        c.pin.ensures c.in-Ok.ensures.timed
+    c.pin.ensures c.in-Ok.ensures.timed
 
 pub close_at-requires-clause-kept : goal.close_at-requires-clause-kept
 close_at-requires-clause-kept c =

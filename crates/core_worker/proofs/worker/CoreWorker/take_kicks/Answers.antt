@@ -75,14 +75,14 @@ pub returns-clause-empty : goal.returns-clause-empty
 returns-clause-empty g c =
     let l = c.loop.invariant in
     all_taken c.args.shared.now c.args.self.now.core c.room-end.result c.loop.counter c.args.self.now.kicks
-        c.loop.self.kicks
+    c.loop.self.kicks
     l.1 l.0.taken l.2 (omega (arith, c.loop-test.false))
 
 pub returns-clause-bounded : goal.returns-clause-bounded
 returns-clause-bounded g c =
     let l = c.loop.invariant in
     within c.args.shared.now c.args.self.now.core c.room-end.result c.loop.counter c.args.self.now.kicks
-        c.loop.self.kicks
+    c.loop.self.kicks
     l.1 l.0.taken l.2
 
 pub returns-in_default-clause-empty : goal.returns-in_default-clause-empty
@@ -100,5 +100,5 @@ returns-in_default-clause-bounded g c =
     c.next_kick.ensures.none in
     subst (λ (w : Worker). IsBounded c.args.shared.now c.args.self.now.core c.args.self.now.kicks w.kicks) (sym none)
     (within c.args.shared.now c.args.self.now.core c.room-end.result c.loop.counter c.args.self.now.kicks
-        c.loop.self.kicks
+    c.loop.self.kicks
     l.1 l.0.taken l.2)
