@@ -12,8 +12,6 @@ mod gates;
 mod host;
 pub mod hosts;
 #[cfg(test)]
-mod many;
-#[cfg(test)]
 mod opening;
 #[cfg(test)]
 mod packets;

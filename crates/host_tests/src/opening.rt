@@ -19,7 +19,7 @@ use std::test::*;
 use std::thread::Threads;
 use tas_model::{Caller, FlowId};
 
-pub const PEER: Peer = Peer {
+const PEER: Peer = Peer {
     port: 49152,
     to: 80,
     iss: 5000,
@@ -98,7 +98,7 @@ fn receive<R: Threads + Wait + Sync>(
 
 /// What was seen while a connection was opened.
 #[derive(Clone, Copy, Drop)]
-pub struct Connecting {
+struct Connecting {
     syn: (u32, Passed),
     is_open: [bool; 2],
     syn_ack: Summary,
@@ -114,7 +114,7 @@ struct Hearing {
 }
 
 /// The connection is opened.
-pub fn connect<R: Threads + Wait + Sync>(
+fn connect<R: Threads + Wait + Sync>(
     rt: &R,
     alloc: Global,
     shared: &Shared,

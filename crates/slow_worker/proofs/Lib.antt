@@ -4,3 +4,4 @@ pub mod Moves
 pub mod Serving
 pub mod Ticks
 pub mod Kicks
+pub mod Openings

@@ -1,4 +1,3 @@
-pub mod Clocks
 pub mod Kicking
 pub mod Workers
 pub mod Entering
