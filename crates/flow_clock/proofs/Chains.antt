@@ -1,9 +1,10 @@
 -- What became of flows one after the other.
-use Rattle.std.proofs.Common.{ℕ, List, [], ◌∷◌, ◌++◌, refl, subst, inl, inr}
+use Rattle.std.proofs.Common.{◌≡◌, ◌∙◌, ap, sym, ℕ, List, [], ◌∷◌, ◌++◌, refl, subst, inl, inr, length}
+use Rattle.std.specs.Prelude.{take, drop}
 use Rattle.tas_model.specs.declared.entry.FlowId.{FlowId}
 use Rattle.flow_lock.specs.Steps.{IsAlone}
 use Rattle.flow_clock.specs.Ledgers.{Ledger}
-use Rattle.flow_clock.specs.Walks.{OneByOne, AreServed, AreServedAlone}
+use Rattle.flow_clock.specs.Walks.{OneByOne, AreServed, AreServedAlone, IsWalkStopped}
 use Rattle.flow_clock.proofs.Keeping.{after_use, after_sweep}
 
 -- one flow more
@@ -25,3 +26,25 @@ served_alone tick (f ∷ fs) l m alone (n, inr (inl closed), rest) =
     (after_sweep f closed.found n.view closed.swept.swept closed.swept.sweep).alone found in
     (n, inr closed, served_alone tick fs n m still rest)
 served_alone tick (f ∷ fs) l m alone (n, inr (inr busy), rest) = absurd (busy.busy.1 alone)
+
+take_front : (xs ys : List FlowId) → take (length xs) (xs ++ ys) ≡ xs
+take_front [] ys = refl
+take_front (x ∷ xs) ys = ap (λ l. x ∷ l) (take_front xs ys)
+
+drop_front : (xs ys : List FlowId) → drop (length xs) (xs ++ ys) ≡ ys
+drop_front [] ys = refl
+drop_front (x ∷ xs) ys = drop_front xs ys
+
+-- What a walk that stopped has still to serve is what it hadn't served.
+pub gone_on : (t from from' : ℕ) (l m : Ledger) → IsWalkStopped t from from' l m
+    → (done : List FlowId) × (after : Ledger) × AreServed t done (record l { pins = take from l.pins }) after
+    × (drop from l.pins ≡ done ++ drop from' m.pins) × (take from' m.pins ≡ after.pins)
+gone_on t from from' l m is =
+    let pins : m.pins ≡ is.after.pins ++ is.at ∷ is.left = ap (λ (x : Ledger). x.pins) is.rest in
+    let left : drop from' m.pins ≡ is.at ∷ is.left =
+    ap (λ n. drop n m.pins) is.place ∙ (ap (drop (length is.after.pins)) pins
+    ∙ drop_front is.after.pins (is.at ∷ is.left)) in
+    let front : take from' m.pins ≡ is.after.pins =
+    ap (λ n. take n m.pins) is.place ∙ (ap (take (length is.after.pins)) pins
+    ∙ take_front is.after.pins (is.at ∷ is.left)) in
+    (is.done, is.after, is.served, is.all ∙ ap (λ k. is.done ++ k) (sym left), front)

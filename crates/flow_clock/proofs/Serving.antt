@@ -11,6 +11,7 @@ use Rattle.flow_index.specs.declared.change.Change.{Change}
 use Rattle.flow_index.specs.declared.change.Change.TheVariants.{Remove}
 use Rattle.core_worker.specs.declared.kicks.Kick.{Kick}
 use Rattle.core_worker.specs.Kicks.{kick_of, one_kick}
+use Rattle.slow_handshake.specs.Openings.{Openings}
 use Rattle.flow_lock.specs.Passes.{Seen}
 use Rattle.flow_lock.specs.declared.view.View.{View}
 use Rattle.flow_lock.specs.declared.word.Word.{Word}
@@ -22,7 +23,8 @@ use Rattle.app_reaper.specs.declared.one_call.CallFault.TheVariants.{Busy}
 use Rattle.app_reaper.specs.declared.sweeping.Swept.{Swept}
 use Rattle.app_reaper.specs.declared.sweeping.Swept.TheVariants.{Freed, Pinned}
 use Rattle.app_reaper.proofs.Walking.{none_some, same_pin}
-use Rattle.flow_clock.specs.Ledgers.{Ledger, ledger, IsReady, KeepsRights, AreKept}
+use Rattle.flow_clock.specs.Histories.{is_over}
+use Rattle.flow_clock.specs.Ledgers.{Ledger, ledger, without, without_closed, IsReady, KeepsRights, AreKept}
 use Rattle.flow_clock.specs.OneFlow.{IsTimed}
 use Rattle.flow_clock.specs.declared.timing.Timed.{Timed}
 use Rattle.flow_clock.specs.declared.timing.Timed.TheVariants.{Closed, Ticked, Controlled}
@@ -53,6 +55,11 @@ drop_rest [] i f q = absurd (none_some f q)
 drop_rest (x ∷ xs) zero f q = refl
 drop_rest (x ∷ xs) (suc i) f q = drop_rest xs i f q
 
+pub length_to : (l : List FlowId) (i : ℕ) (f : FlowId) → slice_get l i ≡ Some f → length (take i l) ≡ i
+length_to [] i f q = absurd (none_some f q)
+length_to (x ∷ xs) zero f q = refl
+length_to (x ∷ xs) (suc i) f q = ap suc (length_to xs i f q)
+
 -- ----- a flow that was swept
 pub waits : (f : FlowId) (a : Swept) (n : ℕ) (pin : FlowId) (doomed new : List FlowId) → a ≡ Pinned n pin
     → KeepsPin f a → new ≡ doomed ++ pin ∷ [] → new ≡ doomed_with f a doomed
@@ -73,69 +80,79 @@ goes f (Pinned n pin) doomed not = absurd (not n pin refl)
 -- ----- the flow at a place
 -- its pin is there still
 pub stays_there : (tick at : ℕ) (f : FlowId) (v w : View) (pins doomed : List FlowId) (filed : List Flow)
-    (changes : List Change) (kicks kicks' : List Kick) → slice_get pins at ≡ Some f
-    → IsServed tick f (ledger v (take at pins) doomed filed changes kicks)
-    (ledger w (take at pins ++ f ∷ []) doomed filed changes kicks')
-    → IsServedAt tick at (ledger v pins doomed filed changes kicks) (ledger w pins doomed filed changes kicks') true
-stays_there tick at f v w pins doomed filed changes kicks kicks' q served =
+    (changes : List Change) (kicks kicks' : List Kick) (path path' : Openings) → slice_get pins at ≡ Some f
+    → IsServed tick f (ledger v (take at pins) doomed filed changes kicks path)
+    (ledger w (take at pins ++ f ∷ []) doomed filed changes kicks' path')
+    → IsServedAt tick at (ledger v pins doomed filed changes kicks path)
+    (ledger w pins doomed filed changes kicks' path') true
+stays_there tick at f v w pins doomed filed changes kicks kicks' path path' q served =
     let next : at + 1 ≡ suc at = omega arith in
     let more : take at pins ++ f ∷ [] ≡ take (at + 1) pins =
     sym (ap (λ n. take n pins) next ∙ take_more pins at f q) in (
       f,
       q,
-      subst (λ l. IsServed tick f (ledger v (take at pins) doomed filed changes kicks)
-          (ledger w l doomed filed changes kicks')) more served,
+      subst (λ l. IsServed tick f (ledger v (take at pins) doomed filed changes kicks path)
+          (ledger w l doomed filed changes kicks' path')) more served,
       ap (λ n. drop n pins) next,
     )
 
 pub busy_there : (tick at : ℕ) (f : FlowId) (v w : View) (pins doomed : List FlowId) (filed : List Flow)
-    (changes : List Change) (kicks kicks' : List Kick) (e : CallFault) (x : Word) → e ≡ Busy x
-    → slice_get pins at ≡ Some f → IsCallRefused f v w e → kicks' ≡ kicks
-    → IsServedAt tick at (ledger v pins doomed filed changes kicks) (ledger w pins doomed filed changes kicks') true
-busy_there tick at f v w pins doomed filed changes kicks kicks' e x is q refused unkicked =
-    stays_there tick at f v w pins doomed filed changes kicks kicks' q
+    (changes : List Change) (kicks kicks' : List Kick) (path path' : Openings) (e : CallFault) (x : Word) → e ≡ Busy x
+    → slice_get pins at ≡ Some f → IsCallRefused f v w e → kicks' ≡ kicks → path' ≡ path
+    → IsServedAt tick at (ledger v pins doomed filed changes kicks path)
+    (ledger w pins doomed filed changes kicks' path') true
+busy_there tick at f v w pins doomed filed changes kicks kicks' path path' e x is q refused unkicked untold =
+    stays_there tick at f v w pins doomed filed changes kicks kicks' path path' q
     (inr (inr (record {
       word = x;
       busy = subst (IsCallRefused f v w) is refused;
-      rest = ap (ledger w (take at pins ++ f ∷ []) doomed filed changes) unkicked;
+      rest = ap (λ l. ledger w (take at pins ++ f ∷ []) doomed filed changes l path') unkicked
+          ∙ ap (ledger w (take at pins ++ f ∷ []) doomed filed changes kicks) untold;
     })))
 
 pub timed_there : (tick at : ℕ) (f : FlowId) (v w : View) (pins doomed : List FlowId) (filed : List Flow)
-    (changes : List Change) (kicks kicks' : List Kick) (a : Timed) → ((tuple : FourTuple) → a ≡ Closed tuple → ⊥)
-    → slice_get pins at ≡ Some f → IsTimed tick f v w kicks kicks' a
-    → IsServedAt tick at (ledger v pins doomed filed changes kicks) (ledger w pins doomed filed changes kicks') true
-timed_there tick at f v w pins doomed filed changes kicks kicks' (Closed tuple) not q t = absurd (not tuple refl)
-timed_there tick at f v w pins doomed filed changes kicks kicks' Ticked not q t =
-    stays_there tick at f v w pins doomed filed changes kicks kicks' q
+    (changes : List Change) (kicks kicks' : List Kick) (path path' : Openings) (a : Timed)
+    → ((tuple : FourTuple) → a ≡ Closed tuple → ⊥)
+    → slice_get pins at ≡ Some f → IsTimed tick f v w kicks kicks' path path' a
+    → IsServedAt tick at (ledger v pins doomed filed changes kicks path)
+    (ledger w pins doomed filed changes kicks' path') true
+timed_there tick at f v w pins doomed filed changes kicks kicks' path path' (Closed tuple) not q t =
+    absurd (not tuple refl)
+timed_there tick at f v w pins doomed filed changes kicks kicks' path path' Ticked not q t =
+    stays_there tick at f v w pins doomed filed changes kicks kicks' path path' q
     (inl (record {
       flow = t.0;
       own = t.2;
       not_over = t.3.0;
       grown = subst (λ k. IsUse f t.0 k v w) t.3.2 t.4;
       kicked = t.5 ∙ ap (λ k. kicks ++ one_kick (kick_of f k)) t.3.2;
+      told = t.6 ∙ ap (λ k. without_closed (is_over k) f path) t.3.2;
       rest = refl;
     }))
-timed_there tick at f v w pins doomed filed changes kicks kicks' Controlled not q t =
-    stays_there tick at f v w pins doomed filed changes kicks kicks' q
+timed_there tick at f v w pins doomed filed changes kicks kicks' path path' Controlled not q t =
+    stays_there tick at f v w pins doomed filed changes kicks kicks' path path' q
     (inl (record {
       flow = t.0;
       own = t.2;
       not_over = t.3.0;
       grown = subst (λ k. IsUse f t.0 k v w) t.3.2 t.4;
       kicked = t.5 ∙ ap (λ k. kicks ++ one_kick (kick_of f k)) t.3.2;
+      told = t.6 ∙ ap (λ k. without_closed (is_over k) f path) t.3.2;
       rest = refl;
     }))
 
 -- it left the list
 pub closed_there : (tick at : ℕ) (f : FlowId) (tuple : FourTuple) (a : Timed) (v u w : View)
     (pins pins' doomed doomed' : List FlowId) (filed filed' : List Flow) (changes changes' : List Change)
-    (kicks kicks' : List Kick) → a ≡ Closed tuple → slice_get pins at ≡ Some f → IsTimed tick f v u kicks kicks' a
+    (kicks kicks' : List Kick) (path path' path'' : Openings) → a ≡ Closed tuple → slice_get pins at ≡ Some f
+    → IsTimed tick f v u kicks kicks' path path' a → path'' ≡ without f path'
     → pins' ≡ remove pins at → IsSwept f u w filed filed' doomed doomed' → changes' ≡ changes ++ Remove tuple ∷ []
-    → IsServedAt tick at (ledger v pins doomed filed changes kicks)
-    (ledger w pins' doomed' filed' changes' kicks') false
-closed_there tick at f tuple a v u w pins pins' doomed doomed' filed filed' changes changes' kicks kicks' is q timed
-    gone swept left =
-    let t = subst (IsTimed tick f v u kicks kicks') is timed in
+    → IsServedAt tick at (ledger v pins doomed filed changes kicks path)
+    (ledger w pins' doomed' filed' changes' kicks' path'') false
+closed_there tick at f tuple a v u w pins pins' doomed doomed' filed filed' changes changes' kicks kicks' path path'
+    path''
+    is q timed told gone swept left =
+    let t = subst (IsTimed tick f v u kicks kicks' path path') is timed in
     let here : at + 0 ≡ at = omega arith in (
       f,
       q,
@@ -149,83 +166,103 @@ closed_there tick at f tuple a v u w pins pins' doomed doomed' filed filed' chan
         left = left ∙ ap (λ x. changes ++ Remove x ∷ []) t.3.1;
         gone = ap (λ n. take n pins') here ∙ (ap (take at) gone ∙ take_rest pins at f q);
         unkicked = t.5;
+        told = told ∙ ap (without f) t.6;
       })),
       ap (λ n. drop n pins') here ∙ (ap (drop at) gone ∙ drop_rest pins at f q),
     )
 
 -- no closed flow is kicked
 pub unkicked_there : (tick : ℕ) (f : FlowId) (tuple : FourTuple) (a : Timed) (v w : View) (kicks kicks' : List Kick)
-    → a ≡ Closed tuple → IsTimed tick f v w kicks kicks' a → kicks' ≡ kicks
-unkicked_there tick f tuple a v w kicks kicks' is timed = (subst (IsTimed tick f v w kicks kicks') is timed).5
+    (path path' : Openings) → a ≡ Closed tuple → IsTimed tick f v w kicks kicks' path path' a → kicks' ≡ kicks
+unkicked_there tick f tuple a v w kicks kicks' path path' is timed =
+    (subst (IsTimed tick f v w kicks kicks' path path') is timed).5
+
+-- nor told to the openings, but where it is closed
+pub untold_there : (tick : ℕ) (f : FlowId) (tuple : FourTuple) (a : Timed) (v w : View) (kicks kicks' : List Kick)
+    (path path' : Openings) → a ≡ Closed tuple → IsTimed tick f v w kicks kicks' path path' a → path' ≡ path
+untold_there tick f tuple a v w kicks kicks' path path' is timed =
+    (subst (IsTimed tick f v w kicks kicks' path path') is timed).6
 
 pub kept_timed : (slots tick : ℕ) (f : FlowId) (a : Timed) (s n : Seen) (doomed pins : List FlowId)
-    (kicks kicks' : List Kick) → IsTimed tick f s.view n.view kicks kicks' a → AreKept slots s doomed pins
+    (kicks kicks' : List Kick) (path path' : Openings) → IsTimed tick f s.view n.view kicks kicks' path path' a
+    → AreKept slots s doomed pins
     → AreKept slots n doomed pins
-kept_timed slots tick f a s n doomed pins kicks kicks' t is = kept_after_use slots f t.0 t.1 s n doomed pins t.4 is
+kept_timed slots tick f a s n doomed pins kicks kicks' path path' t is = kept_after_use slots f t.0 t.1 s n doomed
+    pins t.4 is
 
 -- ----- all flows
 -- What holds between two flows: those in front of the place were served.
-pub record Serving (tick : ℕ) (t : TableId) (first : Ledger) (s : Seen) (pins doomed : List FlowId) (filed : List Flow)
-    (changes : List Change) (kicks : List Kick) (at : ℕ) : Type 0 where
+pub record Serving (tick from : ℕ) (t : TableId) (first : Ledger) (s : Seen) (pins doomed : List FlowId)
+    (filed : List Flow) (changes : List Change) (kicks : List Kick) (path : Openings) (at : ℕ) : Type 0 where
   pub done : List FlowId
-  pub all : first.pins ≡ done ++ drop at pins
-  pub served : AreServed tick done (record first { pins = [] })
-      (ledger s.view (take at pins) doomed filed changes kicks)
+  pub all : drop from first.pins ≡ done ++ drop at pins
+  pub served : AreServed tick done (record first { pins = take from first.pins })
+      (ledger s.view (take at pins) doomed filed changes kicks path)
   pub ready : IsReady t s
   pub rights : KeepsRights first.view s.view
   pub kept : AreKept t.slots s doomed pins
 
-pub serving_begins : (tick : ℕ) (t : TableId) (s : Seen) (pins doomed : List FlowId) (filed : List Flow)
-    (changes : List Change) (kicks : List Kick) → IsReady t s → AreKept t.slots s doomed pins
-    → Serving tick t (ledger s.view pins doomed filed changes kicks) s pins doomed filed changes kicks 0
-serving_begins tick t s pins doomed filed changes kicks ready kept =
+pub serving_begins : (tick from : ℕ) (t : TableId) (s : Seen) (pins doomed : List FlowId) (filed : List Flow)
+    (changes : List Change) (kicks : List Kick) (path : Openings) → IsReady t s → AreKept t.slots s doomed pins
+    → Serving tick from t (ledger s.view pins doomed filed changes kicks path) s pins doomed filed changes kicks path
+    from
+serving_begins tick from t s pins doomed filed changes kicks path ready kept =
     record { done = []; all = refl; served = refl; ready = ready; rights = no_step s.view; kept = kept }
 
-pub serving_more : (tick : ℕ) (t : TableId) (first : Ledger) (s n : Seen) (pins pins' doomed doomed' : List FlowId)
-    (filed filed' : List Flow) (changes changes' : List Change) (kicks kicks' : List Kick) (at at' : ℕ) (stays : Bool)
-    → Serving tick t first s pins doomed filed changes kicks at
-    → IsServedAt tick at (ledger s.view pins doomed filed changes kicks)
-    (ledger n.view pins' doomed' filed' changes' kicks') stays
+pub serving_more : (tick from : ℕ) (t : TableId) (first : Ledger) (s n : Seen) (pins pins' doomed doomed' : List FlowId)
+    (filed filed' : List Flow) (changes changes' : List Change) (kicks kicks' : List Kick)
+    (path path' : Openings) (at at' : ℕ) (stays : Bool)
+    → Serving tick from t first s pins doomed filed changes kicks path at
+    → IsServedAt tick at (ledger s.view pins doomed filed changes kicks path)
+    (ledger n.view pins' doomed' filed' changes' kicks' path') stays
     → at' ≡ at + one_if stays → IsReady t n → KeepsRights s.view n.view → AreKept t.slots n doomed' pins'
-    → Serving tick t first n pins' doomed' filed' changes' kicks' at'
-serving_more tick t first s n pins pins' doomed doomed' filed filed' changes changes' kicks kicks' at at' stays is a e
+    → Serving tick from t first n pins' doomed' filed' changes' kicks' path' at'
+serving_more tick from t first s n pins pins' doomed doomed' filed filed' changes changes' kicks kicks' path path' at
+    at' stays is a e
     ready rights kept =
     let left : drop at pins ≡ a.0 ∷ drop at' pins' =
     drop_more pins at a.0 a.1 ∙ ap (λ l. a.0 ∷ l) (sym a.3 ∙ ap (λ k. drop k pins') (sym e)) in
-    let here : (ledger n.view (take (at + one_if stays) pins') doomed' filed' changes' kicks')
-    ≡ (ledger n.view (take at' pins') doomed' filed' changes' kicks') =
-    ap (λ k. ledger n.view (take k pins') doomed' filed' changes' kicks') (sym e) in
-    let more = one_more (IsServed tick) is.done a.0 (record first { pins = [] })
-    (ledger s.view (take at pins) doomed filed changes kicks)
-    (ledger n.view (take (at + one_if stays) pins') doomed' filed' changes' kicks') is.served a.2 in
+    let here : (ledger n.view (take (at + one_if stays) pins') doomed' filed' changes' kicks' path')
+    ≡ (ledger n.view (take at' pins') doomed' filed' changes' kicks' path') =
+    ap (λ k. ledger n.view (take k pins') doomed' filed' changes' kicks' path') (sym e) in
+    let more = one_more (IsServed tick) is.done a.0 (record first { pins = take from first.pins })
+    (ledger s.view (take at pins) doomed filed changes kicks path)
+    (ledger n.view (take (at + one_if stays) pins') doomed' filed' changes' kicks' path') is.served a.2 in
     record {
       done = is.done ++ a.0 ∷ [];
       all = is.all ∙ (ap (λ l. is.done ++ l) left ∙ sym (append_assoc is.done (a.0 ∷ []) (drop at' pins')));
-      served = subst (AreServed tick (is.done ++ a.0 ∷ []) (record first { pins = [] })) here more;
+      served = subst (AreServed tick (is.done ++ a.0 ∷ []) (record first { pins = take from first.pins })) here more;
       ready = ready;
       rights = two_steps first.view s.view n.view is.rights rights;
       kept = kept;
     }
 
-pub serving_ends : (tick : ℕ) (t : TableId) (first : Ledger) (s : Seen) (pins doomed : List FlowId)
-    (filed : List Flow) (changes : List Change) (kicks : List Kick) (at : ℕ)
-    → Serving tick t first s pins doomed filed changes kicks at → length pins ≤ at
-    → AreServed tick first.pins (record first { pins = [] }) (ledger s.view pins doomed filed changes kicks)
-serving_ends tick t first s pins doomed filed changes kicks at is past =
-    let all : first.pins ≡ is.done =
+pub serving_ends : (tick from : ℕ) (t : TableId) (first : Ledger) (s : Seen) (pins doomed : List FlowId)
+    (filed : List Flow) (changes : List Change) (kicks : List Kick) (path : Openings) (at : ℕ)
+    → Serving tick from t first s pins doomed filed changes kicks path at → length pins ≤ at
+    → AreServed tick (drop from first.pins) (record first { pins = take from first.pins })
+    (ledger s.view pins doomed filed changes kicks path)
+serving_ends tick from t first s pins doomed filed changes kicks path at is past =
+    let all : drop from first.pins ≡ is.done =
     is.all ∙ (ap (λ l. is.done ++ l) (drop_all at pins past) ∙ append-nil is.done) in
     let end =
-    subst (λ l. AreServed tick is.done (record first { pins = [] }) (ledger s.view l doomed filed changes kicks))
+    subst (λ l. AreServed tick is.done (record first { pins = take from first.pins })
+    (ledger s.view l doomed filed changes kicks path))
     (take_all at pins past) is.served in
-    subst (λ l. AreServed tick l (record first { pins = [] }) (ledger s.view pins doomed filed changes kicks))
+    subst (λ l. AreServed tick l (record first { pins = take from first.pins })
+    (ledger s.view pins doomed filed changes kicks path))
     (sym all) end
 
-pub serving_stops : (tick : ℕ) (t : TableId) (first : Ledger) (s n : Seen) (pins pins' doomed doomed' : List FlowId)
-    (filed filed' : List Flow) (changes changes' : List Change) (kicks kicks' : List Kick) (at : ℕ)
-    → Serving tick t first s pins doomed filed changes kicks at → IsRefusedAt at pins s.view n.view → pins' ≡ pins
-    → doomed' ≡ doomed → filed' ≡ filed → changes' ≡ changes → kicks' ≡ kicks
-    → IsWalkStopped tick first (ledger n.view pins' doomed' filed' changes' kicks')
-serving_stops tick t first s n pins pins' doomed doomed' filed filed' changes changes' kicks kicks' at is r p d f c k =
+pub serving_stops : (tick from : ℕ) (t : TableId) (first : Ledger) (s n : Seen)
+    (pins pins' doomed doomed' : List FlowId)
+    (filed filed' : List Flow) (changes changes' : List Change) (kicks kicks' : List Kick)
+    (path path' : Openings) (at : ℕ)
+    → Serving tick from t first s pins doomed filed changes kicks path at → IsRefusedAt at pins s.view n.view
+    → pins' ≡ pins
+    → doomed' ≡ doomed → filed' ≡ filed → changes' ≡ changes → kicks' ≡ kicks → path' ≡ path
+    → IsWalkStopped tick from at first (ledger n.view pins' doomed' filed' changes' kicks' path')
+serving_stops tick from t first s n pins pins' doomed doomed' filed filed' changes changes' kicks kicks' path path' at
+    is r p d f c k o =
     let rest : pins' ≡ take at pins ++ r.0 ∷ drop (suc at) pins =
     p ∙ (sym (take-append-drop at pins)
     ∙ ap (λ l. take at pins ++ l) (drop_more pins at r.0 r.1)) in
@@ -234,10 +271,11 @@ serving_stops tick t first s n pins pins' doomed doomed' filed filed' changes ch
       at = r.0;
       left = drop (suc at) pins;
       all = is.all ∙ ap (λ l. is.done ++ l) (drop_more pins at r.0 r.1);
-      after = ledger s.view (take at pins) doomed filed changes kicks;
+      after = ledger s.view (take at pins) doomed filed changes kicks path;
       served = is.served;
       refused = r.2;
       rest = cc;
+      place = sym (length_to pins at r.0 r.1);
     }
 
 pub fewer_left : (tick at : ℕ) (l m : Ledger) (stays : Bool) (at' : ℕ) → IsServedAt tick at l m stays
@@ -254,11 +292,13 @@ on_err_stopped (Ok a) p = tt
 on_err_stopped (Err e) p = p
 
 -- both walks, one after the other
-pub on_ok_done : {A E : Type 0} (tick : ℕ) (v u : View) (pins doomed doomed' : List FlowId) (filed filed' : List Flow)
-    (changes : List Change) (kicks : List Kick) (m : Ledger) (x : Result A E)
-    → AreSweptAgain doomed (ledger v pins [] filed changes kicks) (ledger u pins doomed' filed' changes kicks)
-    → OnOk x (AreServed tick pins (ledger u [] doomed' filed' changes kicks) m)
-    → OnOk x (IsTickDone tick (ledger v pins doomed filed changes kicks) m)
-on_ok_done tick v u pins doomed doomed' filed filed' changes kicks m (Ok a) swept served =
-    (ledger u pins doomed' filed' changes kicks, swept, served)
-on_ok_done tick v u pins doomed doomed' filed filed' changes kicks m (Err e) swept served = tt
+pub on_ok_done : {A E : Type 0} (tick from : ℕ) (v u : View) (pins doomed doomed' : List FlowId)
+    (filed filed' : List Flow)
+    (changes : List Change) (kicks : List Kick) (path : Openings) (m : Ledger) (x : Result A E)
+    → AreSweptAgain doomed (ledger v pins [] filed changes kicks path)
+    (ledger u pins doomed' filed' changes kicks path)
+    → OnOk x (AreServed tick (drop from pins) (ledger u (take from pins) doomed' filed' changes kicks path) m)
+    → OnOk x (IsTickDone tick from (ledger v pins doomed filed changes kicks path) m)
+on_ok_done tick from v u pins doomed doomed' filed filed' changes kicks path m (Ok a) swept served =
+    (ledger u pins doomed' filed' changes kicks path, swept, served)
+on_ok_done tick from v u pins doomed doomed' filed filed' changes kicks path m (Err e) swept served = tt

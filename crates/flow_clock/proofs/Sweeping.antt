@@ -6,6 +6,7 @@ use Rattle.atomic_table.specs.Seated.{TableId}
 use Rattle.tas_model.specs.declared.entry.FlowId.{FlowId}
 use Rattle.flow_index.specs.declared.change.Change.{Change}
 use Rattle.core_worker.specs.declared.kicks.Kick.{Kick}
+use Rattle.slow_handshake.specs.Openings.{Openings}
 use Rattle.flow_lock.specs.Passes.{Seen}
 use Rattle.flow_state.specs.Flow.{Flow}
 use Rattle.app_reaper.specs.declared.sweeping.Swept.{Swept}
@@ -26,8 +27,9 @@ pub record Sweeping (t : TableId) (s₀ : Seen) (doomed₀ : List FlowId) (filed
   pub all : doomed₀ ≡ done ++ left
   pub now : doomed ≡ left ++ tried
   pub long : length left ≡ count
-  pub swept : (pins : List FlowId) (changes : List Change) (kicks : List Kick)
-      → AreSweptAgain done (ledger s₀.view pins [] filed₀ changes kicks) (ledger s.view pins tried filed changes kicks)
+  pub swept : (pins : List FlowId) (changes : List Change) (kicks : List Kick) (path : Openings)
+      → AreSweptAgain done (ledger s₀.view pins [] filed₀ changes kicks path)
+      (ledger s.view pins tried filed changes kicks path)
   pub ready : IsReady t s
   pub rights : KeepsRights s₀.view s.view
   pub kept : (pins : List FlowId) → AreKept t.slots s₀ doomed₀ pins → AreKept t.slots s doomed pins
@@ -41,7 +43,7 @@ sweeping_begins t s doomed filed ready = record {
   all = refl;
   now = sym (append-nil doomed);
   long = refl;
-  swept = λ pins changes kicks. refl;
+  swept = λ pins changes kicks path. refl;
   ready = ready;
   rights = no_step s.view;
   kept = λ pins is. is;
@@ -81,10 +83,10 @@ sweeping_more t s₀ doomed₀ filed₀ s n doomed rest doomed' filed filed' cou
       all = is.all ∙ (ap (λ l. is.done ++ l) first ∙ sym (append_assoc is.done (f ∷ []) (drop 1 is.left)));
       now = w.waiting ∙ (ap (doomed_with f w.swept) behind ∙ doomed_behind f w.swept (drop 1 is.left) is.tried);
       long = long;
-      swept = λ pins changes kicks.
-          one_more WasSweptAgain is.done f (ledger s₀.view pins [] filed₀ changes kicks)
-          (ledger s.view pins is.tried filed changes kicks) (ledger n.view pins tried filed' changes kicks)
-          (is.swept pins changes kicks)
+      swept = λ pins changes kicks path.
+          one_more WasSweptAgain is.done f (ledger s₀.view pins [] filed₀ changes kicks path)
+          (ledger s.view pins is.tried filed changes kicks path) (ledger n.view pins tried filed' changes kicks path)
+          (is.swept pins changes kicks path)
           (record {
             swept = record { swept = w.swept; sweep = w.sweep; filing = w.filing; waiting = refl };
             rest = refl;
@@ -96,29 +98,30 @@ sweeping_more t s₀ doomed₀ filed₀ s n doomed rest doomed' filed filed' cou
 
 pub sweeping_ends : (t : TableId) (s₀ : Seen) (doomed₀ : List FlowId) (filed₀ : List Flow) (s : Seen)
     (doomed : List FlowId) (filed : List Flow) (count : ℕ) (pins : List FlowId) (changes : List Change)
-    (kicks : List Kick) → Sweeping t s₀ doomed₀ filed₀ s doomed filed count → count ≡ 0
-    → AreSweptAgain doomed₀ (ledger s₀.view pins [] filed₀ changes kicks)
-    (ledger s.view pins doomed filed changes kicks)
-sweeping_ends t s₀ doomed₀ filed₀ s doomed filed count pins changes kicks is none =
+    (kicks : List Kick) (path : Openings) → Sweeping t s₀ doomed₀ filed₀ s doomed filed count → count ≡ 0
+    → AreSweptAgain doomed₀ (ledger s₀.view pins [] filed₀ changes kicks path)
+    (ledger s.view pins doomed filed changes kicks path)
+sweeping_ends t s₀ doomed₀ filed₀ s doomed filed count pins changes kicks path is none =
     let left : is.left ≡ [] = no_pins is.left (is.long ∙ none) in
     let all : doomed₀ ≡ is.done = is.all ∙ (ap (λ l. is.done ++ l) left ∙ append-nil is.done) in
     let now : doomed ≡ is.tried = is.now ∙ ap (λ l. l ++ is.tried) left in
-    let end = is.swept pins changes kicks in
-    subst (λ l. AreSweptAgain l (ledger s₀.view pins [] filed₀ changes kicks)
-    (ledger s.view pins doomed filed changes kicks)) (sym all)
-    (subst (λ l. AreSweptAgain is.done (ledger s₀.view pins [] filed₀ changes kicks)
-    (ledger s.view pins l filed changes kicks)) (sym now) end)
+    let end = is.swept pins changes kicks path in
+    subst (λ l. AreSweptAgain l (ledger s₀.view pins [] filed₀ changes kicks path)
+    (ledger s.view pins doomed filed changes kicks path)) (sym all)
+    (subst (λ l. AreSweptAgain is.done (ledger s₀.view pins [] filed₀ changes kicks path)
+    (ledger s.view pins l filed changes kicks path)) (sym now) end)
 
 pub sweeping_stops : (t : TableId) (s₀ : Seen) (doomed₀ : List FlowId) (filed₀ : List Flow) (s : Seen)
     (doomed : List FlowId) (filed filed' : List Flow) (count : ℕ) (pins : List FlowId) (changes : List Change)
-    (kicks : List Kick) → Sweeping t s₀ doomed₀ filed₀ s doomed filed count → filed' ≡ filed
-    → IsSweepStopped (ledger s₀.view pins doomed₀ filed₀ changes kicks) (ledger s.view pins doomed filed' changes kicks)
-sweeping_stops t s₀ doomed₀ filed₀ s doomed filed filed' count pins changes kicks is same = record {
+    (kicks : List Kick) (path : Openings) → Sweeping t s₀ doomed₀ filed₀ s doomed filed count → filed' ≡ filed
+    → IsSweepStopped (ledger s₀.view pins doomed₀ filed₀ changes kicks path)
+    (ledger s.view pins doomed filed' changes kicks path)
+sweeping_stops t s₀ doomed₀ filed₀ s doomed filed filed' count pins changes kicks path is same = record {
   done = is.done;
   left = is.left;
   all = is.all;
-  after = ledger s.view pins is.tried filed changes kicks;
-  swept = is.swept pins changes kicks;
-  rest = ap (λ l. ledger s.view pins l filed' changes kicks) is.now
-      ∙ ap (λ l. ledger s.view pins (is.left ++ is.tried) l changes kicks) same;
+  after = ledger s.view pins is.tried filed changes kicks path;
+  swept = is.swept pins changes kicks path;
+  rest = ap (λ l. ledger s.view pins l filed' changes kicks path) is.now
+      ∙ ap (λ l. ledger s.view pins (is.left ++ is.tried) l changes kicks path) same;
 }

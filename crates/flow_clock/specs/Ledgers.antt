@@ -1,5 +1,6 @@
 -- What the slow path has of the flows of its host.
-use Rattle.std.specs.Prelude.{◌≡◌, ℕ, ◌+◌, ◌<◌, ◌≤◌, List, [], length}
+use Rattle.std.specs.Prelude.{◌≡◌, ℕ, ◌+◌, ◌<◌, ◌≤◌, Bool, true, false, not, List, [], length}
+use Rattle.std.specs.List.{filter}
 use Rattle.tas_model.specs.declared.entry.FlowId.{FlowId}
 use Rattle.flow_state.specs.Flow.{Flow}
 use Rattle.flow_index.specs.declared.change.Change.{Change}
@@ -10,6 +11,7 @@ use Rattle.flow_lock.specs.Passes.{Seen}
 use Rattle.flow_lock.specs.Steps.{HasAll, HasTurn, IsAlone, MayAct}
 use Rattle.flow_lock.specs.declared.view.View.{View}
 use Rattle.host_rounds.specs.Lists.{Each}
+use Rattle.slow_handshake.specs.Openings.{Openings, is_named}
 use Rattle.core_worker.specs.declared.kicks.Kick.{Kick}
 
 -- The slow path's view and lists, as contracts see them.
@@ -20,10 +22,27 @@ pub record Ledger : Type 0 where
   pub filed : List Flow
   pub changes : List Change  -- of the index, not published yet
   pub kicks : List Kick  -- not posted yet
+  pub path : Openings  -- of flows that are neither accepted nor closed
 
-abbrev pub ledger : View → (pins doomed : List FlowId) → List Flow → List Change → List Kick → Ledger
-ledger view pins doomed filed changes kicks =
-    record { view = view; pins = pins; doomed = doomed; filed = filed; changes = changes; kicks = kicks }
+abbrev pub ledger : View → (pins doomed : List FlowId) → List Flow → List Change → List Kick → Openings → Ledger
+ledger view pins doomed filed changes kicks path = record {
+  view = view;
+  pins = pins;
+  doomed = doomed;
+  filed = filed;
+  changes = changes;
+  kicks = kicks;
+  path = path;
+}
+
+-- The flow waits for no Accept: it counts to no backlog, and none is given it.
+abbrev pub without : FlowId → Openings → Openings
+without id o = record o { flows = filter (λ f. not (is_named id f)) o.flows }
+
+-- so it is where it is closed
+abbrev pub without_closed : (closed : Bool) → FlowId → Openings → Openings
+without_closed true id o = without id o
+without_closed false id o = o
 
 -- the slow path may act, and holds nothing
 abbrev pub IsReady : TableId → Seen → Type 0

@@ -7,7 +7,9 @@ use Rattle.flow_lock.specs.declared.view.View.{View}
 use Rattle.app_reaper.specs.OneCall.{history, IsOwn, IsUse}
 use Rattle.core_worker.specs.Kicks.{kick_of, one_kick}
 use Rattle.core_worker.specs.declared.kicks.Kick.{Kick}
+use Rattle.slow_handshake.specs.Openings.{Openings}
 use Rattle.flow_clock.specs.Histories.{is_over, is_control_due, timed_by}
+use Rattle.flow_clock.specs.Ledgers.{without_closed}
 use Rattle.flow_clock.specs.declared.timing.Timed.{Timed}
 use Rattle.flow_clock.specs.declared.timing.Timed.TheVariants.{Closed, Ticked, Controlled}
 
@@ -23,9 +25,16 @@ abbrev pub kicks_with : FlowId → (after : History) → Timed → List Kick →
 kicks_with id k (Closed tuple) kicks = kicks
 kicks_with id k timed kicks = kicks ++ one_kick (kick_of id k)
 
+-- A flow that its tick closed waits for no Accept. One that was closed before is left to its sweep.
+abbrev pub path_with : FlowId → (after : History) → Timed → Openings → Openings
+path_with id k (Closed tuple) path = path
+path_with id k timed path = without_closed (is_over k) id path
+
 -- ----- views
--- The flow's own record was taken and given back, and this became of its history meanwhile, and of the kicks.
-abbrev pub IsTimed : (tick : ℕ) → FlowId → (before after : View) → (kicks kicks' : List Kick) → Timed → Type 0
-IsTimed t id v w kicks kicks' timed =
+-- The flow's own record was taken and given back, and this became of its history meanwhile, of the kicks and of the
+-- openings.
+abbrev pub IsTimed : (tick : ℕ) → FlowId → (before after : View) → (kicks kicks' : List Kick)
+    → (path path' : Openings) → Timed → Type 0
+IsTimed t id v w kicks kicks' path path' timed =
     (r : Flow) × (after : History) × IsOwn id v r × HasPassed t (history r) after timed × IsUse id r after v w
-    × (kicks' ≡ kicks_with id after timed kicks)
+    × (kicks' ≡ kicks_with id after timed kicks) × (path' ≡ path_with id after timed path)

@@ -8,6 +8,6 @@ mod timing;
 mod walking;
 
 pub use closing::close_at;
-pub use laws::{none_is_busy_alone, time_passes_as_in_a_run};
+pub use laws::{none_is_busy_alone, time_passes_as_in_a_run, walks_go_on};
 pub use timing::{Timed, pass_time};
 pub use walking::tick_all;

@@ -38,8 +38,7 @@ slow_given c d number line s v w d-is w-is senders turn is =
         },
         is.sound.1,
       );
-      few = is.few;
-      yet = is.yet;
+      risen = is.risen;
       senders = subst (λ (y : slow.Worker). slow.HasSenders e y) w-is
           (subst (λ (x : cores.Common). slow.HasSenders x w) d-is senders);
       kickers = record { steer = is.kickers.steer; cores = is.kickers.cores; own = is.kickers.own };

@@ -20,8 +20,9 @@ use Rattle.app_reaper.specs.declared.one_call.CallFault.{CallFault}
 use Rattle.app_reaper.proofs.Walking.{use_turned, refused_turned}
 use Rattle.core_worker.specs.Workers as cores
 use Rattle.slow_worker.specs.Kicking.{CanKick}
-use Rattle.slow_worker.specs.Queues.{IsSame, Standing, IsCollected, IsUncollected}
-use Rattle.slow_worker.specs.Turns.{is_tick, has_passed, HasFewBefore, IsTurn, IsTurnStopped, AreKicksPosted}
+use Rattle.slow_worker.specs.Clocks.{HasRisen, last_tick}
+use Rattle.slow_worker.specs.Queues.{IsCollected, IsUncollected}
+use Rattle.slow_worker.specs.declared.clock.Clock.{Clock}
 use Rattle.slow_worker.specs.Workers as slow
 use Rattle.libtas_sockets.specs.Apps.{Application, IsSocket, flow_of, socket_on}
 use Rattle.libtas_sockets.specs.Accepting.{IsAcceptance}
@@ -35,81 +36,33 @@ pub longer_nil : (h : History) → longer h [] ≡ h
 longer_nil h = λ i. record h { entries = append-nil h.entries i }
 
 -- ----- the slow path's turn
--- once the tick's time has passed, it stays so
-still_passed : (tick : ℕ) (c : cores.Common) (v w m : slow.Worker) → has_passed tick v ≡ true → IsSame v m
-    → AreKicksPosted c m w → has_passed tick w ≡ true
-still_passed tick c v w m was same posted =
-    ap (is_tick tick) (ap (λ (x : slow.Worker). x.ticked) posted.rest ∙ ap (λ (s : Standing). s.ticked) same) ∙ was
+pub risen_by : (tick later : ℕ) (c : Clock) → last_tick c ≡ Some tick → tick ≤ later → HasRisen later c
+risen_by tick later c e le = subst (λ (o : Option ℕ). IfSome o (λ t. t ≤ later)) (sym e) le
 
-passed_after : {T E : Type 0} (c : cores.Common) (v w : slow.Worker) (r : Result T E) → has_passed 1 v ≡ true
-    → OnOk r (IsTurn true c 1 v w) → OnErr r (IsTurnStopped true c 1 v w) → has_passed 1 w ≡ true
-passed_after c v w (Ok x) was turn stopped = still_passed 1 c v w turn.0 was turn.1.same turn.2
-passed_after c v w (Err e) was turn stopped = still_passed 1 c v w stopped.0 was stopped.1.same stopped.2
-
-pub slow_turns : {T E : Type 0} (c : cores.Common) (v w : slow.Worker) (r : Result T E) (later : Bool)
-    → has_passed 1 v ≡ later → IsSlow c v → slow.IsSound c.table (slow.sight_of w) → slow.HasSenders c w
-    → CanKick c w.kickers → (HasFewBefore later v.pass.view → slow.HasFew w.pass.view)
-    → (later ≡ false → slow.HasFewYet v.pass.view → slow.HasFewYet w.pass.view)
-    → OnOk r (IsTurn later c 1 v w) → OnErr r (IsTurnStopped later c 1 v w) → IsSlow c w
-slow_turns c v w r false was is sound senders kickers few slots turn stopped = record {
+pub slow_turns : (c : cores.Common) (w : slow.Worker) → slow.IsSound c.table (slow.sight_of w)
+    → last_tick w.time ≡ Some 1 → slow.HasSenders c w → CanKick c w.kickers → IsSlow c w
+slow_turns c w sound time senders kickers = record {
   sound = sound;
-  few = few (is.yet was);
-  yet = λ n. slots refl (is.yet was);
-  senders = senders;
-  kickers = kickers;
-}
-slow_turns c v w r true was is sound senders kickers few slots turn stopped = record {
-  sound = sound;
-  few = few is.few;
-  yet = λ n. let now = passed_after c v w r was turn stopped in absurd (cc (n, now));
+  risen = risen_by 1 1 w.time time (omega arith);
   senders = senders;
   kickers = kickers;
 }
 
--- ----- the slow path's turns in later ticks
--- after its turn the time of the tick has passed
-passed_by_turn : (tick : ℕ) (c : cores.Common) (v w : slow.Worker) (later : Bool) → has_passed tick v ≡ later
-    → IsTurn later c tick v w → has_passed tick w ≡ true
-passed_by_turn tick c v w false was turn =
-    ap (is_tick tick) (ap (λ (x : slow.Worker). x.ticked) turn.2.rest ∙ turn.1.ticked) ∙ eq-eqb tick tick refl
-passed_by_turn tick c v w true was turn = still_passed tick c v w turn.0 was turn.1.same turn.2
-
--- and that of the next one hasn't
-later_number : (t tick : ℕ) → (t == tick) ≡ true → (t == suc tick) ≡ false
-later_number t tick is = grind (arith, tests, is)
-
-next_is_ahead : (tick : ℕ) (o : Option ℕ) → is_tick tick o ≡ true → is_tick (suc tick) o ≡ false
-next_is_ahead tick None is = absurd (cc (is))
-next_is_ahead tick (Some t) is = later_number t tick is
-
-pub may_turn : (c : cores.Common) (tick : ℕ) (w : slow.Worker) → IsSlow c w → MayTurn c tick w
-may_turn c tick w is = record { sound = is.sound; few = λ h. is.few; senders = is.senders; kickers = is.kickers }
-
-pub turns_next : (c : cores.Common) (tick : ℕ) (v w : slow.Worker) (later : Bool) → has_passed tick v ≡ later
-    → IsTurn later c tick v w → slow.IsSound c.table (slow.sight_of w) → slow.HasSenders c w → CanKick c w.kickers
-    → MayTurn c (suc tick) w
-turns_next c tick v w later was turn sound senders kickers = record {
-  sound = sound;
-  few = λ is. let ahead = next_is_ahead tick w.ticked (passed_by_turn tick c v w later was turn) in
-      absurd (cc (is, ahead));
-  senders = senders;
-  kickers = kickers;
-}
+pub may_turn : (c : cores.Common) (w : slow.Worker) → IsSlow c w → MayTurn c 1 w
+may_turn c w is = record { sound = is.sound; risen = is.risen; senders = is.senders; kickers = is.kickers }
 
 -- ----- what a core passed on is collected
 pub slow_collects : {T E : Type 0} (c : cores.Common) (a b : cores.Worker) (v w : slow.Worker) (r : Result T E)
     → OnOk r (IsCollected a b v w) → OnErr r (IsUncollected a b v w) → IsSlow c v → IsSlow c w
 slow_collects c a b v w (Ok x) did not is = subst (λ (y : slow.Worker). IsSlow c y) (sym did.rest) (record {
   sound = is.sound;
-  few = is.few;
-  yet = is.yet;
+  risen = is.risen;
   senders = is.senders;
   kickers = is.kickers;
 })
 slow_collects c a b v w (Err e) did not is = subst (λ (y : slow.Worker). IsSlow c y) (sym not.rest) (record {
   sound = is.sound;
-  few = is.few;
-  yet = is.yet;
+  risen = is.risen;
   senders = is.senders;
   kickers = is.kickers;
 })

@@ -7,7 +7,7 @@ use Rattle.context_queue.specs.Notes.{Place}
 use Rattle.core_worker.specs.Telling.{queue_of}
 use Rattle.core_worker.specs.Workers as cores
 use Rattle.slow_worker.specs.Kicking.{CanKick}
-use Rattle.slow_worker.specs.Turns.{has_passed}
+use Rattle.slow_worker.specs.Clocks.{HasRisen}
 use Rattle.slow_worker.specs.Workers as slow
 use Rattle.libtas_sockets.specs.Apps.{Application, IsSocket}
 use Rattle.libtas_sockets.specs.declared.socket.Socket.{Socket}
@@ -40,15 +40,14 @@ the_tick = 1
 -- it may have a turn in that tick, as often as it wants
 pub record IsSlow (c : cores.Common) (w : slow.Worker) : Type 0 where
   pub sound : slow.IsSound c.table (slow.sight_of w)
-  pub few : slow.HasFew w.pass.view
-  pub yet : has_passed the_tick w ≡ false → slow.HasFewYet w.pass.view
+  pub risen : HasRisen the_tick w.time
   pub senders : slow.HasSenders c w
   pub kickers : CanKick c w.kickers
 
 -- it may have a turn in some tick
 pub record MayTurn (c : cores.Common) (tick : ℕ) (w : slow.Worker) : Type 0 where
   pub sound : slow.IsSound c.table (slow.sight_of w)
-  pub few : has_passed tick w ≡ true → slow.HasFew w.pass.view
+  pub risen : HasRisen tick w.time
   pub senders : slow.HasSenders c w
   pub kickers : CanKick c w.kickers
 

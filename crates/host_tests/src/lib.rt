@@ -12,6 +12,8 @@ mod gates;
 mod host;
 pub mod hosts;
 #[cfg(test)]
+mod many;
+#[cfg(test)]
 mod opening;
 #[cfg(test)]
 mod packets;

@@ -19,7 +19,7 @@ use std::test::*;
 use std::thread::Threads;
 use tas_model::{Caller, FlowId};
 
-const PEER: Peer = Peer {
+pub const PEER: Peer = Peer {
     port: 49152,
     to: 80,
     iss: 5000,
@@ -98,7 +98,7 @@ fn receive<R: Threads + Wait + Sync>(
 
 /// What was seen while a connection was opened.
 #[derive(Clone, Copy, Drop)]
-struct Connecting {
+pub struct Connecting {
     syn: (u32, Passed),
     is_open: [bool; 2],
     syn_ack: Summary,
@@ -114,7 +114,7 @@ struct Hearing {
 }
 
 /// The connection is opened.
-fn connect<R: Threads + Wait + Sync>(
+pub fn connect<R: Threads + Wait + Sync>(
     rt: &R,
     alloc: Global,
     shared: &Shared,

@@ -1,18 +1,15 @@
 -- The slow path's worker while cores are added, and what its first calls ask of it.
-use Rattle.std.proofs.Common.{◌≡◌, ℕ, zero, suc, ◌+◌, ◌-◌, ◌*◌, ◌<◌, ◌≤◌, true, false, List, [], replicate, refl}
-use Rattle.std.proofs.Common.{sym, ap, ◌∙◌, subst, arith, inl, length}
-use Rattle.std.proofs.Math.Nat.{suc-mul}
-use Rattle.std.proofs.lemmas.List.{length-replicate}
+use Rattle.std.proofs.Common.{◌≡◌, ℕ, ◌+◌, ◌-◌, ◌<◌, ◌≤◌, true, List, [], refl}
+use Rattle.std.proofs.Common.{sym, ap, ◌∙◌, subst, arith, inl}
 use Rattle.atomic_table.specs.Seated.{TableId}
 use Rattle.tas_model.specs.declared.entry.HostParams.{HostParams}
 use Rattle.tas_model.specs.Valid.{InRange}
 use Rattle.flow_index.specs.Changes.{Writing, writing}
 use Rattle.flow_index.specs.declared.change.Change.{Change}
 use Rattle.flow_lock.specs.Passes.{Seen, first, left, new_turn}
-use Rattle.flow_lock.specs.Steps.{mark}
 use Rattle.flow_lock.specs.declared.view.View.{View}
 use Rattle.slow_handshake.specs.Openings.{no_openings}
-use Rattle.slow_worker.specs.Workers.{Worker, sight_of, first_sight, free_slots, Sight, IsKept, HasFewFor}
+use Rattle.slow_worker.specs.Workers.{Worker, sight_of, first_sight, Sight, IsSound}
 use Rattle.shared_host.proofs.Lists.{none_some}
 use Rattle.shared_host.specs.SlowPaths.{split_view, split_pass, with_split, IsNewSlow}
 
@@ -46,7 +43,7 @@ slow_more params t n r s w is pass left published pending rest =
       filed = is.filed;
       waiting = is.waiting;
       check_sums = is.check_sums;
-      ticked = is.ticked;
+      time = is.time;
     })
   where
     pass_is : w.pass ≡ split_pass t (n + 1)
@@ -92,34 +89,14 @@ may_read params t n cores w is few =
     let left : w.index.left ≡ cores - n = ap (λ (s : Sight). s.index.left) is.sight in
     omega (arith, left, few)
 
-all_free : (slots : ℕ) → free_slots (replicate slots (mark 0 false false)) ≡ slots
-all_free zero = refl
-all_free (suc n) =
-    let next : 1 + n ≡ suc n = omega arith in
-    ap (λ (k : ℕ). 1 + k) (all_free n) ∙ next
-
-pub kept_at_first : (params : HostParams) (t : TableId) (n r : ℕ) (w : Worker) → IsNewSlow params t n r w
-    → InRange params → t.slots ≡ params.slots → IsKept t (sight_of w)
-kept_at_first params t n r w is range slots =
-    subst (λ (s : Sight). IsKept t s) (sym is.sight) (
-      (
-        record {
-          ready = (refl, inl (new_turn 0, [], refl), refl);
-          owned = record { each_doomed = tt; each_pin = tt; once = λ i. omega arith };
-          known = λ k f there. absurd (none_some f there);
-        },
-        range,
-      ),
-      omega (arith, all_free t.slots, slots, range.slots.1),
+pub sound_at_first : (params : HostParams) (t : TableId) (n r : ℕ) (w : Worker) → IsNewSlow params t n r w
+    → InRange params → IsSound t (sight_of w)
+sound_at_first params t n r w is range =
+    subst (λ (s : Sight). IsSound t s) (sym is.sight) (
+      record {
+        ready = (refl, inl (new_turn 0, [], refl), refl);
+        owned = record { each_doomed = tt; each_pin = tt; once = λ i. omega arith };
+        known = λ k f there. absurd (none_some f there);
+      },
+      range,
     )
-
-pub few_at_first : (params : HostParams) (t : TableId) (n r ticks : ℕ) (w : Worker) → IsNewSlow params t n r w
-    → t.slots ≡ params.slots → suc ticks * params.slots ≤ 4294967295 → HasFewFor ticks w.pass.view
-few_at_first params t n r ticks w is slots few =
-    let many : length (replicate t.slots (mark 0 false false)) ≡ t.slots = length-replicate t.slots (mark 0 false false)
-    in
-    let product : ticks * length (replicate t.slots (mark 0 false false)) ≡ ticks * params.slots =
-    ap (λ k. ticks * k) (many ∙ slots) in
-    let one : suc ticks * params.slots ≡ ticks * params.slots + params.slots = suc-mul ticks params.slots in
-    subst (λ (s : Sight). HasFewFor ticks s.pass.view) (sym is.sight)
-    (omega (arith, all_free t.slots, product, one, slots, few))

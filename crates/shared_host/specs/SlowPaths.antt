@@ -1,5 +1,5 @@
 -- The slow path of a host that was just put together.
-use Rattle.std.specs.Prelude.{◌≡◌, ℕ, ◌+◌, ◌-◌, true, [], ◌∷◌, ◌++◌, None}
+use Rattle.std.specs.Prelude.{◌≡◌, ℕ, ◌+◌, ◌-◌, true, [], ◌∷◌, ◌++◌}
 use Rattle.atomic_table.specs.Seated.{TableId}
 use Rattle.tas_model.specs.declared.entry.HostParams.{HostParams}
 use Rattle.flow_index.specs.Changes.{writing}
@@ -8,6 +8,7 @@ use Rattle.flow_lock.specs.declared.view.View.{View}
 use Rattle.slow_handshake.specs.Openings.{no_openings}
 use Rattle.core_worker.specs.declared.senders.AppSender.{AppSender}
 use Rattle.slow_worker.specs.Workers.{Worker, sight_of, first_sight, waiting}
+use Rattle.slow_worker.specs.declared.clock.Clock.TheVariants.{New}
 
 -- what the slow path sees of a new table, after so many passes were split off
 abbrev pub split_view : (slots passes : ℕ) → View
@@ -23,7 +24,7 @@ pub record IsNewSlow (params : HostParams) (t : TableId) (passes readers : ℕ) 
   pub filed : w.filed ≡ []
   pub waiting : waiting w ≡ []
   pub check_sums : w.check_sums ≡ true
-  pub ticked : w.ticked ≡ None
+  pub time : w.time ≡ New
 
 -- one pass was split off
 abbrev pub with_split : Seen → Seen

@@ -1,10 +1,10 @@
-ghost use Rattle.std.specs.Prelude.{◌≡◌, ℕ, suc, ◌*◌, ◌<◌, ◌≤◌, [], ◌∷◌, length, IfOk};
+ghost use Rattle.std.specs.Prelude.{◌≡◌, ◌<◌, ◌≤◌, [], ◌∷◌, length, IfOk};
 ghost use Rattle.tas_model.specs.Valid.{InRange};
 ghost use Rattle.steering.specs.Tables.{first_table};
 ghost use Rattle.host_rounds.specs.Lists.{Each};
 ghost use Rattle.core_worker.specs.Workers.{IsFree, HasQueue, HasSenders};
 ghost use Rattle.slow_worker.specs.Kicking.{CanKick};
-ghost use Rattle.slow_worker.specs.Workers.{sight_of, IsKept, HasFewFor};
+ghost use Rattle.slow_worker.specs.Workers.{sight_of, IsSound};
 ghost use Rattle.shared_host.specs.Cores.{AreNumbered, IsNew, HasRoom, HasOneSender, kicking_on};
 ghost use Rattle.shared_host.specs.SlowPaths.{IsNewSlow};
 
@@ -59,9 +59,7 @@ pub fn assemble<R: Wait>(
       tables = first_table cores ∷ [];
     }) }
     ensures slow { IfOk result (λ a. IsNewSlow params a.shared.table cores 0 a.slow) }
-    ensures kept { IfOk result (λ a. IsKept a.shared.table (sight_of a.slow)) }
-    ensures few { IfOk result (λ a. (ticks : ℕ) → suc ticks * params.slots ≤ 4294967295
-        → HasFewFor ticks a.slow.pass.view) }
+    ensures sound { IfOk result (λ a. IsSound a.shared.table (sight_of a.slow)) }
     ensures sole { IfOk result (λ a. Each HasOneSender a.cores.items) }
     ensures kickers { IfOk result (λ a. a.slow.kickers ≡ kicking_on a.steer a.shared.kicks) }
     ensures can { IfOk result (λ a. CanKick a.shared a.slow.kickers) }

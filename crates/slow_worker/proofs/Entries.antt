@@ -20,7 +20,7 @@ use Rattle.core_worker.specs.Telling.{IsTold}
 use Rattle.core_worker.specs.declared.kicks.Kick.{Kick}
 use Rattle.core_worker.specs.declared.senders.AppSender.{AppSender}
 use Rattle.flow_lock.specs.declared.word.Word.{Word}
-use Rattle.slow_worker.specs.Workers.{Sight, Setting, IsKept}
+use Rattle.slow_worker.specs.Workers.{Sight, Setting, IsSound}
 use Rattle.slow_worker.specs.Entering.{received, phase_of, told, brought, IsOffered, IsEntered, IsUnentered}
 use Rattle.slow_worker.proofs.Keeping.{kept_used, kept_refused}
 use Rattle.slow_worker.specs.declared.entering.Brought.{Brought}
@@ -63,28 +63,26 @@ told_params phases.Closed id o = refl
 -- an answer of the record, with what it leaves
 pub kept_so : (t : TableId) (tick : ℕ) (frame : FrameId) (seg : Segment) (id : FlowId) (s : Sight) (pass : Seen)
     (path : Openings) (x : Offered) → pass.table ≡ s.pass.table
-    → IsOffered tick frame seg id s.path path s.pass.view pass.view x → IsKept t s
-    → IsKept t (record s { path = path; pass = pass })
-kept_so t tick frame seg id s pass path (offered.Entered b) table (r, own, given, k, is) ((kept, ranges), few) =
-    let after = kept_used t id r _ s.pass pass s.doomed s.pins s.flows table given kept few in (
-      (
-        after.0,
-        subst InRange (sym (ap (λ (x : Openings). x.params) k
-            ∙ told_params (phase_of (received tick frame seg r)) id s.path)) ranges,
-      ),
-      after.1,
-    )
-kept_so t tick frame seg id s pass path (offered.Busy x) table (refused, k) ((kept, ranges), few) =
-    let after = kept_refused t id (Busy x) s.pass pass s.doomed s.pins s.flows table refused kept few in
-    ((after.0, subst (λ (o : Openings). InRange o.params) (sym k) ranges), after.1)
+    → IsOffered tick frame seg id s.path path s.pass.view pass.view x → IsSound t s
+    → IsSound t (record s { path = path; pass = pass })
+kept_so t tick frame seg id s pass path (offered.Entered b) table (r, own, given, k, is) (kept, ranges) = (
+  kept_used t id r _ s.pass pass s.doomed s.pins s.flows table given kept,
+  subst InRange (sym (ap (λ (x : Openings). x.params) k
+      ∙ told_params (phase_of (received tick frame seg r)) id s.path)) ranges,
+)
+kept_so t tick frame seg id s pass path (offered.Busy x) table (refused, k) (kept, ranges) = (
+  kept_refused t id (Busy x) s.pass pass s.doomed s.pins s.flows table refused kept,
+  subst (λ (o : Openings). InRange o.params) (sym k) ranges,
+)
 
 -- or memory was wanting
 pub kept_unentered : (t : TableId) (id : FlowId) (s : Sight) (pass : Seen) (path : Openings)
-    → pass.table ≡ s.pass.table → IsCallRefused id s.pass.view pass.view OutOfMemory → path ≡ s.path → IsKept t s
-    → IsKept t (record s { path = path; pass = pass })
-kept_unentered t id s pass path table refused untold ((kept, ranges), few) =
-    let after = kept_refused t id OutOfMemory s.pass pass s.doomed s.pins s.flows table refused kept few in
-    ((after.0, subst (λ (o : Openings). InRange o.params) (sym untold) ranges), after.1)
+    → pass.table ≡ s.pass.table → IsCallRefused id s.pass.view pass.view OutOfMemory → path ≡ s.path → IsSound t s
+    → IsSound t (record s { path = path; pass = pass })
+kept_unentered t id s pass path table refused untold (kept, ranges) = (
+  kept_refused t id OutOfMemory s.pass pass s.doomed s.pins s.flows table refused kept,
+  subst (λ (o : Openings). InRange o.params) (sym untold) ranges,
+)
 
 -- the flow of the pin is the one that was asked for
 pub entered_so : (at : Setting) (frame : FrameId) (seg : Segment) (id p : FlowId) (s : Sight) (pass : Seen)

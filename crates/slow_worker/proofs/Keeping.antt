@@ -37,7 +37,7 @@ use Rattle.app_reaper.specs.declared.one_call.CallFault.{CallFault}
 use Rattle.app_reaper.specs.declared.one_call.CallFault.TheVariants.{Busy, OutOfMemory}
 use Rattle.app_reaper.proofs.Walking.{none_some, same_pin}
 use Rattle.tas_model.specs.declared.entry.FourTuple.{FourTuple}
-use Rattle.slow_worker.specs.Workers.{has_tuple, id_of, flow_with, free_slots, HasFew, HasItsPin, AreKept, OpensFree}
+use Rattle.slow_worker.specs.Workers.{has_tuple, id_of, flow_with, HasItsPin, AreKept}
 use Rattle.slow_worker.specs.Opening.{with_open}
 use Rattle.slow_worker.specs.declared.known.KnownFlow.{KnownFlow}
 
@@ -75,14 +75,6 @@ next_free ms f e = of_place (position is_free ms) refl e where
         ap (get_elem? ms) (sym at) ∙ at_get ms i (mark 0 false false) p.0,
         free_dead (mark_at ms i) p.1,
       )
-
--- a flow more may be opened where a slot is free
-pub one_few : (v : View) (f : FlowId) → next_in v.marks ≡ Some f → HasFew v → v.opened < 4294967295
-one_few v f next few =
-    let n = next_free v.marks f next in
-    let le : flag (is_free n.0) ≤ free_slots v.marks =
-    term_le (λ (m : Mark). flag (is_free m)) v.marks f.slot n.0 n.1 in
-    let one : flag (is_free n.0) ≡ 1 = ap (λ b. flag (not b)) n.2 in omega (arith, le, one, few)
 
 -- ----- lists
 in_front : {A : Type 0} (l : List A) (f g : A) (k : ℕ) → slice_get l k ≡ Some g → slice_get (l ++ f ∷ []) k ≡ Some g
@@ -181,37 +173,26 @@ pin_ready t pass doomed pins flows p k kept at =
     (own.1, (kept.ready.0, own.0.0, kept.ready.1), kept.ready.2)
 
 -- ----- steps
-few_moved : (v w : View) → w.marks ≡ v.marks → w.opened ≡ v.opened → HasFew v → HasFew w
-few_moved v w marks opened few =
-    subst (λ o. o + free_slots w.marks ≤ 4294967295) (sym opened)
-    (subst (λ (l : List Mark). v.opened + free_slots l ≤ 4294967295) (sym marks) few)
-
 -- a record was taken and given back
 pub kept_used : (t : TableId) (id : FlowId) (r : Flow) (after : History) (s n : Seen) (doomed pins : List FlowId)
     (flows : List KnownFlow) → n.table ≡ s.table → IsUse id r after s.view n.view → AreKept t s doomed pins flows
-    → HasFew s.view → AreKept t n doomed pins flows × HasFew n.view
-kept_used t id r after s n doomed pins flows table u k few = (
-  record {
-    ready = ready_still t s n table (after_use id r after s.view n.view u) k.ready;
-    owned = kept_after_use t.slots id r after s n doomed pins u k.owned;
-    known = k.known;
-  },
-  few_moved s.view n.view (ap (λ (v : View). v.marks) u.3) (ap (λ (v : View). v.opened) u.3) few,
-)
+    → AreKept t n doomed pins flows
+kept_used t id r after s n doomed pins flows table u k = record {
+  ready = ready_still t s n table (after_use id r after s.view n.view u) k.ready;
+  owned = kept_after_use t.slots id r after s n doomed pins u k.owned;
+  known = k.known;
+}
 
 pub kept_refused : (t : TableId) (id : FlowId) (fault : CallFault) (s n : Seen) (doomed pins : List FlowId)
     (flows : List KnownFlow) → n.table ≡ s.table → IsCallRefused id s.view n.view fault
-    → AreKept t s doomed pins flows → HasFew s.view → AreKept t n doomed pins flows × HasFew n.view
-kept_refused t id (Busy x) s n doomed pins flows table r k few = (
-  record {
-    ready = ready_still t s n table (after_refusal id (Busy x) s.view n.view r) k.ready;
-    owned = kept_after_refusal t.slots id (Busy x) s n doomed pins r k.owned;
-    known = k.known;
-  },
-  few_moved s.view n.view (ap (λ (v : View). v.marks) r.0.1) (ap (λ (v : View). v.opened) r.0.1) few,
-)
-kept_refused t id OutOfMemory s n doomed pins flows table (r, own, given) k few =
-    kept_used t id r _ s n doomed pins flows table given k few
+    → AreKept t s doomed pins flows → AreKept t n doomed pins flows
+kept_refused t id (Busy x) s n doomed pins flows table r k = record {
+  ready = ready_still t s n table (after_refusal id (Busy x) s.view n.view r) k.ready;
+  owned = kept_after_refusal t.slots id (Busy x) s n doomed pins r k.owned;
+  known = k.known;
+}
+kept_refused t id OutOfMemory s n doomed pins flows table (r, own, given) k =
+    kept_used t id r _ s n doomed pins flows table given k
 
 -- the next flow was opened
 kept_opened : (t : TableId) (id : FlowId) (h : History) (s n : Seen) (doomed pins : List FlowId)
@@ -234,37 +215,15 @@ kept_opened t id h s n doomed pins flows f next near named e k =
           (in_longer flows f g i q);
     }
 
--- it takes a free slot
-pub opens_one : (id : FlowId) (h : History) (s n : Seen) → next_in s.view.marks ≡ Some id → n ≡ with_open id h s
-    → OpensFree s.view n.view
-opens_one id h s n next e =
-    let free = next_free s.view.marks id next in
-    let v = ap (λ (x : Seen). x.view) e in
-    let m : Mark = mark id.generation true false in
-    let after : n.view.marks ≡ set s.view.marks id.slot m = ap (λ (x : View). x.marks) v in
-    let count : free_slots (set s.view.marks id.slot m) + flag (is_free free.0) ≡ free_slots s.view.marks + 0 =
-    total-set (λ (x : Mark). flag (is_free x)) s.view.marks id.slot free.0 m free.1 in
-    let one : flag (is_free free.0) ≡ 1 = ap (λ b. flag (not b)) free.2 in
-    let opened : n.view.opened ≡ s.view.opened + 1 = ap (λ (x : View). x.opened) v in
-    let left : free_slots n.view.marks ≡ free_slots (set s.view.marks id.slot m) = ap free_slots after in
-    record {
-      slots = ap length after ∙ length-set s.view.marks id.slot m;
-      most = omega (arith, count, one, opened, left);
-    }
-
-few_left : (id : FlowId) (h : History) (s n : Seen) → next_in s.view.marks ≡ Some id → n ≡ with_open id h s
-    → HasFew s.view → HasFew n.view
-few_left id h s n next e few = subst (λ m. m ≤ 4294967295) (sym (opens_one id h s n next e).most) few
-
 -- the same, with what the calls answer
 pub opened_kept : (t : TableId) (id p : FlowId) (h : History) (s n : Seen) (doomed pins pins' : List FlowId)
     (flows flows' : List KnownFlow) (f : KnownFlow) → next_in s.view.marks ≡ Some id → id.slot < t.slots → f.id ≡ id
     → p ≡ id → n ≡ with_open p h s → pins' ≡ pins ++ p ∷ [] → flows' ≡ flows ++ f ∷ []
-    → AreKept t s doomed pins flows → HasFew s.view → AreKept t n doomed pins' flows' × HasFew n.view
-opened_kept t id p h s n doomed pins pins' flows flows' f next near named is e more_pins more_flows k few =
+    → AreKept t s doomed pins flows → AreKept t n doomed pins' flows'
+opened_kept t id p h s n doomed pins pins' flows flows' f next near named is e more_pins more_flows k =
     let opening : n ≡ with_open id h s = e ∙ ap (λ x. with_open x h s) is in
     let after : AreKept t n doomed (pins ++ id ∷ []) (flows ++ f ∷ []) =
     kept_opened t id h s n doomed pins flows f next near named opening k in
     let with_pins : AreKept t n doomed pins' (flows ++ f ∷ []) =
     subst (λ l. AreKept t n doomed l (flows ++ f ∷ [])) (sym (more_pins ∙ ap (λ x. pins ++ x ∷ []) is)) after in
-    (subst (AreKept t n doomed pins') (sym more_flows) with_pins, few_left id h s n next opening few)
+    subst (AreKept t n doomed pins') (sym more_flows) with_pins

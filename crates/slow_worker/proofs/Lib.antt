@@ -4,4 +4,3 @@ pub mod Moves
 pub mod Serving
 pub mod Ticks
 pub mod Kicks
-pub mod Openings

@@ -5,7 +5,7 @@ use Rattle.std.specs.Prelude.{Result, Ok, Err, OnErr}
 use Rattle.std.proofs.lemmas.List.{length-append}
 use Rattle.core_worker.specs.Workers.{Common}
 use Rattle.core_worker.specs.declared.frames.PassedFrame.{PassedFrame}
-use Rattle.slow_worker.specs.Workers.{Worker, Sight, Setting, setting_of, sight_of, waiting, IsKept, HasSenders}
+use Rattle.slow_worker.specs.Workers.{Worker, Sight, Setting, setting_of, sight_of, waiting, IsSound, HasSenders}
 use Rattle.slow_worker.specs.Serving.{IsUnserved}
 use Rattle.slow_worker.specs.Queues.{kept_of, IsOneServed, AreServed, IsSame, IsAllServed, IsStopped, IsPartServed}
 use Rattle.slow_worker.specs.Queues.{IsFirstServed, IsFirstLeft, Standing}
@@ -71,10 +71,10 @@ pub record Loop (c : Common) (tick : ℕ) (first now : Worker) (count : ℕ) : T
   pub still : waiting now ≡ left ++ kept
   pub exceptions : length now.exceptions.list ≤ length left
   pub same : IsSame first now
-  pub stays : IsKept c.table (sight_of now)
+  pub stays : IsSound c.table (sight_of now)
   pub own : HasSenders c now
 
-pub loop_first : (c : Common) (tick : ℕ) (w : Worker) → IsKept c.table (sight_of w) → HasSenders c w
+pub loop_first : (c : Common) (tick : ℕ) (w : Worker) → IsSound c.table (sight_of w) → HasSenders c w
     → Loop c tick w w 0
 loop_first c tick w stays own = record {
   done = [];
@@ -112,7 +112,7 @@ tail_of [] = []
 tail_of (f ∷ fs) = fs
 
 pub loop_more : (c : Common) (tick : ℕ) (first m n : Worker) (count : ℕ) → Loop c tick first m count
-    → count < length (waiting first) → IsFirstServed c tick m n → IsKept c.table (sight_of n) → HasSenders c n
+    → count < length (waiting first) → IsFirstServed c tick m n → IsSound c.table (sight_of n) → HasSenders c n
     → Loop c tick first n (count + 1)
 unfolding head_or tail_of
 loop_more c tick first m n count l near d stays own = by_left l.left l.number l.all l.still l.exceptions where

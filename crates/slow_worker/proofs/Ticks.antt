@@ -1,7 +1,8 @@
 -- The flows that are known after the time of a tick.
-use Rattle.std.proofs.Common.{◌≡◌, ap, sym, ◌∙◌, refl, subst, ℕ, zero, suc, Bool, true, false, List, [], ◌∷◌, cond, eqb}
-use Rattle.std.proofs.Common.{◌+◌, ◌≤◌, length, arith}
-use Rattle.std.specs.Prelude.{Option, Some, None, slice_get, position, ◌&&◌}
+use Rattle.std.proofs.Common.{◌≡◌, ap, sym, ◌∙◌, refl, subst, ℕ, zero, suc}
+use Rattle.std.proofs.Common.{Bool, true, false, List, [], ◌∷◌, ◌++◌, cond, eqb}
+use Rattle.std.specs.Prelude.{Option, Some, None, slice_get, position, ◌&&◌, Result, Ok, Err, OnOk, OnErr}
+use Rattle.std.proofs.Common.{inl}
 use Rattle.std.proofs.lemmas.Bool.{eqb-true}
 use Rattle.tas_model.specs.declared.entry.FlowId.{FlowId}
 use Rattle.atomic_table.specs.Seated.{TableId}
@@ -9,13 +10,13 @@ use Rattle.flow_lock.specs.Orders.{same_flow}
 use Rattle.flow_lock.specs.Passes.{Seen}
 use Rattle.flow_clock.specs.Ledgers as clock
 use Rattle.app_reaper.specs.Lists.{is_on}
-use Rattle.flow_lock.specs.Answers.{is_free}
-use Rattle.flow_lock.specs.Words.{flag}
-use Rattle.flow_lock.specs.declared.view.Mark.{Mark}
-use Rattle.flow_lock.specs.declared.view.View.{View}
-use Rattle.flow_clock.specs.Ledgers.{KeepsRights}
-use Rattle.slow_worker.specs.Workers.{HasItsPin, AreKept, free_slots, HasFew, HasFewYet}
-use Rattle.slow_worker.specs.Turns.{pin_at, is_its, is_pinned, still_known}
+use Rattle.flow_clock.specs.Walks.{IsTickDone, IsTickStopped}
+use Rattle.flow_index.specs.Changes.{Writing, AnswerAlike, Begins}
+use Rattle.slow_worker.specs.Clocks.{served_in}
+use Rattle.slow_worker.specs.Workers.{Worker, HasItsPin, AreKept}
+use Rattle.slow_worker.specs.Turns.{pin_at, is_its, is_pinned, still_known, ledger_of, with_time}
+use Rattle.slow_worker.specs.Turns.{IsTimePassed, IsTimeStopped}
+use Rattle.slow_worker.specs.declared.clock.Clock.TheVariants.{Passing, Passed}
 use Rattle.slow_worker.specs.declared.known.KnownFlow.{KnownFlow}
 
 -- the same slot and generation is the same flow
@@ -76,20 +77,44 @@ time_sound t u pass doomed pins flows flows' is ready owned kept =
       known = λ k f q. known_still pins flows k f (sym (ap (λ l. slice_get l k) kept) ∙ q);
     })
 
--- ----- how many flows may be opened
-one_at_most : (b : Bool) → flag b ≤ 1
-one_at_most true = omega arith
-one_at_most false = omega arith
+-- memory was wanting at a flow, and it is kept which flows have had their time
+pub halted : {A E : Type 0} (x : Result A E) (tick from served : ℕ) (u v w : Worker) → u ≡ v
+    → from ≡ served_in tick u.time
+    → IsTickStopped tick from served (ledger_of u u.index.pending) (ledger_of w w.index.pending)
+    → w.time ≡ Passing tick served → w.index.published ≡ u.index.published → w.index.left ≡ u.index.left
+    → w.flows ≡ still_known w.pins u.flows → w ≡ with_time w u → OnErr x (IsTimeStopped tick v w)
+halted (Ok a) tick from served u v w is begun stopped time published readers flows rest = tt
+halted (Err e) tick from served u v w is begun stopped time published readers flows rest =
+    let here : IsTickStopped tick (served_in tick u.time) served (ledger_of u u.index.pending)
+    (ledger_of w w.index.pending) =
+    subst (λ n. IsTickStopped tick n served (ledger_of u u.index.pending) (ledger_of w w.index.pending)) begun stopped
+    in
+    subst (λ y. IsTimeStopped tick y w) is (record {
+      stopped = inl (served, here, time);
+      published = published;
+      readers = readers;
+      flows = flows;
+      rest = rest;
+    })
 
-pub free_within : (ms : List Mark) → free_slots ms ≤ length ms
-free_within [] = omega arith
-free_within (m ∷ ms) =
-    let one = one_at_most (is_free m) in let rest = free_within ms in omega (arith, one, rest)
-
-pub few_yet : (v : View) → HasFewYet v → HasFew v
-few_yet v yet = let within = free_within v.marks in omega (arith, within, yet)
-
--- time opens no flow
-pub still_few : (v w : View) → KeepsRights v w → HasFewYet v → HasFewYet w
-still_few v w keeps yet =
-    let opened = keeps.opened in let slots = keeps.slots in omega (arith, opened, slots, yet)
+-- all had their time, and the changes of the index are published
+pub passed_so : {A E : Type 0} (x : Result A E) (tick from : ℕ) (u v w : Worker) (mid : Writing) → u ≡ v
+    → from ≡ served_in tick u.time
+    → IsTickDone tick from (ledger_of u u.index.pending) (ledger_of w mid.pending)
+    → mid.published ≡ u.index.published → mid.left ≡ u.index.left → Begins mid.published w.index.published
+    → OnOk x (AnswerAlike w.index.published (mid.published ++ mid.pending)) → OnOk x (w.index.pending ≡ [])
+    → w.index.left ≡ mid.left → w.flows ≡ still_known w.pins u.flows → w.time ≡ Passed tick → w ≡ with_time w u
+    → OnOk x (IsTimePassed tick v w)
+passed_so (Err e) tick from u v w mid is begun done same readers later shown none left flows time rest = tt
+passed_so (Ok a) tick from u v w mid is begun done same readers later shown none left flows time rest =
+    subst (λ y. IsTimePassed tick y w) is (record {
+      changes = mid.pending;
+      done = subst (λ n. IsTickDone tick n (ledger_of u u.index.pending) (ledger_of w mid.pending)) begun done;
+      later = subst (λ l. Begins l w.index.published) same later;
+      shown = subst (λ l. AnswerAlike w.index.published (l ++ mid.pending)) same shown;
+      pending = none;
+      readers = left ∙ readers;
+      flows = flows;
+      time = time;
+      rest = rest;
+    })

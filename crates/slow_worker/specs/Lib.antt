@@ -1,3 +1,4 @@
+pub mod Clocks
 pub mod Kicking
 pub mod Workers
 pub mod Entering

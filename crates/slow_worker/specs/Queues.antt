@@ -1,5 +1,5 @@
 -- The frames that cores passed on, one after the other.
-use Rattle.std.specs.Prelude.{◌≡◌, ℕ, ◌-◌, Bool, List, [], ◌∷◌, ◌++◌, length, ◌⊎◌, Option}
+use Rattle.std.specs.Prelude.{◌≡◌, ℕ, ◌-◌, Bool, List, [], ◌∷◌, ◌++◌, length, ◌⊎◌}
 use Rattle.flow_state.specs.Flow.{Flow}
 use Rattle.core_worker.specs.Workers as cores
 use Rattle.core_worker.specs.declared.frames.PassedFrame.{PassedFrame}
@@ -7,6 +7,7 @@ use Rattle.core_worker.specs.declared.frames.Passed.TheVariants as passed
 use Rattle.slow_worker.specs.Kicking.{Kicking}
 use Rattle.slow_worker.specs.Workers.{Worker, Sight, Setting, setting_of, sight_of, waiting}
 use Rattle.slow_worker.specs.Serving.{IsServed, IsUnserved}
+use Rattle.slow_worker.specs.declared.clock.Clock.{Clock}
 use Rattle.slow_worker.specs.declared.served.Served.{Served}
 use Rattle.slow_worker.specs.declared.served.Served.TheVariants as served
 
@@ -47,12 +48,12 @@ AreServed at (f ∷ fs) s n kept =
 pub record Standing : Type 0 where
   pub filed : List Flow
   pub check_sums : Bool
-  pub ticked : Option ℕ
+  pub time : Clock
   pub kickers : Kicking
 
 abbrev pub standing_of : Worker → Standing
 standing_of w =
-    record { filed = w.filed; check_sums = w.check_sums; ticked = w.ticked; kickers = w.kickers }
+    record { filed = w.filed; check_sums = w.check_sums; time = w.time; kickers = w.kickers }
 
 abbrev pub IsSame : Worker → Worker → Type 0
 IsSame v w = standing_of w ≡ standing_of v

@@ -1,20 +1,21 @@
 -- A turn of the slow path's worker: the first of a tick passes time, and each later one handles the frames that wait.
-use Rattle.std.specs.Prelude.{◌≡◌, ℕ, ◌==◌, Bool, true, false, List, [], ◌∷◌, ◌++◌, ◌⊎◌, Option, Some, None}
+use Rattle.std.specs.Prelude.{◌≡◌, ℕ, Bool, true, false, List, [], ◌∷◌, ◌++◌, ◌⊎◌, Option, Some, None}
 use Rattle.std.specs.Prelude.{position, slice_get}
 use Rattle.std.specs.List.{filter}
 use Rattle.tas_model.specs.declared.entry.FlowId.{FlowId}
 use Rattle.flow_index.specs.Changes.{AnswerAlike, Begins}
 use Rattle.flow_index.specs.declared.change.Change.{Change}
 use Rattle.flow_lock.specs.Orders.{same_flow}
-use Rattle.flow_lock.specs.declared.view.View.{View}
 use Rattle.app_reaper.specs.Lists.{is_on}
 use Rattle.flow_clock.specs.Ledgers.{Ledger, ledger}
 use Rattle.flow_clock.specs.Walks.{IsTickDone, IsTickStopped}
 use Rattle.core_worker.specs.Workers.{Common}
 use Rattle.core_worker.specs.declared.kicks.Kick.{Kick}
+use Rattle.slow_worker.specs.Clocks.{has_passed_in, served_in}
 use Rattle.slow_worker.specs.Kicking.{IsKicked, AreKicked}
-use Rattle.slow_worker.specs.Workers.{Worker, HasFew, HasFewYet}
+use Rattle.slow_worker.specs.Workers.{Worker}
 use Rattle.slow_worker.specs.Queues.{IsAllServed, IsPartServed}
+use Rattle.slow_worker.specs.declared.clock.Clock.TheVariants.{Passing, Passed}
 use Rattle.slow_worker.specs.declared.known.KnownFlow.{KnownFlow}
 
 -- ----- flows whose pin is still there
@@ -37,38 +38,47 @@ still_known pins = filter (λ f. is_pinned pins f.id)
 -- the slow path's view and lists, with these changes of the index that aren't published yet, and the kicks that aren't
 -- posted
 abbrev pub ledger_of : Worker → List Change → Ledger
-ledger_of w changes = ledger w.pass.view w.pins w.doomed w.filed changes w.kicks
+ledger_of w changes = ledger w.pass.view w.pins w.doomed w.filed changes w.kicks w.path
 
 -- what the time of a tick leaves as it was
 abbrev pub with_time : Worker → Worker → Worker
 with_time w v = record v {
+  path = w.path;
   pass = w.pass;
   pins = w.pins;
   doomed = w.doomed;
   filed = w.filed;
   flows = w.flows;
   index = w.index;
-  ticked = w.ticked;
+  time = w.time;
   kicks = w.kicks;
 }
 
--- Each flow had its time, and is to be kicked where it then has something to send, or was closed, in order; those
--- closed are known no more, and the index shows it.
+-- Each flow that hadn't had its time in this tick had it, and is to be kicked where it then has something to send, or
+-- was closed, in order; those closed are known no more and wait for no Accept, and the index shows it.
 pub record IsTimePassed (tick : ℕ) (v w : Worker) : Type 0 where
   pub changes : List Change
-  pub done : IsTickDone tick (ledger_of v v.index.pending) (ledger_of w changes)
+  pub done : IsTickDone tick (served_in tick v.time) (ledger_of v v.index.pending) (ledger_of w changes)
   pub later : Begins v.index.published w.index.published
   pub shown : AnswerAlike w.index.published (v.index.published ++ changes)
   pub pending : w.index.pending ≡ []
   pub readers : w.index.left ≡ v.index.left
   pub flows : w.flows ≡ still_known w.pins v.flows
-  pub ticked : w.ticked ≡ Some tick
+  pub time : w.time ≡ Passed tick
   pub rest : w ≡ with_time w v
+
+-- Memory was wanting at a flow: those that have had their time in this tick are the first ones.
+abbrev pub IsTimeHalted : (tick : ℕ) → Worker → Worker → Type 0
+IsTimeHalted tick v w =
+    (served : ℕ)
+    × IsTickStopped tick (served_in tick v.time) served (ledger_of v v.index.pending) (ledger_of w w.index.pending)
+    × (w.time ≡ Passing tick served)
 
 -- Memory was wanting at a flow, or to publish the changes. What was done stands.
 pub record IsTimeStopped (tick : ℕ) (v w : Worker) : Type 0 where
-  pub stopped : (IsTickStopped tick (ledger_of v v.index.pending) (ledger_of w w.index.pending) × (w.ticked ≡ v.ticked))
-      ⊎ (IsTickDone tick (ledger_of v v.index.pending) (ledger_of w w.index.pending) × (w.ticked ≡ Some tick))
+  pub stopped : IsTimeHalted tick v w
+      ⊎ (IsTickDone tick (served_in tick v.time) (ledger_of v v.index.pending) (ledger_of w w.index.pending)
+      × (w.time ≡ Passed tick))
   pub published : w.index.published ≡ v.index.published
   pub readers : w.index.left ≡ v.index.left
   pub flows : w.flows ≡ still_known w.pins v.flows
@@ -91,18 +101,9 @@ pub record IsFirstKicked (c : Common) (v n : Worker) : Type 0 where
   pub same : n ≡ record v { kickers = n.kickers; kicks = n.kicks }
 
 -- ----- turns
--- Few enough flows were opened before a turn. The first one of a tick may free slots, and opens none.
-abbrev pub HasFewBefore : (later : Bool) → View → Type 0
-HasFewBefore false v = HasFewYet v
-HasFewBefore true v = HasFew v
-
-abbrev pub is_tick : (tick : ℕ) → Option ℕ → Bool
-is_tick tick None = false
-is_tick tick (Some t) = t == tick
-
 -- the time of this tick has passed
 abbrev pub has_passed : (tick : ℕ) → Worker → Bool
-has_passed tick w = is_tick tick w.ticked
+has_passed tick w = has_passed_in tick w.time
 
 abbrev pub IsWork : (later : Bool) → Common → (tick : ℕ) → Worker → Worker → Type 0
 IsWork false c tick v w = IsTimePassed tick v w

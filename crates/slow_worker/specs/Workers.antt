@@ -1,5 +1,5 @@
 -- What contracts see of the slow path's worker.
-use Rattle.std.specs.Prelude.{◌≡◌, ℕ, ◌+◌, ◌*◌, ◌≤◌, Bool, List, [], ◌++◌, length, slice_get, Option, Some}
+use Rattle.std.specs.Prelude.{◌≡◌, ℕ, Bool, List, [], ◌++◌, slice_get, Option, Some}
 use Rattle.std.specs.List.{find}
 use Rattle.std.specs.Option.{option_map}
 use Rattle.atomic_table.specs.Seated.{TableId}
@@ -9,12 +9,7 @@ use Rattle.tas_model.specs.Valid.{InRange}
 use Rattle.host_rounds.specs.declared.log.LogLine.{LogLine}
 use Rattle.flow_state.specs.Flow.{Flow}
 use Rattle.flow_index.specs.Changes.{Writing, is_same}
-use Rattle.flow_lock.specs.Answers.{is_free}
-use Rattle.flow_lock.specs.Orders.{total}
 use Rattle.flow_lock.specs.Passes.{Seen}
-use Rattle.flow_lock.specs.Words.{flag}
-use Rattle.flow_lock.specs.declared.view.Mark.{Mark}
-use Rattle.flow_lock.specs.declared.view.View.{View}
 use Rattle.app_reaper.specs.Lists.{Roomy}
 use Rattle.flow_clock.specs.Ledgers as clock
 use Rattle.slow_handshake.specs.Openings.{Openings}
@@ -25,6 +20,7 @@ use Rattle.core_worker.specs.declared.kicks.Kick.{Kick}
 use Rattle.core_worker.specs.declared.senders.AppSender.{AppSender}
 use Rattle.core_worker.specs.declared.shared.AppQueue.{AppQueue}
 use Rattle.slow_worker.specs.Kicking.{Kicking}
+use Rattle.slow_worker.specs.declared.clock.Clock.{Clock}
 use Rattle.slow_worker.specs.declared.known.KnownFlow.{KnownFlow}
 
 -- What handling a frame looks at or changes of the worker: the lists of openings, its pass, the slow path's pins of
@@ -42,8 +38,8 @@ pub record Sight : Type 0 where
   pub kicks : List Kick
 
 -- The slow path's worker: besides, the records that were filed, whether it looks at checksums, the frames that cores
--- passed on (those that another pass stood in the way of, and the exceptions), the tick whose time has passed, and how
--- kicks go to cores.
+-- passed on (those that another pass stood in the way of, and the exceptions), how far time has passed, and how kicks
+-- go to cores.
 pub record Worker : Type 0 where
   pub path : Openings
   pub pass : Seen
@@ -56,7 +52,7 @@ pub record Worker : Type 0 where
   pub index : Writing
   pub deferred : Roomy PassedFrame
   pub exceptions : Roomy PassedFrame
-  pub ticked : Option ℕ
+  pub time : Clock
   pub senders : List AppSender
   pub kicks : List Kick
   pub kickers : Kicking
@@ -117,31 +113,6 @@ abbrev pub flow_with : FourTuple → List KnownFlow → Option FlowId
 flow_with t fs = option_map id_of (find (has_tuple t) fs)
 
 -- ----- what holds between two calls
--- how many slots have no flow
-abbrev pub free_slots : List Mark → ℕ
-free_slots = total (λ m. flag (is_free m))
-
--- how many flows were opened, when each free slot has been opened once more
-abbrev pub most_opened : View → ℕ
-most_opened v = v.opened + free_slots v.marks
-
--- so few flows were opened that each free slot may be opened once more
-abbrev pub HasFew : View → Type 0
-HasFew v = most_opened v ≤ 4294967295
-
--- so few that each slot may be, free or not
-abbrev pub HasFewYet : View → Type 0
-HasFewYet v = v.opened + length v.marks ≤ 4294967295
-
--- so few that besides each slot may be opened once in each of so many ticks more
-abbrev pub HasFewFor : (ticks : ℕ) → View → Type 0
-HasFewFor ticks v = most_opened v + ticks * length v.marks ≤ 4294967295
-
--- Flows may have been opened in slots that were free. No slot was freed.
-pub record OpensFree (v w : View) : Type 0 where
-  pub slots : length w.marks ≡ length v.marks
-  pub most : most_opened w ≡ most_opened v
-
 -- the pin of this flow is in the list
 abbrev pub HasItsPin : List FlowId → FlowId → Type 0
 HasItsPin pins id = (j : ℕ) × (slice_get pins j ≡ Some id)
@@ -154,10 +125,6 @@ pub record AreKept (t : TableId) (pass : Seen) (doomed pins : List FlowId) (flow
 
 abbrev pub IsSound : TableId → Sight → Type 0
 IsSound t s = AreKept t s.pass s.doomed s.pins s.flows × InRange s.path.params
-
--- and few flows were opened
-abbrev pub IsKept : TableId → Sight → Type 0
-IsKept t s = IsSound t s × HasFew s.pass.view
 
 -- each of its senders posts to its application's queue
 abbrev pub HasSenders : Common → Worker → Type 0

@@ -3,7 +3,7 @@ ghost use Rattle.std.specs.Prelude.{◌≡◌, ◌<◌, Some, length, IfOk, OnOk
 ghost use Rattle.flow_lock.specs.Answers.{next_in};
 ghost use Rattle.flow_lock.specs.Steps.{MayAct};
 ghost use Rattle.app_reaper.specs.OneCall.{history};
-ghost use Rattle.slow_worker.specs.Workers.{sight_of, with_sight, IsKept};
+ghost use Rattle.slow_worker.specs.Workers.{sight_of, with_sight, IsSound};
 ghost use Rattle.slow_worker.specs.Opening.{with_open, IsIndexed, IsTouched, IsOpened, IsUnopened};
 ghost use Rattle.slow_worker.specs.Serving.{asked_of, IsOpenedIn, IsUnopenedIn, IsMet, IsUnmet};
 
@@ -64,8 +64,8 @@ impl SlowWorker {
         frame: FrameId,
         seg: &Segment<'_>,
     ) -> Result<Served, AllocError>
-        requires kept { IsKept table.now (sight_of self.old) }
-        ensures kept { IsKept table.now (sight_of self.new) }
+        requires kept { IsSound table.now (sight_of self.old) }
+        ensures kept { IsSound table.now (sight_of self.new) }
         ensures met { IfOk result (IsMet (asked_of self.old.path seg.now) tick frame seg.now
             (sight_of self.old) (sight_of self.new)) }
         ensures unmet { OnErr result (IsUnmet (asked_of self.old.path seg.now) seg.now
@@ -83,7 +83,8 @@ impl SlowWorker {
         }
     }
 
-    /// Opens the lowest free slot for a SYN that a listener takes, or drops it for want of one.
+    /// Opens the lowest free slot for a SYN that a listener takes, or drops it for want of one. After 4,294,967,295
+    /// openings no number is left for a further one: that is told as want of memory.
     fn open_for<R: Wait>(
         &mut self,
         rt: &R,
@@ -92,8 +93,8 @@ impl SlowWorker {
         frame: FrameId,
         seg: &Segment<'_>,
     ) -> Result<Served, AllocError>
-        requires kept { IsKept table.now (sight_of self.old) }
-        ensures kept { IsKept table.now (sight_of self.new) }
+        requires kept { IsSound table.now (sight_of self.old) }
+        ensures kept { IsSound table.now (sight_of self.new) }
         ensures opened { IfOk result (IsOpenedIn (next_in self.old.pass.view.marks) tick frame seg.now
             (sight_of self.old) (sight_of self.new)) }
         ensures unopened { OnErr result (IsUnopenedIn (next_in self.old.pass.view.marks) seg.now
@@ -104,6 +105,9 @@ impl SlowWorker {
         let Some(id) = self.pass.next_flow() else {
             return self.drop_frame(tick, frame, false);
         };
+        if self.pass.opened() == u32::MAX {
+            return Err(AllocError);
+        }
         self.open(rt, table, tick, frame, id, seg)?;
         Ok(Served::Opened(id))
     }
@@ -119,10 +123,11 @@ impl SlowWorker {
         id: FlowId,
         seg: &Segment<'_>,
     ) -> Result<(), AllocError>
-        requires kept { IsKept table.now (sight_of self.old) }
+        requires kept { IsSound table.now (sight_of self.old) }
         requires next { next_in self.old.pass.view.marks ≡ Some id }
         requires slot { id.slot < table.now.slots }
-        ensures kept { IsKept table.now (sight_of self.new) }
+        requires few { self.old.pass.view.opened < 4294967295 }
+        ensures kept { IsSound table.now (sight_of self.new) }
         ensures opened { OnOk result (IsOpened tick frame seg.now id (sight_of self.old) (sight_of self.new)) }
         ensures unopened { OnErr result (IsUnopened seg.now id (sight_of self.old) (sight_of self.new)) }
         ensures senders { self.new.senders ≡ self.old.senders }

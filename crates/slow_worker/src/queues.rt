@@ -1,6 +1,6 @@
 // The frames that wait are handled, one after the other.
 ghost use Rattle.std.specs.Prelude.{◌≡◌, ◌<◌, ◌++◌, length, OnOk, OnErr};
-ghost use Rattle.slow_worker.specs.Workers.{sight_of, waiting, IsKept, HasSenders, OpensFree};
+ghost use Rattle.slow_worker.specs.Workers.{sight_of, waiting, IsSound, HasSenders};
 ghost use Rattle.slow_worker.specs.Queues.{IsAllServed, IsPartServed, IsFirstServed, IsFirstLeft, kept_of};
 
 use crate::served::Served;
@@ -14,11 +14,11 @@ impl SlowWorker {
     /// flow's record another pass held is deferred. The error is want of memory; what was done stands, and each frame
     /// that wasn't handled still waits.
     pub fn serve<R: Wait>(&mut self, rt: &R, shared: &Shared, tick: u32) -> Result<(), AllocError>
-        requires kept { IsKept shared.now.table (sight_of self.old) }
+        requires kept { IsSound shared.now.table (sight_of self.old) }
         requires senders { HasSenders shared.now self.old }
-        ensures kept { IsKept shared.now.table (sight_of self.new) }
+        ensures kept { IsSound shared.now.table (sight_of self.new) }
         ensures senders { HasSenders shared.now self.new }
-        ensures opens { OpensFree self.old.pass.view self.new.pass.view }
+        ensures time { self.new.time ≡ self.old.time }
         ensures served { OnOk result (IsAllServed shared.now tick self.old self.new) }
         ensures part { OnErr result (IsPartServed shared.now tick self.old self.new) }
     {
@@ -37,10 +37,10 @@ impl SlowWorker {
 
     /// Handles the first frame that waits.
     fn serve_first<R: Wait>(&mut self, rt: &R, shared: &Shared, tick: u32) -> Result<(), AllocError>
-        requires kept { IsKept shared.now.table (sight_of self.old) }
+        requires kept { IsSound shared.now.table (sight_of self.old) }
         requires senders { HasSenders shared.now self.old }
         requires some { 0 < length (waiting self.old) }
-        ensures kept { IsKept shared.now.table (sight_of self.new) }
+        ensures kept { IsSound shared.now.table (sight_of self.new) }
         ensures senders { HasSenders shared.now self.new }
         ensures served { OnOk result (IsFirstServed shared.now tick self.old self.new) }
         ensures left { OnErr result (IsFirstLeft shared.now tick self.old self.new) }
@@ -59,10 +59,10 @@ impl SlowWorker {
         shared: &Shared,
         tick: u32,
     ) -> Result<(), AllocError>
-        requires kept { IsKept shared.now.table (sight_of self.old) }
+        requires kept { IsSound shared.now.table (sight_of self.old) }
         requires senders { HasSenders shared.now self.old }
         requires some { 0 < length self.old.exceptions.list }
-        ensures kept { IsKept shared.now.table (sight_of self.new) }
+        ensures kept { IsSound shared.now.table (sight_of self.new) }
         ensures senders { HasSenders shared.now self.new }
         ensures served { OnOk result (IsFirstServed shared.now tick self.old self.new) }
         ensures left { OnErr result (IsFirstLeft shared.now tick self.old self.new) }
@@ -91,11 +91,11 @@ impl SlowWorker {
         shared: &Shared,
         tick: u32,
     ) -> Result<(), AllocError>
-        requires kept { IsKept shared.now.table (sight_of self.old) }
+        requires kept { IsSound shared.now.table (sight_of self.old) }
         requires senders { HasSenders shared.now self.old }
         requires none { length self.old.exceptions.list ≡ 0 }
         requires some { 0 < length self.old.deferred.list }
-        ensures kept { IsKept shared.now.table (sight_of self.new) }
+        ensures kept { IsSound shared.now.table (sight_of self.new) }
         ensures senders { HasSenders shared.now self.new }
         ensures served { OnOk result (IsFirstServed shared.now tick self.old self.new) }
         ensures left { OnErr result (IsFirstLeft shared.now tick self.old self.new) }

@@ -1,8 +1,10 @@
-ghost use Rattle.std.specs.Prelude.{◌≡◌, ◌<◌, ◌+◌, ◌++◌, ◌∷◌, true, None, [], IfOk, IsOk, OnOk, OnErr};
-ghost use Rattle.slow_worker.specs.Workers.{sight_of, with_sight, waiting, first_sight, IsKept, HasSenders, setting_of};
+ghost use Rattle.std.specs.Prelude.{◌≡◌, ◌<◌, ◌+◌, ◌++◌, ◌∷◌, true, [], IfOk, IsOk, OnOk, OnErr};
+ghost use Rattle.slow_worker.specs.Workers.{sight_of, with_sight, waiting, first_sight};
+ghost use Rattle.slow_worker.specs.Workers.{IsSound, HasSenders, setting_of};
 ghost use Rattle.slow_worker.specs.Opening.{IsKnown, IsUnknown};
 ghost use Rattle.slow_worker.specs.Serving.{with_line, IsServed, IsUnserved};
 
+use crate::clock::Clock;
 use crate::kicking::Kickers;
 use crate::known::KnownFlows;
 use crate::opening::show;
@@ -46,8 +48,8 @@ pub struct SlowWorker {
     pub(crate) index: IndexWriter,
     pub(crate) deferred: PassedFrames,
     pub(crate) exceptions: PassedFrames,
-    /// The last tick whose time has passed for the flows.
-    pub(crate) ticked: Option<u32>,
+    /// How far time has passed for the flows.
+    pub(crate) time: Clock,
     pub(crate) senders: AppSenders,
     /// Kicks that weren't posted yet.
     pub(crate) kicks: KickList,
@@ -71,7 +73,7 @@ impl Model for SlowWorker {
       index = w.index;
       deferred = w.deferred;
       exceptions = w.exceptions;
-      ticked = w.ticked;
+      time = w.time;
       senders = w.senders;
       kicks = w.kicks.list;
       kickers = w.kickers;
@@ -106,7 +108,7 @@ impl SlowWorker {
         ensures filed { result.filed ≡ [] }
         ensures waiting { waiting result ≡ [] }
         ensures check_sums { result.check_sums ≡ true }
-        ensures ticked { result.ticked ≡ None }
+        ensures time { result.time ≡ Clock.New }
         ensures kickers { result.kickers ≡ record { steer = steer; senders = [] } }
     {
         SlowWorker {
@@ -122,7 +124,7 @@ impl SlowWorker {
             index,
             deferred: PassedFrames::new(alloc),
             exceptions: PassedFrames::new(alloc),
-            ticked: None,
+            time: Clock::New,
             senders: AppSenders::new(alloc),
             kicks: KickList::new(alloc),
             kickers: Kickers::new(alloc, steer),
@@ -200,7 +202,7 @@ impl SlowWorker {
             index,
             deferred,
             exceptions,
-            ticked: _,
+            time: _,
             senders: _,
             kicks: _,
             kickers: _,
@@ -219,8 +221,8 @@ impl SlowWorker {
     }
 
     /// Handles one frame: its packet is read, and the segment is received by the flow that has its four-tuple, whose
-    /// application is told what that brought, or it meets a listener, or is a stray. The error is want of memory, and
-    /// then the frame made no entry, no flow, no line and no note.
+    /// application is told what that brought, or it meets a listener, or is a stray. The error is want of memory, or
+    /// that no number is left for an opening, and then the frame made no entry, no flow, no line and no note.
     pub fn frame<R: Wait>(
         &mut self,
         rt: &R,
@@ -229,9 +231,9 @@ impl SlowWorker {
         id: FrameId,
         packet: &Bytes,
     ) -> Result<Served, AllocError>
-        requires kept { IsKept shared.now.table (sight_of self.old) }
+        requires kept { IsSound shared.now.table (sight_of self.old) }
         requires senders { HasSenders shared.now self.old }
-        ensures kept { IsKept shared.now.table (sight_of self.new) }
+        ensures kept { IsSound shared.now.table (sight_of self.new) }
         ensures senders { HasSenders shared.now self.new }
         ensures served { IfOk result (IsServed (setting_of shared.now tick self.old) id packet.now
             (sight_of self.old) (sight_of self.new)) }

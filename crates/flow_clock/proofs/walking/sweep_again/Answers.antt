@@ -16,11 +16,11 @@ loop-left-init c =
     (sweeping_begins c.args.table.now s d f c.requires.slow)
 
 pub returns-in_err-reserve-clause-stopped : goal.returns-in_err-reserve-clause-stopped
-returns-in_err-reserve-clause-stopped c pins changes kicks =
+returns-in_err-reserve-clause-stopped c pins changes kicks path =
     let l = c.loop-left in
     on_err_stopped c.from_residual.result
     (sweeping_stops c.args.table.now c.args.slow.now c.args.doomed.now.list c.args.filed.now.list l.slow l.doomed.list
-    l.filed.list c.reserve.new.self.list l.left pins changes kicks l.invariant c.reserve.ensures.list)
+    l.filed.list c.reserve.new.self.list l.left pins changes kicks path l.invariant c.reserve.ensures.list)
 
 pub sweep_one-requires-clause-kept : goal.sweep_one-requires-clause-kept
 sweep_one-requires-clause-kept c =

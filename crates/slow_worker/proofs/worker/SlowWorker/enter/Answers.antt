@@ -1,7 +1,7 @@
 use Rattle.std.proofs.Common.{◌≡◌, ap, sym, ◌∙◌, subst, ◌++◌}
 use Rattle.core_worker.specs.Kicks.{one_kick}
 use Rattle.slow_worker.specs.Entering.{IsOffered}
-use Rattle.slow_worker.specs.Workers.{Worker, Sight, sight_of, setting_of, HasItsPin, IsKept}
+use Rattle.slow_worker.specs.Workers.{Worker, Sight, sight_of, setting_of, HasItsPin, IsSound}
 use Rattle.slow_worker.specs.contracts.worker.SlowWorker.{the_view}
 use Rattle.slow_worker.specs.Entering.{IsEntered, IsUnentered}
 use Rattle.slow_worker.specs.declared.entering.Offered.{Offered}
@@ -20,19 +20,19 @@ unreachable-requires g c =
 
 pub returns-in_err-offered-clause-kept : goal.returns-in_err-offered-clause-kept
 returns-in_err-offered-clause-kept g c =
-    let kept = subst (λ (w : Worker). IsKept c.args.shared.now.table (sight_of w)) (sym c.self.view_is) c.requires.kept
+    let kept = subst (λ (w : Worker). IsSound c.args.shared.now.table (sight_of w)) (sym c.self.view_is) c.requires.kept
     in
     kept_unentered c.args.shared.now.table c.pin-pin.result.now (sight_of (the_view c.self.inside)) c.offer.new.pass
     c.offer.new.path c.offer.ensures.table c.in_err-offered.ensures.refused c.in_err-offered.ensures.untold kept
 
 pub returns-in_err-offered-clause-unentered : goal.returns-in_err-offered-clause-unentered
 returns-in_err-offered-clause-unentered g c =
-    let kept = subst (λ (w : Worker). IsKept c.args.shared.now.table (sight_of w)) (sym c.self.view_is) c.requires.kept
+    let kept = subst (λ (w : Worker). IsSound c.args.shared.now.table (sight_of w)) (sym c.self.view_is) c.requires.kept
     in
     let pinned = subst (λ (w : Worker). HasItsPin w.pins c.args.id) (sym c.self.view_is) c.requires.pinned in
     let p : FlowId = c.pin-pin.result.now in
     let named : p ≡ c.args.id =
-    place_of_pin c.args.shared.now.table _ _ _ _ c.args.id p c.in-Some.at kept.0.0 pinned
+    place_of_pin c.args.shared.now.table _ _ _ _ c.args.id p c.in-Some.at kept.0 pinned
     (sym c.place_of.ensures ∙ c.in-Some.is) c.pin-pin.ensures in
     let u : Worker = the_view c.self.inside in
     let s : Sight = sight_of u in
@@ -46,7 +46,7 @@ returns-in_err-offered-clause-unentered g c =
 
 pub returns-in-Busy-clause-kept : goal.returns-in-Busy-clause-kept
 returns-in-Busy-clause-kept g c =
-    let kept = subst (λ (w : Worker). IsKept c.args.shared.now.table (sight_of w)) (sym c.self.view_is) c.requires.kept
+    let kept = subst (λ (w : Worker). IsSound c.args.shared.now.table (sight_of w)) (sym c.self.view_is) c.requires.kept
     in
     let u : Worker = the_view c.self.inside in
     let s : Sight = sight_of u in
@@ -57,7 +57,7 @@ returns-in-Busy-clause-kept g c =
 
 pub returns-in-Entered-clause-kept : goal.returns-in-Entered-clause-kept
 returns-in-Entered-clause-kept g c =
-    let kept = subst (λ (w : Worker). IsKept c.args.shared.now.table (sight_of w)) (sym c.self.view_is) c.requires.kept
+    let kept = subst (λ (w : Worker). IsSound c.args.shared.now.table (sight_of w)) (sym c.self.view_is) c.requires.kept
     in
     let u : Worker = the_view c.self.inside in
     let s : Sight = sight_of u in
@@ -68,12 +68,12 @@ returns-in-Entered-clause-kept g c =
 
 pub returns-in-Busy-clause-entered : goal.returns-in-Busy-clause-entered
 returns-in-Busy-clause-entered g c =
-    let kept = subst (λ (w : Worker). IsKept c.args.shared.now.table (sight_of w)) (sym c.self.view_is) c.requires.kept
+    let kept = subst (λ (w : Worker). IsSound c.args.shared.now.table (sight_of w)) (sym c.self.view_is) c.requires.kept
     in
     let pinned = subst (λ (w : Worker). HasItsPin w.pins c.args.id) (sym c.self.view_is) c.requires.pinned in
     let p : FlowId = c.pin-pin.result.now in
     let named : p ≡ c.args.id =
-    place_of_pin c.args.shared.now.table _ _ _ _ c.args.id p c.in-Some.at kept.0.0 pinned
+    place_of_pin c.args.shared.now.table _ _ _ _ c.args.id p c.in-Some.at kept.0 pinned
     (sym c.place_of.ensures ∙ c.in-Some.is) c.pin-pin.ensures in
     let u : Worker = the_view c.self.inside in
     let s : Sight = sight_of u in
@@ -89,12 +89,12 @@ returns-in-Busy-clause-entered g c =
 
 pub returns-in-Entered-clause-entered : goal.returns-in-Entered-clause-entered
 returns-in-Entered-clause-entered g c =
-    let kept = subst (λ (w : Worker). IsKept c.args.shared.now.table (sight_of w)) (sym c.self.view_is) c.requires.kept
+    let kept = subst (λ (w : Worker). IsSound c.args.shared.now.table (sight_of w)) (sym c.self.view_is) c.requires.kept
     in
     let pinned = subst (λ (w : Worker). HasItsPin w.pins c.args.id) (sym c.self.view_is) c.requires.pinned in
     let p : FlowId = c.pin-pin.result.now in
     let named : p ≡ c.args.id =
-    place_of_pin c.args.shared.now.table _ _ _ _ c.args.id p c.in-Some.at kept.0.0 pinned
+    place_of_pin c.args.shared.now.table _ _ _ _ c.args.id p c.in-Some.at kept.0 pinned
     (sym c.place_of.ensures ∙ c.in-Some.is) c.pin-pin.ensures in
     let u : Worker = the_view c.self.inside in
     let s : Sight = sight_of u in

@@ -4,20 +4,13 @@ use Rattle.tas_model.specs.Valid.{InRange}
 use Rattle.flow_lock.specs.Answers.{next_in}
 use Rattle.app_reaper.specs.OneCall.{history}
 use Rattle.slow_handshake.specs.Openings.{Openings}
-use Rattle.slow_worker.specs.Workers.{Worker, sight_of, IsKept}
-use Rattle.slow_worker.proofs.Keeping.{one_few, opened_kept}
+use Rattle.slow_worker.specs.Workers.{Worker, sight_of, IsSound}
+use Rattle.slow_worker.proofs.Keeping.{opened_kept}
 use Rattle.slow_worker.proofs.worker.SlowWorker.open.Goals as goal
-
-pub open_next-requires-clause-few : goal.open_next-requires-clause-few
-open_next-requires-clause-few g c =
-    let kept = subst (λ (w : Worker). IsKept c.args.table.now (sight_of w)) (sym c.self.view_is) c.requires.kept in
-    let next = subst (λ (w : Worker). next_in w.pass.view.marks ≡ Some c.args.id) (sym c.self.view_is) c.requires.next
-    in
-    one_few c.self.inside.pass.view c.args.id next kept.1
 
 pub returns-clause-kept : goal.returns-clause-kept
 returns-clause-kept g c =
-    let kept = subst (λ (w : Worker). IsKept c.args.table.now (sight_of w)) (sym c.self.view_is) c.requires.kept in
+    let kept = subst (λ (w : Worker). IsSound c.args.table.now (sight_of w)) (sym c.self.view_is) c.requires.kept in
     let next = subst (λ (w : Worker). next_in w.pass.view.marks ≡ Some c.args.id) (sym c.self.view_is) c.requires.next
     in
     let named = c.open_next.ensures.pin ∙ c.in_ok-flow.ensures.id in
@@ -31,5 +24,5 @@ returns-clause-kept g c =
     ∙ ap (λ x. c.self.inside.pins.list ++ x ∷ []) c.open_next.ensures.pin))
     (c.put-2.ensures.list ∙ ap (λ l. l ++ (record { tuple = c.tuple_of-tuple.result; id = c.args.id }) ∷ [])
     c.reserve-2.ensures.list)
-    kept.0.0 kept.1 in
-    ((after.0, subst InRange (sym params) kept.0.1), after.1)
+    kept.0 in
+    (after, subst InRange (sym params) kept.1)

@@ -1,8 +1,9 @@
-use Rattle.std.proofs.Common.{ap, sym, subst}
+use Rattle.std.proofs.Common.{ap, sym, refl, subst}
 use Rattle.tas_model.specs.Valid.{InRange}
 use Rattle.core_worker.specs.Workers.{Common}
-use Rattle.slow_worker.specs.Workers.{Worker, HasFewYet}
-use Rattle.slow_worker.proofs.Ticks.{time_sound, still_few, few_yet}
+use Rattle.slow_worker.specs.Workers.{Worker}
+use Rattle.slow_worker.specs.contracts.worker.SlowWorker.{the_view}
+use Rattle.slow_worker.proofs.Ticks.{time_sound, halted, passed_so}
 use Rattle.slow_worker.proofs.worker.SlowWorker.pass_time.Goals as goal
 
 pub returns-in_err-done-clause-sound : goal.returns-in_err-done-clause-sound
@@ -11,7 +12,8 @@ returns-in_err-done-clause-sound g c = (
       c.tick_all-done.new.pins.list c.self.inside.flows.list c.keep.new.self.list
       (ap (λ (k : Common). k.table) c.shared.view_is) c.tick_all-done.ensures.slow c.tick_all-done.ensures.kept
       c.keep.ensures.list,
-  subst (λ (w : Worker). InRange w.path.params) (sym c.self.view_is) c.requires.sound.1,
+  subst InRange (sym c.tick_all-done.ensures.params)
+      (subst (λ (w : Worker). InRange w.path.params) (sym c.self.view_is) c.requires.sound.1),
 )
 
 pub returns-clause-sound : goal.returns-clause-sound
@@ -20,17 +22,19 @@ returns-clause-sound g c = (
       c.tick_all-done.new.pins.list c.self.inside.flows.list c.keep.new.self.list
       (ap (λ (k : Common). k.table) c.shared.view_is) c.tick_all-done.ensures.slow c.tick_all-done.ensures.kept
       c.keep.ensures.list,
-  subst (λ (w : Worker). InRange w.path.params) (sym c.self.view_is) c.requires.sound.1,
+  subst InRange (sym c.tick_all-done.ensures.params)
+      (subst (λ (w : Worker). InRange w.path.params) (sym c.self.view_is) c.requires.sound.1),
 )
 
-pub returns-in_err-done-clause-few : goal.returns-in_err-done-clause-few
-returns-in_err-done-clause-few g c =
-    λ yet. few_yet c.tick_all-done.new.slow.view
-    (still_few c.self.inside.pass.view c.tick_all-done.new.slow.view c.tick_all-done.ensures.rights
-    (subst (λ (w : Worker). HasFewYet w.pass.view) (sym c.self.view_is) yet))
+pub returns-in_err-done-clause-stopped : goal.returns-in_err-done-clause-stopped
+returns-in_err-done-clause-stopped g c =
+    halted c.from_residual.result c.args.tick c.served-timed.result c.tick_all-done.new.served
+    (the_view c.self.inside) c.args.self.now _ c.self.view_is c.served-timed.ensures c.in_err-done.ensures.stopped
+    refl c.tick_all-done.ensures.published.0 c.tick_all-done.ensures.published.1 c.keep.ensures.list refl
 
-pub returns-clause-few : goal.returns-clause-few
-returns-clause-few g c =
-    λ yet. few_yet c.tick_all-done.new.slow.view
-    (still_few c.self.inside.pass.view c.tick_all-done.new.slow.view c.tick_all-done.ensures.rights
-    (subst (λ (w : Worker). HasFewYet w.pass.view) (sym c.self.view_is) yet))
+pub returns-clause-passed : goal.returns-clause-passed
+returns-clause-passed g c =
+    passed_so c.publish.result c.args.tick c.served-timed.result (the_view c.self.inside) c.args.self.now _
+    c.tick_all-done.new.index c.self.view_is c.served-timed.ensures c.in_ok-done.ensures.done
+    c.tick_all-done.ensures.published.0 c.tick_all-done.ensures.published.1 c.publish.ensures.later
+    c.publish.ensures.published c.publish.ensures.pending c.publish.ensures.left c.keep.ensures.list refl refl

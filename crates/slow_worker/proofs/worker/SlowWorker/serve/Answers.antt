@@ -1,6 +1,6 @@
-use Rattle.std.proofs.Common.{◌<◌, subst, length}
+use Rattle.std.proofs.Common.{◌<◌, ap, subst, length}
 use Rattle.slow_worker.specs.Workers.{waiting}
-use Rattle.slow_worker.proofs.Openings.{part_opens, so_far}
+use Rattle.slow_worker.specs.Queues.{Standing}
 use Rattle.slow_worker.proofs.Serving.{err_of, loop_more, loop_stops}
 use Rattle.slow_worker.proofs.worker.SlowWorker.serve.Goals as goal
 
@@ -22,15 +22,13 @@ loop-preserved g c =
       l.1,
     )
 
-pub returns-in_err-serve_first-clause-opens : goal.returns-in_err-serve_first-clause-opens
-returns-in_err-serve_first-clause-opens g c =
+pub returns-in_err-serve_first-clause-time : goal.returns-in_err-serve_first-clause-time
+returns-in_err-serve_first-clause-time g c =
     let l = c.loop.invariant in
     let near : c.loop.counter < length (waiting c.args.self.now) =
     subst (λ n. c.loop.counter < n) l.1 c.loop-test.true in
-    part_opens c.args.shared.now c.args.tick c.args.self.now c.serve_first.new.self
-    (loop_stops c.args.shared.now c.args.tick c.args.self.now c.loop.self c.serve_first.new.self c.loop.counter l.0 near
-    c.in_err-serve_first.ensures.left)
+    ap (λ (s : Standing). s.time) (loop_stops c.args.shared.now c.args.tick c.args.self.now c.loop.self
+    c.serve_first.new.self c.loop.counter l.0 near c.in_err-serve_first.ensures.left).same
 
-pub returns-clause-opens : goal.returns-clause-opens
-returns-clause-opens g c =
-    so_far c.args.shared.now c.args.tick c.args.self.now c.loop.self c.loop.counter c.loop.invariant.0
+pub returns-clause-time : goal.returns-clause-time
+returns-clause-time g c = ap (λ (s : Standing). s.time) c.loop.invariant.0.same
