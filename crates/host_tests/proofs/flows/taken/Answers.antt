@@ -1,7 +1,7 @@
 use Rattle.std.proofs.Common.{[], sym}
 use Rattle.flow_lock.proofs.Calling.{user_takes, holder_holds}
 use Rattle.host_tests.proofs.Steps.{longer_nil}
-use Rattle.host_tests.proofs.flows.summed.Goals as goal
+use Rattle.host_tests.proofs.flows.taken.Goals as goal
 
 pub give-requires-clause-held : goal.give-requires-clause-held
 give-requires-clause-held c =
