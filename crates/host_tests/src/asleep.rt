@@ -1,7 +1,5 @@
 //! A task sleeps until a core, on a thread of its own, has entered the bytes that it waits for.
-ghost use Rattle.std.specs.Prelude.{◌≡◌};
-ghost use Rattle.libtas_sockets.specs.Apps.{IsSocket};
-ghost use Rattle.host_tests.specs.Hosts.{AreCores, AreWorking, IsApp, IsHost};
+ghost use Rattle.host_tests.specs.Hosts.{AreWorking, IsHost, IsReading};
 
 use crate::gates::{CORE, Hold, TURNS};
 use crate::host::{deliver, end, work_all, work_in_turn};
@@ -13,7 +11,7 @@ use crate::starting::started;
 use crate::workers::{TICK, next_note};
 use core_worker::{CoreWorker, Shared};
 use futures::task::Poll;
-use libtas_sockets::{App, Received};
+use libtas_sockets::{App, Received, Socket};
 use segment_fields::Flags;
 use std::alloc::AllocGlobal;
 use std::hint::spin_loop;
@@ -41,15 +39,16 @@ fn run_task<R: Wait, G: Gate>(
     rt: &R,
     shared: &Shared,
     app: &mut App,
+    socket: Socket,
     reader: &mut Reader,
     story: &mut Story,
     gate: &G,
 )
-    requires { IsApp shared.now 0 app.old × IsSocket app.old reader.old.socket }
+    requires { IsReading shared.now socket app.old }
 {
     for _ in 0..TURNS {
         if reader.is_woken() {
-            let polled = reader.poll(shared, app, 0);
+            let polled = reader.poll(shared, app, socket);
             story.polls = story.polls.saturating_add(1);
             let is_over = matches!(polled.answer, Poll::Ready(_));
             story.last = Some(polled);
@@ -84,11 +83,12 @@ fn run_beside<R: Threads + Wait + Sync, G: Gate + Sync>(
     shared: &Shared,
     workers: &mut [CoreWorker],
     app: &mut App,
+    socket: Socket,
     reader: &mut Reader,
     gate: &G,
 ) -> Story
     requires cores { AreWorking shared.now workers.old }
-    requires app { IsApp shared.now 0 app.old × IsSocket app.old reader.old.socket }
+    requires app { IsReading shared.now socket app.old }
 {
     let mut story = Story {
         polls: 0,
@@ -99,8 +99,8 @@ fn run_beside<R: Threads + Wait + Sync, G: Gate + Sync>(
         requires { AreWorking shared.now workers.now }
     { take_turns(rt, shared, workers, gate) };
     let mut task = ||
-        requires { IsApp shared.now 0 app.now × IsSocket app.now reader.now.socket }
-    { run_task(rt, shared, app, reader, told, gate) };
+        requires { IsReading shared.now socket app.now }
+    { run_task(rt, shared, app, socket, reader, told, gate) };
     join_mut(rt, &mut turns, &mut task);
     story
 }
@@ -114,7 +114,7 @@ where
     requires { IsHost shared.now host.old }
 {
     let socket = accepted(rt, rt.alloc(), shared, host)?;
-    let mut reader = Reader::new(rt, socket)?;
+    let mut reader = Reader::new(rt)?;
     work_in_turn(rt, shared, &mut host.cores);
     let packet = packet(rt.alloc(), PEER, 1, Flags::ACK, b"hello")?;
     deliver(rt, shared, &mut host.cores, frame_of(PEER, 2), packet)?;

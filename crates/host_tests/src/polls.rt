@@ -1,7 +1,5 @@
 //! A task of an application reads from a socket: what its polls are answered, and what wakes it.
-ghost use Rattle.std.specs.Prelude.{◌≡◌, IfSome};
-ghost use Rattle.libtas_sockets.specs.Apps.{IsSocket};
-ghost use Rattle.host_tests.specs.Hosts.{AreCores, IsApp, IsCore, IsHost};
+ghost use Rattle.host_tests.specs.Hosts.{AreCores, IsCore, IsHost, IsReading};
 
 use crate::flows::{Act, Summary, hold_by, look_by};
 use crate::host::{end, look};
@@ -28,7 +26,6 @@ use tas_model::Caller;
 pub struct Reader {
     solo: Solo,
     pub waiters: Waiters,
-    socket: Socket,
 }
 
 /// What a poll was answered, what its future keeps of it where it was pending, and what its buffer holds then.
@@ -41,16 +38,13 @@ pub struct Polled {
 
 impl Reader {
     /// A task that was woken at first. `None` where memory is wanting.
-    pub fn new<R: RandomSource + AllocGlobal>(rt: &R, socket: Socket) -> Option<Reader>
-        ensures { IfSome result (λ r. r.socket ≡ socket) }
-    {
+    pub fn new<R: RandomSource + AllocGlobal>(rt: &R) -> Option<Reader> {
         let Ok(solo) = Solo::new(rt, Doorbell::spinning()) else {
             return None;
         };
         Some(Reader {
             solo,
             waiters: Waiters::new(rt.alloc()),
-            socket,
         })
     }
 
@@ -66,10 +60,9 @@ impl Reader {
     }
 
     /// Polls the task once: it asks for five bytes.
-    pub fn poll(&mut self, shared: &Shared, app: &mut App, number: u32) -> Polled
-        requires { IsApp shared.now number app.old × IsSocket app.old self.old.socket }
-        ensures app { IsApp shared.now number app.new × (app.new.sockets ≡ app.old.sockets) }
-        ensures socket { self.new.socket ≡ self.old.socket }
+    pub fn poll(&mut self, shared: &Shared, app: &mut App, socket: Socket) -> Polled
+        requires { IsReading shared.now socket app.old }
+        ensures { IsReading shared.now socket app.new }
     {
         let mut heard = [0; 5];
         let mut cx = self.solo.begin();
@@ -79,7 +72,7 @@ impl Reader {
             waiters: &mut self.waiters,
             tick: TICK,
         };
-        let mut future = recv_future(io, self.socket, &mut heard);
+        let mut future = recv_future(io, socket, &mut heard);
         let answer = future.poll(&mut cx);
         let last = future.last().copied();
         drop(future);
@@ -109,14 +102,14 @@ fn wait_for_bytes<R: Threads + Wait + Sync>(
     alloc: Global,
     shared: &Shared,
     host: &mut Host,
+    socket: Socket,
     reader: &mut Reader,
 ) -> Option<Waited>
-    requires host { AreCores shared.now host.old.cores }
-    requires app { IsApp shared.now 0 host.old.clients.first.app }
-    requires socket { IsSocket host.old.clients.first.app reader.old.socket }
+    requires cores { AreCores shared.now host.old.cores }
+    requires app { IsReading shared.now socket host.old.clients.first.app }
 {
     let app = &mut host.clients.first.app;
-    let first = reader.poll(shared, app, 0);
+    let first = reader.poll(shared, app, socket);
     let history = look(shared, &mut host.cores, FLOW)?;
     let by_poll = reader.is_woken();
     reader.waiters.notify(Note {
@@ -129,7 +122,7 @@ fn wait_for_bytes<R: Threads + Wait + Sync>(
     let note = next_note(rt, shared, app, 0)?;
     reader.waiters.notify(note);
     let by_bytes = reader.is_woken();
-    let second = reader.poll(shared, app, 0);
+    let second = reader.poll(shared, app, socket);
     Some(Waited {
         first,
         history,
@@ -145,8 +138,8 @@ where
     requires { IsHost shared.now host.old }
 {
     let socket = accepted(rt, rt.alloc(), shared, host)?;
-    let mut reader = Reader::new(rt, socket)?;
-    wait_for_bytes(rt, rt.alloc(), shared, host, &mut reader)
+    let mut reader = Reader::new(rt)?;
+    wait_for_bytes(rt, rt.alloc(), shared, host, socket, &mut reader)
 }
 
 /// The same on a host of its own.
@@ -193,14 +186,15 @@ fn poll_beside(
     shared: &Shared,
     core: &mut CoreWorker,
     app: &mut App,
+    socket: Socket,
     reader: &mut Reader,
 ) -> Option<Held>
     requires core { IsCore shared.now core.old }
-    requires app { IsApp shared.now 0 app.old × IsSocket app.old reader.old.socket }
+    requires app { IsReading shared.now socket app.old }
 {
     let poll = |flow: &FlowRecord|
-        requires { IsApp shared.now 0 app.now × IsSocket app.now reader.now.socket }
-    { (flow.entries(), reader.poll(shared, app, 0)) };
+        requires { IsReading shared.now socket app.now }
+    { (flow.entries(), reader.poll(shared, app, socket)) };
     let (before, polled) = hold_by(shared, core, FLOW, poll)?;
     let after = look_by(shared, core, FLOW)?;
     Some(Held {
@@ -217,12 +211,13 @@ where
     requires { IsHost shared.now host.old }
 {
     let socket = accepted(rt, rt.alloc(), shared, host)?;
-    let mut reader = Reader::new(rt, socket)?;
+    let mut reader = Reader::new(rt)?;
     if host.cores.workers.is_empty() {
         return None;
     }
     let core = &mut host.cores.workers[0];
-    poll_beside(shared, core, &mut host.clients.first.app, &mut reader)
+    let app = &mut host.clients.first.app;
+    poll_beside(shared, core, app, socket, &mut reader)
 }
 
 /// The same on a host of its own.
