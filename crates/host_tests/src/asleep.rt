@@ -118,8 +118,8 @@ where
     work_in_turn(rt, shared, &mut host.cores);
     let packet = packet(rt.alloc(), PEER, 1, Flags::ACK, b"hello")?;
     deliver(rt, shared, &mut host.cores, frame_of(PEER, 2), packet)?;
-    let app = &mut host.clients.first.app;
-    Some(run_beside(rt, shared, &mut host.cores.workers, app, &mut reader, gate))
+    let (workers, app) = (&mut host.cores.workers, &mut host.clients.first.app);
+    Some(run_beside(rt, shared, workers, app, socket, &mut reader, gate))
 }
 
 /// The same on a host of its own.
