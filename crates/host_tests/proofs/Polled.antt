@@ -23,7 +23,8 @@ use Rattle.host_tests.proofs.Steps.{app_calls}
 pub polls : (c : cores.Common) (s : Socket) (f g : RecvFuture) (cx : Context) (r : Poll (Result Received SocketError))
     → IsReadPolled f g cx r → IsReading c s f.io.app.now → IsReading c s g.io.app.now
 polls c s f g cx r (inl (answer, made, rest)) is =
-    let called = app_calls c 0 f.io.app.now g.io.app.now f.socket f.io.tick (recv_call f) (fault_in answer) _ made.0.0 is.0 in
+    let called = app_calls c 0 f.io.app.now g.io.app.now f.socket f.io.tick (recv_call f) (fault_in answer) _ made.0.0
+    is.0 in
     (called.0, ap (list_any (is_on s.0)) called.1 ∙ is.1)
 polls c s f g cx r (inr (cannot, same, rest)) is = subst (λ (a : Application). IsReading c s a) (sym same) is
 
