@@ -2,3 +2,4 @@ pub mod Runs
 pub mod Stops
 pub mod Outputs
 pub mod Telling
+pub mod Jobs

@@ -3,7 +3,6 @@
 
 mod asking;
 mod input;
-mod runner;
 mod runs;
 mod stop;
 mod telling;

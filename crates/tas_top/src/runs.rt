@@ -1,4 +1,4 @@
-ghost use Rattle.std.specs.Prelude.{◌≡◌, ◌≤◌, ℕ, Bool, List, [], length, Some, Ok, IfOk, IfErr};
+ghost use Rattle.std.specs.Prelude.{◌≡◌, ◌≤◌, ℕ, Bool, true, List, [], length, Some, None, is_some, Ok, IfOk, IfErr};
 ghost use Rattle.std.specs.declared.net.ipv4_addr.Ipv4Addr.{Ipv4Addr};
 ghost use Rattle.scenario_text.specs.Reads.{reads};
 ghost use Rattle.scenario_text.specs.Bulk.{bulk_text};
@@ -8,10 +8,11 @@ ghost use Rattle.program_words.specs.Words as asked;
 ghost use Rattle.program_words.specs.Requests.{input_in};
 ghost use Rattle.tas_top.specs.Runs.{IsRunOf, IsSerialRun};
 ghost use Rattle.tas_top.specs.Stops.{Unrun};
+ghost use Rattle.tas_top.specs.Jobs.{IsFit, IsLogOf};
 ghost use Rattle.tas_top.specs.declared.stop.Stop.{Stop};
 
 use crate::stop::Stop;
-use program_words::Input;
+use program_words::{Input, Request};
 use scenario_ranges::what_is_read_is_in_range;
 use scenario_text::{Scenario, ScenarioFault, bulk_scenario, read_scenario};
 use std::alloc::Global;
@@ -21,9 +22,43 @@ use std::thread::Threads;
 use tas_num::Gate;
 use tas_round::{Mode, ReplayFault, RunLog, replay, replay_serially, run, run_serially};
 
-/// The log of the run of this input in serial order. The error is that the bytes are none of its kind, or want of
-/// memory.
-pub fn serial_run_of(alloc: Global, input: Input, bytes: &[u8]) -> Result<RunLog, Stop>
+/// What the words ask for, and all bytes of its input; of a made scenario there are none.
+#[derive(Drop)]
+pub struct Job {
+    pub asked: Request,
+    pub bytes: Vec<u8>,
+}
+
+/// The log of the run that is asked for, in serial order, which waits for nobody. The error is that the bytes are none of
+/// their kind, or want of memory.
+pub fn run_in_order(alloc: Global, job: &Job) -> Result<RunLog, Stop>
+    requires fit { IsFit job.now }
+    requires serial { job.now.asked.cores ≡ None }
+    ensures { IsLogOf job.now result }
+{
+    serial_run_of(alloc, job.asked.input, &job.bytes)
+}
+
+/// The log of the run that is asked for, on the cores that are asked for. The error is that the bytes are none of their
+/// kind, or want of memory.
+pub fn run_on_cores<R: Threads + Wait + Sync, G: Gate + Sync>(
+    rt: &R,
+    alloc: Global,
+    job: &Job,
+    gate: &G,
+) -> Result<RunLog, Stop>
+    requires fit { IsFit job.now }
+    requires cores { is_some job.now.asked.cores ≡ true }
+    ensures { IsLogOf job.now result }
+{
+    match job.asked.cores {
+        Some(count) => run_on(rt, alloc, job.asked.input, count, &job.bytes, gate),
+        None => unreachable!(),
+    }
+}
+
+/// The log of the run of this input in serial order.
+fn serial_run_of(alloc: Global, input: Input, bytes: &[u8]) -> Result<RunLog, Stop>
     requires short { length bytes.now ≤ 67108864 }
     requires clients { asked.HasClients (input_in input) }
     ensures ok { IfOk result (λ log. IsSerialRun (input_in input) bytes.now (log_in log)) }
@@ -36,9 +71,8 @@ pub fn serial_run_of(alloc: Global, input: Input, bytes: &[u8]) -> Result<RunLog
     }
 }
 
-/// The log of a run of this input on so many cores. The error is that the bytes are none of its kind, or want of
-/// memory.
-pub fn run_on_cores<R: Threads + Wait + Sync, G: Gate + Sync>(
+/// The log of a run of this input on so many cores.
+fn run_on<R: Threads + Wait + Sync, G: Gate + Sync>(
     rt: &R,
     alloc: Global,
     input: Input,

@@ -1,22 +1,24 @@
 ghost use Rattle.std.specs.Prelude.{◌≡◌, ◌≢◌, ◌⊎◌, [], map, string_bytes, true, false, if◌then◌else◌, Ok, Err, IfOk};
-ghost use Rattle.std.specs.Prelude.{IfErr, OnOk, OnErr};
+ghost use Rattle.std.specs.Prelude.{IfErr, OnOk, OnErr, Result, None, is_some};
 ghost use Rattle.std.specs.Io.KnownBytes.{Keeps};
 ghost use Rattle.tas_num.specs.Streams.{Wrote};
 ghost use Rattle.tas_round.specs.Runs.{log_in};
 ghost use Rattle.tas_round.specs.Written.{WroteText};
-ghost use Rattle.tas_top.specs.Runs.{given};
-ghost use Rattle.tas_top.specs.Stops.{Cause, status_of, writes_nothing, Unwritten, Unwrites, WordsFirst, Untouched};
+ghost use Rattle.tas_round.specs.declared.logs.RunLog as code;
+ghost use Rattle.tas_top.specs.Runs.{given, IsRun};
+ghost use Rattle.tas_top.specs.Jobs.{IsFit, IsLogOf, Makes};
+ghost use Rattle.tas_top.specs.Stops.{Cause, status_of, writes_nothing, Unrun, Unwritten, Unwrites, WordsFirst};
+ghost use Rattle.tas_top.specs.Stops.{Untouched};
 ghost use Rattle.tas_top.specs.Stops.{ReadsFor, ReadsPast, ReadBefore, IsOfMade, SourceCalm, SinkCalm};
 ghost use Rattle.tas_top.specs.Telling.{IsTold};
 ghost use Rattle.tas_top.specs.Outputs.{output, text_of, WritesAll, WritesFront, IsWhole};
 ghost use Rattle.program_words.specs.Requests.{input_in, request_in};
-ghost use Rattle.program_words.specs.Words as asked;
-ghost use Rattle.program_words.specs.Words.{form_of, names_cores, Asks, IsAsked, IsMade, most_bytes};
+ghost use Rattle.program_words.specs.Words.{form_of, names_cores, IsAsked, IsMade, most_bytes};
 ghost use Rattle.tas_top.specs.declared.stop.Stop.{Stop};
 
 use crate::asking::asked_by;
 use crate::input::read_input;
-use crate::runner::{OnCores, Runner, Serial};
+use crate::runs::{Job, run_in_order, run_on_cores};
 use crate::stop::Stop;
 use crate::telling::tell;
 use program_words::{Input, Request, names_cores};
@@ -82,7 +84,11 @@ pub fn tas<R: Threads + Wait + Sync, S: Source, K: Sink, F: Sink, G: Gate + Sync
         → (result ≡ 0) ⊎ ((result ≡ 1) ⊎ (result ≡ 6)) }
 {
     if names_cores(words) {
-        answer(&OnCores { rt, gate }, alloc, words, source, sink, faults)
+        let make = |job: Job|
+            requires { IsFit job × (is_some job.asked.cores ≡ true) }
+            ensures { IsLogOf job result }
+        { run_on_cores(rt, alloc, &job, gate) };
+        answer(make, alloc, words, source, sink, faults)
     } else {
         tas_serial(alloc, words, source, sink, faults)
     }
@@ -140,19 +146,23 @@ pub fn tas_serial<S: Source, K: Sink, F: Sink>(
         (K.state sink.old) (K.state sink.new))
         → (result ≡ 0) ⊎ ((result ≡ 1) ⊎ (result ≡ 6)) }
 {
-    answer(&Serial, alloc, words, source, sink, faults)
+    let make = |job: Job|
+        requires { IsFit job × (job.asked.cores ≡ None) }
+        ensures { IsLogOf job result }
+    { run_in_order(alloc, &job) };
+    answer(make, alloc, words, source, sink, faults)
 }
 
-/// The same by one who makes the runs that the words ask for.
-fn answer<X: Runner, S: Source, K: Sink, F: Sink>(
-    runner: &X,
+/// The same by one who makes the run that the words ask for.
+fn answer<X: FnOnce(Job) -> Result<RunLog, Stop>, S: Source, K: Sink, F: Sink>(
+    make: X,
     alloc: Global,
     words: &[String],
     source: &mut S,
     sink: &mut K,
     faults: &mut F,
 ) -> u8
-    requires takes { (r : asked.Request) → Asks (form_of (map string_bytes words.now)) r → X.takes r.cores }
+    requires makes { Makes (form_of (map string_bytes words.now)) (X.pre make) (X.post make) }
     // At status 0 and 1 the sink grew by exactly the text of the run that was asked for, and 1 says that it is stalled.
     ensures headline { (result ≡ 0) ⊎ (result ≡ 1)
         → WritesAll (given (map string_bytes words.now) (S.state source.old) (S.state source.new)
@@ -195,7 +205,7 @@ fn answer<X: Runner, S: Source, K: Sink, F: Sink>(
         (K.state sink.old) (K.state sink.new))
         → (result ≡ 0) ⊎ ((result ≡ 1) ⊎ (result ≡ 6)) }
 {
-    match serve(runner, alloc, words, source, sink) {
+    match serve(make, alloc, words, source, sink) {
         Ok(false) => 0,
         Ok(true) => told(faults, Stop::Stalled),
         Err(stop) => told(faults, stop),
@@ -212,14 +222,14 @@ fn told<F: Sink>(faults: &mut F, stop: Stop) -> u8
 }
 
 /// Runs the input that the source has, and writes what was asked for. Answers whether the run is stalled.
-fn serve<X: Runner, S: Source, K: Sink>(
-    runner: &X,
+fn serve<X: FnOnce(Job) -> Result<RunLog, Stop>, S: Source, K: Sink>(
+    make: X,
     alloc: Global,
     words: &[String],
     source: &mut S,
     sink: &mut K,
 ) -> Result<bool, Stop>
-    requires takes { (r : asked.Request) → Asks (form_of (map string_bytes words.now)) r → X.takes r.cores }
+    requires makes { Makes (form_of (map string_bytes words.now)) (X.pre make) (X.post make) }
     ensures done { IfOk result (λ stalled. WritesAll
         (given (map string_bytes words.now) (S.state source.old) (S.state source.new)
         (K.state sink.old) (K.state sink.new)) (if stalled then 1 else 0)) }
@@ -248,11 +258,21 @@ fn serve<X: Runner, S: Source, K: Sink>(
 {
     let asked = asked_by(alloc, words)?;
     let bytes = read_input(alloc, asked.input, asked.most_bytes(), source)?;
-    let log = runner.run_of(alloc, &asked, &bytes)?;
+    let log = run_by(make, Job { asked, bytes })?;
     write_log(alloc, &asked, &log, sink)?;
     let stalled = log.stalled;
     leave(log);
     Ok(stalled)
+}
+
+/// The log of the run of this job, by one who makes it.
+fn run_by<X: FnOnce(Job) -> Result<RunLog, Stop>>(make: X, job: Job) -> Result<RunLog, Stop>
+    requires may { X.pre make job }
+    requires makes { (made : Result code.RunLog Stop) → X.post make job made → IsLogOf job made }
+    ensures ok { IfOk result (λ log. IsRun (request_in job.asked) job.bytes.items (log_in log)) }
+    ensures refused { IfErr result (Unrun (input_in job.asked.input) job.bytes.items) }
+{
+    make(job)
 }
 
 /// The program ends, and all that the run holds with it: to give that back piece by piece would only take time.

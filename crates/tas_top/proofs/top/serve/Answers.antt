@@ -1,7 +1,9 @@
 use Rattle.std.proofs.Common.{rules, ◌≡◌, IfSome, List, ℕ, map, string_bytes}
 use Rattle.tas_round.specs.Runs.{log_in}
-use Rattle.program_words.specs.Words.{most_in, form_of, HasClients, HasCores}
+use Rattle.program_words.specs.Words.{most_in, form_of}
 use Rattle.tas_top.specs.Runs.{given, bytes_of, IsRun}
+use Rattle.tas_top.specs.Jobs.{IsFit}
+use Rattle.tas_top.specs.declared.runs.Job.{Job}
 use Rattle.tas_top.specs.Outputs.{output}
 use Rattle.tas_top.specs.Stops.{Cause, ReadsFor, ReadBefore, Unread, Unrun, Unwritten, IsOfMade}
 use Rattle.program_words.specs.Requests.{request_in}
@@ -68,13 +70,18 @@ returns-in_err-log-clause-before g c =
     at_err (ReadBefore form before after) c.from_residual-in_err-log.result stop (search rules)
     (unrun_read form before after r.input bytes stop whole why)
 
-pub run_of-requires : goal.run_of-requires
-run_of-requires g c =
+pub run_by-requires : goal.run_by-requires
+run_by-requires g c =
     let words = map string_bytes c.args.words.now in
     let r = request_in c.in_ok-asked.asked in
-    let clients : HasClients r.input = clients_in_range words r c.in_ok-asked.ensures.ok in
-    let cores : HasCores r.cores = cores_in_range words r c.in_ok-asked.ensures.ok in
-    search (rules, clients, cores)
+    let job : Job = record { asked = c.in_ok-asked.asked; bytes = c.in_ok-bytes.bytes } in
+    let fit : IsFit job = record {
+      clients = clients_in_range words r c.in_ok-asked.ensures.ok;
+      cores = cores_in_range words r c.in_ok-asked.ensures.ok;
+      short = search rules;
+    } in
+    let makes = c.requires.makes job c.in_ok-asked.ensures.ok fit in
+    record { may = makes.0; makes = makes.1 }
 
 pub returns-clause-read : goal.returns-clause-read
 returns-clause-read g c =
