@@ -29,7 +29,7 @@ pub struct Job {
     pub bytes: Vec<u8>,
 }
 
-/// The log of the run that is asked for, in serial order, which waits for nobody. The error is that the bytes are none of
+/// The log of the run that is asked for, in serial order; it waits for nobody. The error is that the bytes are none of
 /// their kind, or want of memory.
 pub fn run_in_order(alloc: Global, job: &Job) -> Result<RunLog, Stop>
     requires fit { IsFit job.now }

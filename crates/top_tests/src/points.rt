@@ -30,13 +30,13 @@ const CAPTURE: &[u8] = &[
     // The header of the file: link type 101, raw IP.
     0xd4, 0xc3, 0xb2, 0xa1, 2, 0, 4, 0, 0, 0, 0, 0, 0, 0, 0, 0, 0xff, 0xff, 0, 0, 101, 0, 0, 0,
     // A record of 40 bytes, its IP header, and its TCP header.
-    0, 0, 0, 0, 0, 0, 0, 0, 40, 0, 0, 0, 40, 0, 0, 0,
-    0x45, 0, 0, 40, 0, 0, 0x40, 0, 0x40, 6, 0x26, 0xce, 10, 0, 0, 1, 10, 0, 0, 2,
-    0x9c, 0x40, 0, 80, 0, 0, 0, 100, 0, 0, 0, 0, 0x50, 2, 0xff, 0xff, 0xfe, 0xeb, 0, 0,
+    0, 0, 0, 0, 0, 0, 0, 0, 40, 0, 0, 0, 40, 0, 0, 0, 0x45, 0, 0, 40, 0, 0, 0x40, 0, 0x40, 6, 0x26,
+    0xce, 10, 0, 0, 1, 10, 0, 0, 2, 0x9c, 0x40, 0, 80, 0, 0, 0, 100, 0, 0, 0, 0, 0x50, 2, 0xff,
+    0xff, 0xfe, 0xeb, 0, 0,
     // The other one.
-    0, 0, 0, 0, 0, 0, 0, 0, 40, 0, 0, 0, 40, 0, 0, 0,
-    0x45, 0, 0, 40, 0, 0, 0x40, 0, 0x40, 6, 0x26, 0xce, 10, 0, 0, 1, 10, 0, 0, 2,
-    0x9c, 0x41, 0, 80, 0, 0, 0, 200, 0, 0, 0, 0, 0x50, 2, 0xff, 0xff, 0xfe, 0x86, 0, 0,
+    0, 0, 0, 0, 0, 0, 0, 0, 40, 0, 0, 0, 40, 0, 0, 0, 0x45, 0, 0, 40, 0, 0, 0x40, 0, 0x40, 6, 0x26,
+    0xce, 10, 0, 0, 1, 10, 0, 0, 2, 0x9c, 0x41, 0, 80, 0, 0, 0, 200, 0, 0, 0, 0, 0x50, 2, 0xff,
+    0xff, 0xfe, 0x86, 0, 0,
 ];
 
 /// Runs what the words ask for, by this gate. The answer is what the gate counted; the status must be 0.
@@ -139,10 +139,10 @@ fn a_capture_is_replayed_on_two_cores(rt: HostRuntime) -> Result<(), Fail> {
     meet(&rt, rt.alloc(), words, CAPTURE, 0)
 }
 
-/// Two cores of the servers' host run at once.
+/// Two cores of the servers' host run at once. There are three, as the numbers of a made scenario's groups are all odd.
 #[test]
 fn a_made_scenario_runs_on_two_cores(rt: HostRuntime) -> Result<(), Fail> {
-    meet(&rt, rt.alloc(), &["bulk", "4", "--cores", "2"], b"", 64)
+    meet(&rt, rt.alloc(), &["bulk", "3", "--cores", "3"], b"", 64)
 }
 
 #[test]

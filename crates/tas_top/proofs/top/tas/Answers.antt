@@ -10,7 +10,7 @@ answer-requires g c =
     let names : names_cores form ≡ true = search rules in
     record {
       makes = λ job asked fit. (
-        ((fit, asked_on_cores form (request_in job.asked) names asked), search rules, search rules),
+        ((fit, asked_on_cores form (request_in job.asked) names asked), (search rules, search rules)),
         λ made post. post.1,
       );
     }
