@@ -1,3 +1,5 @@
+ghost use Rattle.std.specs.Prelude.{◌<◌};
+
 use crate::watch::{Counts, Watch};
 use std::alloc::{AllocError, Global};
 use std::process::Abort;
