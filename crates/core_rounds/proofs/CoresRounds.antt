@@ -1,5 +1,5 @@
 -- A tick with cores is a right one.
-use Rattle.std.proofs.Common.{◌≡◌, ℕ, ◌+◌, ◌<◌, Bool, List, [], ◌∷◌, ◌++◌, map, fold, filter, refl, sym, subst, ap, ◌∙◌}
+use Rattle.std.proofs.Common.{◌≡◌, ℕ, ◌+◌, Bool, List, [], ◌∷◌, ◌++◌, map, fold, filter, refl, sym, subst, ap, ◌∙◌}
 use Rattle.std.proofs.Common.{append_assoc, append-nil}
 use Rattle.tas_model.specs.declared.entry.Caller.{Caller}
 use Rattle.tas_model.specs.declared.entry.Caller.TheVariants.{Slow, Core}
@@ -234,11 +234,11 @@ cores_round {S} {A} scripts cores t due before after by_moves each tick =
 
 -- and its entries are by its cores
 pub cores_low : {S A : Type 0} (scripts : Scripts S A) (cores t : ℕ) (due : Due A) (before after : Site S)
-    → AreByMoves scripts → AreLegal before.host → 0 < cores → IsCoresTick scripts cores t due before after
+    → AreByMoves scripts → AreLegal before.host → IsCoresTick scripts cores t due before after
     → AllBelow cores before.host → AllBelow cores after.host
-cores_low {S} {A} scripts cores t due before after by_moves legal some tick all =
+cores_low {S} {A} scripts cores t due before after by_moves legal tick all =
     let order : List Taken = tick.phase.order in
     let asked : Site S = after_asks scripts t before tick.middle tick.tried tick.rest tick.later in
     made_low cores scripts t before after (order_of t before order tick.tried tick.rest tick.later asked) by_moves legal
-    (order_workers (IsWorkerOf cores) tt some t before order tick.tried tick.rest tick.later asked tick.below)
+    (order_workers (IsWorkerOf cores) tt tick.some t before order tick.tried tick.rest tick.later asked tick.below)
     (cores_made scripts t before tick.middle order tick.tried tick.rest tick.later tick.phase.made ∙ tick.made) all

@@ -200,21 +200,22 @@ shared_round {S} {A} scripts cores t due before after by_moves each tick =
 
 -- and its entries are by its cores
 pub shared_low : {S A : Type 0} (scripts : Scripts S A) (cores t : ℕ) (due : Due A) (before after : Site S)
-    → AreByMoves scripts → AreLegal before.host → 0 < cores → IsSharedTick scripts cores t due before after
+    → AreByMoves scripts → AreLegal before.host → IsSharedTick scripts cores t due before after
     → AllBelow cores before.host → AllBelow cores after.host
-shared_low {S} {A} scripts cores t due before after by_moves legal some tick all =
+shared_low {S} {A} scripts cores t due before after by_moves legal tick all =
     let last : Site S = fold (does scripts t) tick.asked tick.sent in
     made_low cores scripts t before after
     (order_to scripts t before tick.order tick.rest tick.later (tick.sent ++ last_due t last)) by_moves legal
-    (shared_workers scripts t (IsWorkerOf cores) tt some before tick.order tick.rest tick.later tick.sent last
+    (shared_workers scripts t (IsWorkerOf cores) tt tick.some before tick.order tick.rest tick.later tick.sent last
     tick.workers (sent_workers scripts t cores tick.sent tick.sending))
     (to_sent scripts t before tick.middle tick.asked tick.order tick.rest tick.later tick.sent (last_due t last)
     tick.beside tick.alone ∙ emissions_fold scripts t 0 last [] last.host.flows refl ∙ tick.made) all
 
 -- where the cores do nothing
 pub without_cores : {S A : Type 0} (scripts : Scripts S A) (cores t : ℕ) (due : Due A) (before : Site S)
-    → IsSharedTick scripts cores t due before (tick_without_cores scripts t due before)
-without_cores scripts cores t due before = record {
+    → 0 < cores → IsSharedTick scripts cores t due before (tick_without_cores scripts t due before)
+without_cores scripts cores t due before some = record {
+  some = some;
   order = [];
   workers = tt;
   rest = due.frames;

@@ -60,9 +60,10 @@ tried_and_rest scripts t site tried rest =
 
 -- The slow path gives up closed flows and lets time pass; cores take frames and applications ask side by side; the slow
 -- path takes the other frames; the applications ask the rest in their order; and all that may go is sent. The host has
--- so many cores, numbered from 0 on.
+-- so many cores, numbered from 0 on, and one at least, which sends.
 pub record IsCoresTick {S A : Type 0} (scripts : Scripts S A) (cores t : ℕ) (due : Due A) (before after : Site S)
     : Type 0 where
+  pub some : 0 < cores
   pub rest : List Arrival
   pub middle : Host
   pub phase : IsCoresPhase t (slow_phase t before.host) due.frames rest middle

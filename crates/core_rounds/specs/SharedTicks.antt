@@ -1,6 +1,6 @@
 -- A tick of a host whose cores and applications share its flows: what they do side by side is one order of deeds, and
 -- all else is done by the slow path and the applications, one after the other.
-use Rattle.std.specs.Prelude.{◌≡◌, ℕ, ◌++◌, List, map, filter, fold}
+use Rattle.std.specs.Prelude.{◌≡◌, ℕ, ◌<◌, ◌++◌, List, map, filter, fold}
 use Rattle.host_rounds.specs.Lists.{Each}
 use Rattle.host_rounds.specs.Hosts.{Host}
 use Rattle.host_rounds.specs.Deliveries.{Arrival}
@@ -40,9 +40,10 @@ alone_phase scripts t site rest later =
 -- The slow path gives up closed flows and lets time pass. Then cores take frames and send, and applications ask, side
 -- by side: what they leave is what one order of their deeds leaves. The slow path takes the frames that are left, and
 -- the applications ask what is left. Then cores send side by side again, and the slow path sends what may still go. The
--- host has so many cores, numbered from 0 on.
+-- host has so many cores, numbered from 0 on, and one at least.
 pub record IsSharedTick {S A : Type 0} (scripts : Scripts S A) (cores t : ℕ) (due : Due A) (before after : Site S)
     : Type 0 where
+  pub some : 0 < cores
   pub order : List (Deed A)
   pub workers : Each (λ (deed : Deed A). IsWorkerOf cores deed.by) order
   pub rest : List Arrival

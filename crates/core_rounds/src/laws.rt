@@ -21,7 +21,7 @@ pub fn cores_ticks_are_right<S, A>()
 /// A tick of a host with so many cores has entries by these alone, by the slow path and by applications.
 pub fn cores_ticks_are_by_their_cores<S, A>()
     ensures { (scripts : Scripts S A) (cores t : ℕ) (due : Due A) (before after : Site S) → AreByMoves scripts
-        → Each HasHistory before.host.flows → 0 < cores → IsCoresTick scripts cores t due before after
+        → Each HasHistory before.host.flows → IsCoresTick scripts cores t due before after
         → AllBelow cores before.host → AllBelow cores after.host }
 {}
 
@@ -36,13 +36,14 @@ pub fn shared_ticks_are_right<S, A>()
 /// Of such a tick the entries are by the host's cores alone, too, by the slow path and by applications.
 pub fn shared_ticks_are_by_their_cores<S, A>()
     ensures { (scripts : Scripts S A) (cores t : ℕ) (due : Due A) (before after : Site S) → AreByMoves scripts
-        → Each HasHistory before.host.flows → 0 < cores → IsSharedTick scripts cores t due before after
+        → Each HasHistory before.host.flows → IsSharedTick scripts cores t due before after
         → AllBelow cores before.host → AllBelow cores after.host }
 {}
 
-/// A tick in which the slow path takes all frames, and the applications ask after them, is one of these.
+/// A tick in which the slow path takes all frames, and the applications ask after them, is one of these, by however
+/// many cores.
 pub fn ticks_without_cores_are_shared<S, A>()
-    ensures { (scripts : Scripts S A) (cores t : ℕ) (due : Due A) (before : Site S)
+    ensures { (scripts : Scripts S A) (cores t : ℕ) (due : Due A) (before : Site S) → 0 < cores
         → IsSharedTick scripts cores t due before (tick_without_cores scripts t due before) }
 {}
 

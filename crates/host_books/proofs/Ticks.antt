@@ -44,6 +44,7 @@ module _ {S A : Type 0} (scripts : Scripts S A) (t : ℕ) where
   pub tick_of_phases : (cores : ℕ) (due : Due A) (before after : Site S)
       → IsTickOfPhases scripts cores t due before after → IsSharedTick scripts cores t due before after
   tick_of_phases cores due before after k = record {
+    some = k.some;
     order = deeds_of k.first;
     workers = k.workers;
     rest = k.rest;

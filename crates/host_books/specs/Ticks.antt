@@ -1,6 +1,6 @@
 -- A tick of a host whose cores and applications work side by side twice: on the frames that came and what is asked,
 -- and, after the slow path and the applications, on what may go.
-use Rattle.std.specs.Prelude.{◌≡◌, ℕ, List, ◌++◌, map, filter, IsPermutation}
+use Rattle.std.specs.Prelude.{◌≡◌, ℕ, ◌<◌, List, ◌++◌, map, filter, IsPermutation}
 use Rattle.host_rounds.specs.Lists.{Each}
 use Rattle.host_rounds.specs.Deliveries.{Arrival}
 use Rattle.host_rounds.specs.Scripts.{Site, Scripts}
@@ -44,9 +44,10 @@ AreByWorkers {A} cores deeds = Each (λ (m : rounds.Deed A). IsWorkerOf cores m.
 -- The slow path gives up closed flows and lets time pass. Of the frames that came, each once, some are taken beside the
 -- others, and so are some asks. The slow path takes the frames that are left, and the applications ask what is left.
 -- Then segments alone are sent side by side, and the slow path sends what may still go. The host has so many cores,
--- numbered from 0 on.
+-- numbered from 0 on, and one at least.
 pub record IsTickOfPhases {S A : Type 0} (scripts : Scripts S A) (cores t : ℕ) (due : Due A) (before after : Site S)
     : Type 0 where
+  pub some : 0 < cores
   pub first : Beside scripts t
   pub workers : AreByWorkers cores (deeds_of first)
   pub slow : on_host (slow_phase t) before ≡ site_before first
