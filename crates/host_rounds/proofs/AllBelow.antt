@@ -1,6 +1,7 @@
 -- Where a tick is the work of so many cores and of the slow path, so are all its entries: for the law
 -- `serial_ticks_have_one_core`, and for those of ticks with cores.
-use Rattle.std.proofs.Common.{◌≡◌, ℕ, ◌+◌, ◌<◌, ◌&&◌, Bool, true, false, List, [], ◌∷◌, fold, Option, Some, None, subst, arith}
+use Rattle.std.proofs.Common.{◌≡◌, ℕ, ◌+◌, ◌<◌, ◌&&◌, Bool, true, false, List, [], ◌∷◌, fold, Option, Some}
+use Rattle.std.proofs.Common.{None, subst, arith}
 use Rattle.tas_model.specs.declared.entry.FourTuple.{FourTuple}
 use Rattle.tas_model.specs.declared.entry.FrameId.{FrameId}
 use Rattle.tas_model.specs.declared.entry.Seg.{Seg}

@@ -81,7 +81,8 @@ pub played_on_cores : (items : List Item) (cores t : ℕ) (batch : List Item) (s
     → framed ≡ rests items t (record site { host = middle }) rest → asked ≡ asks items t framed batch
     → last ≡ emit_phase t asked.host → 0 < cores
     → IsCoresTick (capture_scripts items) cores t (due_in batch) site (record asked { host = last })
-played_on_cores items cores t batch site slow frames rest middle framed asked last first came took second third fourth some =
+played_on_cores items cores t batch site slow frames rest middle framed asked last first came took second third fourth
+    some =
     let here : PhaseOf cores t (slow_phase t site.host) (arrivals_in batch) rest middle =
     subst (λ (h : Host). PhaseOf cores t h (arrivals_in batch) rest middle) first
     (subst (λ (xs : List Arrival). PhaseOf cores t slow xs rest middle) came took) in

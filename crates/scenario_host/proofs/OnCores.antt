@@ -60,31 +60,32 @@ side_by_side : (s : Scenario) (params : HostParams) (count t : ℕ) (start timed
     → IsSidePhase t timed cores frames rest given attempts after
     → AreAttemptsOf t scripts given → IsSound (site_with start scripts)
     → SideBySide s params count t timed frames rest attempts after scripts (answered_all attempts scripts)
-side_by_side s params count t start timed after cores frames rest given attempts scripts slow low side are sound = record {
-  middle = side.middle;
-  phase = phase_of count t timed cores frames rest side.middle low side.phase;
-  leads = subst (λ (h : Host). Leads numbers address t [] first end h (answered_all attempts scripts)) side.others
-      (leads_by_tries numbers address t attempts scripts 0 first end side.middle scripts after.flows refl
-      (subst (AreAttemptsOf t scripts) (sym side.same) are) side.made
-      (leads_start numbers address t (tried_in attempts (numbers_in scripts)) first middle_sound.numbers
-      middle_sound.scripts));
-} where
-  numbers : Numbers
-  numbers = numbers_of params
+side_by_side s params count t start timed after cores frames rest given attempts scripts slow low side are
+    sound = record {
+      middle = side.middle;
+      phase = phase_of count t timed cores frames rest side.middle low side.phase;
+      leads = subst (λ (h : Host). Leads numbers address t [] first end h (answered_all attempts scripts)) side.others
+          (leads_by_tries numbers address t attempts scripts 0 first end side.middle scripts after.flows refl
+          (subst (AreAttemptsOf t scripts) (sym side.same) are) side.made
+          (leads_start numbers address t (tried_in attempts (numbers_in scripts)) first middle_sound.numbers
+          middle_sound.scripts));
+    } where
+      numbers : Numbers
+      numbers = numbers_of params
 
-  address : List ℕ → ℕ
-  address = address_in s.hosts
+      address : List ℕ → ℕ
+      address = address_in s.hosts
 
-  first : Site (List Script)
-  first = site_with side.middle scripts
+      first : Site (List Script)
+      first = site_with side.middle scripts
 
-  end : Site (List Script)
-  end = asked_all numbers address t first (tried_in attempts (numbers_in scripts))
+      end : Site (List Script)
+      end = asked_all numbers address t first (tried_in attempts (numbers_in scripts))
 
-  middle_sound : IsSound first
-  middle_sound =
-      sound_later timed side.middle scripts (lasts_phase t frames rest timed side.middle side.phase.phase)
-      (slow_sound t start timed scripts slow sound)
+      middle_sound : IsSound first
+      middle_sound =
+          sound_later timed side.middle scripts (lasts_phase t frames rest timed side.middle side.phase.phase)
+          (slow_sound t start timed scripts slow sound)
 
 -- the scripts of these attempts can go on
 pub side_within : (t : ℕ) (before after : Host) (cores : List ℕ) (frames rest : List Arrival)
@@ -163,7 +164,8 @@ pub played_on_cores : (s : Scenario) (params : HostParams) (count t : ℕ) (fram
     → sent ≡ emit_phase t asked → 0 < count
     → IsCoresTick (scripts_of s params) count t (record { frames = frames; asks = numbers_in before })
     (site_with start before) (site_with sent last)
-played_on_cores s params count t frames rest attempts shown start met asked sent before now last b told turns goes some =
+played_on_cores s params count t frames rest attempts shown start met asked sent before now last b told turns goes
+    some =
     let here : PhaseOf count t (slow_phase t start) frames rest b.side.middle =
     subst (λ (h : Host). PhaseOf count t h frames rest b.side.middle) b.slow b.side.phase in
     let later : List ℕ = later_in attempts (numbers_in before) in

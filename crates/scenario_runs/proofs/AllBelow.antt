@@ -39,6 +39,9 @@ world_low : (s : Scenario) (t : ℕ) (world : World) → AreLegal world → AreB
 unfolding serial_world
 world_low s t world legal low = sites_low s world t 0 world legal low
 
+abbrev picked : Bool → End → End → End
+picked rest stopped going = elim rest [ true ↦ stopped | false ↦ going ]
+
 runs_low : (s : Scenario) (most t : ℕ) (world : World) → AreLegal world → AreBelow 1 world
     → AreBelow 1 (serial_from s most t world).world
 unfolding serial_from
@@ -50,14 +53,8 @@ runs_low s (suc most) t world legal low =
     (runs_low s most (t + 1) next (rounds_legal s world t 0 world next (serial_is_tick s t world legal) legal) after)
   where
     by_rest : (next : World) (b : Bool) → AreBelow 1 next → AreBelow 1 (serial_from s most (t + 1) next).world
-        → AreBelow 1 (elim {C = λ (b : Bool). End} b [
-          | true ↦ record {
-            world = next;
-            ticks = t + 1;
-            stalled = false;
-          }
-          | false ↦ serial_from s most (t + 1) next
-        ]).world
+        → AreBelow 1 (picked b (record { world = next; ticks = t + 1; stalled = false })
+        (serial_from s most (t + 1) next)).world
     by_rest next true after rest = after
     by_rest next false after rest = rest
 

@@ -17,7 +17,8 @@ use Rattle.scenario_world.specs.Playing.{AreNumbered}
 
 -- ----- one host
 -- Its tick on cores is a right one.
-pub one_round : (s : Scenario) (whole : World) (cores t h : ℕ) (before after : Site (List Script)) (frames : List Arrival)
+pub one_round : (s : Scenario) (whole : World) (cores t h : ℕ) (before after : Site (List Script))
+    (frames : List Arrival)
     → Each HasHistory before.host.flows
     → frames ≡ arrivals_at s.link (sent_in whole) t h
     → IsCoresTick (scripts_of s before.host.params) cores t

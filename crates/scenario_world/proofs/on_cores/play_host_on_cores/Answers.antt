@@ -11,7 +11,8 @@ pub returns-clause-round : goal.returns-clause-round
 returns-clause-round g c = λ whole same histories.
     ok_by c.play_on_cores.result
     (λ tick.
-    one_round c.args.s.now whole c.args.cores.now.count c.args.tick c.args.cores.now.host c.args.host.now c.play_on_cores.new.self
+    one_round c.args.s.now whole c.args.cores.now.count c.args.tick c.args.cores.now.host c.args.host.now
+    c.play_on_cores.new.self
     (map arrival_in c.deref.result.now) histories
     (ap (map arrival_in) c.deref.ensures.value
     ∙ (c.in_ok-arrivals.ensures
