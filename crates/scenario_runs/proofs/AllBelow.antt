@@ -1,6 +1,5 @@
 -- The cores that make the entries of a run: on one thread there is one.
 use Rattle.std.proofs.Common.{ℕ, zero, suc, ◌+◌, Bool, true, false, List, [], ◌∷◌, map}
-use Rattle.host_rounds.specs.Lists.{Each}
 use Rattle.host_rounds.specs.Cores.{CoresBelow}
 use Rattle.host_rounds.proofs.AllBelow.{run_low, serial_tick_low}
 use Rattle.scenario_text.specs.declared.scenario.Scenario.{Scenario}
