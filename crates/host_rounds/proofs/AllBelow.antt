@@ -1,6 +1,6 @@
 -- Where a tick is the work of so many cores and of the slow path, so are all its entries: for the law
 -- `serial_ticks_have_one_core`, and for those of ticks with cores.
-use Rattle.std.proofs.Common.{◌≡◌, ℕ, ◌+◌, ◌<◌, ◌&&◌, Bool, true, false, List, [], ◌∷◌, fold, Option, Some}
+use Rattle.std.proofs.Common.{◌≡◌, ℕ, ◌+◌, ◌&&◌, Bool, true, false, List, [], ◌∷◌, fold, Option, Some}
 use Rattle.std.proofs.Common.{None, subst, arith}
 use Rattle.tas_model.specs.declared.entry.FourTuple.{FourTuple}
 use Rattle.tas_model.specs.declared.entry.FrameId.{FrameId}
@@ -12,8 +12,7 @@ use Rattle.tas_model.specs.declared.entry.Call.{Call}
 use Rattle.tas_model.specs.declared.entry.Call.TheVariants as calls
 use Rattle.tas_model.specs.NextSegment.{Going, going}
 use Rattle.tas_model.proofs.Tests.{on_cond}
-use Rattle.host_rounds.specs.Logs.{Flow}
-use Rattle.host_rounds.specs.Lists.{Each, change_at}
+use Rattle.host_rounds.specs.Lists.{Each}
 use Rattle.host_rounds.specs.Hosts.{Live, Host, Numbers, next_number, endpoint, is_over, with_call, is_known}
 use Rattle.host_rounds.specs.Hosts.{is_indexed_as, is_listening, is_full, lowest_free, flows_of}
 use Rattle.host_rounds.specs.Upkeep.{swept, all_swept, controlled, timed_unless, timed, emits_where, emits}
