@@ -11,6 +11,7 @@ use Rattle.tas_num.specs.declared.outside.IoFault.{IoFault}
 use Rattle.tas_num.specs.declared.outside.IoFault.TheVariants.{Failed, OutOfMemory}
 use Rattle.host_rounds.specs.Lists.{Each}
 use Rattle.host_rounds.specs.Logs.{RunLog}
+use Rattle.host_rounds.specs.Cores.{CoresBelow}
 use Rattle.scenario_text.specs.Bulk.{bulk_text}
 use Rattle.scenario_text.specs.Reads.{reads}
 use Rattle.scenario_text.specs.declared.scenario.Scenario as scenarios
@@ -21,9 +22,10 @@ use Rattle.scenario_ranges.proofs.Drafts.{read_in_range}
 use Rattle.scenario_runs.specs.Runs.{Run}
 use Rattle.scenario_runs.specs.Histories.{AreInRange, AreSound}
 use Rattle.scenario_runs.proofs.AllRuns.{serial_is_run, runs_sound}
+use Rattle.scenario_runs.proofs.AllBelow.{serial_run_low}
 use Rattle.tas_runs.specs.Replays.{Replay}
 use Rattle.tas_runs.specs.SerialOrder.{serial_replay}
-use Rattle.tas_runs.proofs.SerialRun.{serial_is_replay}
+use Rattle.tas_runs.proofs.SerialRun.{serial_is_replay, serial_replay_low}
 use Rattle.tas_runs.proofs.Runs.{replays_sound}
 use Rattle.two_ends.proofs.Texts.{text_reads}
 use Rattle.tas_top.specs.declared.stop.Stop.{Stop}
@@ -31,7 +33,7 @@ use Rattle.tas_top.specs.declared.stop.Stop.TheVariants.{Stalled, Words, Line, R
 use Rattle.program_words.specs.Words.{Form, Unknown, IsForm, form_of, Input, Scenario, Made, Capture, Request}
 use Rattle.program_words.specs.Words.{Asks, IsMade, HasClients, most_in, most_bytes}
 use Rattle.program_words.specs.Words as forms
-use Rattle.tas_top.specs.Runs.{bytes_of, IsInput, IsSerialRun, IsRunOf, AreEndsOf, IsRun, Given, Ran}
+use Rattle.tas_top.specs.Runs.{bytes_of, IsInput, IsSerialRun, IsRunOf, AreEndsOf, cores_of, IsRun, Given, Ran}
 use Rattle.tas_top.specs.Stops.{Cause, IsNoInput, Unrun, Untaken, Unwritten, ReadsAll, ReadsFor, IsReadFor, ReadBefore}
 use Rattle.tas_top.specs.Stops.{IsOfMade, Unread, status_of}
 use Rattle.tas_top.specs.Outputs.{IsWhole, WritesAll, WritesFront, output, end_status}
@@ -85,31 +87,48 @@ run_has_ends (Made clients) b log few run =
     (subst (λ (x : scenarios.Scenario). Run x log) same run.2)
 run_has_ends (Capture local loose) b log clients run = tt
 
+serial_run_is_low : (input : Input) (b : List ℕ) (log : RunLog) → IsSerialRun input b log → CoresBelow 1 log.hosts
+serial_run_is_low Scenario b log serial =
+    subst (λ (l : RunLog). CoresBelow 1 l.hosts) serial.2 (serial_run_low serial.0)
+serial_run_is_low (Made clients) b log serial =
+    subst (λ (l : RunLog). CoresBelow 1 l.hosts) serial.2 (serial_run_low serial.0)
+serial_run_is_low (Capture local loose) b log serial =
+    of_ok (serial_replay (ipv4_bits local) b loose) (λ (l : RunLog). CoresBelow 1 l.hosts) log serial
+    (serial_replay_low (ipv4_bits local) b loose)
+
 -- the run without cores, in serial order
-pub is_run_serially : (r : Request) (b : List ℕ) (log : RunLog) → HasClients r.input → IsSerialRun r.input b log
-    → IsRun r b log
-is_run_serially r b log clients serial =
+pub is_run_serially : (r : Request) (b : List ℕ) (log : RunLog) → HasClients r.input → r.cores ≡ None
+    → IsSerialRun r.input b log → IsRun r b log
+is_run_serially r b log clients none serial =
     let run : IsRunOf r.input b log = run_in_serial_order r.input b log serial in
     record {
       run = run;
       sound = run_is_sound r.input b log run;
       ends = run_has_ends r.input b log clients run;
-      serial = λ none. serial;
+      cores = subst (λ (asked : Option ℕ). CoresBelow (cores_of asked) log.hosts) (sym none)
+          (serial_run_is_low r.input b log serial);
+      serial = λ h. serial;
     }
 
 -- the run with cores, in any order
 pub is_run_on_cores : (r : Request) (n : ℕ) (b : List ℕ) (log : RunLog) → HasClients r.input → r.cores ≡ Some n
-    → IsRunOf r.input b log → IsRun r b log
-is_run_on_cores r n b log clients cores run = record {
+    → IsRunOf r.input b log → CoresBelow n log.hosts → IsRun r b log
+is_run_on_cores r n b log clients cores run low = record {
   run = run;
   sound = run_is_sound r.input b log run;
   ends = run_has_ends r.input b log clients run;
+  cores = subst (λ (asked : Option ℕ). CoresBelow (cores_of asked) log.hosts) (sym cores) low;
   serial = λ none. absurd (cc (cores, none));
 }
 
 pub if_ok : {T : Type 0} (r : Result T Stop) (P Q : T → Type 0) → ((x : T) → P x → Q x) → IfOk r P → IfOk r Q
 if_ok (Ok x) P Q f h = f x h
 if_ok (Err stop) P Q f h = tt
+
+pub both_ok : {T : Type 0} (r : Result T Stop) (P Q R : T → Type 0) → ((x : T) → P x → Q x → R x) → IfOk r P → IfOk r Q
+    → IfOk r R
+both_ok (Ok x) P Q R f h k = f x h k
+both_ok (Err stop) P Q R f h k = tt
 
 -- these are the bytes of the input, where they are told
 abbrev pub IsAll : Given → Request → (b : List ℕ) → Type 0

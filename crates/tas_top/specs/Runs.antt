@@ -5,6 +5,7 @@ use Rattle.tas_num.specs.Captures as captures
 use Rattle.tas_num.specs.Streams.{SourceState, SinkState}
 use Rattle.host_rounds.specs.Lists.{Each}
 use Rattle.host_rounds.specs.Logs.{HostRun, RunLog}
+use Rattle.host_rounds.specs.Cores.{CoresBelow}
 use Rattle.scenario_text.specs.declared.scenario.Scenario as scenarios
 use Rattle.scenario_text.specs.Reads.{reads}
 use Rattle.scenario_text.specs.Bulk.{bulk_text}
@@ -52,15 +53,23 @@ AreEndsOf Scenario b log = (s : scenarios.Scenario) → reads b ≡ Ok s → IsF
 AreEndsOf (Made clients) b log = EndsAgree log
 AreEndsOf (Capture local loose) b log = ⊤
 
+-- ----- cores
+-- how many cores each host has: as many as are asked for, and on one thread one, core 0
+abbrev pub cores_of : (asked : Option ℕ) → ℕ
+cores_of None = 1
+cores_of (Some count) = count
+
 -- ----- the run
 -- The log is that of a run that is asked for, of all bytes of its input. It is a run of this input; each flow in it is
 -- sound: it has a history of the endpoint, has read a prefix of every one stream that its peer may have sent, and
 -- acknowledged only what stands in order; what is read at one end of a connection was sent at the other, where the link
--- damages nothing; and where no cores are asked for, it is the run in serial order.
+-- damages nothing; each entry that a core made was made by one of its host's; and where no cores are asked for, it is
+-- the run in serial order.
 pub record IsRun (r : Request) (b : List ℕ) (log : RunLog) : Type 0 where
   pub run : IsRunOf r.input b log
   pub sound : AreSound log.hosts
   pub ends : AreEndsOf r.input b log
+  pub cores : CoresBelow (cores_of r.cores) log.hosts
   pub serial : r.cores ≡ None → IsSerialRun r.input b log
 
 -- What a call was given, and what became of its source and its sink.

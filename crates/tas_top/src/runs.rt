@@ -1,5 +1,6 @@
 ghost use Rattle.std.specs.Prelude.{◌≡◌, ◌≤◌, ℕ, Bool, true, List, [], length, Some, None, is_some, Ok, IfOk, IfErr};
 ghost use Rattle.std.specs.declared.net.ipv4_addr.Ipv4Addr.{Ipv4Addr};
+ghost use Rattle.host_rounds.specs.Cores.{CoresBelow};
 ghost use Rattle.scenario_text.specs.Reads.{reads};
 ghost use Rattle.scenario_text.specs.Bulk.{bulk_text};
 ghost use Rattle.scenario_ranges.specs.Ranges.{IsInRange};
@@ -84,6 +85,7 @@ fn run_on<R: Threads + Wait + Sync, G: Gate + Sync>(
     requires clients { asked.HasClients (input_in input) }
     requires cores { asked.HasCores (Some count) }
     ensures ok { IfOk result (λ log. IsRunOf (input_in input) bytes.now (log_in log)) }
+    ensures below { IfOk result (λ log. CoresBelow count (log_in log).hosts) }
     ensures refused { IfErr result (Unrun (input_in input) bytes.now) }
 {
     match input {
@@ -117,6 +119,7 @@ fn scenario_on_cores<R: Threads + Wait + Sync, G: Gate + Sync>(
 ) -> Result<RunLog, Stop>
     requires { asked.HasCores (Some count) }
     ensures ok { IfOk result (λ log. IsRunOf asked.Scenario bytes.now (log_in log)) }
+    ensures below { IfOk result (λ log. CoresBelow count (log_in log).hosts) }
     ensures refused { IfErr result (Unrun asked.Scenario bytes.now) }
 {
     let scenario = scenario_of(alloc, bytes)?;
@@ -150,6 +153,7 @@ fn made_on_cores<R: Threads + Wait + Sync, G: Gate + Sync>(
     requires clients { asked.HasClients (asked.Made clients) }
     requires cores { asked.HasCores (Some count) }
     ensures ok { IfOk result (λ log. IsRunOf (asked.Made clients) [] (log_in log)) }
+    ensures below { IfOk result (λ log. CoresBelow count (log_in log).hosts) }
     ensures memory { IfErr result (λ stop. stop ≡ Stop.Memory) }
 {
     let scenario = made_scenario(alloc, clients)?;
@@ -212,6 +216,7 @@ fn capture_on_cores<R: Threads + Wait + Sync, G: Gate + Sync>(
     requires short { length bytes.now ≤ 67108864 }
     requires cores { asked.HasCores (Some count) }
     ensures ok { IfOk result (λ log. IsRunOf (asked.Capture local loose) bytes.now (log_in log)) }
+    ensures below { IfOk result (λ log. CoresBelow count (log_in log).hosts) }
     ensures refused { IfErr result (Unrun (asked.Capture local loose) bytes.now) }
 {
     match replay(
