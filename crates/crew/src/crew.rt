@@ -1,8 +1,9 @@
 //! A phase: jobs that a crew's threads and the caller work on side by side.
 ghost use Rattle.std.specs.Prelude.{◌≡◌, ◌<◌, length, All, vec_capacity};
 ghost use Rattle.std.specs.List.{AllZip};
-ghost use Rattle.crew.specs.Crews.{IsReady, desk_of, desks_of};
+ghost use Rattle.crew.specs.Crews.{IsReady, IsOutAt, desk_of, desks_of};
 
+use crate::desk::{Desk, wake};
 use crate::job::Job;
 use crate::post::{Post, take_post};
 use std::marker::Model;
@@ -35,25 +36,28 @@ impl<W: Job + Drop> Crew<W> {
         self.posts.len()
     }
 
-    /// Works on all jobs side by side, and returns when each is done: each thread that has begun works on one, from the
-    /// last job on, and the caller on those that are left. A job is back in its place, as its own work left it.
+    /// Works on all jobs side by side, and returns when each is done: each thread is handed one, from the last job on,
+    /// and the caller works on those that are left, and then on each that no thread has begun meanwhile. A job is back in
+    /// its place, as its own work left it.
     pub fn phase<R: Wait, G: Gate>(&mut self, rt: &R, gate: &G, jobs: &mut Vec<W>)
         requires { All W.can jobs.old.items }
         ensures made { AllZip W.made jobs.old.items jobs.new.items }
         ensures room { vec_capacity jobs.new ≡ vec_capacity jobs.old }
         ensures same { self.new ≡ self.old }
     {
-        work_all(rt, gate, &mut self.posts, jobs);
+        work_all(rt, gate, &mut self.posts, jobs, None);
     }
 }
 
-/// The jobs by the threads of these posts, the last one by the last post's, and by the caller.
+/// The jobs by the threads of these posts, the last one by the last post's, and by the caller. Once all are handed out,
+/// the thread behind this desk is woken, where the first of the phase was handed out.
 #[cycle(sharing)]
 fn work_all<R: Wait, G: Gate, W: Job + Drop>(
     rt: &R,
     gate: &G,
     posts: &mut Vec<Post<W>>,
     jobs: &mut Vec<W>,
+    first: Option<&Desk<W>>,
 )
     requires ready { All IsReady posts.old.items }
     requires can { All W.can jobs.old.items }
@@ -65,18 +69,21 @@ fn work_all<R: Wait, G: Gate, W: Job + Drop>(
     ensures posts_room { vec_capacity posts.new ≡ vec_capacity posts.old }
 {
     if jobs.len() < 2 {
+        wake(first);
         work_here(rt, gate, jobs.as_mut_slice());
         return;
     }
     let Some(mut post) = take_post(posts) else {
+        wake(first);
         work_here(rt, gate, jobs.as_mut_slice());
         return;
     };
-    share(rt, gate, &mut post, posts, jobs);
+    share(rt, gate, &mut post, posts, jobs, first);
     posts.push_reserved(post);
 }
 
-/// The last job by this post's thread, where there is one, and the others by those posts' and the caller.
+/// The last job by this post's thread, where there is one, and the others by those posts' and the caller. Where that
+/// thread has not begun by then, as it sleeps or has no processor, the caller works in its place.
 #[cycle(sharing)]
 fn share<R: Wait, G: Gate, W: Job + Drop>(
     rt: &R,
@@ -84,6 +91,7 @@ fn share<R: Wait, G: Gate, W: Job + Drop>(
     post: &mut Post<W>,
     posts: &mut Vec<Post<W>>,
     jobs: &mut Vec<W>,
+    first: Option<&Desk<W>>,
 )
     requires some { 0 < length jobs.old.items }
     requires one { IsReady post.old }
@@ -99,16 +107,30 @@ fn share<R: Wait, G: Gate, W: Job + Drop>(
     ensures posts_room { vec_capacity posts.new ≡ vec_capacity posts.old }
 {
     if !post.is_manned() {
-        work_all(rt, gate, posts, jobs);
+        work_all(rt, gate, posts, jobs, first);
         return;
     }
     let Some(job) = jobs.pop() else {
         unreachable!()
     };
     post.send(job);
-    work_all(rt, gate, posts, jobs);
-    let job = post.receive(rt);
+    work_all(rt, gate, posts, jobs, Some(first.unwrap_or(&post.desk)));
+    let job = finish(rt, gate, post);
     jobs.push_reserved(job);
+}
+
+/// The job that is out at this post, done: by the caller, where its thread has not begun it.
+fn finish<R: Wait, G: Gate, W: Job + Drop>(rt: &R, gate: &G, post: &mut Post<W>) -> W
+    requires { (x : W) × W.can x × IsOutAt x post.old }
+    ensures made { (x : W) → IsOutAt x post.old → W.made x result }
+    ensures ready { IsReady post.new }
+    ensures desk { desk_of post.new ≡ desk_of post.old }
+{
+    let Some(mut job) = post.recall() else {
+        return post.receive(rt);
+    };
+    job.work(rt, gate);
+    job
 }
 
 /// The jobs by the caller, one after the other.

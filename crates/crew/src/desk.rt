@@ -5,7 +5,8 @@ ghost use Rattle.crew.specs.Desks.{IsAtRest, IsIdle, IsOut, IsStillOut, IsStoppe
 ghost use Rattle.crew.specs.Desks.{IsAway, IsFree, IsAtWork, IsGone, IsFound};
 
 use crate::handover::{
-    Arrive, Ask, Clear, HandBack, HandOut, Handover, Look, Part, Stop, TakeBack, View,
+    Arrive, Ask, Claim, Clear, HandBack, HandOut, Handover, Look, Part, Recall, Stop, TakeBack,
+    View,
 };
 use crate::job::Job;
 use atomic_table::{Seat, Table};
@@ -16,22 +17,34 @@ use std::sync::Wait;
 use std::sync::atomic::{AtomicBool, Ordering};
 use tas_num::Gate;
 
-/// The word that says how things stand: 0 at first, and then one of these.
+/// The word that says how things stand, by one of these.
 const STATE: usize = 0;
 
+/// Nothing waits: at first, and where a job was taken back.
+const NOTHING: u64 = 0;
+
+/// A job waits. Whoever makes this another number has the job.
 const JOB: u64 = 1;
 
 const DONE: u64 = 2;
 
 const STOP: u64 = 3;
 
+/// A job is worked on.
+const WORK: u64 = 4;
+
 /// The word that says whether a thread is behind the desk: 0 at first, and then this.
 const MANNED: usize = 1;
 
 const THERE: u64 = 1;
 
-/// How often a thread looks before it sleeps: about as long as the system takes to wake one that sleeps.
-const LOOKS: u32 = 500;
+/// How often a thread looks before it sleeps: about as long as the system takes to wake one that sleeps, since a look
+/// takes some 50 ns, and a wake 30 to 60 µs.
+const LOOKS: u32 = 1_500;
+
+/// The point of the gate that a thread passes once it found a job, and before it begins it. Jobs have points of their
+/// own.
+pub const BEFORE_JOB: u32 = u32::MAX;
 
 /// A desk. A contract sees its identity.
 #[derive(Drop)]
@@ -99,7 +112,7 @@ impl<W: Job + Drop> Desk<W> {
         self.table.shared.load::<Ask>(&mut dispatcher.seat, MANNED) == THERE
     }
 
-    /// Hands a job out.
+    /// Hands a job out, and wakes nobody.
     pub(crate) fn send(&self, dispatcher: &mut Dispatcher<W>, job: W)
         requires idle { IsIdle self.now dispatcher.old.seat }
         requires can { W.can job }
@@ -108,8 +121,13 @@ impl<W: Job + Drop> Desk<W> {
         let shared = &self.table.shared;
         drop(shared.exchange(&mut dispatcher.seat, 0, Some(job)));
         shared.swap::<HandOut>(&mut dispatcher.seat, STATE, JOB);
+    }
+
+    /// Wakes the thread behind the desk, where it sleeps. One that is about to sleep says so first, and then looks at
+    /// the word once more: so after a job was handed out either this finds that it sleeps, or it finds the job.
+    pub(crate) fn wake(&self) {
         if self.worker_sleeps.load(Ordering::SeqCst) {
-            shared.wake_one(STATE);
+            self.table.shared.wake_one(STATE);
         }
     }
 
@@ -123,7 +141,24 @@ impl<W: Job + Drop> Desk<W> {
         shared.wake_one(STATE);
     }
 
-    /// Waits for the job that is out, and takes it back.
+    /// The job that is out, as it was handed out, where nobody has begun it. Nobody begins it any more then.
+    pub(crate) fn recall(&self, dispatcher: &mut Dispatcher<W>) -> Option<W>
+        requires { (x : W) × IsOut self.now x dispatcher.old.seat }
+        ensures job { IfSome result (λ y. (x : W) → IsOut self.now x dispatcher.old.seat → y ≡ x) }
+        ensures idle { OnSome result (IsIdle self.now dispatcher.new.seat) }
+        ensures none { result ≡ None → IsStillOut self.now dispatcher.old.seat dispatcher.new.seat }
+    {
+        let shared = &self.table.shared;
+        if shared.compare_exchange::<Recall>(&mut dispatcher.seat, STATE, JOB, NOTHING) != JOB {
+            return None;
+        }
+        let Some(job) = shared.exchange(&mut dispatcher.seat, 0, None) else {
+            unreachable!()
+        };
+        Some(job)
+    }
+
+    /// Waits until the job that is out is done, and takes it back.
     pub(crate) fn receive<R: Wait>(&self, rt: &R, dispatcher: &mut Dispatcher<W>) -> W
         requires { (x : W) × IsOut self.now x dispatcher.old.seat }
         ensures made { (x : W) → IsOut self.now x dispatcher.old.seat → W.made x result }
@@ -134,7 +169,7 @@ impl<W: Job + Drop> Desk<W> {
             if let Some(job) = self.take_back(dispatcher) {
                 return job;
             }
-            looks = self.rest(rt, &self.dispatcher_sleeps, looks, JOB as u32);
+            looks = self.rest(rt, &self.dispatcher_sleeps, looks, WORK as u32);
         }
         unreachable!()
     }
@@ -168,8 +203,15 @@ impl<W: Job + Drop> Desk<W> {
         looks
     }
 
-    /// Works on each job that is handed out, until no more come.
-    pub(crate) fn serve<R: Wait, G: Gate>(&self, rt: &R, gate: &G, worker: &mut Worker<W>)
+    /// Works on each job that is handed out, until no more come. With each that it begins it wakes the thread behind the
+    /// desk before its own, if there is one, which does the same: so whoever hands jobs out wakes one thread alone.
+    pub(crate) fn serve<R: Wait, G: Gate>(
+        &self,
+        rt: &R,
+        gate: &G,
+        worker: &mut Worker<W>,
+        before: Option<&Desk<W>>,
+    )
         requires { IsAway self.now worker.old.seat }
         ensures { IsGone self.now worker.new.seat }
     {
@@ -178,10 +220,11 @@ impl<W: Job + Drop> Desk<W> {
             .swap::<Arrive>(&mut worker.seat, MANNED, THERE);
         let mut looks = 0;
         for _ in rt.forever() {
-            match self.look(worker) {
+            match self.look(gate, worker) {
                 Found::Stop => return,
                 Found::Job(job) => {
                     looks = 0;
+                    wake(before);
                     self.work_on(rt, gate, worker, job);
                 }
                 Found::Nothing(word) => looks = self.rest(rt, &self.worker_sleeps, looks, word),
@@ -190,8 +233,8 @@ impl<W: Job + Drop> Desk<W> {
         unreachable!()
     }
 
-    /// Takes the job that was handed out, where there is one.
-    fn look(&self, worker: &mut Worker<W>) -> Found<W>
+    /// Begins the job that was handed out, where there is one.
+    fn look<G: Gate>(&self, gate: &G, worker: &mut Worker<W>) -> Found<W>
         requires { IsFree self.now worker.old.seat }
         ensures { IsFound W.can self.now worker.new.seat result }
     {
@@ -202,6 +245,11 @@ impl<W: Job + Drop> Desk<W> {
         }
         if word != JOB {
             return Found::Nothing((word % 4) as u32);
+        }
+        gate.pass(BEFORE_JOB);
+        if shared.compare_exchange::<Claim>(&mut worker.seat, STATE, JOB, WORK) != JOB {
+            // It was taken back, which left this, and whatever came since is found by the next look.
+            return Found::Nothing(NOTHING as u32);
         }
         let Some(job) = shared.exchange(&mut worker.seat, 0, None) else {
             unreachable!()
@@ -223,5 +271,12 @@ impl<W: Job + Drop> Desk<W> {
         if self.dispatcher_sleeps.load(Ordering::SeqCst) {
             shared.wake_one(STATE);
         }
+    }
+}
+
+/// Wakes the thread behind this desk, where there is one that sleeps.
+pub(crate) fn wake<W: Job + Drop>(desk: Option<&Desk<W>>) {
+    if let Some(desk) = desk {
+        desk.wake();
     }
 }

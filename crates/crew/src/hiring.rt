@@ -50,7 +50,7 @@ pub fn with_crew<W: Job + Drop + Send, R: Threads + Wait + Sync, G: Gate + Sync,
     ensures { IfOk result (X.gives run threads) }
 {
     let posts = Vec::with_capacity(alloc, threads)?;
-    let Ended { posts, answer } = hire(rt, gate, alloc, threads, posts, run);
+    let Ended { posts, answer } = hire(rt, gate, alloc, threads, posts, run, None);
     drop(posts);
     answer
 }
@@ -61,7 +61,7 @@ struct Ended<W: Job + Drop, A> {
     answer: Result<A, AllocError>,
 }
 
-/// Runs with these threads and as many more as make up so many.
+/// Runs with these threads and as many more as make up so many. The desk is that of the last one.
 fn hire<W: Job + Drop + Send, R: Threads + Wait + Sync, G: Gate + Sync, X: Run<W> + Drop>(
     rt: &R,
     gate: &G,
@@ -69,6 +69,7 @@ fn hire<W: Job + Drop + Send, R: Threads + Wait + Sync, G: Gate + Sync, X: Run<W
     threads: usize,
     posts: Vec<Post<W>>,
     run: X,
+    before: Option<&Desk<W>>,
 ) -> Ended<W, X::Answer>
     requires can { X.can run }
     requires ready { All IsReady posts.items }
@@ -92,7 +93,7 @@ fn hire<W: Job + Drop + Send, R: Threads + Wait + Sync, G: Gate + Sync, X: Run<W
             requires { IsAway (arc_value desk) worker.seat }
         {
             let mut worker = worker;
-            desk.serve(rt, gate, &mut worker);
+            desk.serve(rt, gate, &mut worker, before);
         },
         || -> Ended<W, X::Answer>
             requires sync { IsSync R.row }
@@ -103,7 +104,7 @@ fn hire<W: Job + Drop + Send, R: Threads + Wait + Sync, G: Gate + Sync, X: Run<W
             ensures gives { IfOk result.answer (X.gives run threads) }
             ensures stopped { All HasStopped result.posts.items }
             ensures desks { Continues (desks_of posts.items) (desks_of result.posts.items) }
-        { hire(rt, gate, alloc, threads, posts, run) },
+        { hire(rt, gate, alloc, threads, posts, run, Some(&desk)) },
     );
     ended
 }
