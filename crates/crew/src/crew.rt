@@ -3,7 +3,6 @@ ghost use Rattle.std.specs.Prelude.{◌≡◌, ◌<◌, length, All, vec_capacit
 ghost use Rattle.std.specs.List.{AllZip};
 ghost use Rattle.crew.specs.Crews.{IsReady, IsOutAt, desk_of, desks_of};
 
-use crate::desk::{Desk, wake};
 use crate::job::Job;
 use crate::post::{Post, take_post};
 use std::marker::Model;
@@ -45,19 +44,19 @@ impl<W: Job + Drop> Crew<W> {
         ensures room { vec_capacity jobs.new ≡ vec_capacity jobs.old }
         ensures same { self.new ≡ self.old }
     {
-        work_all(rt, gate, &mut self.posts, jobs, None);
+        work_all(rt, gate, &mut self.posts, jobs, false);
     }
 }
 
-/// The jobs by the threads of these posts, the last one by the last post's, and by the caller. Once all are handed out,
-/// the thread behind this desk is woken, where the first of the phase was handed out.
+/// The jobs by the threads of these posts, the last one by the last post's, and by the caller. Whether a thread was
+/// woken for this phase yet: the caller wakes that of the first job it hands out, and it the others.
 #[cycle(sharing)]
 fn work_all<R: Wait, G: Gate, W: Job + Drop>(
     rt: &R,
     gate: &G,
     posts: &mut Vec<Post<W>>,
     jobs: &mut Vec<W>,
-    first: Option<&Desk<W>>,
+    woken: bool,
 )
     requires ready { All IsReady posts.old.items }
     requires can { All W.can jobs.old.items }
@@ -69,16 +68,14 @@ fn work_all<R: Wait, G: Gate, W: Job + Drop>(
     ensures posts_room { vec_capacity posts.new ≡ vec_capacity posts.old }
 {
     if jobs.len() < 2 {
-        wake(first);
         work_here(rt, gate, jobs.as_mut_slice());
         return;
     }
     let Some(mut post) = take_post(posts) else {
-        wake(first);
         work_here(rt, gate, jobs.as_mut_slice());
         return;
     };
-    share(rt, gate, &mut post, posts, jobs, first);
+    share(rt, gate, &mut post, posts, jobs, woken);
     posts.push_reserved(post);
 }
 
@@ -91,7 +88,7 @@ fn share<R: Wait, G: Gate, W: Job + Drop>(
     post: &mut Post<W>,
     posts: &mut Vec<Post<W>>,
     jobs: &mut Vec<W>,
-    first: Option<&Desk<W>>,
+    woken: bool,
 )
     requires some { 0 < length jobs.old.items }
     requires one { IsReady post.old }
@@ -107,14 +104,14 @@ fn share<R: Wait, G: Gate, W: Job + Drop>(
     ensures posts_room { vec_capacity posts.new ≡ vec_capacity posts.old }
 {
     if !post.is_manned() {
-        work_all(rt, gate, posts, jobs, first);
+        work_all(rt, gate, posts, jobs, woken);
         return;
     }
     let Some(job) = jobs.pop() else {
         unreachable!()
     };
-    post.send(job);
-    work_all(rt, gate, posts, jobs, Some(first.unwrap_or(&post.desk)));
+    post.send(job, !woken);
+    work_all(rt, gate, posts, jobs, true);
     let job = finish(rt, gate, post);
     jobs.push_reserved(job);
 }

@@ -13,8 +13,8 @@ use atomic_table::{Seat, Table};
 use std::alloc::{AllocError, Global};
 use std::hint::spin_loop;
 use std::marker::Model;
-use std::sync::Wait;
 use std::sync::atomic::{AtomicBool, Ordering};
+use std::sync::{Arc, Wait};
 use tas_num::Gate;
 
 /// The word that says how things stand, by one of these.
@@ -210,7 +210,7 @@ impl<W: Job + Drop> Desk<W> {
         rt: &R,
         gate: &G,
         worker: &mut Worker<W>,
-        before: Option<&Desk<W>>,
+        before: &Option<Arc<Desk<W>, Global>>,
     )
         requires { IsAway self.now worker.old.seat }
         ensures { IsGone self.now worker.new.seat }
@@ -224,7 +224,7 @@ impl<W: Job + Drop> Desk<W> {
                 Found::Stop => return,
                 Found::Job(job) => {
                     looks = 0;
-                    wake(before);
+                    wake_before(before);
                     self.work_on(rt, gate, worker, job);
                 }
                 Found::Nothing(word) => looks = self.rest(rt, &self.worker_sleeps, looks, word),
@@ -275,8 +275,8 @@ impl<W: Job + Drop> Desk<W> {
 }
 
 /// Wakes the thread behind this desk, where there is one that sleeps.
-pub(crate) fn wake<W: Job + Drop>(desk: Option<&Desk<W>>) {
-    if let Some(desk) = desk {
+fn wake_before<W: Job + Drop>(before: &Option<Arc<Desk<W>, Global>>) {
+    if let Some(desk) = before {
         desk.wake();
     }
 }

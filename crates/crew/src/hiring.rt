@@ -50,7 +50,7 @@ pub fn with_crew<W: Job + Drop + Send, R: Threads + Wait + Sync, G: Gate + Sync,
     ensures { IfOk result (X.gives run threads) }
 {
     let posts = Vec::with_capacity(alloc, threads)?;
-    let Ended { posts, answer } = hire(rt, gate, alloc, threads, posts, run, None);
+    let Ended { posts, answer } = hire(rt, gate, alloc, threads, posts, run);
     drop(posts);
     answer
 }
@@ -61,7 +61,7 @@ struct Ended<W: Job + Drop, A> {
     answer: Result<A, AllocError>,
 }
 
-/// Runs with these threads and as many more as make up so many. The desk is that of the last one.
+/// Runs with these threads and as many more as make up so many.
 fn hire<W: Job + Drop + Send, R: Threads + Wait + Sync, G: Gate + Sync, X: Run<W> + Drop>(
     rt: &R,
     gate: &G,
@@ -69,7 +69,6 @@ fn hire<W: Job + Drop + Send, R: Threads + Wait + Sync, G: Gate + Sync, X: Run<W
     threads: usize,
     posts: Vec<Post<W>>,
     run: X,
-    before: Option<&Desk<W>>,
 ) -> Ended<W, X::Answer>
     requires can { X.can run }
     requires ready { All IsReady posts.items }
@@ -83,7 +82,7 @@ fn hire<W: Job + Drop + Send, R: Threads + Wait + Sync, G: Gate + Sync, X: Run<W
     if posts.len() == threads {
         return run_with(rt, gate, posts, run);
     }
-    let (desk, worker) = match man(alloc, &mut posts) {
+    let (desk, worker, before) = match man(alloc, &mut posts) {
         Ok(made) => made,
         Err(error) => return stopped(posts, Err(error)),
     };
@@ -93,7 +92,7 @@ fn hire<W: Job + Drop + Send, R: Threads + Wait + Sync, G: Gate + Sync, X: Run<W
             requires { IsAway (arc_value desk) worker.seat }
         {
             let mut worker = worker;
-            desk.serve(rt, gate, &mut worker, before);
+            desk.serve(rt, gate, &mut worker, &before);
         },
         || -> Ended<W, X::Answer>
             requires sync { IsSync R.row }
@@ -104,16 +103,20 @@ fn hire<W: Job + Drop + Send, R: Threads + Wait + Sync, G: Gate + Sync, X: Run<W
             ensures gives { IfOk result.answer (X.gives run threads) }
             ensures stopped { All HasStopped result.posts.items }
             ensures desks { Continues (desks_of posts.items) (desks_of result.posts.items) }
-        { hire(rt, gate, alloc, threads, posts, run, Some(&desk)) },
+        { hire(rt, gate, alloc, threads, posts, run) },
     );
     ended
 }
 
-/// A desk more. The answer is the side of it that works.
-fn man<W: Job + Drop>(
-    alloc: Global,
-    posts: &mut Vec<Post<W>>,
-) -> Result<(Arc<Desk<W>, Global>, Worker<W>), AllocError>
+/// A thread's desk, its side of it, and the desk that was made before, whose thread it wakes.
+type Manned<W> = (
+    Arc<Desk<W>, Global>,
+    Worker<W>,
+    Option<Arc<Desk<W>, Global>>,
+);
+
+/// A desk more. The answer is for its thread.
+fn man<W: Job + Drop>(alloc: Global, posts: &mut Vec<Post<W>>) -> Result<Manned<W>, AllocError>
     requires ready { All IsReady posts.old.items }
     requires room { length posts.old.items + 1 ≤ vec_capacity posts.old }
     ensures away { IfOk result (λ d. IsAway (arc_value d.0) d.1.seat) }
@@ -123,11 +126,20 @@ fn man<W: Job + Drop>(
     ensures len { IfOk result (λ d. length posts.new.items ≡ length posts.old.items + 1) }
     ensures none { IfErr result (λ _. posts.new.items ≡ posts.old.items) }
 {
+    let before = last_desk(posts.as_slice())?;
     let (desk, dispatcher, worker) = Desk::new(alloc)?;
     let desk = Arc::new(alloc, desk)?;
     let theirs = Arc::try_clone(&desk)?;
     posts.push_reserved(Post { desk, dispatcher });
-    Ok((theirs, worker))
+    Ok((theirs, worker, before))
+}
+
+/// The last post's desk, if there is one.
+fn last_desk<W: Job + Drop>(posts: &[Post<W>]) -> Result<Option<Arc<Desk<W>, Global>>, AllocError> {
+    let Some(post) = posts.last() else {
+        return Ok(None);
+    };
+    Ok(Some(Arc::try_clone(&post.desk)?))
 }
 
 /// Runs with these threads, and tells them to end.

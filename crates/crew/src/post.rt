@@ -26,14 +26,17 @@ impl<W: Job + Drop> Post<W> {
         self.desk.is_manned(&mut self.dispatcher)
     }
 
-    /// Hands a job out, and wakes nobody.
-    pub(crate) fn send(&mut self, job: W)
+    /// Hands a job out, and wakes its thread, where that sleeps and this says so.
+    pub(crate) fn send(&mut self, job: W, wakes: bool)
         requires thread { HasThread self.old }
         requires can { W.can job }
         ensures out { IsOutAt job self.new }
         ensures desk { desk_of self.new ≡ desk_of self.old }
     {
         self.desk.send(&mut self.dispatcher, job);
+        if wakes {
+            self.desk.wake();
+        }
     }
 
     /// The job that is out, as it was handed out, where its thread has not begun it.
