@@ -1,7 +1,7 @@
 -- Each step at a desk keeps its rule.
 use Rattle.std.proofs.Common.{◌≡◌, ◌≢◌, ℕ, zero, suc, Bool, true, false, List, [], ◌∷◌, slice_set, slice_index, ◌++◌}
 use Rattle.std.proofs.Common.{◌⊎◌, sym, refl, ap, ◌∙◌}
-use Rattle.std.proofs.Common.{subst, inl, inr, arith, true≢false, eqb}
+use Rattle.std.proofs.Common.{subst, inl, inr, arith, true≢false, eqb, ne_eqb}
 use Rattle.std.specs.Prelude.{Option, Some, None}
 use mathlib.Core.Option as O
 use mathlib.Core.Option.{some-injective, some-ne-none}

@@ -123,11 +123,11 @@ fn finish<R: Wait, G: Gate, W: Job + Drop>(rt: &R, gate: &G, post: &mut Post<W>)
     ensures ready { IsReady post.new }
     ensures desk { desk_of post.new ≡ desk_of post.old }
 {
-    let Some(mut job) = post.recall() else {
+    let Some(mut left) = post.recall() else {
         return post.receive(rt);
     };
-    job.work(rt, gate);
-    job
+    left.work(rt, gate);
+    left
 }
 
 /// The jobs by the caller, one after the other.
