@@ -105,7 +105,7 @@ impl<'a> Run<Task> for Holding<'a> {
         let mut jobs = Vec::new(self.alloc);
         jobs.push(Task::new(0, 100))?;
         jobs.push(Task::new(1, 100))?;
-        let mut phases = 0;
+        let mut phases = 0u32;
         let mut held = false;
         for _ in 0..TRIES {
             self.hold.reset();
