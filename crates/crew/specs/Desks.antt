@@ -1,7 +1,7 @@
 -- A desk: what holds of it between any two steps, and what each step tells. Its first word says how things stand: 0
 -- nothing waits, 1 a job waits, 2 the last one is done, 3 no more come, 4 a job is worked on. The second says whether a
--- thread is behind it. Either side may make 1 something else, and whoever does has the job: the worker, who begins it by
--- 4, or the dispatcher, who takes it back by 0.
+-- thread is behind it. Either side may make 1 something else, and whoever does has the job: the worker, who begins it
+-- by 4, or the dispatcher, who takes it back by 0.
 use Rattle.std.specs.Prelude.{◌≡◌, ◌≢◌, ℕ, Bool, true, false, List, [], ◌∷◌, ◌⊎◌, Option, Some, None, ⊤}
 use mathlib.Core.Option as O
 use Rattle.atomic_table.specs.Table.{State, Me, Step}

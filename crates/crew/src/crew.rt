@@ -36,8 +36,8 @@ impl<W: Job + Drop> Crew<W> {
     }
 
     /// Works on all jobs side by side, and returns when each is done: each thread is handed one, from the last job on,
-    /// and the caller works on those that are left, and then on each that no thread has begun meanwhile. A job is back in
-    /// its place, as its own work left it.
+    /// and the caller works on those that are left, and then on each that no thread has begun meanwhile. A job is back
+    /// in its place, as its own work left it.
     pub fn phase<R: Wait, G: Gate>(&mut self, rt: &R, gate: &G, jobs: &mut Vec<W>)
         requires { All W.can jobs.old.items }
         ensures made { AllZip W.made jobs.old.items jobs.new.items }

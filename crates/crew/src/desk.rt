@@ -191,7 +191,8 @@ impl<W: Job + Drop> Desk<W> {
         Some(job)
     }
 
-    /// Waits a little: the caller may look again at once, or this sleeps while the word's last bits are these.
+    /// Waits a little: the caller may look again at once, or this sleeps while the word's last bits are these. One that
+    /// was woken looks as often again, also where it came too late for its job: the next one may follow soon.
     fn rest<R: Wait>(&self, rt: &R, sleeps: &AtomicBool, looks: u32, word: u32) -> u32 {
         if looks < LOOKS {
             spin_loop();
@@ -200,11 +201,11 @@ impl<W: Job + Drop> Desk<W> {
         sleeps.store(true, Ordering::SeqCst);
         self.table.shared.park(rt, STATE, word);
         sleeps.store(false, Ordering::SeqCst);
-        looks
+        0
     }
 
-    /// Works on each job that is handed out, until no more come. With each that it begins it wakes the thread behind the
-    /// desk before its own, if there is one, which does the same: so whoever hands jobs out wakes one thread alone.
+    /// Works on each job that is handed out, until no more come. With each that it begins it wakes the thread behind
+    /// the desk before its own, if there is one, which does the same: so whoever hands jobs out wakes one thread alone.
     pub(crate) fn serve<R: Wait, G: Gate>(
         &self,
         rt: &R,

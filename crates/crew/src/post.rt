@@ -1,5 +1,6 @@
 //! A desk with a thread behind it, as the side sees it that hands jobs out.
-ghost use Rattle.std.specs.Prelude.{◌≡◌, ◌+◌, ◌<◌, ◌∷◌, ◌++◌, [], length, All, IsTrue, IfSome, OnSome, None, vec_capacity};
+ghost use Rattle.std.specs.Prelude.{◌≡◌, ◌+◌, ◌<◌, ◌∷◌, ◌++◌, [], length, All, IsTrue, IfSome, OnSome, None};
+ghost use Rattle.std.specs.Prelude.{vec_capacity};
 ghost use Rattle.crew.specs.Crews.{desk_of, desks_of, IsReady, HasThread, IsOutAt, HasStopped};
 
 use crate::desk::{Desk, Dispatcher};

@@ -18,8 +18,8 @@ const WAIT: u32 = 1_000_000;
 /// How many phases are tried: the crew's thread may begin after the first ones.
 const TRIES: u32 = 200;
 
-/// Holds a thread that found its job until the phase is over, and the first job until a thread is held, each for so many
-/// turns.
+/// Holds a thread that found its job until the phase is over, and the first job until a thread is held, each for so
+/// many turns.
 #[derive(Drop)]
 struct Hold {
     held: AtomicBool,

@@ -27,7 +27,8 @@ exchange-requires g c =
     let out = c.requires.1 in
     let e = c.compare_exchange.ensures in
     let taking : Step (Option g.row.W.Denot) = step c.self.inside.table.shared.table_id.slots 0 1 0 O.none in
-    let y = (recalled g.W.Job.can g.W.Job.made taking _ c.requires.0 _ _ out.2 e.2).1 c.if-compare_exchange-ne-JOB.false in
+    let told = recalled g.W.Job.can g.W.Job.made taking _ c.requires.0 _ _ out.2 e.2 in
+    let y = told.1 c.if-compare_exchange-ne-JOB.false in
     let carried = ap (λ (m : M). m.1) y in (
       e.0 ∙ (out.0 ∙ sym c.self.view_is),
       (Some c.requires.0, carried ∙ ap (λ l. (0, Some c.requires.0) ∷ l) (sym (ap rest carried))),
