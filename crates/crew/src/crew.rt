@@ -44,19 +44,17 @@ impl<W: Job + Drop> Crew<W> {
         ensures room { vec_capacity jobs.new ≡ vec_capacity jobs.old }
         ensures same { self.new ≡ self.old }
     {
-        work_all(rt, gate, &mut self.posts, jobs, false);
+        work_all(rt, gate, &mut self.posts, jobs);
     }
 }
 
-/// The jobs by the threads of these posts, the last one by the last post's, and by the caller. Whether a thread was
-/// woken for this phase yet: the caller wakes that of the first job it hands out, and it the others.
+/// The jobs by the threads of these posts, the last one by the last post's, and by the caller.
 #[cycle(sharing)]
 fn work_all<R: Wait, G: Gate, W: Job + Drop>(
     rt: &R,
     gate: &G,
     posts: &mut Vec<Post<W>>,
     jobs: &mut Vec<W>,
-    woken: bool,
 )
     requires ready { All IsReady posts.old.items }
     requires can { All W.can jobs.old.items }
@@ -75,7 +73,7 @@ fn work_all<R: Wait, G: Gate, W: Job + Drop>(
         work_here(rt, gate, jobs.as_mut_slice());
         return;
     };
-    share(rt, gate, &mut post, posts, jobs, woken);
+    share(rt, gate, &mut post, posts, jobs);
     posts.push_reserved(post);
 }
 
@@ -88,7 +86,6 @@ fn share<R: Wait, G: Gate, W: Job + Drop>(
     post: &mut Post<W>,
     posts: &mut Vec<Post<W>>,
     jobs: &mut Vec<W>,
-    woken: bool,
 )
     requires some { 0 < length jobs.old.items }
     requires one { IsReady post.old }
@@ -104,14 +101,14 @@ fn share<R: Wait, G: Gate, W: Job + Drop>(
     ensures posts_room { vec_capacity posts.new ≡ vec_capacity posts.old }
 {
     if !post.is_manned() {
-        work_all(rt, gate, posts, jobs, woken);
+        work_all(rt, gate, posts, jobs);
         return;
     }
     let Some(job) = jobs.pop() else {
         unreachable!()
     };
-    post.send(job, !woken);
-    work_all(rt, gate, posts, jobs, true);
+    post.send(job);
+    work_all(rt, gate, posts, jobs);
     let job = finish(rt, gate, post);
     jobs.push_reserved(job);
 }

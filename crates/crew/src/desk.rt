@@ -14,7 +14,7 @@ use std::alloc::{AllocError, Global};
 use std::hint::spin_loop;
 use std::marker::Model;
 use std::sync::atomic::{AtomicBool, Ordering};
-use std::sync::{Arc, Wait};
+use std::sync::Wait;
 use tas_num::Gate;
 
 /// The word that says how things stand, by one of these.
@@ -41,6 +41,10 @@ const THERE: u64 = 1;
 /// How often a thread looks before it sleeps: about as long as the system takes to wake one that sleeps, since a look
 /// takes some 50 ns, and a wake 30 to 60 µs.
 const LOOKS: u32 = 1_500;
+
+/// How often the caller looks whether a thread begins its job, before it takes it back: about as long as a thread that
+/// looks needs to see it.
+const PATIENCE: u32 = 200;
 
 /// The point of the gate that a thread passes once it found a job, and before it begins it. Jobs have points of their
 /// own.
@@ -148,6 +152,7 @@ impl<W: Job + Drop> Desk<W> {
         ensures idle { OnSome result (IsIdle self.now dispatcher.new.seat) }
         ensures none { result ≡ None → IsStillOut self.now dispatcher.old.seat dispatcher.new.seat }
     {
+        self.await_begin();
         let shared = &self.table.shared;
         if shared.compare_exchange::<Recall>(&mut dispatcher.seat, STATE, JOB, NOTHING) != JOB {
             return None;
@@ -156,6 +161,16 @@ impl<W: Job + Drop> Desk<W> {
             unreachable!()
         };
         Some(job)
+    }
+
+    /// Gives the thread a little time to begin the job that is out.
+    fn await_begin(&self) {
+        for _ in 0..PATIENCE {
+            if self.table.shared.peek(STATE) != JOB {
+                return;
+            }
+            spin_loop();
+        }
     }
 
     /// Waits until the job that is out is done, and takes it back.
@@ -204,15 +219,8 @@ impl<W: Job + Drop> Desk<W> {
         0
     }
 
-    /// Works on each job that is handed out, until no more come. With each that it begins it wakes the thread behind
-    /// the desk before its own, if there is one, which does the same: so whoever hands jobs out wakes one thread alone.
-    pub(crate) fn serve<R: Wait, G: Gate>(
-        &self,
-        rt: &R,
-        gate: &G,
-        worker: &mut Worker<W>,
-        before: &Option<Arc<Desk<W>, Global>>,
-    )
+    /// Works on each job that is handed out, until no more come.
+    pub(crate) fn serve<R: Wait, G: Gate>(&self, rt: &R, gate: &G, worker: &mut Worker<W>)
         requires { IsAway self.now worker.old.seat }
         ensures { IsGone self.now worker.new.seat }
     {
@@ -225,7 +233,6 @@ impl<W: Job + Drop> Desk<W> {
                 Found::Stop => return,
                 Found::Job(job) => {
                     looks = 0;
-                    wake_before(before);
                     self.work_on(rt, gate, worker, job);
                 }
                 Found::Nothing(word) => looks = self.rest(rt, &self.worker_sleeps, looks, word),
@@ -272,12 +279,5 @@ impl<W: Job + Drop> Desk<W> {
         if self.dispatcher_sleeps.load(Ordering::SeqCst) {
             shared.wake_one(STATE);
         }
-    }
-}
-
-/// Wakes the thread behind this desk, where there is one that sleeps.
-fn wake_before<W: Job + Drop>(before: &Option<Arc<Desk<W>, Global>>) {
-    if let Some(desk) = before {
-        desk.wake();
     }
 }

@@ -82,7 +82,7 @@ fn hire<W: Job + Drop + Send, R: Threads + Wait + Sync, G: Gate + Sync, X: Run<W
     if posts.len() == threads {
         return run_with(rt, gate, posts, run);
     }
-    let (desk, worker, before) = match man(alloc, &mut posts) {
+    let (desk, worker) = match man(alloc, &mut posts) {
         Ok(made) => made,
         Err(error) => return stopped(posts, Err(error)),
     };
@@ -92,7 +92,7 @@ fn hire<W: Job + Drop + Send, R: Threads + Wait + Sync, G: Gate + Sync, X: Run<W
             requires { IsAway (arc_value desk) worker.seat }
         {
             let mut worker = worker;
-            desk.serve(rt, gate, &mut worker, &before);
+            desk.serve(rt, gate, &mut worker);
         },
         || -> Ended<W, X::Answer>
             requires sync { IsSync R.row }
@@ -108,15 +108,11 @@ fn hire<W: Job + Drop + Send, R: Threads + Wait + Sync, G: Gate + Sync, X: Run<W
     ended
 }
 
-/// A thread's desk, its side of it, and the desk that was made before, whose thread it wakes.
-type Manned<W> = (
-    Arc<Desk<W>, Global>,
-    Worker<W>,
-    Option<Arc<Desk<W>, Global>>,
-);
-
-/// A desk more. The answer is for its thread.
-fn man<W: Job + Drop>(alloc: Global, posts: &mut Vec<Post<W>>) -> Result<Manned<W>, AllocError>
+/// A desk more. The answer is the side of it that works.
+fn man<W: Job + Drop>(
+    alloc: Global,
+    posts: &mut Vec<Post<W>>,
+) -> Result<(Arc<Desk<W>, Global>, Worker<W>), AllocError>
     requires ready { All IsReady posts.old.items }
     requires room { length posts.old.items + 1 ≤ vec_capacity posts.old }
     ensures away { IfOk result (λ d. IsAway (arc_value d.0) d.1.seat) }
@@ -126,20 +122,11 @@ fn man<W: Job + Drop>(alloc: Global, posts: &mut Vec<Post<W>>) -> Result<Manned<
     ensures len { IfOk result (λ d. length posts.new.items ≡ length posts.old.items + 1) }
     ensures none { IfErr result (λ _. posts.new.items ≡ posts.old.items) }
 {
-    let before = last_desk(posts.as_slice())?;
     let (desk, dispatcher, worker) = Desk::new(alloc)?;
     let desk = Arc::new(alloc, desk)?;
     let theirs = Arc::try_clone(&desk)?;
     posts.push_reserved(Post { desk, dispatcher });
-    Ok((theirs, worker, before))
-}
-
-/// The last post's desk, if there is one.
-fn last_desk<W: Job + Drop>(posts: &[Post<W>]) -> Result<Option<Arc<Desk<W>, Global>>, AllocError> {
-    let Some(post) = posts.last() else {
-        return Ok(None);
-    };
-    Ok(Some(Arc::try_clone(&post.desk)?))
+    Ok((theirs, worker))
 }
 
 /// Runs with these threads, and tells them to end.

@@ -27,20 +27,18 @@ impl<W: Job + Drop> Post<W> {
         self.desk.is_manned(&mut self.dispatcher)
     }
 
-    /// Hands a job out, and wakes its thread, where that sleeps and this says so.
-    pub(crate) fn send(&mut self, job: W, wakes: bool)
+    /// Hands a job out, and wakes its thread, where that sleeps.
+    pub(crate) fn send(&mut self, job: W)
         requires thread { HasThread self.old }
         requires can { W.can job }
         ensures out { IsOutAt job self.new }
         ensures desk { desk_of self.new ≡ desk_of self.old }
     {
         self.desk.send(&mut self.dispatcher, job);
-        if wakes {
-            self.desk.wake();
-        }
+        self.desk.wake();
     }
 
-    /// The job that is out, as it was handed out, where its thread has not begun it.
+    /// The job that is out, as it was handed out, where its thread does not begin it in a little time.
     pub(crate) fn recall(&mut self) -> Option<W>
         requires { (x : W) × IsOutAt x self.old }
         ensures job { IfSome result (λ y. (x : W) → IsOutAt x self.old → y ≡ x) }
