@@ -13,8 +13,8 @@ use atomic_table::{Seat, Table};
 use std::alloc::{AllocError, Global};
 use std::hint::spin_loop;
 use std::marker::Model;
-use std::sync::atomic::{AtomicBool, Ordering};
 use std::sync::Wait;
+use std::sync::atomic::{AtomicBool, Ordering};
 use tas_num::Gate;
 
 /// The word that says how things stand, by one of these.
@@ -38,12 +38,13 @@ const MANNED: usize = 1;
 
 const THERE: u64 = 1;
 
-/// How often a thread looks before it sleeps: about as long as the system takes to wake one that sleeps, since a look
-/// takes some 50 ns, and a wake 30 to 60 µs.
+/// How often a thread looks before it sleeps: somewhat longer than the system takes to wake one that sleeps, since a
+/// look takes some 50 ns, and a wake 34 to 50 µs until the thread runs.
 const LOOKS: u32 = 1_500;
 
-/// How often the caller looks whether a thread begins its job, before it takes it back: about as long as a thread that
-/// looks needs to see it.
+/// How often the caller looks whether a thread begins its job, before it takes it back: far longer than a thread that
+/// looks needs to see it, and shorter than a wake. A thread that wakes a moment later would find its job gone, and the
+/// caller work on all jobs alone.
 const PATIENCE: u32 = 200;
 
 /// The point of the gate that a thread passes once it found a job, and before it begins it. Jobs have points of their
@@ -116,7 +117,7 @@ impl<W: Job + Drop> Desk<W> {
         self.table.shared.load::<Ask>(&mut dispatcher.seat, MANNED) == THERE
     }
 
-    /// Hands a job out, and wakes nobody.
+    /// Hands a job out, and wakes nobody: that is `wake`'s.
     pub(crate) fn send(&self, dispatcher: &mut Dispatcher<W>, job: W)
         requires idle { IsIdle self.now dispatcher.old.seat }
         requires can { W.can job }
@@ -145,7 +146,8 @@ impl<W: Job + Drop> Desk<W> {
         shared.wake_one(STATE);
     }
 
-    /// The job that is out, as it was handed out, where nobody has begun it. Nobody begins it any more then.
+    /// The job that is out, as it was handed out, where its thread does not begin it in a little time. Nobody begins it
+    /// any more then.
     pub(crate) fn recall(&self, dispatcher: &mut Dispatcher<W>) -> Option<W>
         requires { (x : W) × IsOut self.now x dispatcher.old.seat }
         ensures job { IfSome result (λ y. (x : W) → IsOut self.now x dispatcher.old.seat → y ≡ x) }
@@ -206,8 +208,8 @@ impl<W: Job + Drop> Desk<W> {
         Some(job)
     }
 
-    /// Waits a little: the caller may look again at once, or this sleeps while the word's last bits are these. One that
-    /// was woken looks as often again, also where it came too late for its job: the next one may follow soon.
+    /// Waits a little: who calls may look again at once, or this sleeps while the word's last bits are these. A thread
+    /// that was woken looks as often again, also where it came too late for its job: the next one may follow soon.
     fn rest<R: Wait>(&self, rt: &R, sleeps: &AtomicBool, looks: u32, word: u32) -> u32 {
         if looks < LOOKS {
             spin_loop();
