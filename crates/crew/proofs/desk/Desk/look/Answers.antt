@@ -1,11 +1,10 @@
 -- Answers of the proof of desk/Desk/look.
-use Rattle.std.proofs.Common.{◌≡◌, ◌≢◌, refl, [], ◌∷◌, ap, sym, ◌∙◌, arith, eqb}
+use Rattle.std.proofs.Common.{refl, ◌∷◌, ap, sym, ◌∙◌, arith, eqb}
 use Rattle.std.specs.Prelude.{Option, Some}
 use mathlib.Core.Option as O
 use prog.Atomic.{either}
 use Rattle.atomic_table.specs.Table.{Me, rest, step}
 use Rattle.crew.specs.declared.handover.View.{View}
-use Rattle.crew.specs.declared.handover.View.TheVariants.{Free}
 use Rattle.crew.specs.Desks.{looks, claims}
 use Rattle.crew.proofs.Handing.{allowed_at, looks_at, claims_at}
 use Rattle.crew.proofs.desk.Desk.look.Goals as goal
