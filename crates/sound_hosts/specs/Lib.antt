@@ -1,0 +1,3 @@
+pub mod Hosts
+pub mod Leading
+pub mod Sound
