@@ -1,3 +1,4 @@
 pub mod Hosts
 pub mod Leading
+pub mod Moving
 pub mod Sound
