@@ -1,6 +1,6 @@
 -- A host is sound still where one flow's record was used alone: for the laws of what is done alone.
 use Rattle.std.proofs.Common.{◌≡◌, ℕ, zero, suc, ◌==◌, ◌&&◌, cond, Bool, true, false, List, [], ◌∷◌, refl, sym, ap, ◌∙◌}
-use Rattle.std.proofs.Common.{subst, inl, inr, arith, true≢false, set, count_by, slice_get, Some, map, ◌<◌, leb}
+use Rattle.std.proofs.Common.{subst, inl, inr, arith, true≢false, set, count_by, slice_get, Some, map, ◌<◌, leb, length}
 use Rattle.std.specs.Prelude.{IsPermutation}
 use Rattle.std.specs.List.{filter}
 use Rattle.std.proofs.lemmas.Bool.Decides.{nat_tests}
@@ -55,17 +55,19 @@ used_leads id r k v w alone u = record {
   base = ap (λ (x : View). x.base) u.3
       ∙ ap (λ (ts : List Turn). alone_or ts (record { flow = id; history = k } ∷ v.base) v.base) alone.1;
   words = λ slot. ap (λ (x : View). word_at x.words slot) u.3 ∙ (when_alone slot ∙ words_back v.words id.slot free slot);
+  wide = ap (λ (x : View). length x.words) u.3
+      ∙ (ap (λ (ts : List Turn). length (twice ts)) alone.1 ∙ (length-set (busy []) id.slot _ ∙ length-set v.words id.slot _));
 }
   where
     free : (word_at v.words id.slot).busy ≡ false
     free = ap (λ (x : Word). x.busy) (sym (u.2 alone)) ∙ u.1
 
     -- the words where the view has these turns
+    busy : List Turn → List Word
+    busy ts = alone_or ts (put_word id.slot (record (word_at v.words id.slot) { busy = true }) v.words) v.words
+
     twice : List Turn → List Word
-    twice ts =
-        let busy : List Word =
-        alone_or ts (put_word id.slot (record (word_at v.words id.slot) { busy = true }) v.words) v.words in
-        alone_or ts (put_word id.slot (record (word_at busy id.slot) { busy = false }) busy) busy
+    twice ts = alone_or ts (put_word id.slot (record (word_at (busy ts) id.slot) { busy = false }) (busy ts)) (busy ts)
 
     when_alone : (slot : ℕ) → word_at (twice v.turns) slot ≡ word_at (twice []) slot
     when_alone slot = ap (λ (ts : List Turn). word_at (twice ts) slot) alone.1
@@ -119,6 +121,7 @@ led_sound h w id k sound led by kept =
       waiting = ap waiting by.rest ∙ sound.waiting;
       sound = kept;
       slots = ap (λ (p : HostParams). p.slots) params ∙ sound.slots;
+      wide = (ap (λ (ms : List Mark). length ms) by.view.marks ∙ sound.wide.0, by.view.wide ∙ sound.wide.1);
       numbered = sound.numbered;
       plain = sound.plain;
       indexed = indexed_still known w.pass.view.base leads h.books sound.indexed;

@@ -37,6 +37,7 @@ new_sound table w xs new = record {
   waiting = new.waits_not;
   sound = new.sound;
   slots = new.slots;
+  wide = new.wide;
   numbered = tt;
   plain = tt;
   indexed = record {

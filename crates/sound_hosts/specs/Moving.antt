@@ -1,5 +1,5 @@
 -- What the slow path, or who has its baton, does alone: one flow's record at a time.
-use Rattle.std.specs.Prelude.{◌≡◌, ℕ, [], ◌∷◌}
+use Rattle.std.specs.Prelude.{◌≡◌, ℕ, [], ◌∷◌, length}
 use Rattle.tas_model.specs.declared.entry.FlowId.{FlowId}
 use Rattle.flow_lock.specs.Steps.{IsAlone}
 use Rattle.flow_lock.specs.Words.{word_at}
@@ -17,6 +17,7 @@ pub record IsLed (id : FlowId) (k : History) (v w : View) : Type 0 where
   pub marks : w.marks ≡ v.marks
   pub base : w.base ≡ record { flow = id; history = k } ∷ v.base
   pub words : (slot : ℕ) → word_at w.words slot ≡ word_at v.words slot
+  pub wide : length w.words ≡ length v.words
 
 -- So it is with the slow path's worker, and its lists of openings were told where the flow stands. It may have written
 -- lines, told applications and posted kicks.

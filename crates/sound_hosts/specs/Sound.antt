@@ -1,6 +1,7 @@
 -- What holds of a host between ticks: its books agree with what the slow path, the applications, the index and the slots
 -- of the table have of each flow.
-use Rattle.std.specs.Prelude.{◌≡◌, ℕ, ◌<◌, ◌≤◌, ◌==◌, true, false, List, [], map, count_by, slice_get, Some, IsPermutation}
+use Rattle.std.specs.Prelude.{◌≡◌, ℕ, ◌<◌, ◌≤◌, ◌==◌, true, false, List, [], map, count_by, length, slice_get, Some}
+use Rattle.std.specs.Prelude.{IsPermutation}
 use Rattle.std.specs.List.{list_any, filter}
 use Rattle.atomic_table.specs.Seated.{TableId}
 use Rattle.tas_model.specs.declared.entry.FourTuple.{FourTuple}
@@ -95,6 +96,7 @@ pub record IsHostSound (h : CoreHost) : Type 0 where
   -- the slow path's worker may work
   pub sound : slow.IsSound h.table (slow.sight_of h.slow)
   pub slots : h.slow.path.params.slots ≡ h.table.slots
+  pub wide : (length h.slow.pass.view.marks ≡ h.table.slots) × (length h.slow.pass.view.words ≡ h.table.slots)
   -- the books agree with all that is known of the flows
   pub numbered : AreNumbered h.table.slots [] h.books
   pub plain : Each IsPlain h.books
@@ -122,6 +124,7 @@ pub record IsNewHost (table : TableId) (w : slow.Worker) (xs : List libtas.Appli
   pub waits_not : waiting w ≡ []
   pub sound : slow.IsSound table (slow.sight_of w)
   pub slots : w.path.params.slots ≡ table.slots
+  pub wide : (length w.pass.view.marks ≡ table.slots) × (length w.pass.view.words ≡ table.slots)
   pub base : w.pass.view.base ≡ []
   pub unmarked : (slot : ℕ) (m : Mark) → slice_get w.pass.view.marks slot ≡ Some m
       → m ≡ record { generation = 0; live = false; doomed = false }

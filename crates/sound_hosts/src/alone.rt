@@ -12,8 +12,9 @@ ghost use Rattle.flow_lock.specs.Steps.{IsAlone};
 ghost use Rattle.flow_lock.specs.declared.view.History.{History};
 ghost use Rattle.flow_lock.specs.declared.view.View.{View};
 ghost use Rattle.app_reaper.specs.OneCall.{IsUse};
-ghost use Rattle.slow_worker.specs.Entering.{IsReceived};
-ghost use Rattle.slow_worker.specs.Workers.{Worker, Setting, IsSound, sight_of};
+ghost use Rattle.slow_worker.specs.Entering.{IsEntered};
+ghost use Rattle.slow_worker.specs.Workers.{Worker, Setting, IsSound, sight_of, with_sight};
+ghost use Rattle.slow_worker.specs.declared.served.Served.TheVariants as served;
 ghost use Rattle.sound_hosts.specs.Hosts.{CoreHost, known_in};
 ghost use Rattle.sound_hosts.specs.Leading.{LedOn};
 ghost use Rattle.sound_hosts.specs.Moving.{IsLed, IsLedBy, with_slow};
@@ -36,4 +37,14 @@ pub fn one_flow_led_keeps_it()
     ensures { (h : CoreHost) (w : Worker) (id : FlowId) (k : History) → IsHostSound h
         → LedOn (known_of id (known_in h)) k → IsLedBy id k h.slow w → IsSound h.table (sight_of w)
         → IsHostSound (with_slow w h) }
+{}
+
+/// So it is where the slow path received a frame alone: with all that [`SlowWorker::frame`] says of one that was
+/// entered.
+///
+/// [`SlowWorker::frame`]: slow_worker::SlowWorker::frame
+pub fn frames_alone_keep_it()
+    ensures { (h : CoreHost) (w : Worker) (at : Setting) (frame : FrameId) (seg : Segment) (id f : FlowId)
+        → IsHostSound h → IsEntered at frame seg id (sight_of h.slow) (sight_of w) (served.Entered f)
+        → w ≡ with_sight (sight_of w) h.slow → IsSound h.table (sight_of w) → IsHostSound (with_slow w h) }
 {}
