@@ -22,6 +22,9 @@ use Rattle.lane_orders.specs.Turns.{Did, frame_by, ask_by, words_in, handed_belo
 use Rattle.lane_orders.specs.Ticks.{Phase, IsHandOut, AreTried, IsTickOfTurns}
 use Rattle.lane_orders.proofs.Handing.{by_same, same_as_none, first_of_none, taken_or_left, none_handed, handed_once}
 
+no_more : {X : Type 0} (x : X) (xs : List X) → x ∷ xs ≡ [] → ⊥
+no_more x xs e = absurd (cc e)
+
 module _ {S A : Type 0} where
   -- the frames and asks of words are those of the deeds that they are
   frames_same : (ws : List (Word S A)) → joined frame_by ws ≡ frames_in (map told_of ws)
@@ -31,9 +34,6 @@ module _ {S A : Type 0} where
   asks_same : (ws : List (Word S A)) → joined ask_by ws ≡ asks_in (map told_of ws)
   asks_same [] = refl
   asks_same (w ∷ ws) = ap (λ l. ask_by w ++ l) (asks_same ws)
-
-  no_more : {X : Type 0} (x : X) (xs : List X) → x ∷ xs ≡ [] → ⊥
-  no_more x xs e = absurd (cc e)
 
   -- a word that takes no frame and asks nothing is a segment that is sent
   all_send : (t : ℕ) (books : List Book) (ws : List (Word S A)) → Each (IsWord t books) ws → joined frame_by ws ≡ []

@@ -19,7 +19,7 @@ use Rattle.host_books.specs.Indexes.{IsFindable}
 use Rattle.sound_hosts.specs.Hosts.{CoreHost, known_in, id_of, is_holder, is_held_of, waits, waiting_in}
 use Rattle.sound_hosts.specs.Sound.{IsHostSound, IsApp, IsPlain}
 use Rattle.sound_hosts.proofs.Distinct.{IsWaiting, is_waiting}
-use Rattle.sound_hosts.proofs.Sockets.{each_at, not_held, and_both, not_true, standing}
+use Rattle.sound_hosts.proofs.OpenSockets.{each_at, not_held, and_both, not_true, standing}
 
 module _ (h : CoreHost) (sound : IsHostSound h) where
   abbrev known : List Held

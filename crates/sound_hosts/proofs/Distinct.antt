@@ -18,7 +18,7 @@ use Rattle.slow_handshake.specs.Openings.{Openings, first_ready, is_ready_at, id
 use Rattle.slow_handshake.specs.declared.openings.PassiveFlow.{PassiveFlow}
 use Rattle.host_books.specs.Books.{Book}
 use Rattle.host_books.specs.Indexes.{IsFindable}
-use Rattle.sound_hosts.proofs.Sockets.{each_at}
+use Rattle.sound_hosts.proofs.OpenSockets.{each_at}
 use Rattle.sound_hosts.specs.Hosts.{id_of, is_of_slot, is_holder, is_held_of, waits, passive_flow, waiting_in, AreNumbered}
 
 -- ----- counts

@@ -16,7 +16,7 @@ use Rattle.sound_hosts.specs.Hosts.{CoreHost, known_in}
 use Rattle.sound_hosts.specs.Leading.{LedOn}
 use Rattle.sound_hosts.specs.Moving.{IsLedBy, with_slow}
 use Rattle.sound_hosts.specs.Sound.{IsHostSound}
-use Rattle.sound_hosts.proofs.Alone.{used_leads, led_sound}
+use Rattle.sound_hosts.proofs.OneFlow.{used_leads, led_sound}
 use Rattle.sound_hosts.proofs.Calls.{call_leads}
 
 pub frame_sound : (h : CoreHost) (w : Worker) (at : Setting) (frame : FrameId) (seg : Segment) (id : FlowId)

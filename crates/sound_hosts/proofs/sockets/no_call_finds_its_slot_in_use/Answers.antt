@@ -7,7 +7,7 @@ use Rattle.flow_lock.specs.Orders.{same_flow}
 use Rattle.flow_lock.specs.declared.view.Mark.{Mark}
 use Rattle.libtas_sockets.specs.Apps.{IsSocket, socket_on}
 use Rattle.libtas_sockets.specs.declared.socket.Socket.{Socket}
-use Rattle.sound_hosts.proofs.Sockets.{sockets_open}
+use Rattle.sound_hosts.proofs.OpenSockets.{sockets_open}
 use Rattle.sound_hosts.proofs.Accepting.{free}
 use Rattle.sound_hosts.proofs.sockets.no_call_finds_its_slot_in_use.Goals as goal
 
