@@ -42,10 +42,12 @@ module _ {S A : Type 0} where
   all_send t books (w ∷ ws) (inl f, more) frames asks =
       absurd (no_more f.arrival (joined frame_by ws)
       (sym (ap (λ (m : rounds.Deed A). frame_in m.action ++ joined frame_by ws) f.is) ∙ frames))
-  all_send t books (w ∷ ws) (inr (inl s), more) frames asks =
-      (s, all_send t books ws more
-      (sym (ap (λ (m : rounds.Deed A). frame_in m.action ++ joined frame_by ws) s.is) ∙ frames)
-      (sym (ap (λ (m : rounds.Deed A). ask_in m.action ++ joined ask_by ws) s.is) ∙ asks))
+  all_send t books (w ∷ ws) (inr (inl s), more) frames asks = (
+    s,
+    all_send t books ws more
+        (sym (ap (λ (m : rounds.Deed A). frame_in m.action ++ joined frame_by ws) s.is) ∙ frames)
+        (sym (ap (λ (m : rounds.Deed A). ask_in m.action ++ joined ask_by ws) s.is) ∙ asks),
+  )
   all_send t books (w ∷ ws) (inr (inr a), more) frames asks =
       absurd (no_more (a.try_.ask) (joined ask_by ws)
       (sym (ap (λ (m : rounds.Deed A). ask_in m.action ++ joined ask_by ws) a.is) ∙ asks))

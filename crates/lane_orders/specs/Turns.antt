@@ -80,6 +80,7 @@ pub record IsOfTurns {S A : Type 0} (scripts : Scripts S A) (t : ℕ) (s : Setti
 -- ----- the hand-out
 -- The first turns are the cores', and each has those of the frames that were handed to its core; the others have none.
 -- `handed` has the core of each frame.
-pub record AreGiven {S A : Type 0} (cores : ℕ) (handed : List ℕ) (frames : List Arrival) (did : ℕ → Did S A) : Type 0 where
+pub record AreGiven {S A : Type 0} (cores : ℕ) (handed : List ℕ) (frames : List Arrival) (did : ℕ → Did S A)
+    : Type 0 where
   pub own : (core : ℕ) → core < cores → (did core).frames ≡ given_to core handed frames
   pub others : (p : ℕ) → cores ≤ p → (did p).frames ≡ []

@@ -1,6 +1,7 @@
 -- The flow that an application accepts is on the slot of none of its sockets: for the law
 -- no_call_finds_its_slot_in_use.
-use Rattle.std.proofs.Common.{◌≡◌, ℕ, Bool, true, false, List, [], ◌∷◌, map, refl, sym, ap, ◌∙◌, subst, Some, slice_get, true≢false}
+use Rattle.std.proofs.Common.{◌≡◌, ℕ, Bool, true, false, List, [], ◌∷◌, map, refl, sym, ap, ◌∙◌, subst, Some}
+use Rattle.std.proofs.Common.{slice_get, true≢false}
 use Rattle.std.specs.Prelude.{IsPermutation}
 use Rattle.std.specs.List.{filter, list_any}
 use Rattle.std.proofs.lemmas.List.Sorted.{list_any-IsPermutation}
@@ -43,7 +44,8 @@ module _ (h : CoreHost) (sound : IsHostSound h) where
       let app : IsApp h.table h.books a = each_at (IsApp h.table h.books) h.apps n a sound.apps at in
       let names : List FlowId = map id_of (filter (is_held_of a.number) h.books) in
       let w : IsWaiting known (is_held_of a.number) h.books id =
-      is_waiting known (is_held_of a.number) (never a.number) (is_ready_at port) h.table.slots [] h.books id sound.numbered
+      is_waiting known (is_held_of a.number) (never a.number) (is_ready_at port) h.table.slots [] h.books id
+      sound.numbered
       (ap (λ (fs : List PassiveFlow). first_ready (record (h.slow.path) { flows = fs }) port) (sym sound.opening.flows)
       ∙ first) in
       let not_over : is_over (known_of w.book.id known) ≡ false =

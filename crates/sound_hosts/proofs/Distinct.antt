@@ -1,6 +1,7 @@
 -- No two books are of one flow, and a flow that waits for Accept has no socket: for the law
 -- no_call_finds_its_slot_in_use.
-use Rattle.std.proofs.Common.{◌≡◌, ℕ, ◌+◌, ◌≤◌, ◌==◌, ◌&&◌, ◌||◌, not, cond, Bool, true, false, List, [], ◌∷◌, ◌++◌, map, refl}
+use Rattle.std.proofs.Common.{◌≡◌, ℕ, ◌+◌, ◌≤◌, ◌==◌, ◌&&◌, ◌||◌, not, cond, Bool, true, false, List, [], ◌∷◌, ◌++◌}
+use Rattle.std.proofs.Common.{map, refl}
 use Rattle.std.proofs.Common.{sym, ap, ◌∙◌, subst, arith, Some, Option, None, true≢false, count_by, suc, slice_get}
 use Rattle.std.specs.Prelude.{IsPermutation}
 use Rattle.std.specs.List.{filter, list_any, find}
@@ -19,7 +20,8 @@ use Rattle.slow_handshake.specs.declared.openings.PassiveFlow.{PassiveFlow}
 use Rattle.host_books.specs.Books.{Book}
 use Rattle.host_books.specs.Indexes.{IsFindable}
 use Rattle.sound_hosts.proofs.OpenSockets.{each_at}
-use Rattle.sound_hosts.specs.Hosts.{id_of, is_of_slot, is_holder, is_held_of, waits, passive_flow, waiting_in, AreNumbered}
+use Rattle.sound_hosts.specs.Hosts.{id_of, is_of_slot, is_holder, is_held_of, waits, passive_flow, waiting_in}
+use Rattle.sound_hosts.specs.Hosts.{AreNumbered}
 
 -- ----- counts
 pub count_push : (p : Book → Bool) (bs : List Book) (b : Book) → count_by p (bs ++ b ∷ []) ≡ count_by p bs + tally (p b)
@@ -61,7 +63,8 @@ pub distinct : (slots : ℕ) (before : List Book) (b : Book) (bs : List Book) �
     → Others b bs
 distinct slots before b bs (slot, generation, more) =
     let pushed : count_by (is_of_slot b.id.slot) (before ++ b ∷ [])
-    ≡ count_by (is_of_slot b.id.slot) before + tally (is_of_slot b.id.slot b) = count_push (is_of_slot b.id.slot) before b in
+    ≡ count_by (is_of_slot b.id.slot) before + tally (is_of_slot b.id.slot b) =
+    count_push (is_of_slot b.id.slot) before b in
     let one : tally (is_of_slot b.id.slot b) ≡ 1 = ap tally (own_slot b) in
     later slots b.id.slot b.id.generation (before ++ b ∷ []) bs more (omega (arith, pushed, one, generation))
 
@@ -138,13 +141,15 @@ module _ (known : List Held) (test : Book → Bool) (never : (b : Book) → wait
             name = name;
             waiting = w;
             apart = subst (λ f. list_any (same_flow f) (map id_of (filter test (b ∷ bs))) ≡ false) name
-                (ap (λ t. list_any (same_flow b.id) (map id_of (cond t (b ∷ filter test bs) (filter test bs)))) (never b w)
+                (ap (λ t. list_any (same_flow b.id) (map id_of (cond t (b ∷ filter test bs) (filter test bs))))
+                (never b w)
                 ∙ not_named test b bs (distinct slots before b bs numbered));
           }
       by_pass w false q rest = behind (rest q)
 
       by_wait : (w : Bool) → waits known b ≡ w
-          → option_map passive_id (find pass (cond w (passive_flow known b ∷ waiting_in known bs) (waiting_in known bs)))
+          → option_map passive_id
+          (find pass (cond w (passive_flow known b ∷ waiting_in known bs) (waiting_in known bs)))
           ≡ Some id
           → (found bs ≡ Some id → IsWaiting known test bs id) → IsWaiting known test (b ∷ bs) id
       by_wait true w q rest = by_pass w (pass (passive_flow known b)) q rest

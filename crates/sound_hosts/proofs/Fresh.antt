@@ -1,5 +1,6 @@
 -- What books have of the flows where a history of a further flow is known: for the law frames_that_open_keep_it.
-use Rattle.std.proofs.Common.{◌≡◌, ℕ, zero, suc, ◌&&◌, not, cond, Bool, true, false, List, [], ◌∷◌, ◌++◌, length, map, refl, sym, ap}
+use Rattle.std.proofs.Common.{◌≡◌, ℕ, zero, suc, ◌&&◌, not, cond, Bool, true, false, List, [], ◌∷◌, ◌++◌, length, map}
+use Rattle.std.proofs.Common.{refl, sym, ap}
 use Rattle.std.proofs.Common.{◌∙◌, subst, inl, inr, true≢false}
 use Rattle.std.specs.Prelude.{◌⊎◌}
 use Rattle.tas_model.specs.declared.entry.FlowId.{FlowId}
@@ -105,20 +106,18 @@ module _ (known : List Held) (id : FlowId) (k : History) where
         → Each (λ (c : Book). is_indexed_as u (live_in after c) ≡ false) (bs ++ b ∷ [])
     not_more t u e apart [] others each =
         ((λ i. same_tuple (e i) (own i).tuple) ∙ apart, tt)
-    not_more t u e apart (c ∷ cs) others each =
-        (
-          (λ i. c.indexed && same_tuple (e i) (other c.id others.0 i).tuple) ∙ each.0,
-          not_more t u e apart cs others.1 each.1,
-        )
+    not_more t u e apart (c ∷ cs) others each = (
+      (λ i. c.indexed && same_tuple (e i) (other c.id others.0 i).tuple) ∙ each.0,
+      not_more t u e apart cs others.1 each.1,
+    )
 
     once : (bs : List Book) → Each IsOther bs → Each IsApart bs → AreOnce known bs → AreOnce after (bs ++ b ∷ [])
     once [] others apart are = (λ is. tt, tt)
-    once (c ∷ cs) others apart are =
-        (
-          λ is. not_more (known_of c.id known).tuple (known_of c.id after).tuple
-              (ap (λ (x : History). x.tuple) (other c.id others.0)) (apart.0 is) cs others.1 (are.0 is),
-          once cs others.1 apart.1 are.1,
-        )
+    once (c ∷ cs) others apart are = (
+      λ is. not_more (known_of c.id known).tuple (known_of c.id after).tuple
+          (ap (λ (x : History). x.tuple) (other c.id others.0)) (apart.0 is) cs others.1 (are.0 is),
+      once cs others.1 apart.1 are.1,
+    )
 
     -- places
     at_end : (bs : List Book) → Each IsOther bs → IsAt (length bs) id (bs ++ b ∷ [])
@@ -155,5 +154,8 @@ module _ (known : List Held) (id : FlowId) (k : History) where
         by f true e y s =
             inr (length bs, subst (λ g. IsAt (length bs) g (bs ++ b ∷ [])) (is_same_flow id f e) (at_end bs others))
         by f false e true s =
-            inr (length bs, subst (λ g. IsAt (length bs) g (bs ++ b ∷ [])) (sym (is_same_flow f id s)) (at_end bs others))
+            inr (
+              length bs,
+              subst (λ g. IsAt (length bs) g (bs ++ b ∷ [])) (sym (is_same_flow f id s)) (at_end bs others),
+            )
         by f false e false s = still f e s (are.all f)

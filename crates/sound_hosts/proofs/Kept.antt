@@ -54,8 +54,10 @@ module _ (before after : List Held) (same : (f : FlowId) → (known_of f after).
 
   still_once : (bs : List Book) → AreOnce before bs → AreOnce after bs
   still_once [] once = tt
-  still_once (b ∷ bs) once =
-      (λ is. still_not (known_of b.id before).tuple (known_of b.id after).tuple (same b.id) bs (once.0 is), still_once bs once.1)
+  still_once (b ∷ bs) once = (
+    λ is. still_not (known_of b.id before).tuple (known_of b.id after).tuple (same b.id) bs (once.0 is),
+    still_once bs once.1,
+  )
 
 module _ (before after : List Held) (leads : Leads before after) where
   still_findable : (bs : List Book) → Each (IsFindable before) bs → Each (IsFindable after) bs

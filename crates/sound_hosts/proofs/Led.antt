@@ -30,10 +30,12 @@ one_more known t b bs not_ = by_indexed b.indexed refl not_
   where
     by_indexed : (i : Bool) → b.indexed ≡ i → (i && same_tuple t (tuple_of known b)) ≡ false
         → flow_with t (flows_in known (b ∷ bs)) ≡ flow_with t (flows_in known bs)
-    by_indexed false is h = ap (λ (x : Bool). flow_with t (cond x (known_flow known b ∷ flows_in known bs) (flows_in known bs))) is
+    by_indexed false is h =
+        ap (λ (x : Bool). flow_with t (cond x (known_flow known b ∷ flows_in known bs) (flows_in known bs))) is
     by_indexed true is h =
         ap (λ (x : Bool). flow_with t (cond x (known_flow known b ∷ flows_in known bs) (flows_in known bs))) is
-        ∙ ap (λ (x : Bool). option_map id_of (cond x (Some (known_flow known b)) (find (has_tuple t) (flows_in known bs))))
+        ∙ ap (λ (x : Bool). option_map id_of
+        (cond x (Some (known_flow known b)) (find (has_tuple t) (flows_in known bs))))
         (alike t (tuple_of known b) ∙ h)
 
 pub listed : (known : List Held) (t : FourTuple) (n : ℕ) (id : FlowId) (bs : List Book) → IsAt n id bs

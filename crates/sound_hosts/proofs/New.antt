@@ -62,7 +62,8 @@ new_sound table w xs new = record {
   opening = record {
     flows = new.opening;
     ports = λ f. new.ports;
-    listeners = λ f. subst (λ (ls : List Listener). Each (λ (l : Listener). l.port < first_port) ls) (sym new.listeners) tt;
+    listeners = λ f. subst (λ (ls : List Listener). Each (λ (l : Listener). l.port < first_port) ls)
+        (sym new.listeners) tt;
   };
   shown = record {
     pending = new.pending;

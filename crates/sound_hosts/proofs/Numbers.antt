@@ -1,7 +1,9 @@
 -- The slot and the generation of the next flow, and the marks and words once it is opened: for the law
 -- frames_that_open_keep_it.
-use Rattle.std.proofs.Common.{◌≡◌, ◌≢◌, ℕ, zero, suc, ◌+◌, ◌<◌, ◌≤◌, ◌==◌, ◌&&◌, ◌||◌, not, cond, Bool, true, false, List, []}
-use Rattle.std.proofs.Common.{◌∷◌, ◌++◌, length, refl, sym, ap, ◌∙◌, subst, arith, inl, inr, set, min, Some, Option, None}
+use Rattle.std.proofs.Common.{◌≡◌, ◌≢◌, ℕ, zero, suc, ◌+◌, ◌<◌, ◌≤◌, ◌==◌, ◌&&◌, ◌||◌, not, cond, Bool, true, false}
+use Rattle.std.proofs.Common.{List, []}
+use Rattle.std.proofs.Common.{◌∷◌, ◌++◌, length, refl, sym, ap, ◌∙◌, subst, arith, inl, inr, set, min, Some, Option}
+use Rattle.std.proofs.Common.{None}
 use Rattle.std.proofs.Common.{slice_get, count_by, true≢false, append_assoc, append-nil}
 use Rattle.std.specs.Prelude.{◌⊎◌, position}
 use Rattle.std.specs.List.{list_any}
@@ -115,7 +117,8 @@ numbered_push slots before (c ∷ cs) b numbered slot is =
       numbered.0,
       numbered.1,
       numbered_push slots (before ++ c ∷ []) cs b numbered.2 slot
-          (subst (λ l. b.id.generation ≡ 1 + count_by (is_of_slot b.id.slot) l) (sym (append_assoc before (c ∷ []) cs)) is),
+          (subst (λ l. b.id.generation ≡ 1 + count_by (is_of_slot b.id.slot) l)
+          (sym (append_assoc before (c ∷ []) cs)) is),
     )
 
 -- ----- marks
@@ -141,14 +144,16 @@ mark_there (m ∷ ms) zero lt = refl
 mark_there (m ∷ ms) (suc i) lt = mark_there ms i (omega (arith, lt))
 
 none_more : {X : Type 0} (p : X → Bool) (xs : List X) (x : X) → p x ≡ false → list_any p (xs ++ x ∷ []) ≡ list_any p xs
-none_more p xs x e = list_any-append p xs (x ∷ []) ∙ (ap (λ c. list_any p xs || (c || false)) e ∙ or_false (list_any p xs))
+none_more p xs x e =
+    list_any-append p xs (x ∷ []) ∙ (ap (λ c. list_any p xs || (c || false)) e ∙ or_false (list_any p xs))
   where
     or_false : (b : Bool) → (b || (false || false)) ≡ b
     or_false true = refl
     or_false false = refl
 
 one_more : {X : Type 0} (p : X → Bool) (xs : List X) (x : X) → p x ≡ true → list_any p (xs ++ x ∷ []) ≡ true
-one_more p xs x e = list_any-append p xs (x ∷ []) ∙ (ap (λ c. list_any p xs || (c || false)) e ∙ or_true (list_any p xs))
+one_more p xs x e =
+    list_any-append p xs (x ∷ []) ∙ (ap (λ c. list_any p xs || (c || false)) e ∙ or_true (list_any p xs))
   where
     or_true : (b : Bool) → (b || (true || false)) ≡ true
     or_true true = refl

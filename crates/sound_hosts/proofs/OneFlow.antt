@@ -54,9 +54,11 @@ used_leads id r k v w alone u = record {
   marks = ap (λ (x : View). x.marks) u.3;
   base = ap (λ (x : View). x.base) u.3
       ∙ ap (λ (ts : List Turn). alone_or ts (record { flow = id; history = k } ∷ v.base) v.base) alone.1;
-  words = λ slot. ap (λ (x : View). word_at x.words slot) u.3 ∙ (when_alone slot ∙ words_back v.words id.slot free slot);
+  words = λ slot. ap (λ (x : View). word_at x.words slot) u.3
+      ∙ (when_alone slot ∙ words_back v.words id.slot free slot);
   wide = ap (λ (x : View). length x.words) u.3
-      ∙ (ap (λ (ts : List Turn). length (twice ts)) alone.1 ∙ (length-set (busy []) id.slot _ ∙ length-set v.words id.slot _));
+      ∙ (ap (λ (ts : List Turn). length (twice ts)) alone.1
+      ∙ (length-set (busy []) id.slot _ ∙ length-set v.words id.slot _));
 }
   where
     free : (word_at v.words id.slot).busy ≡ false
@@ -82,7 +84,8 @@ module _ (known : List Held) (id : FlowId) (k : History) (led : LedOn (known_of 
     where
       by_same : (s : Bool) → same_flow id f ≡ s → LedOn (known_of f known) (cond (same_flow id f) k (known_of f known))
       by_same false e =
-          subst (λ (s : Bool). LedOn (known_of f known) (cond s k (known_of f known))) (sym e) (same_led (known_of f known))
+          subst (λ (s : Bool). LedOn (known_of f known) (cond s k (known_of f known))) (sym e)
+          (same_led (known_of f known))
       by_same true e =
           subst (λ (s : Bool). LedOn (known_of f known) (cond s k (known_of f known))) (sym e)
           (subst (λ g. LedOn (known_of g known) k) (is_same_flow id f e) led)

@@ -1,5 +1,6 @@
 -- An endpoint that is past its opening stays so: for the law calls_lead_on.
-use Rattle.std.proofs.Common.{◌≡◌, ℕ, ◌+◌, ◌<◌, ◌≤◌, ◌==◌, ◌&&◌, not, Bool, true, false, cond, Option, Some, None, IsSome}
+use Rattle.std.proofs.Common.{◌≡◌, ℕ, ◌+◌, ◌<◌, ◌≤◌, ◌==◌, ◌&&◌, not, Bool, true, false, cond, Option, Some, None}
+use Rattle.std.proofs.Common.{IsSome}
 use Rattle.std.proofs.Common.{◌*◌, ◌-◌, refl, sym, ap, ◌∙◌, arith, eqb, ltb, leb, length, true≢false, min, List}
 use Rattle.std.proofs.Common.{if◌then◌else◌}
 use Rattle.std.proofs.lemmas.Bool.Decides.{nat_tests}
@@ -11,14 +12,17 @@ use Rattle.tas_model.specs.declared.entry.Call.{Call}
 use Rattle.tas_model.specs.declared.entry.Call.TheVariants as calls
 use Rattle.tas_model.specs.declared.entry.Reply.{Reply}
 use Rattle.tas_model.specs.declared.entry.Seg.{Seg}
-use Rattle.tas_model.specs.Endpoint.{Endpoint, Sending, phase, phase_by, is_fin_acked, next_place, wnd, unread, send_room}
+use Rattle.tas_model.specs.Endpoint.{Endpoint, Sending, phase, phase_by, is_fin_acked, next_place, wnd, unread}
+use Rattle.tas_model.specs.Endpoint.{send_room}
 use Rattle.tas_model.specs.Segments.{Outcome, unchanged, is_ack, acks, seg_len, is_fin}
 use Rattle.tas_model.specs.Reassembly.{with_data}
-use Rattle.tas_model.specs.Receive.{rx, rx_in, rx_later, rx_syn_sent, verdict, Verdict, Dropped, Answered, Reset, BareAck}
+use Rattle.tas_model.specs.Receive.{rx, rx_in, rx_later, rx_syn_sent, verdict, Verdict, Dropped, Answered, Reset}
+use Rattle.tas_model.specs.Receive.{BareAck}
 use Rattle.tas_model.specs.Receive.{Taken, AckVerdict, Stray, TooFar, Good, ack_verdict, place_of_ack, bare_ack, taken}
 use Rattle.tas_model.specs.Receive.{by_verdict, after_ack, after_data, after_duplicate, after_advance, is_duplicate}
 use Rattle.tas_model.specs.Receive.{moves_window, sending_after, takes_fin}
-use Rattle.tas_model.specs.ApplicationCalls.{Column, Opening, Over, Running, column, accept_in, ready_in, send_in, recv_in}
+use Rattle.tas_model.specs.ApplicationCalls.{Column, Opening, Over, Running, column, accept_in, ready_in, send_in}
+use Rattle.tas_model.specs.ApplicationCalls.{recv_in}
 use Rattle.tas_model.specs.ApplicationCalls.{recv_open, recv_given, shut_in, close_in, abort_in}
 use Rattle.tas_model.specs.NextSegment.{going, going_in, emitted, data_len, waiting}
 use Rattle.tas_model.specs.Timers.{ticks, tick_in, filled, ticked, expired, waited, is_armed, patience, probes, control}
@@ -168,7 +172,8 @@ ready_past e Running past = past
 ready_past e Opening past = past
 ready_past e (Over why) past = past
 
-send_past : (e : Endpoint) (c : Column) (offered : ℕ) (bytes : List ℕ) → IsPast e → StaysPast e (send_in c e offered bytes)
+send_past : (e : Endpoint) (c : Column) (offered : ℕ) (bytes : List ℕ) → IsPast e
+    → StaysPast e (send_in c e offered bytes)
 send_past e Opening offered bytes past = past
 send_past e (Over why) offered bytes past = past
 send_past e Running offered bytes past =

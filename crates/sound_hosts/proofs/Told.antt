@@ -130,7 +130,8 @@ module _ (known : List Held) (id : FlowId) (k : History) where
           → head b (same_flow id b.id) (waiting_in after bs) ≡ filter stays (head b false (waiting_in known bs))
       by_same true e rest =
           ap (λ s. head b s (waiting_in after bs)) e
-          ∙ (ap (λ x. cond (is_waiting_by b.holder && not x) (flow b true ∷ waiting_in after bs) (waiting_in after bs)) over
+          ∙ (ap (λ x. cond (is_waiting_by b.holder && not x) (flow b true ∷ waiting_in after bs) (waiting_in after bs))
+          over
           ∙ (cond_false (is_waiting_by b.holder) (flow b true ∷ waiting_in after bs) (waiting_in after bs)
           ∙ (rest ∙ sym (gone e (test b false)))))
       by_same false e rest = ap (λ s. head b s (waiting_in after bs)) e ∙ kept e rest (test b false)

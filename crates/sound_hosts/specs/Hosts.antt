@@ -1,5 +1,5 @@
--- A host whose flows stand in a table that all its workers share, and what the table, the slow path and the applications
--- have of each of its books.
+-- A host whose flows stand in a table that all its workers share, and what the table, the slow path and the
+-- applications have of each of its books.
 use Rattle.std.specs.Prelude.{◌≡◌, ℕ, ◌+◌, ◌<◌, ◌==◌, ◌&&◌, not, nat_le, Bool, true, false, cond, List, [], ◌∷◌, ◌++◌}
 use Rattle.std.specs.Prelude.{map, count_by, ⊤}
 use Rattle.atomic_table.specs.Seated.{TableId}

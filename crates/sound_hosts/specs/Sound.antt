@@ -1,5 +1,5 @@
--- What holds of a host between ticks: its books agree with what the slow path, the applications, the index and the slots
--- of the table have of each flow.
+-- What holds of a host between ticks: its books agree with what the slow path, the applications, the index and the
+-- slots of the table have of each flow.
 use Rattle.std.specs.Prelude.{◌≡◌, ℕ, ◌<◌, ◌≤◌, ◌==◌, true, false, List, [], map, count_by, length, slice_get, Some}
 use Rattle.std.specs.Prelude.{IsPermutation}
 use Rattle.std.specs.List.{list_any, filter}
