@@ -26,6 +26,10 @@ pub frame_sound : (h : CoreHost) (w : Worker) (at : Setting) (frame : FrameId) (
 frame_sound h w at frame seg id sound got after rest kept =
     let r : Flow = got.flow in
     let k : History = received at.tick frame seg r in
+    let all : w ≡ record (h.slow) { path = w.path; pass = w.pass; senders = w.senders; kicks = w.kicks } =
+    rest ∙ ap (λ (s : Sight). with_sight s h.slow) after in
+    let log : h.slow.log ≡ w.log = sym (ap (λ (x : Worker). x.log) all) in
+    let kickers : h.slow.kickers ≡ w.kickers = sym (ap (λ (x : Worker). x.kickers) all) in
     let own : history r ≡ known_of id (known_in h) = got.own.known sound.alone in
     led_sound h w id k sound
     (subst (λ (x : History). LedOn x k) own
@@ -33,6 +37,13 @@ frame_sound h w at frame seg id sound got after rest kept =
     (record {
       view = used_leads id r k h.slow.pass.view w.pass.view sound.alone got.given;
       path = got.path;
-      rest = rest ∙ ap (λ (s : Sight). with_sight s h.slow) after;
+      rest = all ∙ (λ i. record (h.slow) {
+        path = w.path;
+        pass = w.pass;
+        log = log i;
+        senders = w.senders;
+        kicks = w.kicks;
+        kickers = kickers i;
+      });
     })
     kept

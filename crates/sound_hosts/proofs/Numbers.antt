@@ -218,3 +218,55 @@ module _ (v w : View) (id : FlowId) (b : Book) (named : b.id ≡ id) (worded : w
           let ne : c.id.slot ≢ id.slot = λ same. true≢false (sym (grind (arith, nat_tests, same)) ∙ e) in
           ap (λ ws. word_at ws c.id.slot) words
           ∙ (word_else v.words id.slot c.id.slot (live_word id.generation) ne ∙ each.0 f)
+
+-- ----- marks of all slots
+module _ (v w : View) (id : FlowId) (b : Book) (named : b.id ≡ id) (stands : b.filed ≡ false) (shown : b.indexed ≡ true)
+    (marks : w.marks ≡ set v.marks id.slot (mark id.generation true false)) (bs : List Book)
+    (number : id.generation ≡ 1 + count_by (is_of_slot id.slot) bs)
+    (free : list_any (stands_in id.slot) bs ≡ false)
+    (before : (i : ℕ) (m : Mark) → slice_get v.marks i ≡ Some m → IsMarked bs i m) where
+  of_slot : (i : ℕ) (s : Bool) → (id.slot == i) ≡ s → is_of_slot i b ≡ s
+  of_slot i s e = ap (λ f. f.slot == i) named ∙ e
+
+  stands_as : (i : ℕ) (s : Bool) → (id.slot == i) ≡ s → stands_in i b ≡ s
+  stands_as i s e = λ j. not (stands j) && of_slot i s e j
+
+  never_doomed : (i : ℕ) → is_doomed_in i b ≡ false
+  never_doomed i = λ j. (not (shown j) && not b.filed) && (b.id.slot == i)
+
+  marks_more : (i : ℕ) (m : Mark) → slice_get w.marks i ≡ Some m → IsMarked (bs ++ b ∷ []) i m
+  marks_more i m e =
+      by (at_set v.marks id.slot i (mark id.generation true false) m
+      (ap (λ (ms : List Mark). slice_get ms i) (sym marks) ∙ e))
+    where
+      by : ((i ≡ id.slot) × (m ≡ mark id.generation true false)) ⊎ ((i ≢ id.slot) × (slice_get v.marks i ≡ Some m))
+          → IsMarked (bs ++ b ∷ []) i m
+      by (inl (slot, is)) =
+          let at : (id.slot == i) ≡ true = grind (arith, nat_tests, slot) in
+          let pushed : count_by (is_of_slot i) (bs ++ b ∷ []) ≡ count_by (is_of_slot i) bs + tally (is_of_slot i b) =
+          count_push (is_of_slot i) bs b in
+          let one : tally (is_of_slot i b) ≡ 1 = ap tally (of_slot i true at) in
+          let counted : count_by (is_of_slot i) bs ≡ count_by (is_of_slot id.slot) bs =
+          ap (λ k. count_by (is_of_slot k) bs) slot in
+          let generation : id.generation ≡ count_by (is_of_slot i) (bs ++ b ∷ []) =
+          omega (arith, pushed, one, number, counted) in
+          record {
+            generation = ap (λ (x : Mark). x.generation) is ∙ generation;
+            live = ap (λ (x : Mark). x.live) is ∙ sym (one_more (stands_in i) bs b (stands_as i true at));
+            doomed = ap (λ (x : Mark). x.doomed) is
+                ∙ sym (none_more (is_doomed_in i) bs b (never_doomed i)
+                ∙ none_doomed i bs (ap (λ k. list_any (stands_in k) bs) slot ∙ free));
+          }
+      by (inr (differs, at)) =
+          let old : IsMarked bs i m = before i m at in
+          let other : (id.slot == i) ≡ false = grind (arith, nat_tests, differs) in
+          let pushed : count_by (is_of_slot i) (bs ++ b ∷ []) ≡ count_by (is_of_slot i) bs + tally (is_of_slot i b) =
+          count_push (is_of_slot i) bs b in
+          let none : tally (is_of_slot i b) ≡ 0 = ap tally (of_slot i false other) in
+          let same : count_by (is_of_slot i) bs ≡ count_by (is_of_slot i) (bs ++ b ∷ []) =
+          omega (arith, pushed, none) in
+          record {
+            generation = old.generation ∙ same;
+            live = old.live ∙ sym (none_more (stands_in i) bs b (stands_as i false other));
+            doomed = old.doomed ∙ sym (none_more (is_doomed_in i) bs b (never_doomed i));
+          }

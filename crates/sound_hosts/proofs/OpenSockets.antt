@@ -139,15 +139,15 @@ module _ (h : CoreHost) (sound : IsHostSound h) where
       (to_filtered IsOpen (is_held_of a.number) h.books (held_open a.number h.books standing sound.holders)))
 
 -- ----- a flow that waits for Accept
-not_held : (n : ℕ) (x : Holder) → is_waiting_by x ≡ true → is_holder n x ≡ false
+pub not_held : (n : ℕ) (x : Holder) → is_waiting_by x ≡ true → is_holder n x ≡ false
 not_held n Waiting e = refl
 not_held n (Application m) e = absurd (true≢false (sym e))
 not_held n GivenUp e = refl
 
-and_both : (a b : Bool) → (a && b) ≡ true → (a ≡ true) × (b ≡ true)
+pub and_both : (a b : Bool) → (a && b) ≡ true → (a ≡ true) × (b ≡ true)
 and_both true b e = (refl, e)
 and_both false b e = absurd (true≢false (sym e))
 
-not_true : (b : Bool) → not b ≡ true → b ≡ false
+pub not_true : (b : Bool) → not b ≡ true → b ≡ false
 not_true true e = absurd (true≢false (sym e))
 not_true false e = refl
