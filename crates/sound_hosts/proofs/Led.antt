@@ -20,7 +20,7 @@ and_both true b h = (refl, h)
 and_both false b h = absurd (true≢false (sym h))
 
 -- both tests of four-tuples are one
-alike : (t u : FourTuple) → is_same u t ≡ same_tuple t u
+pub alike : (t u : FourTuple) → is_same u t ≡ same_tuple t u
 alike t u = grind (arith, nat_tests)
 
 -- what the list has of one more book
