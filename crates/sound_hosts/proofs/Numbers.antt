@@ -122,7 +122,7 @@ numbered_push slots before (c ∷ cs) b numbered slot is =
     )
 
 -- ----- marks
-at_set : (ms : List Mark) (s i : ℕ) (x m : Mark) → slice_get (set ms s x) i ≡ Some m
+pub at_set : (ms : List Mark) (s i : ℕ) (x m : Mark) → slice_get (set ms s x) i ≡ Some m
     → ((i ≡ s) × (m ≡ x)) ⊎ ((i ≢ s) × (slice_get ms i ≡ Some m))
 at_set [] s i x m e = absurd (cc e)
 at_set (y ∷ ys) zero zero x m e = inl (refl, sym (mark_is x m e))
@@ -160,7 +160,7 @@ one_more p xs x e =
     or_true false = refl
 
 -- no book of a slot where none stands is doomed
-none_doomed : (i : ℕ) (bs : List Book) → list_any (stands_in i) bs ≡ false → list_any (is_doomed_in i) bs ≡ false
+pub none_doomed : (i : ℕ) (bs : List Book) → list_any (stands_in i) bs ≡ false → list_any (is_doomed_in i) bs ≡ false
 none_doomed i [] e = refl
 none_doomed i (c ∷ cs) e = by c.indexed c.filed (c.id.slot == i) e (none_doomed i cs)
   where
@@ -178,14 +178,14 @@ none_doomed i (c ∷ cs) e = by c.indexed c.filed (c.id.slot == i) e (none_doome
     by false false false e rest = rest e
 
 -- ----- words
-word_else : (ws : List Word) (i k : ℕ) (w : Word) → k ≢ i → word_at (put_word i w ws) k ≡ word_at ws k
+pub word_else : (ws : List Word) (i k : ℕ) (w : Word) → k ≢ i → word_at (put_word i w ws) k ≡ word_at ws k
 word_else [] i k w ne = refl
 word_else (x ∷ xs) zero zero w ne = absurd (ne refl)
 word_else (x ∷ xs) zero (suc k) w ne = refl
 word_else (x ∷ xs) (suc i) zero w ne = refl
 word_else (x ∷ xs) (suc i) (suc k) w ne = word_else xs i k w (λ e. ne (ap suc e))
 
-word_own : (ws : List Word) (i : ℕ) (w : Word) → i < length ws → word_at (put_word i w ws) i ≡ w
+pub word_own : (ws : List Word) (i : ℕ) (w : Word) → i < length ws → word_at (put_word i w ws) i ≡ w
 word_own [] i w lt = absurd (omega (arith, lt))
 word_own (x ∷ xs) zero w lt = refl
 word_own (x ∷ xs) (suc i) w lt = word_own xs i w (omega (arith, lt))

@@ -2,4 +2,5 @@ pub mod Hosts
 pub mod Leading
 pub mod Moving
 pub mod Opening
+pub mod Ending
 pub mod Sound
