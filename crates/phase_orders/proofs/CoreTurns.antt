@@ -1,8 +1,10 @@
 -- A core's turn in the words of a run: for the law core_turns_have_words.
-use Rattle.std.proofs.Common.{◌≡◌, ℕ, Bool, List, [], ◌∷◌, ◌++◌, map, refl, sym, ap, ◌∙◌, subst, append_assoc, append-nil}
+use Rattle.std.proofs.Common.{◌≡◌, ℕ, Bool, List, [], ◌∷◌, ◌++◌, map, refl, sym, ap, ◌∙◌, subst, append_assoc}
+use Rattle.std.proofs.Common.{append-nil}
 use Rattle.std.proofs.Common.{inl, inr}
 use Rattle.std.specs.Prelude.{IsPermutation}
-use Rattle.std.proofs.lemmas.List.Sorted.{IsPermutation-refl, IsPermutation-trans, IsPermutation-sym, IsPermutation-cons}
+use Rattle.std.proofs.lemmas.List.Sorted.{IsPermutation-refl, IsPermutation-trans, IsPermutation-sym}
+use Rattle.std.proofs.lemmas.List.Sorted.{IsPermutation-cons}
 use Rattle.std.proofs.lemmas.List.Sorted.{IsPermutation-append_right, IsPermutation-middle, IsPermutation-map}
 use Rattle.segment_fields.specs.Text.{refusal}
 use Rattle.host_rounds.specs.Deliveries.{Arrival}
@@ -187,7 +189,7 @@ module _ (S A : Type 0) (check : Bool) (core t : ℕ) (books : List Book) where
 
 -- ----- a turn
 pub core_turn : {S A : Type 0} (tick : ℕ) (books : List Book) (v w : Worker) (ds : List Deed) → v.exceptions ≡ []
-    → v.deferred ≡ [] → IsTurnOf tick v w ds → (d : Did S A) × IsCoreTurn {S} {A} tick books v w ds d
+    → v.deferred ≡ [] → IsTurnOf tick v w ds → (d : Did S A) × IsCoreTurn tick books v w ds d
 core_turn {S} {A} tick books v w ds no_exceptions no_deferred turn =
     let check = v.check_sums in
     let fs = v.frames in

@@ -11,5 +11,5 @@ ghost use Rattle.phase_orders.specs.CoreTurns.{IsCoreTurn};
 /// did has its words.
 pub fn core_turns_have_words<S, A>()
     ensures { (tick : ℕ) (books : List Book) (v w : Worker) (ds : List Deed) → v.exceptions ≡ [] → v.deferred ≡ []
-        → IsTurnOf tick v w ds → (d : Did S A) × IsCoreTurn {S} {A} tick books v w ds d }
+        → IsTurnOf tick v w ds → (d : Did S A) × IsCoreTurn tick books v w ds d }
 {}

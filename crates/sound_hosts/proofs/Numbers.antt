@@ -60,7 +60,7 @@ next_slot ms f e = by_place (position is_free ms) refl e
 
 -- ----- books are numbered
 -- of each book no more flows of its slot are known than its generation says
-count_grows : (p : Book → Bool) (as bs : List Book) → count_by p as ≤ count_by p (as ++ bs)
+count_grows : (p : Book → Bool) (xs bs : List Book) → count_by p xs ≤ count_by p (xs ++ bs)
 count_grows p [] bs = omega arith
 count_grows p (c ∷ cs) bs =
     let rest : count_by p cs ≤ count_by p (cs ++ bs) = count_grows p cs bs in

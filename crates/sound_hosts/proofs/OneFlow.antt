@@ -1,6 +1,7 @@
 -- A host is sound still where one flow's record was used alone: for the laws of what is done alone.
 use Rattle.std.proofs.Common.{◌≡◌, ℕ, zero, suc, ◌==◌, ◌&&◌, cond, Bool, true, false, List, [], ◌∷◌, refl, sym, ap, ◌∙◌}
-use Rattle.std.proofs.Common.{subst, inl, inr, arith, true≢false, set, count_by, slice_get, Some, map, ◌<◌, leb, length, length-set}
+use Rattle.std.proofs.Common.{subst, inl, inr, arith, true≢false, set, count_by, slice_get, Some, map, ◌<◌, leb}
+use Rattle.std.proofs.Common.{length, length-set}
 use Rattle.std.specs.Prelude.{IsPermutation}
 use Rattle.std.specs.List.{filter}
 use Rattle.std.proofs.lemmas.Bool.Decides.{nat_tests}

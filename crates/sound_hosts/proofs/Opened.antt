@@ -1,7 +1,9 @@
 -- A host is sound still where a peer's SYN opened a flow alone: for the law frames_that_open_keep_it.
-use Rattle.std.proofs.Common.{◌≡◌, ℕ, ◌+◌, ◌<◌, ◌≤◌, ◌==◌, ◌&&◌, ◌||◌, not, cond, Bool, true, false, List, [], ◌∷◌, ◌++◌}
+use Rattle.std.proofs.Common.{◌≡◌, ℕ, ◌+◌, ◌<◌, ◌≤◌, ◌==◌, ◌&&◌, ◌||◌, not, cond, Bool, true, false, List, [], ◌∷◌}
+use Rattle.std.proofs.Common.{◌++◌}
 use Rattle.std.proofs.Common.{map, length, refl, sym, ap, ◌∙◌, subst, inl, inr, arith, set, min, Some, Option, None}
-use Rattle.std.proofs.Common.{slice_get, count_by, true≢false, append-nil, length-set, if◌then◌else◌, leb, fold, length-append}
+use Rattle.std.proofs.Common.{slice_get, count_by, true≢false, append-nil, length-set, if◌then◌else◌, leb, fold}
+use Rattle.std.proofs.Common.{length-append}
 use Rattle.std.specs.Prelude.{IsPermutation}
 use Rattle.std.specs.List.{filter, list_any, find}
 use Rattle.std.specs.Option.{option_map}

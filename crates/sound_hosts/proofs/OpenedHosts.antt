@@ -1,6 +1,8 @@
 -- The whole host where a peer's SYN opened a flow alone: for the law frames_that_open_keep_it.
-use Rattle.std.proofs.Common.{◌≡◌, ℕ, ◌+◌, ◌<◌, ◌≤◌, not, cond, Bool, true, false, List, [], ◌∷◌, ◌++◌, map, length, refl, sym}
-use Rattle.std.proofs.Common.{ap, ◌∙◌, subst, arith, set, min, Some, None, slice_get, count_by, append-nil, length-set, true≢false}
+use Rattle.std.proofs.Common.{◌≡◌, ℕ, ◌+◌, ◌<◌, ◌≤◌, not, cond, Bool, true, false, List, [], ◌∷◌, ◌++◌, map, length}
+use Rattle.std.proofs.Common.{refl, sym}
+use Rattle.std.proofs.Common.{ap, ◌∙◌, subst, arith, set, min, Some, None, slice_get, count_by, append-nil}
+use Rattle.std.proofs.Common.{length-set, true≢false}
 use Rattle.std.specs.Prelude.{IsPermutation}
 use Rattle.std.specs.List.{filter, list_any}
 use Rattle.std.proofs.lemmas.List.Sums.{count_by-le-length}
