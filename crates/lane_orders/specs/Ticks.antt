@@ -39,8 +39,8 @@ pub record AreTried {S A : Type 0} (scripts : Scripts S A) (asks tried later : L
   pub all : (n : ℕ) → filter (is_asked_by scripts n) (tried ++ later) ≡ filter (is_asked_by scripts n) asks
 
 -- The slow path gives up closed flows and lets time pass. The frames that came, each once, are handed out, and cores
--- and applications take turns side by side. The slow path takes the frames that they left, and the applications ask what
--- is left. Then cores that were handed no frame take turns again, and the slow path sends what may still go.
+-- and applications take turns side by side. The slow path takes the frames that they left, and the applications ask
+-- what is left. Then cores that were handed no frame take turns again, and the slow path sends what may still go.
 pub record IsTickOfTurns {S A : Type 0} (scripts : Scripts S A) (t : ℕ) (due : Due A) (before after : Site S)
     : Type 0 where
   pub first : Phase scripts t

@@ -67,13 +67,15 @@ module _ (f : Frame) (fs : List Frame) (hs : List Handled) (is : IsSplit fs hs) 
   r = gathered refused_by fs hs
 
   excepted : (p : PassedFrame) → p.frame ≡ f
-      → IsPermutation (f ∷ fs) (e ++ (r ++ map frame_in ((p ∷ gathered exceptions_by fs hs) ++ gathered deferred_by fs hs)))
+      → IsPermutation (f ∷ fs)
+      (e ++ (r ++ map frame_in ((p ∷ gathered exceptions_by fs hs) ++ gathered deferred_by fs hs)))
   excepted p same =
       more_passed f fs e r (passed_in fs hs) (p.frame ∷ passed_in fs hs) is
       (by_same (f ∷ passed_in fs hs) (p.frame ∷ passed_in fs hs) (λ i. sym same i ∷ passed_in fs hs))
 
   put_off : (p : PassedFrame) → p.frame ≡ f
-      → IsPermutation (f ∷ fs) (e ++ (r ++ map frame_in (gathered exceptions_by fs hs ++ (p ∷ gathered deferred_by fs hs))))
+      → IsPermutation (f ∷ fs)
+      (e ++ (r ++ map frame_in (gathered exceptions_by fs hs ++ (p ∷ gathered deferred_by fs hs))))
   put_off p same =
       let xs = gathered exceptions_by fs hs in
       let ds = gathered deferred_by fs hs in
@@ -112,7 +114,8 @@ line_by check core t f (handled.Passed x) ds p = refl
 line_by check core t f (handled.Refused n) ds p =
     (λ i. lines_by t f (handled.Refused (p.1.2 i))) ∙ ap (λ o. line_for t f.id o ++ []) (sym p.1.1)
 
-lines_joined : (check : Bool) (t : ℕ) (a b : List Frame) → lines_of check t (a ++ b) ≡ lines_of check t a ++ lines_of check t b
+lines_joined : (check : Bool) (t : ℕ) (a b : List Frame)
+    → lines_of check t (a ++ b) ≡ lines_of check t a ++ lines_of check t b
 lines_joined check t [] b = refl
 lines_joined check t (f ∷ a) b =
     ap (λ l. line_for t f.id (refusal check f.packet) ++ l) (lines_joined check t a b)

@@ -89,7 +89,8 @@ module _ (known : List Held) (id : FlowId) (k : History) where
   pub ports_fresh : (b : Book) → b.id ≡ id → k.tuple.lport < first_port → (bs : List Book) → Each IsOther bs
       → count_by (has_given_port after) (bs ++ b ∷ []) ≡ count_by (has_given_port known) bs
   ports_fresh b named low [] each =
-      let e : count_by (has_given_port after) (b ∷ []) ≡ tally (has_given_port after b) + count_by (has_given_port after) [] =
+      let e : count_by (has_given_port after) (b ∷ [])
+      ≡ tally (has_given_port after b) + count_by (has_given_port after) [] =
       count_cons (has_given_port after) b [] in
       let not_given : leb first_port k.tuple.lport ≡ false = grind (arith, nat_tests, low) in
       let none : tally (has_given_port after b) ≡ 0 =
@@ -159,7 +160,8 @@ module _ (known : List Held) (id : FlowId) (k : History) where
           λ is. ap (λ f. found_after (known_of f after).tuple now) named
               ∙ (ap (λ (x : History). found_after x.tuple now) (own known id k)
               ∙ (leads k.tuple
-              ∙ (ap (λ s. cond s (found.Flow id) (found_after k.tuple changes)) (alike k.tuple k.tuple ∙ tuple_self k.tuple)
+              ∙ (ap (λ s. cond s (found.Flow id) (found_after k.tuple changes))
+              (alike k.tuple k.tuple ∙ tuple_self k.tuple)
               ∙ ap (λ f. found.Flow f) (sym named)))),
           tt,
         )

@@ -92,7 +92,8 @@ module _ (h : CoreHost) (w : Worker) (tick : ℕ) (frame : FrameId) (seg : Segme
 
   number : id.generation ≡ 1 + count_by (is_of_slot id.slot) h.books
   number =
-      let most : count_by (is_of_slot id.slot) h.books ≤ length h.books = count_by-le-length (is_of_slot id.slot) h.books in
+      let most : count_by (is_of_slot id.slot) h.books ≤ length h.books =
+      count_by-le-length (is_of_slot id.slot) h.books in
       let is : id.generation ≡ min ((mark_at h.slow.pass.view.marks id.slot).generation + 1) 4294967295 = slot.number in
       let same : (mark_at h.slow.pass.view.marks id.slot).generation ≡ count_by (is_of_slot id.slot) h.books =
       marked.generation in
@@ -145,7 +146,8 @@ module _ (h : CoreHost) (w : Worker) (tick : ℕ) (frame : FrameId) (seg : Segme
           own = each.0.own;
           turns = each.0.turns;
           begun = each.0.begun;
-          sockets = subst (IsPermutation a.sockets) (sym (names_same (is_held_of a.number) h.books b refl)) each.0.sockets;
+          sockets = subst (IsPermutation a.sockets) (sym (names_same (is_held_of a.number) h.books b refl))
+              each.0.sockets;
         },
         apps_more xs each.1,
       )
@@ -214,7 +216,8 @@ module _ (h : CoreHost) (w : Worker) (tick : ℕ) (frame : FrameId) (seg : Segme
       pending = opened.indexed.pending;
       shown = subst (λ (l : List Held). AreShown (h.books ++ b ∷ []) l w.index.published) (sym base)
           (shown_more known id k h.slow.index.published w.index.published
-          (subst (λ (l : List Change). AnswerAlike w.index.published (h.slow.index.published ++ (l ++ Put k.tuple id ∷ [])))
+          (subst (λ (l : List Change). AnswerAlike w.index.published
+          (h.slow.index.published ++ (l ++ Put k.tuple id ∷ [])))
           sound.shown.pending opened.indexed.shown)
           h.books others no_tuple b refl refl sound.shown.shown);
     };

@@ -162,8 +162,8 @@ module _ (h : CoreHost) (sound : IsHostSound h) (xs : List Book) (b : Book) (cs 
   worded = subst (Each (IsWorded h.slow.pass.view)) split sound.table.words
 
   marked : (i : ℕ) (m : Mark) → slice_get h.slow.pass.view.marks i ≡ Some m → IsMarked (xs ++ b ∷ cs) i m
-  marked = subst (λ (bs : List Book). (i : ℕ) (m : Mark) → slice_get h.slow.pass.view.marks i ≡ Some m → IsMarked bs i m)
-      split sound.table.marks
+  marked =
+      subst (λ (bs : List Book). (i : ℕ) (m : Mark) → slice_get h.slow.pass.view.marks i ≡ Some m → IsMarked bs i m) split sound.table.marks
 
   own : word_at h.slow.pass.view.words b.id.slot ≡ word_of b
   own = middle (IsWorded h.slow.pass.view) xs b cs worded stands
@@ -291,7 +291,8 @@ module _ (h : CoreHost) (sound : IsHostSound h) (xs : List Book) (b : Book) (cs 
           h.slow.pass.view.words) → (k : ℕ) → k ≢ b.id.slot → word_at w.words k ≡ word_at h.slow.pass.view.words k
       away words k ne =
           ap (λ ws. word_at ws k) words
-          ∙ (word_else (put_word b.id.slot doomed_word h.slow.pass.view.words) b.id.slot k (dead_word b.id.generation) ne
+          ∙ (word_else (put_word b.id.slot doomed_word h.slow.pass.view.words) b.id.slot k (dead_word b.id.generation)
+          ne
           ∙ word_else h.slow.pass.view.words b.id.slot k doomed_word ne)
 
       none : list_any (stands_in b.id.slot) (xs ++ swept_as Freed b ∷ cs) ≡ false
