@@ -61,7 +61,7 @@ next_slot ms f e = by_place (position is_free ms) refl e
 -- ----- books are numbered
 -- of each book no more flows of its slot are known than its generation says
 count_grows : (p : Book → Bool) (xs bs : List Book) → count_by p xs ≤ count_by p (xs ++ bs)
-count_grows p [] bs = omega arith
+count_grows p [] bs = let none : count_by p [] ≡ 0 = refl in omega (arith, none)
 count_grows p (c ∷ cs) bs =
     let rest : count_by p cs ≤ count_by p (cs ++ bs) = count_grows p cs bs in
     let x : count_by p (c ∷ cs) ≡ tally (p c) + count_by p cs = count_cons p c cs in
@@ -177,6 +177,17 @@ none_doomed i (c ∷ cs) e = by c.indexed c.filed (c.id.slot == i) e (none_doome
     by false false true e rest = absurd (true≢false e)
     by false false false e rest = rest e
 
+-- numbers that are the same, and that are not
+pub unlike : (a b : ℕ) → a ≡ b → (a == b) ≡ false → ⊥
+unlike a b same e = let t : (a == b) ≡ true = grind (arith, nat_tests, same) in true≢false (sym t ∙ e)
+
+pub apart : (a b : ℕ) → b ≢ a → (a == b) ≡ false
+apart a b ne = by (a == b) refl
+  where
+    by : (s : Bool) → (a == b) ≡ s → (a == b) ≡ false
+    by false e = e
+    by true e = let same : b ≡ a = grind (arith, nat_tests, e) in absurd (ne same)
+
 -- ----- words
 pub word_else : (ws : List Word) (i k : ℕ) (w : Word) → k ≢ i → word_at (put_word i w ws) k ≡ word_at ws k
 word_else [] i k w ne = refl
@@ -202,7 +213,7 @@ module _ (v w : View) (id : FlowId) (b : Book) (named : b.id ≡ id) (worded : w
       )
   words_more (c ∷ cs) none each = (λ f. by f (c.id.slot == id.slot) refl none, words_more cs (rest none) each.1)
     where
-      rest : (not c.filed && (c.id.slot == id.slot) || list_any (stands_in id.slot) cs) ≡ false
+      rest : ((not c.filed && (c.id.slot == id.slot)) || list_any (stands_in id.slot) cs) ≡ false
           → list_any (stands_in id.slot) cs ≡ false
       rest e = right (not c.filed && (c.id.slot == id.slot)) (list_any (stands_in id.slot) cs) e
         where
@@ -211,11 +222,11 @@ module _ (v w : View) (id : FlowId) (b : Book) (named : b.id ≡ id) (worded : w
           right false y q = q
 
       by : c.filed ≡ false → (s : Bool) → (c.id.slot == id.slot) ≡ s
-          → (not c.filed && (c.id.slot == id.slot) || list_any (stands_in id.slot) cs) ≡ false
+          → ((not c.filed && (c.id.slot == id.slot)) || list_any (stands_in id.slot) cs) ≡ false
           → word_at w.words c.id.slot ≡ word_of c
-      by f true e q = absurd (true≢false ((λ i. not (sym f i) && sym e i || list_any (stands_in id.slot) cs) ∙ q))
+      by f true e q = absurd (true≢false ((λ i. (not (sym f i) && sym e i) || list_any (stands_in id.slot) cs) ∙ q))
       by f false e q =
-          let ne : c.id.slot ≢ id.slot = λ same. true≢false (sym (grind (arith, nat_tests, same)) ∙ e) in
+          let ne : c.id.slot ≢ id.slot = λ same. unlike (c.id.slot) id.slot same e in
           ap (λ ws. word_at ws c.id.slot) words
           ∙ (word_else v.words id.slot c.id.slot (live_word id.generation) ne ∙ each.0 f)
 
@@ -259,7 +270,7 @@ module _ (v w : View) (id : FlowId) (b : Book) (named : b.id ≡ id) (stands : b
           }
       by (inr (differs, at)) =
           let old : IsMarked bs i m = before i m at in
-          let other : (id.slot == i) ≡ false = grind (arith, nat_tests, differs) in
+          let other : (id.slot == i) ≡ false = apart id.slot i differs in
           let pushed : count_by (is_of_slot i) (bs ++ b ∷ []) ≡ count_by (is_of_slot i) bs + tally (is_of_slot i b) =
           count_push (is_of_slot i) bs b in
           let none : tally (is_of_slot i b) ≡ 0 = ap tally (of_slot i false other) in

@@ -77,7 +77,9 @@ listened o port free answer each = by (is_taken o port) refl
 
     by : (b : Bool) → is_taken o port ≡ b → port < first_port
     by true e = below_first port o.listeners e each
-    by false e = absurd (no_listener (sym (rw (free, e) refl) ∙ answer))
+    by false e =
+        let is : syn_answer o port ≡ syn.NoListener = rw (free, e) refl in
+        absurd (no_listener (sym is ∙ answer))
 
 module _ (known : List Held) (id : FlowId) (k : History) where
   abbrev after : List Held
@@ -96,7 +98,9 @@ module _ (known : List Held) (id : FlowId) (k : History) where
       let none : tally (has_given_port after b) ≡ 0 =
       ap (λ f. tally (leb first_port (known_of f after).tuple.lport)) named
       ∙ (ap (λ (x : History). tally (leb first_port x.tuple.lport)) (own known id k) ∙ ap tally not_given) in
-      omega (arith, e, none)
+      let none_after : count_by (has_given_port after) [] ≡ 0 = refl in
+      let none_known : count_by (has_given_port known) [] ≡ 0 = refl in
+      omega (arith, e, none, none_after, none_known)
   ports_fresh b named low (c ∷ cs) each =
       let rest : count_by (has_given_port after) (cs ++ b ∷ []) ≡ count_by (has_given_port known) cs =
       ports_fresh b named low cs each.1 in

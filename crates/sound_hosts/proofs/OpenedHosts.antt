@@ -60,8 +60,9 @@ names_more test bs b e =
 names_same : (test : Book → Bool) (bs : List Book) (b : Book) → test b ≡ false
     → map id_of (filter test (bs ++ b ∷ [])) ≡ map id_of (filter test bs)
 names_same test bs b e =
-    ap (map id_of) (filter_append test bs (b ∷ []) ∙ ap (λ c. filter test bs ++ cond c (b ∷ []) []) e
-    ∙ append-nil (filter test bs))
+    ap (map id_of)
+    (filter_append test bs (b ∷ [])
+    ∙ (ap (λ c. filter test bs ++ cond c (b ∷ []) []) e ∙ append-nil (filter test bs)))
 
 module _ (h : CoreHost) (w : Worker) (tick : ℕ) (frame : FrameId) (seg : Segment) (id : FlowId)
     (sound : IsHostSound h) (next : next_in h.slow.pass.view.marks ≡ Some id)

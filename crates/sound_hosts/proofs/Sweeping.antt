@@ -30,7 +30,7 @@ use Rattle.sound_hosts.specs.Hosts.{CoreHost, is_of_slot, stands_in, is_doomed_i
 use Rattle.sound_hosts.specs.Ending.{is_freed, swept_as}
 use Rattle.sound_hosts.specs.Sound.{IsHostSound, IsMarked, IsWorded, AreSlots}
 use Rattle.sound_hosts.proofs.Distinct.{distinct}
-use Rattle.sound_hosts.proofs.Numbers.{at_set, mark_there, word_else, word_own, none_doomed}
+use Rattle.sound_hosts.proofs.Numbers.{at_set, mark_there, word_else, word_own, none_doomed, apart, unlike}
 use Rattle.sound_hosts.proofs.OpenSockets.{standing}
 
 -- ----- one of a list is another
@@ -163,7 +163,8 @@ module _ (h : CoreHost) (sound : IsHostSound h) (xs : List Book) (b : Book) (cs 
 
   marked : (i : ℕ) (m : Mark) → slice_get h.slow.pass.view.marks i ≡ Some m → IsMarked (xs ++ b ∷ cs) i m
   marked =
-      subst (λ (bs : List Book). (i : ℕ) (m : Mark) → slice_get h.slow.pass.view.marks i ≡ Some m → IsMarked bs i m) split sound.table.marks
+      subst (λ (bs : List Book). (i : ℕ) (m : Mark) → slice_get h.slow.pass.view.marks i ≡ Some m → IsMarked bs i m)
+      split sound.table.marks
 
   own : word_at h.slow.pass.view.words b.id.slot ≡ word_of b
   own = middle (IsWorded h.slow.pass.view) xs b cs worded stands
@@ -240,7 +241,7 @@ module _ (h : CoreHost) (sound : IsHostSound h) (xs : List Book) (b : Book) (cs 
   others_worded w same [] each away = tt
   others_worded w same (z ∷ zs) each away =
       (
-        λ f. same z.id.slot (λ e. true≢false (sym (grind (arith, nat_tests, e)) ∙ away.0 f)) ∙ each.0 f,
+        λ f. same z.id.slot (λ e. unlike z.id.slot b.id.slot e (away.0 f)) ∙ each.0 f,
         others_worded w same zs each.1 away.1,
       )
 
@@ -252,7 +253,7 @@ module _ (h : CoreHost) (sound : IsHostSound h) (xs : List Book) (b : Book) (cs 
       → IsMarked (xs ++ swept_as a b ∷ cs) i m
   other_marks a i m ne at =
       let old = marked i m at in
-      let test : (b.id.slot == i) ≡ false = grind (arith, nat_tests, ne) in
+      let test : (b.id.slot == i) ≡ false = apart b.id.slot i ne in
       let off : (x y : Bool) → (x && (b.id.slot == i)) ≡ (y && (b.id.slot == i)) =
       λ x y. ap (λ s. x && s) test ∙ (none_of x ∙ (sym (none_of y) ∙ sym (ap (λ s. y && s) test))) in
       record {

@@ -55,7 +55,7 @@ id_of b = b.id
 abbrev pub is_indexed : Book → Bool
 is_indexed b = b.indexed
 
--- it was found closed, and an application has its socket still
+-- it was found closed, and its record stands in its slot still
 abbrev pub is_doomed : Book → Bool
 is_doomed b = not b.indexed && not b.filed
 
