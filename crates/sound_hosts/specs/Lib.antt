@@ -1,6 +1,4 @@
 pub mod Hosts
 pub mod Leading
 pub mod Moving
-pub mod Opening
-pub mod Ending
 pub mod Sound
