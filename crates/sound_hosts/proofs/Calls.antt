@@ -5,18 +5,23 @@ use Rattle.std.proofs.Common.{◌∙◌, subst, inl, inr, arith, eqb, true≢fal
 use Rattle.std.specs.Prelude.{◌⊎◌}
 use Rattle.std.proofs.lemmas.Bool.Decides.{nat_tests}
 use Rattle.tas_model.specs.declared.entry.Caller.{Caller}
+use Rattle.tas_model.specs.declared.entry.Caller.TheVariants.{Slow}
 use Rattle.tas_model.specs.declared.entry.Call.{Call}
+use Rattle.tas_model.specs.declared.entry.Call.TheVariants as calls
 use Rattle.tas_model.specs.declared.entry.Entry.{Entry}
 use Rattle.tas_model.specs.declared.entry.HostParams.{HostParams}
 use Rattle.tas_model.specs.declared.entry.Reason.{Reason}
 use Rattle.tas_model.specs.Endpoint.{Endpoint}
 use Rattle.tas_model.specs.ApplicationCalls.{column_by, Opening, Running}
-use Rattle.tas_model.specs.LegalHistory.{Legal, replay, extended_by}
+use Rattle.tas_model.specs.LegalHistory.{Legal, replay, extended_by, shown}
 use Rattle.tas_model.proofs.Histories.{replay_push}
 use Rattle.host_rounds.specs.Hosts.{Live, Waiting}
 use Rattle.host_rounds.proofs.Advances.{call_over}
+use Rattle.host_rounds.proofs.Flows.{call_kept}
+use Rattle.host_rounds.proofs.Steps.{tick_steps}
 use Rattle.flow_lock.specs.declared.view.History.{History}
-use Rattle.flow_clock.specs.Histories.{endpoint_of, is_over, is_running, is_running_in}
+use Rattle.flow_clock.specs.Histories.{endpoint_of, is_over, is_running, is_running_in, with_call, with_tick, timed_by}
+use Rattle.flow_clock.specs.Histories.{controlled_where, is_control_due}
 use Rattle.sound_hosts.specs.Leading.{LedOn}
 use Rattle.sound_hosts.proofs.Past.{IsPast, step_past}
 
@@ -82,3 +87,28 @@ two_lead a b c x y = record {
     by : (is_running b ≡ true) ⊎ (is_over b ≡ true) → (is_running c ≡ true) ⊎ (is_over c ≡ true)
     by (inl r) = y.running r
     by (inr o) = inr (y.over o)
+
+-- ----- time
+-- a flow that has its time is led on
+pub timed_leads : (t : ℕ) (h : History) → Legal h.params h.entries → is_over h ≡ false → LedOn h (timed_by t h)
+timed_leads t h legal open_ =
+    let ticked : History = with_tick t h in
+    let l : Live = record {
+      flow = record {
+        id = record { slot = 0; generation = 0 };
+        tuple = h.tuple;
+        params = h.params;
+        entries = h.entries;
+      };
+      indexed = true;
+      holder = Waiting;
+      filed = false;
+    } in
+    let more : Legal ticked.params ticked.entries =
+    call_kept l Slow t calls.Tick [] legal tt (λ u. tick_steps (endpoint_of h) u (shown (endpoint_of h) []) open_) in
+    by (is_control_due t h) (call_leads h Slow t calls.Tick [] legal) (call_leads ticked Slow t calls.Control [] more)
+  where
+    by : (due : Bool) → LedOn h (with_tick t h) → LedOn (with_tick t h) (with_call calls.Control t (with_tick t h))
+        → LedOn h (controlled_where due t (with_tick t h))
+    by true x y = two_lead h (with_tick t h) (with_call calls.Control t (with_tick t h)) x y
+    by false x y = x
