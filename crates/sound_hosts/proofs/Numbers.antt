@@ -78,8 +78,7 @@ older slots before (c ∷ cs) (slot, generation, more) =
     let one : tally (p c) ≡ 1 = ap tally (own_slot c) in
     let grown : count_by p (before ++ c ∷ []) ≤ count_by p ((before ++ c ∷ []) ++ cs) =
     count_grows p (before ++ c ∷ []) cs in
-    let all : (before ++ c ∷ []) ++ cs ≡ before ++ c ∷ cs = append_assoc before (c ∷ []) cs in
-    (
+    let all : (before ++ c ∷ []) ++ cs ≡ before ++ c ∷ cs = append_assoc before (c ∷ []) cs in (
       subst (λ l. c.id.generation ≤ count_by p l) all (omega (arith, pushed, one, grown, generation)),
       subst (λ l. Each (λ (d : Book). d.id.generation ≤ count_by (is_of_slot d.id.slot) l) cs) all
           (older slots (before ++ c ∷ []) cs more),
@@ -110,14 +109,13 @@ pub numbered_push : (slots : ℕ) (before bs : List Book) (b : Book) → AreNumb
     → b.id.generation ≡ 1 + count_by (is_of_slot b.id.slot) (before ++ bs) → AreNumbered slots before (bs ++ b ∷ [])
 numbered_push slots before [] b numbered slot is =
     (slot, subst (λ l. b.id.generation ≡ 1 + count_by (is_of_slot b.id.slot) l) (append-nil before) is, tt)
-numbered_push slots before (c ∷ cs) b numbered slot is =
-    (
-      numbered.0,
-      numbered.1,
-      numbered_push slots (before ++ c ∷ []) cs b numbered.2 slot
-          (subst (λ l. b.id.generation ≡ 1 + count_by (is_of_slot b.id.slot) l)
-          (sym (append_assoc before (c ∷ []) cs)) is),
-    )
+numbered_push slots before (c ∷ cs) b numbered slot is = (
+  numbered.0,
+  numbered.1,
+  numbered_push slots (before ++ c ∷ []) cs b numbered.2 slot
+      (subst (λ l. b.id.generation ≡ 1 + count_by (is_of_slot b.id.slot) l)
+      (sym (append_assoc before (c ∷ []) cs)) is),
+)
 
 -- ----- marks
 pub at_set : (ms : List Mark) (s i : ℕ) (x m : Mark) → slice_get (set ms s x) i ≡ Some m
@@ -203,12 +201,11 @@ module _ (v w : View) (id : FlowId) (b : Book) (named : b.id ≡ id) (worded : w
     (words : w.words ≡ put_word id.slot (live_word id.generation) v.words) (within : id.slot < length v.words) where
   pub words_more : (bs : List Book) → list_any (stands_in id.slot) bs ≡ false → Each (IsWorded v) bs
       → Each (IsWorded w) (bs ++ b ∷ [])
-  words_more [] none each =
-      (
-        λ f. (λ i. word_at (words i) (named i).slot)
-            ∙ (word_own v.words id.slot (live_word id.generation) within ∙ sym worded),
-        tt,
-      )
+  words_more [] none each = (
+    λ f. (λ i. word_at (words i) (named i).slot)
+        ∙ (word_own v.words id.slot (live_word id.generation) within ∙ sym worded),
+    tt,
+  )
   words_more (c ∷ cs) none each = (λ f. by f (c.id.slot == id.slot) refl none, words_more cs (rest none) each.1)
     where
       rest : ((not c.filed && (c.id.slot == id.slot)) || list_any (stands_in id.slot) cs) ≡ false

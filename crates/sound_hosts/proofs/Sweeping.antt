@@ -89,12 +89,11 @@ same_sym f g = grind (arith, nat_tests)
 apart_before : (slots : ℕ) (pre xs : List Book) (b : Book) (cs : List Book) → AreNumbered slots pre (xs ++ b ∷ cs)
     → Each (λ (c : Book). same_flow b.id c.id ≡ false) xs
 apart_before slots pre [] b cs numbered = tt
-apart_before slots pre (c ∷ xs) b cs numbered =
-    (
-      same_sym b.id c.id
-          ∙ middle (λ (d : Book). same_flow c.id d.id ≡ false) xs b cs (distinct slots pre c (xs ++ b ∷ cs) numbered),
-      apart_before slots (pre ++ c ∷ []) xs b cs numbered.2,
-    )
+apart_before slots pre (c ∷ xs) b cs numbered = (
+  same_sym b.id c.id
+      ∙ middle (λ (d : Book). same_flow c.id d.id ≡ false) xs b cs (distinct slots pre c (xs ++ b ∷ cs) numbered),
+  apart_before slots (pre ++ c ∷ []) xs b cs numbered.2,
+)
 
 apart_behind : (slots : ℕ) (pre xs : List Book) (b : Book) (cs : List Book) → AreNumbered slots pre (xs ++ b ∷ cs)
     → Each (λ (c : Book). same_flow b.id c.id ≡ false) cs
@@ -239,11 +238,10 @@ module _ (h : CoreHost) (sound : IsHostSound h) (xs : List Book) (b : Book) (cs 
       → (zs : List Book) → Each (IsWorded h.slow.pass.view) zs
       → Each (λ (c : Book). c.filed ≡ false → (c.id.slot == b.id.slot) ≡ false) zs → Each (IsWorded w) zs
   others_worded w same [] each away = tt
-  others_worded w same (z ∷ zs) each away =
-      (
-        λ f. same z.id.slot (λ e. unlike z.id.slot b.id.slot e (away.0 f)) ∙ each.0 f,
-        others_worded w same zs each.1 away.1,
-      )
+  others_worded w same (z ∷ zs) each away = (
+    λ f. same z.id.slot (λ e. unlike z.id.slot b.id.slot e (away.0 f)) ∙ each.0 f,
+    others_worded w same zs each.1 away.1,
+  )
 
   slot_test : (b.id.slot == b.id.slot) ≡ true
   slot_test = grind (arith, nat_tests)
