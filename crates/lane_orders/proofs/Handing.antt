@@ -92,8 +92,8 @@ module _ {S A : Type 0} (did : ℕ → Did S A) where
             let same : suc p ≡ cores = grind (arith, nat_tests, e, le) in
             cores_have (suc p) (omega (arith, same)) ∙ ap (λ k. given_below k handed frames) same
 
-pub handed_once : {S A : Type 0} (frames : List Arrival) (turns : ℕ) (did : ℕ → Did S A) → IsHandOut frames turns did
-    → IsPermutation (handed_below turns did) frames
-handed_once frames turns did out =
-    subst (λ l. IsPermutation l frames) (sym (all_have did out.cores out.handed frames out.given turns out.turned))
-    (given_once out.cores out.handed frames out.same out.below)
+pub handed_once : {S A : Type 0} (frames : List Arrival) (cores turns : ℕ) (did : ℕ → Did S A)
+    → IsHandOut frames cores turns did → IsPermutation (handed_below turns did) frames
+handed_once frames cores turns did out =
+    subst (λ l. IsPermutation l frames) (sym (all_have did cores out.handed frames out.given turns out.turned))
+    (given_once cores out.handed frames out.same out.below)

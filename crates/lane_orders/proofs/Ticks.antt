@@ -54,10 +54,10 @@ module _ {S A : Type 0} where
 
 module _ {S A : Type 0} (scripts : Scripts S A) (t : ℕ) where
   -- what turns took and what they left is what was handed out
-  frames_due : (p : Phase scripts t) (frames rest : List Arrival) → IsHandOut frames p.turns p.did
+  frames_due : (cores : ℕ) (p : Phase scripts t) (frames rest : List Arrival) → IsHandOut frames cores p.turns p.did
       → IsPermutation (left_below p.turns p.did) rest
       → IsPermutation (frames_in (deeds_of p.beside) ++ rest) frames
-  frames_due p frames rest out left =
+  frames_due cores p frames rest out left =
       let taken = joined_below frame_by p.turns (words_in p.did) in
       let l = left_below p.turns p.did in
       let done = joined frame_by p.beside.words in
@@ -69,7 +69,7 @@ module _ {S A : Type 0} (scripts : Scripts S A) (t : ℕ) where
       (IsPermutation-append_left l done taken (IsPermutation-sym taken done p.of_turns.taken))
       (IsPermutation-trans (taken ++ l) handed frames
       (IsPermutation-sym handed (taken ++ l) (taken_or_left p.did t p.setting.books p.are.done p.turns))
-      (handed_once frames p.turns p.did out))))
+      (handed_once frames cores p.turns p.did out))))
 
   -- what was asked in turns is asked in the order
   asks_due : (p : Phase scripts t) (asks later : List A) → AreTried scripts asks (asked_below p.turns p.did) later
@@ -100,19 +100,22 @@ module _ {S A : Type 0} (scripts : Scripts S A) (t : ℕ) where
       same_as_none (joined ask_by p.beside.words)
       (subst (λ h. IsPermutation h (joined ask_by p.beside.words)) silent p.of_turns.asked)
 
-  pub tick_of_turns : (due : Due A) (before after : Site S) → IsTickOfTurns scripts t due before after
-      → IsSharedTick scripts t due before after
-  tick_of_turns due before after k = tick_of_phases scripts t due before after (record {
+  pub tick_of_turns : (cores : ℕ) (due : Due A) (before after : Site S)
+      → IsTickOfTurns scripts cores t due before after → IsSharedTick scripts cores t due before after
+  tick_of_turns cores due before after k = tick_of_phases scripts t cores due before after (record {
+    some = k.some;
     first = k.first.beside;
+    workers = k.first.of_turns.workers cores k.workers;
     slow = k.slow;
     rest = k.rest;
     later = k.later;
     distinct = k.distinct;
-    frames = frames_due k.first due.frames k.rest k.handed k.left;
+    frames = frames_due cores k.first due.frames k.rest k.handed k.left;
     asks = asks_due k.first due.asks k.later k.tried;
     second = k.second.beside;
     alone = k.alone;
     sends = all_send t k.second.beside.setting.books k.second.beside.words k.second.beside.each
         (no_frames k.second k.none) (no_asks k.second k.silent);
+    senders = k.second.of_turns.workers cores k.senders;
     made = k.made;
   })

@@ -3,13 +3,14 @@ use Rattle.std.specs.Prelude.{◌≡◌, ℕ, zero, suc, ◌<◌, ◌≤◌, Lis
 use Rattle.host_rounds.specs.Lists.{Each}
 use Rattle.host_rounds.specs.Deliveries.{Arrival}
 use Rattle.host_rounds.specs.Scripts.{Scripts}
+use Rattle.host_rounds.specs.Cores.{IsWorkerOf}
 use Rattle.core_rounds.specs.Shares.{frame_in, ask_in}
 use Rattle.flow_lock.specs.Orders.{Order, IsRun}
 use Rattle.flow_lock.specs.declared.view.Held.{Held}
 use Rattle.frame_steering.specs.Giving.{given_to}
 use Rattle.host_books.specs.Books.{Book, Setting}
 use Rattle.host_books.specs.Indexes.{AreIndexed}
-use Rattle.host_books.specs.Ticks.{Beside, deeds_of}
+use Rattle.host_books.specs.Ticks.{Beside, deeds_of, AreByWorkers}
 use Rattle.host_books.specs.Tries.{Word, IsWord, AreTries, LetsPass, deed_of}
 use Rattle.host_books.specs.Words.{AreOf, AreBelow, AreAllPairs, joined, joined_below}
 
@@ -39,6 +40,10 @@ pub record IsDone {S A : Type 0} (t : ℕ) (books : List Book) (d : Did S A) : T
   pub each : Each (IsWord t books) d.words
   pub frames : IsPermutation d.frames (taken_in d ++ d.left)
 
+-- Each word is by the slow path or one of so many cores, so that a turn of a core is that of a core with a number below.
+abbrev pub IsByWorkers : {S A : Type 0} → (cores : ℕ) → Did S A → Type 0
+IsByWorkers {S} {A} cores d = Each (λ (w : Word S A). IsWorkerOf cores w.told.by) d.words
+
 -- ----- all turns
 abbrev pub words_in : {S A : Type 0} → (ℕ → Did S A) → ℕ → List (Word S A)
 words_in did p = (did p).words
@@ -67,7 +72,8 @@ pub record AreTurns {S A : Type 0} (scripts : Scripts S A) (t : ℕ) (s : Settin
   pub tries : (p : ℕ) → AreTries scripts t s state (did p).words
   pub apart : AreAllPairs (LetsPass scripts t) (words_in did)
 
--- The deeds that were done side by side take the frames that the turns took, and ask what was asked in them.
+-- The deeds that were done side by side take the frames that the turns took, ask what was asked in them, and are by the
+-- workers whose turns they were.
 pub record IsOfTurns {S A : Type 0} (scripts : Scripts S A) (t : ℕ) (s : Setting) (state : S) (known : List Held)
     (order : Order) (turns : ℕ) (did : ℕ → Did S A) (b : Beside scripts t) : Type 0 where
   pub setting_is : b.setting ≡ s
@@ -76,6 +82,7 @@ pub record IsOfTurns {S A : Type 0} (scripts : Scripts S A) (t : ℕ) (s : Setti
   pub order_is : b.order ≡ order
   pub taken : IsPermutation (joined_below frame_by turns (words_in did)) (joined frame_by b.words)
   pub asked : IsPermutation (asked_below turns did) (joined ask_by b.words)
+  pub workers : (cores : ℕ) → ((p : ℕ) → IsByWorkers cores (did p)) → AreByWorkers cores (deeds_of b)
 
 -- ----- the hand-out
 -- The first turns are the cores', and each has those of the frames that were handed to its core; the others have none.

@@ -12,7 +12,7 @@ ghost use Rattle.lane_orders.specs.Turns.{Did, AreTurns, IsOfTurns, handed_below
 ghost use Rattle.lane_orders.specs.Ticks.{IsHandOut, IsTickOfTurns};
 
 /// Where each turn's deeds have their words, what was done in all turns is one order of deeds of a run, which take the
-/// frames that the turns took, and ask what was asked in them.
+/// frames that the turns took, ask what was asked in them, and are by the workers whose turns they were.
 pub fn turns_are_beside<S, A>()
     ensures { (scripts : Scripts S A) (t : ℕ) (s : Setting) (state : S) (known : List Held) (order : Order)
         (turns : ℕ) (did : ℕ → Did S A) → AreTurns scripts t s state known order turns did
@@ -21,13 +21,14 @@ pub fn turns_are_beside<S, A>()
 
 /// Frames that were handed out to the cores were handed to one turn each.
 pub fn frames_are_handed_once<S, A>()
-    ensures { (frames : List Arrival) (turns : ℕ) (did : ℕ → Did S A) → IsHandOut frames turns did
-        → IsPermutation (handed_below turns did) frames }
+    ensures { (frames : List Arrival) (cores turns : ℕ) (did : ℕ → Did S A)
+        → IsHandOut frames cores turns did → IsPermutation (handed_below turns did) frames }
 {}
 
 /// A tick in which cores and applications take turns side by side, on the frames that came and on what is asked, and
-/// then cores on what may go, is a tick of a host whose flows are shared, so that it is a right one.
+/// then cores on what may go, is a tick of a host whose flows are shared, so that it is a right one. Where its turns are
+/// those of so many cores, it is one of so many.
 pub fn ticks_of_turns_are_shared<S, A>()
-    ensures { (scripts : Scripts S A) (t : ℕ) (due : Due A) (before after : Site S)
-        → IsTickOfTurns scripts t due before after → IsSharedTick scripts t due before after }
+    ensures { (scripts : Scripts S A) (cores t : ℕ) (due : Due A) (before after : Site S)
+        → IsTickOfTurns scripts cores t due before after → IsSharedTick scripts cores t due before after }
 {}
