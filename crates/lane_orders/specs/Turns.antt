@@ -40,7 +40,7 @@ pub record IsDone {S A : Type 0} (t : ℕ) (books : List Book) (d : Did S A) : T
   pub each : Each (IsWord t books) d.words
   pub frames : IsPermutation d.frames (taken_in d ++ d.left)
 
--- Each word is by the slow path or one of so many cores, so that a turn of a core is that of a core with a number below.
+-- Each word is by the slow path or one of so many cores: a turn of a core is that of one with a number below.
 abbrev pub IsByWorkers : {S A : Type 0} → (cores : ℕ) → Did S A → Type 0
 IsByWorkers {S} {A} cores d = Each (λ (w : Word S A). IsWorkerOf cores w.told.by) d.words
 

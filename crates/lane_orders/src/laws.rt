@@ -26,8 +26,8 @@ pub fn frames_are_handed_once<S, A>()
 {}
 
 /// A tick in which cores and applications take turns side by side, on the frames that came and on what is asked, and
-/// then cores on what may go, is a tick of a host whose flows are shared, so that it is a right one. Where its turns are
-/// those of so many cores, it is one of so many.
+/// then cores on what may go, is a tick of a host whose flows are shared, so that it is a right one. Where its turns
+/// are those of so many cores, it is one of so many.
 pub fn ticks_of_turns_are_shared<S, A>()
     ensures { (scripts : Scripts S A) (cores t : ℕ) (due : Due A) (before after : Site S)
         → IsTickOfTurns scripts cores t due before after → IsSharedTick scripts cores t due before after }
