@@ -1,2 +1,2 @@
 mod Growing
-mod Given
+pub mod Given

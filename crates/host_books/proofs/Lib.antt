@@ -2,6 +2,6 @@ pub mod Orders
 pub mod Indexing
 pub mod Merging
 pub mod Telling
-mod Ticks
+pub mod Ticks
 mod AloneCalls
 pub mod Gathering

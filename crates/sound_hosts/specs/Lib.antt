@@ -1,0 +1,5 @@
+pub mod Hosts
+pub mod Leading
+pub mod Moving
+pub mod Ending
+pub mod Sound
