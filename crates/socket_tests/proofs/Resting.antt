@@ -1,12 +1,12 @@
 -- Two passes with a turn each, and what they are once the turns are back.
-use Rattle.std.proofs.Common.{◌≡◌, ℕ, zero, suc, ◌+◌, cond, true, false, List, [], ◌∷◌, ◌++◌, map, arith, tests}
+use Rattle.std.proofs.Common.{◌≡◌, ℕ, zero, suc, ◌+◌, cond, true, List, [], ◌∷◌, ◌++◌, map, arith, tests}
 use Rattle.std.proofs.Common.{ap, sym, ◌∙◌, refl, subst}
-use Rattle.std.specs.Prelude.{◌==◌, Result, Ok, Err, IfOk, None}
+use Rattle.std.specs.Prelude.{◌==◌, Result, Ok, Err, IfOk}
 use Rattle.std.proofs.lemmas.List.{map-append}
 use Rattle.atomic_table.specs.Seated.{TableId}
 use Rattle.slow_handshake.specs.Openings.{Openings}
 use Rattle.flow_lock.specs.Callers.{IsTurned}
-use Rattle.flow_lock.specs.Orders.{Order, total, named, once_below}
+use Rattle.flow_lock.specs.Orders.{Order, total, once_below}
 use Rattle.flow_lock.specs.Passes.{Seen, with_turns, peeled}
 use Rattle.flow_lock.specs.Plays.{IsOrdered}
 use Rattle.flow_lock.specs.Steps.{HasTurn, HasAll, IsAlone, noted}
