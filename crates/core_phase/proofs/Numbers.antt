@@ -14,7 +14,7 @@ use Rattle.flow_lock.specs.Plays.{IsOrdered, IsCounted}
 use Rattle.flow_lock.specs.declared.view.Deed.{Deed}
 use Rattle.flow_lock.specs.declared.view.Turn.{Turn}
 use Rattle.flow_lock.specs.declared.view.View.{View}
-use Rattle.core_worker.specs.Workers.{Common}
+use Rattle.core_worker.specs.Workers.{Common, Worker, with_pass}
 use Rattle.libtas_sockets.specs.Apps.{flow_of}
 use Rattle.app_deeds.specs.Deeds.{Grows}
 use Rattle.core_phase.specs.declared.lane.CoreLane.{CoreLane}
@@ -25,6 +25,7 @@ use Rattle.core_phase.specs.Attempts.{pin_left}
 use Rattle.core_phase.specs.Lanes.{pass_of, with_turns_of, IsIdle, MayPlay, IsReady, CanPlay, HasPlayed, Works, IsOf, pins_left}
 use Rattle.core_phase.specs.Lanes.{IsReadyCore, IsReadyApp}
 use Rattle.core_phase.specs.Phases.{AreLent, AreBack, turns_in, AreParts, left_on, IsPhase}
+use Rattle.core_phase.specs.Deeds.{IsTurnOf}
 use Rattle.core_phase.proofs.Growing.{turn_grows}
 use Rattle.core_phase.proofs.Trying.{tried, try_stays}
 
@@ -68,7 +69,7 @@ pub lane_grows : (v m : Lane) → HasPlayed v m → Works m
     → (ds : List Deed) × IsOf v m ds × (won lost : List FlowId) × Even won lost (pins_left v m)
     × Grows ds won lost (pass_of v).view (pass_of m).view
 lane_grows (lanes.Core v) (lanes.Core m) did fine =
-    let g = turn_grows (arc_value v.shared) v.tick v.worker m.worker (did.played fine) in
+    let g = turn_grows (arc_value v.shared) v.tick v.worker m.worker (did.played fine) (did.empty fine) in
     (g.0, g.1, g.2, g.2, λ i. omega arith, g.3)
 lane_grows (lanes.Core v) (lanes.App m) did fine = absurd did
 lane_grows (lanes.App v) (lanes.Core m) did fine = absurd did
@@ -146,8 +147,35 @@ idle_lane c (lanes.App m) (e, r) =
     (e, record { table = r.table; turns = refl; slow = r.slow; baton = r.baton })
 
 -- what it did doesn't depend on its turns before and after
+abbrev worker_with : List Turn → Worker → Worker
+worker_with ts w = with_pass (record (w.pass) { view = record (w.pass.view) { turns = ts } }) w
+
+lent_turn : (ts : List Turn) (tick : ℕ) (v m : Worker) (ds : List Deed) → IsTurnOf tick (worker_with ts v) m ds
+    → IsTurnOf tick v m ds
+lent_turn ts tick v m ds is = record {
+  answers = is.answers;
+  entered = is.entered;
+  sent = is.sent;
+  put = is.put;
+  left = is.left;
+  sends = is.sends;
+  all = is.all;
+}
+
+turn_back : (ts : List Turn) (tick : ℕ) (v m : Worker) (ds : List Deed) → IsTurnOf tick v m ds
+    → IsTurnOf tick v (worker_with ts m) ds
+turn_back ts tick v m ds is = record {
+  answers = is.answers;
+  entered = is.entered;
+  sent = is.sent;
+  put = is.put;
+  left = is.left;
+  sends = is.sends;
+  all = is.all;
+}
+
 of_lent : (ts : List Turn) (v m : Lane) (ds : List Deed) → IsOf (with_turns_of ts v) m ds → IsOf v m ds
-of_lent ts (lanes.Core v) (lanes.Core m) ds is = is
+of_lent ts (lanes.Core v) (lanes.Core m) ds is = lent_turn ts v.tick v.worker m.worker ds is
 of_lent ts (lanes.Core v) (lanes.App m) ds is = is
 of_lent ts (lanes.App v) (lanes.Core m) ds is = is
 of_lent ts (lanes.App v) (lanes.App m) ds is = is
@@ -159,7 +187,7 @@ left_lent ts (lanes.App v) (lanes.Core m) = refl
 left_lent ts (lanes.App v) (lanes.App m) = refl
 
 of_back : (ts : List Turn) (v m : Lane) (ds : List Deed) → IsOf v m ds → IsOf v (with_turns_of ts m) ds
-of_back ts (lanes.Core v) (lanes.Core m) ds is = is
+of_back ts (lanes.Core v) (lanes.Core m) ds is = turn_back ts v.tick v.worker m.worker ds is
 of_back ts (lanes.Core v) (lanes.App m) ds is = is
 of_back ts (lanes.App v) (lanes.Core m) ds is = is
 of_back ts (lanes.App v) (lanes.App m) ds is = is
@@ -358,7 +386,7 @@ pub is_phase : (c : Common) (v w : View) (vs ms ws : List Lane) → IsAlone v �
 is_phase c v w vs ms ws alone is back (order, o) counted = record {
   order = order;
   parts = parts c order 0 vs ms ws is back o.0;
-  none = o.1;
+  others = o.1;
   run = o.2;
   known = o.3 ∙ (λ i. record v { turns = sym alone.1 i; made = sym alone.2 i; base = played v.base order; words = w.words });
   pins = λ i.
@@ -367,4 +395,5 @@ is_phase c v w vs ms ws alone is back (order, o) counted = record {
       let d = left_again c i 0 vs ms ws is back in
       omega arith;
   busy = counted.1;
+  marks = counted.2;
 }

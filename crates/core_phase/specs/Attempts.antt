@@ -1,5 +1,5 @@
 -- What an application tries beside the cores.
-use Rattle.std.specs.Prelude.{◌≡◌, ℕ, ◌<◌, ◌≤◌, ◌^◌, List, [], length, Result, ⊤}
+use Rattle.std.specs.Prelude.{◌≡◌, ℕ, ◌<◌, ◌≤◌, ◌^◌, Bool, true, false, List, [], length, Result, Ok, Err, ⊤}
 use denote.Bor.{Bor}
 use Rattle.tas_model.specs.declared.entry.FlowId.{FlowId}
 use Rattle.flow_state.specs.declared.call.CallIn.TheVariants as ins
@@ -10,6 +10,9 @@ use Rattle.libtas_sockets.specs.Calling.{HasCalled, after_close, after_abort}
 use Rattle.libtas_sockets.specs.declared.received.Received.{Received}
 use Rattle.libtas_sockets.specs.declared.socket.Socket.{Socket}
 use Rattle.libtas_sockets.specs.declared.socket_error.SocketError.{SocketError}
+use Rattle.libtas_sockets.specs.declared.socket_error.SocketError.TheVariants as errors
+use Rattle.tas_model.specs.declared.entry.Call.{Call}
+use Rattle.tas_model.specs.declared.entry.Call.TheVariants as calls
 use Rattle.app_deeds.specs.Deeds.{AreOfCall, left_by_close, left_by_abort, tells_sent, tells_done}
 use Rattle.core_phase.specs.declared.attempt.Attempt.{Attempt}
 use Rattle.core_phase.specs.declared.attempt.Attempt.TheVariants as attempts
@@ -29,6 +32,36 @@ MayTry a s attempts.Abort = IsSocket a s
 abbrev pub room_of : Attempt → List ℕ
 room_of (attempts.Recv buf) = buf.items
 room_of attempt = []
+
+-- ----- in the model
+-- the call that is tried, where one is
+abbrev pub IsCallOf : Attempt → Call → Type 0
+IsCallOf attempts.Nothing call = ⊥
+IsCallOf (attempts.Send bytes) call = call ≡ calls.Send (length bytes.items)
+IsCallOf (attempts.Recv buf) call = call ≡ calls.Recv (length buf.items)
+IsCallOf attempts.Shut call = call ≡ calls.Shut
+IsCallOf attempts.Close call = call ≡ calls.Close
+IsCallOf attempts.Abort call = call ≡ calls.Abort
+
+-- the bytes that a Send offers
+abbrev pub offer_in : Attempt → List ℕ
+offer_in (attempts.Send bytes) = bytes.items
+offer_in attempt = []
+
+-- another pass held the record
+abbrev pub is_busy_error : SocketError → Bool
+is_busy_error (errors.Busy word) = true
+is_busy_error e = false
+
+abbrev pub is_busy_in : {T : Type 0} → Result T SocketError → Bool
+is_busy_in (Ok x) = false
+is_busy_in (Err e) = is_busy_error e
+
+abbrev pub is_busy : Answered → Bool
+is_busy answers.Nothing = false
+is_busy (answers.Sent result) = is_busy_in result
+is_busy (answers.Read result) = is_busy_in result
+is_busy (answers.Done result) = is_busy_in result
 
 -- ----- what was done
 abbrev pub HasTried : Socket → (tick : ℕ) → (a b : Application) → (before after : Attempt) → Answered → Type 0

@@ -8,14 +8,14 @@ use Rattle.tas_model.specs.declared.entry.Caller.TheVariants.{Core, Slow}
 use Rattle.tas_model.specs.declared.entry.FlowId.{FlowId}
 use Rattle.tas_model.specs.declared.entry.FourTuple.{FourTuple}
 use Rattle.tas_model.specs.declared.entry.Seg.{Seg}
-use Rattle.flow_state.specs.declared.call.CallIn.{CallIn}
-use Rattle.flow_state.specs.Calls.{call_of, offer_of}
 use Rattle.flow_lock.specs.declared.view.Deed.{Deed}
 use Rattle.host_rounds.specs.Deliveries.{Arrival, Packet, Damaged, Segment}
 use Rattle.host_rounds.specs.Rounds as rounds
 use Rattle.host_books.specs.Books.{Book}
 use Rattle.host_books.specs.Tries.{Try, Word, place_of}
 use Rattle.core_worker.specs.declared.frames.Frame.{Frame}
+use Rattle.core_phase.specs.Attempts.{IsCallOf, offer_in}
+use Rattle.core_phase.specs.declared.attempt.Attempt.{Attempt}
 
 -- ----- what comes in a frame
 -- the four-tuple as the host has it to which the segment comes
@@ -56,9 +56,9 @@ send_word books core d =
 abbrev pub try_word : {S A : Type 0} → Try S A → Deed → Word S A
 try_word x d = record { deed = d; told = record { by = Slow; action = rounds.Ask (x.ask) }; tries = x ∷ [] }
 
--- what is asked is this call of this application on this flow
-pub record IsTryOf {S A : Type 0} (app : ℕ) (id : FlowId) (call : CallIn) (x : Try S A) : Type 0 where
+-- what is asked is what was tried: on this flow by this application
+pub record IsTryOf {S A : Type 0} (app : ℕ) (id : FlowId) (attempt : Attempt) (x : Try S A) : Type 0 where
   pub app_is : x.app ≡ app
   pub flow : x.flow ≡ id
-  pub call_is : x.call ≡ call_of call
-  pub offer : x.offer ≡ offer_of call
+  pub call_is : IsCallOf attempt x.call
+  pub offer : x.offer ≡ offer_in attempt

@@ -1,13 +1,13 @@
 //! The laws of what lanes do: their deeds are words of a run, and cores' deeds leave running flows running.
-ghost use Rattle.std.specs.Prelude.{◌≡◌, ℕ, Bool, List};
+ghost use Rattle.std.specs.Prelude.{◌≡◌, ◌∷◌, ℕ, Bool, true, List, []};
 ghost use Rattle.tas_model.specs.declared.entry.FlowId.{FlowId};
-ghost use Rattle.tas_model.specs.declared.entry.Reply.{Reply};
-ghost use Rattle.flow_state.specs.declared.call.CallIn.{CallIn};
 ghost use Rattle.flow_lock.specs.declared.view.Deed.{Deed};
 ghost use Rattle.host_books.specs.Books.{Book};
 ghost use Rattle.host_books.specs.Tries.{Try, IsFrameWord, IsSendWord, IsTryWord};
-ghost use Rattle.app_deeds.specs.Deeds.{IsCall};
 ghost use Rattle.core_worker.specs.declared.frames.Frame.{Frame};
+ghost use Rattle.core_phase.specs.Attempts.{AreOfTry, is_busy};
+ghost use Rattle.core_phase.specs.declared.attempt.Attempt.{Attempt};
+ghost use Rattle.core_phase.specs.declared.attempt.Answered.{Answered};
 ghost use Rattle.core_phase.specs.Deeds.{IsRx, IsSend, KeepsColumn};
 ghost use Rattle.core_phase.specs.Words.{frame_word, send_word, try_word, IsTryOf};
 
@@ -15,11 +15,17 @@ ghost use Rattle.core_phase.specs.Words.{frame_word, send_word, try_word, IsTryO
 /// application asked, as its script has it.
 pub fn deeds_are_words<S, A>()
     ensures frame { (check : Bool) (core t : ℕ) (f : Frame) (d : Deed) → IsRx check core t f d
-        → IsFrameWord {S} {A} t (frame_word check core f d) }
+        → IsFrameWord {S = S} {A = A} t (frame_word check core f d) }
     ensures send { (core t : ℕ) (books : List Book) (d : Deed) → IsSend core t d
-        → IsSendWord {S} {A} t books (send_word books core d) }
-    ensures asked { (app t : ℕ) (call : CallIn) (tells : Reply → Type 0) (d : Deed) (x : Try S A)
-        → IsTryOf app d.flow call x → IsCall app t call tells d → IsTryWord t (try_word x d) }
+        → IsSendWord {S = S} {A = A} t books (send_word books core d) }
+    ensures asked { (app t : ℕ) (id : FlowId) (before after : Attempt) (answer : Answered) (d : Deed) (x : Try S A)
+        → IsTryOf app id before x → AreOfTry app id t before after answer (d ∷ []) → IsTryWord t (try_word x d) }
+{}
+
+/// What was answered Busy put nothing into the turn.
+pub fn busy_attempts_do_nothing()
+    ensures { (app t : ℕ) (id : FlowId) (before after : Attempt) (answer : Answered) (ds : List Deed)
+        → is_busy answer ≡ true → AreOfTry app id t before after answer ds → ds ≡ [] }
 {}
 
 /// What a core does leaves an opening flow opening, a running one running, and a closed one closed.

@@ -12,6 +12,6 @@ mod run;
 pub use attempt::{Answered, Attempt};
 pub use hosts::{HostPart, play_phases};
 pub use lane::{AppLane, CoreLane, Lane};
-pub use laws::{deeds_are_words, deeds_leave_the_column};
+pub use laws::{busy_attempts_do_nothing, deeds_are_words, deeds_leave_the_column};
 pub use phase::play_phase;
 pub use run::with_lanes;
