@@ -1,6 +1,7 @@
 -- What a core does leaves an opening flow opening, a running one running, and a closed one closed, for the law
 -- deeds_leave_the_column.
-use Rattle.std.proofs.Common.{◌≡◌, ℕ, ◌+◌, ◌==◌, ◌&&◌, not, cond, Bool, true, false, List, [], ◌∷◌, ◌++◌, length, refl, sym, ap, ◌∙◌}
+use Rattle.std.proofs.Common.{◌≡◌, ℕ, ◌+◌, ◌==◌, ◌&&◌, not, cond, Bool, true, false, List, [], ◌∷◌, ◌++◌, length}
+use Rattle.std.proofs.Common.{refl, sym, ap, ◌∙◌}
 use Rattle.std.proofs.Common.{subst, arith}
 use Rattle.std.specs.Prelude.{Option, Some, None, is_some, if◌then◌else◌, nat_lt, max, ⊤}
 use Rattle.std.proofs.lemmas.Bool.Decides.{nat_tests}
@@ -22,10 +23,12 @@ use Rattle.tas_model.specs.ApplicationCalls.{Column, Opening, Over, Running, col
 use Rattle.tas_model.specs.LegalHistory.{moved, step, state_or, last_tick}
 use Rattle.tas_model.specs.NextSegment.{Going, going, going_in, going_data, going_probe, going_fin, emitted, data_len}
 use Rattle.tas_model.specs.NextSegment.{syn_head, past, waiting}
-use Rattle.tas_model.specs.Receive.{place_of_seq, place_of_ack, rx, rx_in, rx_later, by_verdict, verdict, verdict_at, verdict_of_place, refused, Verdict}
+use Rattle.tas_model.specs.Receive.{place_of_seq, place_of_ack, rx, rx_in, rx_later, by_verdict, verdict, verdict_at}
+use Rattle.tas_model.specs.Receive.{verdict_of_place, refused, Verdict}
 use Rattle.tas_model.specs.Receive.{is_acceptable}
 use Rattle.tas_model.specs.Receive as receive
-use Rattle.tas_model.specs.Receive.{AckVerdict, ack_verdict, after_duplicate, after_advance, moves_window, with_window}
+use Rattle.tas_model.specs.Receive.{AckVerdict, ack_verdict, after_duplicate, after_advance, moves_window}
+use Rattle.tas_model.specs.Receive.{with_window}
 use Rattle.tas_model.specs.Receive.{sending_after, closes, after_ack, after_data, taken, bare_ack}
 use Rattle.tas_model.proofs.Tests.{on_cond}
 use Rattle.tas_model.proofs.Histories.{replay_push}
@@ -109,7 +112,8 @@ module _ (e : Endpoint) (tick : ℕ) (seg : Seg) (open_ : is_common (phase e) �
   taken_keeps q receive.TooFar = same
   taken_keeps q receive.Good =
       let a : Endpoint = after_ack e tick (place_of_ack e seg) q (seg_len seg) seg.head.window in
-      data_keeps e a tick (wnd e) q seg (ack_keeps e tick (place_of_ack e seg) q (seg_len seg) seg.head.window open_ begun)
+      data_keeps e a tick (wnd e) q seg
+          (ack_keeps e tick (place_of_ack e seg) q (seg_len seg) seg.head.window open_ begun)
 
   bare_keeps : (v : AckVerdict) → P (bare_ack e tick seg v)
   bare_keeps receive.Stray = same
@@ -149,7 +153,8 @@ module _ (e : Endpoint) (tick : ℕ) (seg : Seg) (open_ : is_common (phase e) �
 
     reset_not : (r window q : ℕ) → NoReset (verdict_at r window q seg)
     reset_not r window q =
-        reset_by (is_acceptable r window q (seg_len seg)) (window == 0 && q == r && not (is_rst seg) && not (is_syn seg))
+        reset_by (is_acceptable r window q (seg_len seg))
+            (window == 0 && q == r && not (is_rst seg) && not (is_syn seg))
         (is_rst seg) (q == r) (is_syn seg) (is_ack seg) q plain
 
     place_not : (o : Option ℕ) (r window : ℕ) → NoReset (verdict_of_place o r window seg)
@@ -204,7 +209,8 @@ running_keeps e false false true = (refl, refl, refl)
 running_keeps e false false false = tt
 
 opening_keeps : (e : Endpoint) (a : Bool)
-    → GoesOn e (if a then Some (record { seg = bare (syn_head e e.peer); after = record e { tx = past e.tx 1 } }) else None)
+    → GoesOn e (if a then Some (record { seg = bare (syn_head e e.peer); after = record e { tx = past e.tx 1 } })
+       else None)
 opening_keeps e true = (refl, refl, refl)
 opening_keeps e false = tt
 

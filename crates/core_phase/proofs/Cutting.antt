@@ -1,5 +1,6 @@
 -- Lists of lanes cut by hosts.
-use Rattle.std.proofs.Common.{◌≡◌, ℕ, zero, suc, ◌≤◌, List, [], ◌∷◌, ◌++◌, length, take, drop, sym, refl, ap, ◌∙◌, subst, arith}
+use Rattle.std.proofs.Common.{◌≡◌, ℕ, zero, suc, ◌≤◌, List, [], ◌∷◌, ◌++◌, length, take, drop, sym, refl, ap, ◌∙◌}
+use Rattle.std.proofs.Common.{subst, arith}
 use Rattle.std.specs.List.{AllZip}
 use Rattle.flow_lock.specs.Steps.{HasAll}
 use Rattle.flow_lock.specs.Orders.{Order}
@@ -10,18 +11,22 @@ use Rattle.core_phase.specs.declared.lane.Lane.{Lane}
 use Rattle.core_phase.specs.declared.hosts.HostPart.{HostPart}
 use Rattle.core_phase.specs.Lanes.{IsIdle, MayPlay, IsReady, CanPlay, HasPlayed, Works}
 use Rattle.core_phase.specs.Phases.{AreLent}
-use Rattle.core_phase.specs.Hosts.{common_in, ByHosts, BetweenHosts, IsIdleHost, IsLentHost, back_in, IsReadyHost, IsLearnedHost, IsHostPhase}
-use Rattle.core_phase.proofs.Numbers.{Every, every, of_every, AreDone, are_done, can_play, done_ready, has_all, all_back, back_view, is_phase, idle_again}
+use Rattle.core_phase.specs.Hosts.{common_in, ByHosts, BetweenHosts, IsIdleHost, IsLentHost, back_in, IsReadyHost}
+use Rattle.core_phase.specs.Hosts.{IsLearnedHost, IsHostPhase}
+use Rattle.core_phase.proofs.Numbers.{Every, every, of_every, AreDone, are_done, can_play, done_ready, has_all}
+use Rattle.core_phase.proofs.Numbers.{all_back, back_view, is_phase, idle_again}
 
 -- ----- lists
-pub zip_take : {X : Type 0} (R : X → X → Type 0) (n : ℕ) (xs ys : List X) → AllZip R xs ys → AllZip R (take n xs) (take n ys)
+pub zip_take : {X : Type 0} (R : X → X → Type 0) (n : ℕ) (xs ys : List X) → AllZip R xs ys
+    → AllZip R (take n xs) (take n ys)
 zip_take R zero xs ys z = tt
 zip_take R (suc n) [] [] z = tt
 zip_take R (suc n) [] (y ∷ ys) z = absurd z
 zip_take R (suc n) (x ∷ xs) [] z = absurd z
 zip_take R (suc n) (x ∷ xs) (y ∷ ys) z = (z.0, zip_take R n xs ys z.1)
 
-pub zip_drop : {X : Type 0} (R : X → X → Type 0) (n : ℕ) (xs ys : List X) → AllZip R xs ys → AllZip R (drop n xs) (drop n ys)
+pub zip_drop : {X : Type 0} (R : X → X → Type 0) (n : ℕ) (xs ys : List X) → AllZip R xs ys
+    → AllZip R (drop n xs) (drop n ys)
 zip_drop R zero xs ys z = z
 zip_drop R (suc n) [] [] z = tt
 zip_drop R (suc n) [] (y ∷ ys) z = absurd z
@@ -168,7 +173,8 @@ all_ready (h ∷ hs) (g ∷ gs) vs ls ms len idle lent did fine =
     let near : n ≤ length vs = idle.0 in
     subst (λ k. (k ≤ length ms) × IsReadyHost g (take k ms) × ByHosts IsReadyHost gs (drop k ms)) (sym same) (
       omega arith,
-      ready_in h g (take n vs) (take n ls) (take n ms) idle.1 lent.0 (zip_take HasPlayed n ls ms did) (every_take Works n ms fine),
+      ready_in h g (take n vs) (take n ls) (take n ms) idle.1 lent.0 (zip_take HasPlayed n ls ms did)
+          (every_take Works n ms fine),
       all_ready hs gs (drop n vs) (drop n ls) (drop n ms) (drop_length n ls vs len) idle.2 lent.1
           (zip_drop HasPlayed n ls ms did) (every_drop Works n ms fine),
     )
@@ -178,7 +184,8 @@ learned_as : (g k : HostPart) (gs ks : List HostPart) (ms ws : List Lane) (n : �
     → BetweenHosts IsLearnedHost (g ∷ gs) (k ∷ ks) ms ws
     → IsLearnedHost g k (take n ms) (take n ws) × BetweenHosts IsLearnedHost gs ks (drop n ms) (drop n ws)
 learned_as g k gs ks ms ws n same told =
-    subst (λ j. IsLearnedHost g k (take j ms) (take j ws) × BetweenHosts IsLearnedHost gs ks (drop j ms) (drop j ws)) same told
+    subst (λ j. IsLearnedHost g k (take j ms) (take j ws) × BetweenHosts IsLearnedHost gs ks (drop j ms) (drop j ws))
+        same told
 
 pub all_phases : (hs gs ks : List HostPart) (vs ls ms ws : List Lane) → ByHosts IsIdleHost hs vs
     → BetweenHosts IsLentHost hs gs vs ls → AllZip HasPlayed ls ms → Every Works ms

@@ -1,5 +1,6 @@
 -- What each step, frame and kick puts into a turn.
-use Rattle.std.proofs.Common.{◌≡◌, ℕ, zero, suc, Bool, true, false, List, [], ◌∷◌, ◌++◌, length, drop, sym, refl, ap, ◌∙◌, subst}
+use Rattle.std.proofs.Common.{◌≡◌, ℕ, zero, suc, Bool, true, false, List, [], ◌∷◌, ◌++◌, length, drop, sym, refl, ap}
+use Rattle.std.proofs.Common.{◌∙◌, subst}
 use Rattle.std.proofs.Common.{append_assoc, append-nil, inl, inr}
 use Rattle.std.specs.Prelude.{Option, Some, None, is_some, IsSome}
 use Rattle.tas_model.specs.declared.entry.FlowId.{FlowId}
@@ -99,7 +100,8 @@ module _ (queues : List AppQueue) (check : Bool) (core tick : ℕ) (f : Frame) (
       kept k is same it = (
         [],
         subst (λ x. IsPutIn check core tick f x []) (sym is) it,
-        subst (λ l. Grows l [] [] v w) (ap (λ x. put_by id r (history_by core tick f.id seg r x)) is ∙ (ap (put_by id r) same ∙ put_none id r))
+        subst (λ l. Grows l [] [] v w) (ap (λ x. put_by id r (history_by core tick f.id seg r x)) is
+            ∙ (ap (put_by id r) same ∙ put_none id r))
             (grows_use id r (history_by core tick f.id seg r h) v w o.given),
       )
 
@@ -129,7 +131,8 @@ module _ (queues : List AppQueue) (check : Bool) (core tick : ℕ) (f : Frame) (
                 (grows_use id r (history_by core tick f.id seg r h) v w o.given),
           )
 
-      by_why : (x : Option Why) → exception r.parts.phase seg ≡ x → h ≡ answer_by r.id x → is_same r.tuple (tuple_of seg) ≡ true
+      by_why : (x : Option Why) → exception r.parts.phase seg ≡ x → h ≡ answer_by r.id x
+          → is_same r.tuple (tuple_of seg) ≡ true
           → Adds (IsPutIn check core tick f h) v w
       by_why None e is same = entered is same e
       by_why (Some y) e is same = kept (handled.Passed (passed.Fast y)) is refl refl
@@ -140,7 +143,8 @@ module _ (queues : List AppQueue) (check : Bool) (core tick : ℕ) (f : Frame) (
 
   tried : (id : FlowId) (h : Handled) (v w : View) (ss ts : List AppSender)
       → IsTried queues core tick f.id seg id v w ss ts h → Adds (IsPutIn check core tick f h) v w
-  tried id (handled.Passed (passed.Busy x)) v w ss ts t = ([], refl, grows_same v w (ap (λ (y : View). y.turns) t.0.0.1))
+  tried id (handled.Passed (passed.Busy x)) v w ss ts t =
+      ([], refl, grows_same v w (ap (λ (y : View). y.turns) t.0.0.1))
   tried id (handled.Passed passed.Absent) v w ss ts t = offered id (handled.Passed passed.Absent) v w ss ts t
   tried id (handled.Passed (passed.Stale x)) v w ss ts t = offered id (handled.Passed (passed.Stale x)) v w ss ts t
   tried id (handled.Passed (passed.Moved x y)) v w ss ts t = offered id (handled.Passed (passed.Moved x y)) v w ss ts t
@@ -155,8 +159,10 @@ module _ (queues : List AppQueue) (check : Bool) (core tick : ℕ) (f : Frame) (
 
   pub received : (id : FlowId) (h : Handled) (v w : View) (ss ts : List AppSender)
       → IsReceived queues core tick f.id seg id v w ss ts h → Puts (IsPutIn check core tick f h) v w
-  received id (handled.Passed (passed.Stale x)) v w ss ts r = puts_none _ v w refl (turns_refused id v w (refused.Stale x) r.0)
-  received id (handled.Passed (passed.Moved x y)) v w ss ts r = puts_none _ v w refl (turns_refused id v w (refused.Moved x y) r.0)
+  received id (handled.Passed (passed.Stale x)) v w ss ts r = puts_none _ v w refl
+      (turns_refused id v w (refused.Stale x) r.0)
+  received id (handled.Passed (passed.Moved x y)) v w ss ts r = puts_none _ v w refl
+      (turns_refused id v w (refused.Moved x y) r.0)
   received id (handled.Passed passed.Absent) v w ss ts r = by_pin id (handled.Passed passed.Absent) v w ss ts r
   received id (handled.Passed (passed.Busy x)) v w ss ts r = by_pin id (handled.Passed (passed.Busy x)) v w ss ts r
   received id (handled.Passed (passed.Fast y)) v w ss ts r = by_pin id (handled.Passed (passed.Fast y)) v w ss ts r

@@ -22,7 +22,8 @@ use Rattle.core_phase.specs.declared.lane.AppLane.{AppLane}
 use Rattle.core_phase.specs.declared.lane.Lane.{Lane}
 use Rattle.core_phase.specs.declared.lane.Lane.TheVariants as lanes
 use Rattle.core_phase.specs.Attempts.{pin_left}
-use Rattle.core_phase.specs.Lanes.{pass_of, with_turns_of, IsIdle, MayPlay, IsReady, CanPlay, HasPlayed, Works, IsOf, pins_left}
+use Rattle.core_phase.specs.Lanes.{pass_of, with_turns_of, IsIdle, MayPlay, IsReady, CanPlay, HasPlayed, Works, IsOf}
+use Rattle.core_phase.specs.Lanes.{pins_left}
 use Rattle.core_phase.specs.Lanes.{IsReadyCore, IsReadyApp}
 use Rattle.core_phase.specs.Phases.{AreLent, AreBack, turns_in, AreParts, left_on, IsPhase}
 use Rattle.core_phase.specs.Deeds.{IsTurnOf}
@@ -34,11 +35,13 @@ abbrev pub Every : {X : Type 0} → (X → Type 0) → List X → Type 0
 Every P [] = Unit {0}
 Every P (x ∷ xs) = P x × Every P xs
 
-pub every : {X : Type 0} (P : X → Type 0) (xs : List X) → ((k : ℕ) (d : X) → k < length xs → P (get_or xs k d)) → Every P xs
+pub every : {X : Type 0} (P : X → Type 0) (xs : List X) → ((k : ℕ) (d : X) → k < length xs → P (get_or xs k d))
+    → Every P xs
 every P [] all = tt
 every P (x ∷ xs) all = (all 0 x (omega arith), every P xs (λ k d lt. all (suc k) d (omega arith)))
 
-pub of_every : {X : Type 0} (P : X → Type 0) (xs : List X) → Every P xs → (k : ℕ) (d : X) → k < length xs → P (get_or xs k d)
+pub of_every : {X : Type 0} (P : X → Type 0) (xs : List X) → Every P xs → (k : ℕ) (d : X) → k < length xs
+    → P (get_or xs k d)
 of_every P [] e k d lt = absurd (omega arith)
 of_every P (x ∷ xs) e zero d lt = e.0
 of_every P (x ∷ xs) e (suc k) d lt = of_every P xs e.1 k d (omega arith)
@@ -93,7 +96,8 @@ ready_after c (lanes.App v) (lanes.App m) (e, r) did =
       ap (λ (x : AppLane). arc_value x.shared) did.same ∙ e,
       record {
         table = k.0 ∙ r.table;
-        turn = has_turn g.0 [] (pin_left (flow_of v.app v.socket) v.attempt m.answer) v.app.pass.view m.app.pass.view r.turn g.2;
+        turn = has_turn g.0 [] (pin_left (flow_of v.app v.socket) v.attempt m.answer) v.app.pass.view m.app.pass.view
+            r.turn g.2;
         slow = k.1 ∙ r.slow;
         baton = k.2 ∙ r.baton;
       },
@@ -290,7 +294,8 @@ all_named c p n [] ms is =
     omega arith
 all_named c p n (v ∷ vs) [] is = absurd is
 all_named c p n (v ∷ vs) (m ∷ ms) (is, more) =
-    let first : total (name_is p) ((pass_of m).view.turns ++ turns_in ms) ≡ cond (n == p) 1 0 + total (name_is p) (turns_in ms) =
+    let first : total (name_is p) ((pass_of m).view.turns ++ turns_in ms) ≡ cond (n == p) 1 0
+        + total (name_is p) (turns_in ms) =
     ap (λ ts. total (name_is p) (ts ++ turns_in ms)) is.one
     ∙ ap (λ k. cond {A = ℕ} (k == p) 1 0 + total (name_is p) (turns_in ms)) is.name in
     let rest = all_named c p (suc n) vs ms more in
@@ -323,9 +328,11 @@ all_even c i n [] ms is =
     omega arith
 all_even c i n (v ∷ vs) [] is = absurd is
 all_even c i n (v ∷ vs) (m ∷ ms) (is, more) =
-    let lost : lost_in i ((pass_of m).view.turns ++ turns_in ms) ≡ total (at_slot i) is.turn.unpinned + lost_in i (turns_in ms) =
+    let lost : lost_in i ((pass_of m).view.turns ++ turns_in ms) ≡ total (at_slot i) is.turn.unpinned
+        + lost_in i (turns_in ms) =
     ap (λ ts. lost_in i (ts ++ turns_in ms)) is.one in
-    let won : won_in i ((pass_of m).view.turns ++ turns_in ms) ≡ total (at_slot i) is.turn.pinned + won_in i (turns_in ms) =
+    let won : won_in i ((pass_of m).view.turns ++ turns_in ms) ≡ total (at_slot i) is.turn.pinned
+        + won_in i (turns_in ms) =
     ap (λ ts. won_in i (ts ++ turns_in ms)) is.one in
     let one = is.even i in
     let rest = all_even c i (suc n) vs ms more in
@@ -388,7 +395,8 @@ is_phase c v w vs ms ws alone is back (order, o) counted = record {
   parts = parts c order 0 vs ms ws is back o.0;
   others = o.1;
   run = o.2;
-  known = o.3 ∙ (λ i. record v { turns = sym alone.1 i; made = sym alone.2 i; base = played v.base order; words = w.words });
+  known = o.3
+      ∙ (λ i. record v { turns = sym alone.1 i; made = sym alone.2 i; base = played v.base order; words = w.words });
   pins = λ i.
       let a : pins_at w.words i + lost_in i (turns_in ms) ≡ pins_at v.words i + won_in i (turns_in ms) = counted.0 i in
       let b = all_even c i 0 vs ms is in

@@ -106,7 +106,8 @@ busy_none app t id (attempts.Recv buf) after answer ds h (result, e, are) =
     fault_none app t id (ins.Recv (length buf.items)) (fault_in result) (IsReceived buf.items (room_of after) result) ds
     (busy_is_fault result (sym (ap is_busy e) ∙ h)) are
 busy_none app t id attempts.Shut after answer ds h (result, e, are) =
-    fault_none app t id ins.Shut (fault_in result) (tells_done result) ds (busy_is_fault result (sym (ap is_busy e) ∙ h))
+    fault_none app t id ins.Shut (fault_in result) (tells_done result) ds
+        (busy_is_fault result (sym (ap is_busy e) ∙ h))
     are
 busy_none app t id attempts.Close after answer ds h (result, e, are) =
     fault_none app t id ins.Close (fault_in result) (tells_done result) ds
@@ -137,7 +138,8 @@ module _ {S A : Type 0} where
 
   -- ----- asks
   -- by what the ask is, name by name
-  word_is : (app t : ℕ) (id : FlowId) (call : Call) (offer : List ℕ) (d : Deed) (x : Try S A) → x.app ≡ app → x.flow ≡ id
+  word_is : (app t : ℕ) (id : FlowId) (call : Call) (offer : List ℕ) (d : Deed) (x : Try S A) → x.app ≡ app
+      → x.flow ≡ id
       → x.call ≡ call → x.offer ≡ offer → IsOneCall app id t call offer d → IsTryWord t (try_word x d)
   word_is app t id call offer d x same flow call_is offer_is one = record {
     try_ = x;

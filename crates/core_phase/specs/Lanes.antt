@@ -31,7 +31,8 @@ abbrev pub with_turns_of : List Turn → Lane → Lane
 with_turns_of ts (lanes.Core l) =
     let pass : Seen = record (l.worker.pass) { view = record (l.worker.pass.view) { turns = ts } } in
     lanes.Core (record l { worker = with_pass pass l.worker })
-with_turns_of ts (lanes.App l) = lanes.App (record l { app = with_view (record (l.app.pass.view) { turns = ts }) l.app })
+with_turns_of ts (lanes.App l) = lanes.App
+    (record l { app = with_view (record (l.app.pass.view) { turns = ts }) l.app })
 
 -- ----- between ticks
 -- a worker has no turn, no pin and no record, and neither the baton nor the slow path's pass

@@ -1,7 +1,8 @@
 //! One phase of several hosts: the lanes of all work at once, and each host's deeds have their own order.
 ghost use Rattle.std.specs.Prelude.{◌≡◌, ◌<◌, ℕ, false, All, length, OnOk};
 ghost use Rattle.core_phase.specs.Lanes.{MayPlay};
-ghost use Rattle.core_phase.specs.Hosts.{ByHosts, BetweenHosts, IsIdleHost, IsLentHost, IsReadyHost, IsLearnedHost, IsHostPhase};
+ghost use Rattle.core_phase.specs.Hosts.{ByHosts, BetweenHosts, IsIdleHost, IsLentHost, IsReadyHost, IsLearnedHost};
+ghost use Rattle.core_phase.specs.Hosts.{IsHostPhase};
 
 use crate::lane::Lane;
 use crate::phase::{collect_all, lanes_failed, lend_all};

@@ -20,7 +20,8 @@ fn lend(shared: &Shared, slow: &mut SlowPass<FlowRecord>, lane: &mut Lane)
     requires slow { (slow.old.table ≡ shared.now.table) × (slow.old.view.baton ≡ true) }
     requires idle { IsIdle shared.now lane.old }
     ensures slow { slow.new ≡ record slow.old { view = lender slow.old.view } }
-    ensures lent { lane.new ≡ with_turns_of ((pass_of lane.old).view.turns ++ new_turn slow.old.view.made ∷ []) lane.old }
+    ensures lent { lane.new ≡ with_turns_of ((pass_of lane.old).view.turns ++ new_turn slow.old.view.made ∷ [])
+        lane.old }
 {
     match lane {
         Lane::Core(core) => shared.table.lend(slow, &mut core.worker.pass),

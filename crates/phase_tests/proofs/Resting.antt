@@ -1,8 +1,8 @@
 -- Passes with a turn each, and what they are once the turns are back.
 use Rattle.std.proofs.Common.{◌≡◌, ℕ, zero, suc, ◌+◌, ◌-◌, ◌==◌, cond, true, false, List, [], ◌∷◌, ◌++◌, map, arith, tests}
 use Rattle.std.proofs.Common.{ap, sym, ◌∙◌, refl, subst}
-use Rattle.std.specs.Prelude.{Result, Ok, Err, IfOk, None}
-use Rattle.std.specs.List.{list_any}
+use Rattle.std.specs.Prelude.{Result, Ok, Err, IfOk, IfNone, None, Some, Bool, slice_get}
+use Rattle.std.specs.List.{list_any, find, filter}
 use Rattle.std.proofs.lemmas.Bool.Decides.{nat_tests}
 use Rattle.std.proofs.lemmas.List.{map-append}
 use lib.ListN.{get_elem?}
@@ -103,6 +103,32 @@ second_connects t raddr rport tick o a b s n (Ok q) c table view none =
           ∙ (ap (λ l. list_any (is_on id.slot) (l ++ id ∷ [])) none ∙ own_slot id);
     }
 second_connects t raddr rport tick o a b s n (Err e) c table view none = tt
+
+pub none_found : {A : Type 0} (p q : A → Bool) (l : List A) (X : Type 0) → l ≡ [] → IfNone (find p (filter q l)) X → X
+none_found {A} p q l X e found = subst (λ (m : List A). IfNone (find p (filter q m)) X) e found
+
+-- the one pin of the list
+pub first_of : (t : TableId) (pins : List FlowId) (p : FlowId) (s : Seen) → HasFirstTurn t pins s
+    → slice_get pins 0 ≡ Some p → HasFirstTurn t (p ∷ []) s
+first_of t pins p s h got =
+    let some : Some (h.pin.0) ≡ Some p = ap (λ l. slice_get l 0) (sym h.pin.1) ∙ got in
+    let same : h.pin.0 ≡ p = cc (some) in record {
+      table = h.table;
+      turns = h.turns;
+      baton = h.baton;
+      made = h.made;
+      held = h.held;
+      parts = h.parts;
+      pin = (p, refl, subst (HasPin s.view) same h.pin.2);
+    }
+
+-- which the pass has, whatever else of it changes
+pub pin_of : (t : TableId) (p : FlowId) (s n : Seen) → HasFirstTurn t (p ∷ []) s → n.view.pins ≡ s.view.pins
+    → HasPin n.view p
+pin_of t p s n h e =
+    let same : p ≡ h.pin.0 = cc (h.pin.1) in
+    let got : HasPin s.view p = subst (HasPin s.view) (sym same) h.pin.2 in
+    (got.0, ap (λ (l : List FlowId). get_elem? l got.0) e ∙ got.1)
 
 -- ----- the turns come back
 pub rests : (t : TableId) (id : FlowId) (s n : Seen) (order : Order) → IsOrdered order s.view n.view → n.table ≡ s.table

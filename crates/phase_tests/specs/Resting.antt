@@ -3,7 +3,7 @@ use Rattle.std.specs.Prelude.{◌≡◌, ℕ, true, false, List, [], ◌∷◌, 
 use Rattle.atomic_table.specs.Seated.{TableId}
 use Rattle.tas_model.specs.declared.entry.FlowId.{FlowId}
 use Rattle.flow_lock.specs.Claims.{HasPin}
-use Rattle.flow_lock.specs.Passes.{Seen}
+use Rattle.flow_lock.specs.Passes.{Seen, first, right}
 use Rattle.flow_lock.specs.Steps.{IsAlone}
 use Rattle.flow_lock.specs.declared.view.Turn.{Turn}
 use Rattle.flow_lock.specs.declared.view.View.{View}
@@ -24,6 +24,13 @@ pub record HasFirstTurn (t : TableId) (pins : List FlowId) (s : Seen) : Type 0 w
   pub held : s.view.held ≡ []
   pub parts : s.view.parts ≡ 4096
   pub pin : (id : FlowId) × (pins ≡ id ∷ []) × HasPin s.view id
+
+-- an application that did nothing yet, with the second turn
+pub record IsNewApp (t : TableId) (a : Application) : Type 0 where
+  pub table : a.pass.table ≡ t
+  pub view : a.pass.view ≡ right (first 2)
+  pub begun : a.begun ≡ []
+  pub sockets : a.sockets ≡ []
 
 -- the application, with the second of them and this socket
 pub record HasSecondTurn (t : TableId) (socket : Socket) (a : Application) : Type 0 where

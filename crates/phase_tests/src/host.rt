@@ -149,7 +149,7 @@ fn assembled(alloc: Global, start: Start, reader: IndexReader) -> Option<Host>
 }
 
 /// A host whose application has connected.
-pub fn host<R: Wait>(rt: &R, alloc: Global, index: &mut IndexWriter) -> Option<Host>
+pub fn built<R: Wait>(rt: &R, alloc: Global, index: &mut IndexWriter) -> Option<Host>
     requires { 0 < index.old.left }
     ensures { IfSome result IsReadyHost }
 {

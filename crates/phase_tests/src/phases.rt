@@ -2,7 +2,7 @@
 ghost use Rattle.std.specs.Prelude.{⊤, ◌≡◌, ◌<◌};
 ghost use Rattle.phase_tests.specs.Hosts.{IsReadyHost, MayPlay};
 
-use crate::host::{Host, WORD, host};
+use crate::host::{Host, WORD, built};
 use core_phase::{Answered, Lane, play_phase, with_lanes};
 use crew::{Crew, Run};
 use flow_index::IndexWriter;
@@ -66,7 +66,7 @@ fn one_phase<R: Wait, G: Gate>(
     requires { 0 < index.old.left }
     ensures { crew.new ≡ crew.old }
 {
-    let mut host = host(rt, alloc, index)?;
+    let mut host = built(rt, alloc, index)?;
     if is_held {
         held(rt, gate, crew, &mut host)
     } else {

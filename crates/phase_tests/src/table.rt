@@ -4,7 +4,7 @@ ghost use Rattle.flow_state.specs.Calls.{IsSmall, IsTimely};
 ghost use Rattle.tas_model.specs.declared.entry.Phase.{Phase};
 ghost use Rattle.flow_lock.specs.Passes.{first, left, right};
 ghost use Rattle.tas_model.specs.Valid.{InRange};
-ghost use Rattle.phase_tests.specs.Resting.{HasFirstTurn, HasSecondTurn, IsRested, IsSettled, IsOff};
+ghost use Rattle.phase_tests.specs.Resting.{IsNewApp, HasFirstTurn, HasSecondTurn, IsRested, IsSettled, IsOff};
 ghost use Rattle.phase_tests.specs.Hosts.{IsStarted};
 
 use crate::peer::{HOST, PEER, PORT, frame, segment};
@@ -55,7 +55,7 @@ fn two_passes(
 /// Application 0, with no sockets.
 fn application(alloc: Global, pass: Pass<FlowRecord>) -> Result<App, AllocError>
     requires { (pass.view.pins ≡ []) × (pass.view.held ≡ []) }
-    ensures { IfOk result (λ app. (app.pass ≡ pass) × (app.begun ≡ [])) }
+    ensures { IfOk result (λ app. (app.pass ≡ pass) × (app.begun ≡ []) × (app.sockets ≡ [])) }
 {
     let (_, notes) = ContextQueue::new(alloc, 1)?;
     App::new(alloc, 0, pass, notes)
@@ -70,7 +70,7 @@ fn connect(
     app: &mut App,
 ) -> Result<Socket, SocketError>
     requires slow { (slow.old.table ≡ table.now) × (slow.old.view ≡ left (first 2)) }
-    requires app { (app.old.pass.table ≡ table.now) × (app.old.pass.view ≡ right (first 2)) × (app.old.begun ≡ []) }
+    requires app { IsNewApp table.now app.old }
     requires ranges { InRange path.old.params }
     requires pins { pins.old.list ≡ [] }
     ensures slow { IfOk result (λ _. HasFirstTurn table.now pins.new.list slow.new) }
@@ -87,7 +87,7 @@ fn connected(
     app: &mut App,
 ) -> Option<(Socket, Pin)>
     requires slow { (slow.old.table ≡ table.now) × (slow.old.view ≡ left (first 2)) }
-    requires app { (app.old.pass.table ≡ table.now) × (app.old.pass.view ≡ right (first 2)) × (app.old.begun ≡ []) }
+    requires app { IsNewApp table.now app.old }
     ensures slow { IfSome result (λ c. HasFirstTurn table.now (c.1 ∷ []) slow.new) }
     ensures app { IfSome result (λ c. HasSecondTurn table.now c.0 app.new) }
 {

@@ -38,6 +38,7 @@ returns-clause-phases g c =
     let vs = c.args.lanes.now.items in
     let ls = c.lend_parts.new.lanes.items in
     let ms = c.phase.new.jobs.items in
-    all_phases c.args.hosts.now c.lend_parts.new.hosts c.collect_parts.new.hosts vs ls ms c.collect_parts.new.lanes.items
+    all_phases c.args.hosts.now c.lend_parts.new.hosts c.collect_parts.new.hosts vs ls ms
+        c.collect_parts.new.lanes.items
     c.requires.idle c.lend_parts.ensures.lent c.phase.ensures.made
     (every Works ms (c.lanes_failed.ensures c.if-lanes_failed.false)) c.collect_parts.ensures.learned
