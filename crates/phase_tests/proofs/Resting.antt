@@ -20,7 +20,10 @@ use Rattle.flow_lock.specs.declared.view.Turn.{Turn}
 use Rattle.flow_lock.specs.declared.view.View.{View}
 use Rattle.flow_lock.specs.declared.view.History.{History}
 use Rattle.app_reaper.specs.Lists.{is_on}
-use Rattle.app_reaper.specs.OneCall.{IsUse}
+use Rattle.app_reaper.specs.OneCall.{IsUse, IsCallRefused, history}
+use Rattle.app_reaper.specs.declared.one_call.CallFault.{CallFault}
+use Rattle.app_reaper.specs.declared.one_call.CallFault.TheVariants.{Busy, OutOfMemory}
+use Rattle.flow_lock.specs.Answers.{IsTaken}
 use Rattle.host_books.proofs.AloneCalls.{still_alone}
 use Rattle.libtas_sockets.specs.Apps.{Application, IsSocket, with_view}
 use Rattle.libtas_sockets.specs.Connecting.{Opener, IsConnection, first_history, next_tuple}
@@ -163,3 +166,32 @@ rested_use t id r after s n h used same =
       held = ap (λ (x : View). x.held) e;
       pin = (h.pin.0, ap (λ (x : View). get_elem? x.pins h.pin.0) e ∙ h.pin.1);
     }
+
+-- where it was refused, too
+pub rested_refused : (t : TableId) (id : FlowId) (e : CallFault) (s n : Seen) → IsRested t id s
+    → IsCallRefused id s.view n.view e → n.table ≡ s.table → IsRested t id n
+rested_refused t id (Busy x) s n h r same = absurd (r.1 h.alone)
+rested_refused t id OutOfMemory s n h r same = rested_use t id r.0 (history r.0) s n h r.2 same
+
+-- the record was taken
+pub alone_taken : (id : FlowId) (h : History) (v w : View) → IsAlone v → IsTaken id h v w → IsAlone w
+alone_taken id h v w alone took =
+    let e = took.3 in (
+      ap (λ (x : View). x.baton) e ∙ alone.0,
+      ap (λ (x : View). x.turns) e ∙ alone.1,
+      ap (λ (x : View). x.made) e ∙ alone.2,
+    )
+
+-- a pass that was split off alone, and whose turn came back
+pub off : (t : TableId) (v : View) (s n : Seen) → s.table ≡ t → s.view ≡ right v
+    → n ≡ record s { view = peeled s.view } → IsOff t n
+off t v s n table view e = record {
+  table = ap (λ (x : Seen). x.table) e ∙ table;
+  turns = ap (λ (x : Seen). x.view.turns) e;
+  plain = (
+    ap (λ (x : Seen). x.view.slow) e ∙ ap (λ (x : View). x.slow) view,
+    ap (λ (x : Seen). x.view.baton) e ∙ ap (λ (x : View). x.baton) view,
+  );
+  pins = ap (λ (x : Seen). x.view.pins) e ∙ ap (λ (x : View). x.pins) view;
+  held = ap (λ (x : Seen). x.view.held) e ∙ ap (λ (x : View). x.held) view;
+}
