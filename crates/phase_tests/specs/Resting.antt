@@ -14,8 +14,8 @@ use Rattle.libtas_sockets.specs.declared.socket.Socket.{Socket}
 abbrev pub turns_of : View → List ℕ
 turns_of v = map (λ (t : Turn). t.name) v.turns
 
--- The slow path's pass, with the first of the two turns that were made, the baton, and the pin of the flow on this list.
--- It holds nothing.
+-- The slow path's pass, with the first of the two turns that were made, the baton, and the pin of the flow on this
+-- list. It holds nothing.
 pub record HasFirstTurn (t : TableId) (pins : List FlowId) (s : Seen) : Type 0 where
   pub table : s.table ≡ t
   pub turns : turns_of s.view ≡ 0 ∷ []
