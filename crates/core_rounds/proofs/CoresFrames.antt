@@ -2,13 +2,14 @@
 use Rattle.std.proofs.Common.{◌≡◌, ℕ, Bool, true, false, cond, List, [], ◌∷◌, ◌++◌, map, fold, filter, refl, sym, ap}
 use Rattle.std.proofs.Common.{◌∙◌, ◌==◌}
 use Rattle.tas_model.specs.declared.entry.FrameId.{FrameId}
+use Rattle.tas_model.specs.declared.entry.Caller.{Caller}
 use Rattle.tas_model.specs.declared.entry.Caller.TheVariants.{Slow, Core}
 use Rattle.host_rounds.specs.Lists.{Each}
 use Rattle.host_rounds.specs.Hosts.{Host}
 use Rattle.host_rounds.specs.Deliveries.{Arrival, received, delivered}
 use Rattle.host_rounds.specs.Scripts.{Site, Scripts}
 use Rattle.host_rounds.specs.Rounds.{Action, Frame, Ask, Deed, does, on_host, Agent, OfFlow, OfFrame, OfScript, is_by}
-use Rattle.host_rounds.specs.Rounds.{actions_of, IsWorker}
+use Rattle.host_rounds.specs.Rounds.{actions_of}
 use Rattle.host_rounds.proofs.SerialFrames.{by_slow}
 use Rattle.host_rounds.proofs.Lists.{filter_append}
 use Rattle.core_rounds.specs.CoreTicks.{Taken, taken_by_cores, is_frame, rest_phase}
@@ -33,9 +34,11 @@ pub cores_actions : {A : Type 0} (order : List Taken)
 cores_actions [] = refl
 cores_actions {A} (x ∷ xs) = ap (λ (zs : List (Action A)). Frame x.arrival ∷ zs) (cores_actions xs)
 
-pub cores_workers : (A : Type 0) (order : List Taken) → Each (λ (m : Deed A). IsWorker m.by) (by_cores order)
-cores_workers A [] = tt
-cores_workers A (x ∷ xs) = (tt, cores_workers A xs)
+-- what is known of each core is known of each who takes a frame
+pub cores_workers : (A : Type 0) (W : Caller → Type 0) (order : List Taken)
+    → Each (λ (x : Taken). W (Core x.core)) order → Each (λ (m : Deed A). W m.by) (by_cores order)
+cores_workers A W [] each = tt
+cores_workers A W (x ∷ xs) each = (each.0, cores_workers A W xs each.1)
 
 -- ----- what they left
 abbrev pub as_frame : {A : Type 0} → Arrival → Action A

@@ -1,6 +1,8 @@
 -- A tick with cores is a right one.
 use Rattle.std.proofs.Common.{◌≡◌, ℕ, ◌+◌, Bool, List, [], ◌∷◌, ◌++◌, map, fold, filter, refl, sym, subst, ap, ◌∙◌}
 use Rattle.std.proofs.Common.{append_assoc, append-nil}
+use Rattle.tas_model.specs.declared.entry.Caller.{Caller}
+use Rattle.tas_model.specs.declared.entry.Caller.TheVariants.{Slow, Core}
 use Rattle.host_rounds.specs.Lists.{Each}
 use Rattle.host_rounds.specs.Hosts.{Live, Host, Numbers}
 use Rattle.host_rounds.specs.Upkeep.{swept, all_swept}
@@ -9,10 +11,12 @@ use Rattle.host_rounds.specs.Scripts.{Site, Scripts}
 use Rattle.host_rounds.specs.Moves.{AreByMoves}
 use Rattle.host_rounds.specs.Rounds.{Action, Timer, Frame, Ask, Deed, does, on_host, Due, timers_from, due_actions}
 use Rattle.host_rounds.specs.Rounds.{Agent, is_by, actions_of, IsWorker, Round}
+use Rattle.host_rounds.specs.Cores.{IsWorkerOf, AllBelow}
 use Rattle.host_rounds.specs.SerialOrder.{slow_phase, ask_phase, emit_phase}
 use Rattle.host_rounds.proofs.Lists.{fold_append, map_append, filter_append, each_append}
 use Rattle.host_rounds.proofs.AllLegal.{AreLegal, all_kept, all_swept_kept}
 use Rattle.host_rounds.proofs.Quiet.{all_quiet}
+use Rattle.host_rounds.proofs.AllBelow.{made_low}
 use Rattle.host_rounds.proofs.SerialFrames.{by_slow, slow_actions, slow_workers, timers_fold, asks_fold}
 use Rattle.host_rounds.proofs.SerialEmissions.{emissions_from, emissions_fold, emissions_due, emissions_workers}
 use Rattle.core_rounds.specs.CoreTicks.{Taken, taken_by_cores, AreShared, AreTried, tried_and_rest, IsCoresTick}
@@ -169,22 +173,29 @@ cores_due {S} {A} scripts t site due order tried rest later asked shared are_tri
     ∙ asks_alike scripts a (tried ++ later) due.asks are_tried)
     (emissions_due scripts a t 0 asked.host.flows)
 
-order_workers : {S A : Type 0} (t : ℕ) (site : Site S) (order : List Taken) (tried : List A) (rest : List Arrival)
-    (later : List A) (asked : Site S)
-    → Each (λ (m : Deed A). IsWorker m.by) (order_of t site order tried rest later asked)
-order_workers {S} {A} t site order tried rest later asked =
-    let W : Deed A → Type 0 = λ m. IsWorker m.by in
+-- what is known of the slow path, of core 0 and of each core that takes a frame is known of each who does something
+order_workers : {S A : Type 0} (W : Caller → Type 0) → W Slow → W (Core 0) → (t : ℕ) (site : Site S)
+    (order : List Taken) (tried : List A) (rest : List Arrival) (later : List A) (asked : Site S)
+    → Each (λ (x : Taken). W (Core x.core)) order
+    → Each (λ (m : Deed A). W m.by) (order_of t site order tried rest later asked)
+order_workers {S} {A} W slow core t site order tried rest later asked each =
+    let By : Deed A → Type 0 = λ m. W m.by in
     let timers : List (Deed A) = timers_due site in
     let cores : List (Deed A) = by_cores order in
     let asks : List (Deed A) = asks_due tried in
     let left : List (Deed A) = left_due rest in
     let last : List (Deed A) = asks_due later ++ last_due t asked in
-    each_append W timers (cores ++ (asks ++ (left ++ last))) (slow_workers (timers_from 0 (map swept site.host.flows)))
-    (each_append W cores (asks ++ (left ++ last)) (cores_workers A order)
-    (each_append W asks (left ++ last) (slow_workers (map Ask tried))
-    (each_append W left last (slow_workers (map Frame rest))
-    (each_append W (asks_due later) (last_due t asked) (slow_workers (map Ask later))
-    (emissions_workers A t 0 asked.host.flows)))))
+    each_append By timers (cores ++ (asks ++ (left ++ last)))
+    (slow_workers W slow (timers_from 0 (map swept site.host.flows)))
+    (each_append By cores (asks ++ (left ++ last)) (cores_workers A W order each)
+    (each_append By asks (left ++ last) (slow_workers W slow (map Ask tried))
+    (each_append By left last (slow_workers W slow (map Frame rest))
+    (each_append By (asks_due later) (last_due t asked) (slow_workers W slow (map Ask later))
+    (emissions_workers W core A t 0 asked.host.flows)))))
+
+any_cores : (order : List Taken) → Each (λ (x : Taken). IsWorker (Core x.core)) order
+any_cores [] = tt
+any_cores (x ∷ xs) = (tt, any_cores xs)
 
 -- ----- the tick
 -- the histories before the last phase
@@ -202,10 +213,10 @@ asks_legal {S} {A} scripts t site middle order tried rest later made by_moves ea
     subst L (asks_fold scripts t (after_rest scripts t site middle tried rest) later)
     (all_kept scripts t (after_rest scripts t site middle tried rest) (asks_due later) by_moves left)
 
-pub cores_round : {S A : Type 0} (scripts : Scripts S A) (t : ℕ) (due : Due A) (before after : Site S)
+pub cores_round : {S A : Type 0} (scripts : Scripts S A) (cores t : ℕ) (due : Due A) (before after : Site S)
     → AreByMoves scripts → AreLegal before.host
-    → IsCoresTick scripts t due before after → Round scripts t due before after
-cores_round {S} {A} scripts t due before after by_moves each tick =
+    → IsCoresTick scripts cores t due before after → Round scripts t due before after
+cores_round {S} {A} scripts cores t due before after by_moves each tick =
     let order : List Taken = tick.phase.order in
     let rest : List Arrival = tick.rest in
     let tried : List A = tick.tried in
@@ -215,8 +226,19 @@ cores_round {S} {A} scripts t due before after by_moves each tick =
     (record {
       order = order_of t before order tried rest later asked;
       due_each = cores_due scripts t before due order tried rest later asked tick.phase.shared tick.asked;
-      workers = order_workers t before order tried rest later asked;
+      workers = order_workers IsWorker tt tt t before order tried rest later asked (any_cores order);
       made = cores_made scripts t before tick.middle order tried rest later tick.phase.made;
       quiet = all_quiet t asked.host.flows
           (asks_legal scripts t before tick.middle order tried rest later tick.phase.made by_moves each);
     })
+
+-- and its entries are by its cores
+pub cores_low : {S A : Type 0} (scripts : Scripts S A) (cores t : ℕ) (due : Due A) (before after : Site S)
+    → AreByMoves scripts → AreLegal before.host → IsCoresTick scripts cores t due before after
+    → AllBelow cores before.host → AllBelow cores after.host
+cores_low {S} {A} scripts cores t due before after by_moves legal tick all =
+    let order : List Taken = tick.phase.order in
+    let asked : Site S = after_asks scripts t before tick.middle tick.tried tick.rest tick.later in
+    made_low cores scripts t before after (order_of t before order tick.tried tick.rest tick.later asked) by_moves legal
+    (order_workers (IsWorkerOf cores) tt tick.some t before order tick.tried tick.rest tick.later asked tick.below)
+    (cores_made scripts t before tick.middle order tick.tried tick.rest tick.later tick.phase.made ∙ tick.made) all

@@ -1,7 +1,9 @@
 -- A tick of a host whose flows are shared is a right one, for the law shared_ticks_are_right;
 -- and one without cores is such a tick.
-use Rattle.std.proofs.Common.{◌≡◌, ℕ, ◌+◌, Bool, List, [], ◌∷◌, ◌++◌, map, fold, filter, refl, sym, subst, ap, ◌∙◌}
+use Rattle.std.proofs.Common.{◌≡◌, ℕ, ◌+◌, ◌<◌, Bool, List, [], ◌∷◌, ◌++◌, map, fold, filter, refl, sym, subst, ap, ◌∙◌}
 use Rattle.std.proofs.Common.{append_assoc, append-nil, false}
+use Rattle.tas_model.specs.declared.entry.Caller.{Caller}
+use Rattle.tas_model.specs.declared.entry.Caller.TheVariants.{Slow, Core}
 use Rattle.host_rounds.specs.Lists.{Each}
 use Rattle.host_rounds.specs.Hosts.{Live, Host}
 use Rattle.host_rounds.specs.Upkeep.{swept, all_swept}
@@ -10,10 +12,12 @@ use Rattle.host_rounds.specs.Scripts.{Site, Scripts}
 use Rattle.host_rounds.specs.Moves.{AreByMoves}
 use Rattle.host_rounds.specs.Rounds.{Action, Timer, Frame, Ask, Emission, Deed, does, on_host, Due, timers_from}
 use Rattle.host_rounds.specs.Rounds.{due_actions, Agent, OfFlow, OfFrame, OfScript, is_by, actions_of, IsWorker, Round}
+use Rattle.host_rounds.specs.Cores.{IsWorkerOf, AllBelow}
 use Rattle.host_rounds.specs.SerialOrder.{slow_phase}
 use Rattle.host_rounds.proofs.Lists.{fold_append, map_append, filter_append, each_append}
 use Rattle.host_rounds.proofs.AllLegal.{AreLegal, all_kept, all_swept_kept}
 use Rattle.host_rounds.proofs.Quiet.{all_quiet}
+use Rattle.host_rounds.proofs.AllBelow.{are_workers, made_low}
 use Rattle.host_rounds.proofs.SerialFrames.{by_slow, slow_actions, slow_workers, timers_fold, asks_fold}
 use Rattle.host_rounds.proofs.SerialEmissions.{emissions_from, emissions_fold, emissions_due, emissions_workers}
 use Rattle.core_rounds.specs.CoreTicks.{rest_phase}
@@ -108,49 +112,50 @@ module _ {S A : Type 0} (scripts : Scripts S A) (t : ℕ) where
   no_agent (OfFrame frame) n = refl
   no_agent (OfScript m) n = refl
 
-  sent_due : (a : Agent) (sent : List (Deed A)) → Each IsSending sent
+  sent_due : (cores : ℕ) (a : Agent) (sent : List (Deed A)) → Each (IsSending cores) sent
       → filter (is_by scripts a) (actions_of sent) ≡ []
-  sent_due a [] each = refl
-  sent_due a (x ∷ xs) each =
+  sent_due cores a [] each = refl
+  sent_due cores a (x ∷ xs) each =
       let no : is_by scripts a x.action ≡ false =
       ap (is_by scripts a) each.0.sends ∙ no_agent a each.0.flow in
-      rw no (sent_due a xs each.1)
+      rw no (sent_due cores a xs each.1)
 
-  shared_due : (site : Site S) (due : Due A) (order : List (Deed A)) (rest : List Arrival) (later : List A)
-      (sent : List (Deed A)) (last : Site S) → AreDone scripts due order rest later → Each IsSending sent
+  shared_due : (cores : ℕ) (site : Site S) (due : Due A) (order : List (Deed A)) (rest : List Arrival) (later : List A)
+      (sent : List (Deed A)) (last : Site S) → AreDone scripts due order rest later → Each (IsSending cores) sent
       → (a : Agent)
       → filter (is_by scripts a) (actions_of (order_to site order rest later (sent ++ last_due t last)))
       ≡ filter (is_by scripts a) (due_actions site.host.flows due)
-  shared_due site due order rest later sent last done sending a =
+  shared_due cores site due order rest later sent last done sending a =
       let more : List (Deed A) = sent ++ last_due t last in
       let none : filter (is_by scripts a) (actions_of more) ≡ [] =
       ap (filter (is_by scripts a)) (map_append (λ (m : Deed A). m.action) sent (last_due t last))
       ∙ filter_append (is_by scripts a) (actions_of sent) (actions_of (last_due t last))
       ∙ ap (λ (zs : List (Action A)). zs ++ filter (is_by scripts a) (actions_of (last_due t last)))
-      (sent_due a sent sending)
+      (sent_due cores a sent sending)
       ∙ emissions_due scripts a t 0 last.host.flows in
       ap (filter (is_by scripts a)) (actions_are site order rest later more)
       ∙ filter_to (is_by scripts a) (timers_from 0 site.host.flows) (actions_of order) (map Frame rest) (map Ask later)
       (actions_of more) (asked_of_host due.frames due.asks) (done a) none
 
-  sent_workers : (sent : List (Deed A)) → Each IsSending sent → Each (λ (m : Deed A). IsWorker m.by) sent
-  sent_workers [] each = tt
-  sent_workers (x ∷ xs) each = (each.0.worker, sent_workers xs each.1)
+  sent_workers : (cores : ℕ) (sent : List (Deed A)) → Each (IsSending cores) sent
+      → Each (λ (m : Deed A). IsWorkerOf cores m.by) sent
+  sent_workers cores [] each = tt
+  sent_workers cores (x ∷ xs) each = (each.0.worker, sent_workers cores xs each.1)
 
-  shared_workers : (site : Site S) (order : List (Deed A)) (rest : List Arrival) (later : List A)
-      (sent : List (Deed A)) (last : Site S)
-      → Each (λ (m : Deed A). IsWorker m.by) order → Each IsSending sent
-      → Each (λ (m : Deed A). IsWorker m.by) (order_to site order rest later (sent ++ last_due t last))
-  shared_workers site order rest later sent last each sending =
-      let W : Deed A → Type 0 = λ m. IsWorker m.by in
+  -- what is known of the slow path, of core 0 and of those who share is known of each who does something
+  shared_workers : (W : Caller → Type 0) → W Slow → W (Core 0) → (site : Site S) (order : List (Deed A))
+      (rest : List Arrival) (later : List A) (sent : List (Deed A)) (last : Site S)
+      → Each (λ (m : Deed A). W m.by) order → Each (λ (m : Deed A). W m.by) sent
+      → Each (λ (m : Deed A). W m.by) (order_to site order rest later (sent ++ last_due t last))
+  shared_workers W slow core site order rest later sent last each sending =
+      let By : Deed A → Type 0 = λ m. W m.by in
       let more : List (Deed A) = sent ++ last_due t last in
-      each_append W (timers_due site) (order ++ (left_due rest ++ (asks_due later ++ more)))
-      (slow_workers (timers_from 0 (map swept site.host.flows)))
-      (each_append W order (left_due rest ++ (asks_due later ++ more)) each
-      (each_append W (left_due rest) (asks_due later ++ more) (slow_workers (map Frame rest))
-      (each_append W (asks_due later) more (slow_workers (map Ask later))
-      (each_append W sent (last_due t last) (sent_workers sent sending)
-      (emissions_workers A t 0 last.host.flows)))))
+      each_append By (timers_due site) (order ++ (left_due rest ++ (asks_due later ++ more)))
+      (slow_workers W slow (timers_from 0 (map swept site.host.flows)))
+      (each_append By order (left_due rest ++ (asks_due later ++ more)) each
+      (each_append By (left_due rest) (asks_due later ++ more) (slow_workers W slow (map Frame rest))
+      (each_append By (asks_due later) more (slow_workers W slow (map Ask later))
+      (each_append By sent (last_due t last) sending (emissions_workers W core A t 0 last.host.flows)))))
 
   -- ----- the tick
   to_sent : (site middle asked : Site S) (order : List (Deed A)) (rest : List Arrival) (later : List A)
@@ -172,17 +177,19 @@ module _ {S A : Type 0} (scripts : Scripts S A) (t : ℕ) where
       (all_kept scripts t (on_host all_swept site) (order_to site order rest later (sent ++ [])) by_moves
       (all_swept_kept site.host each))
 
-pub shared_round : {S A : Type 0} (scripts : Scripts S A) (t : ℕ) (due : Due A) (before after : Site S)
+pub shared_round : {S A : Type 0} (scripts : Scripts S A) (cores t : ℕ) (due : Due A) (before after : Site S)
     → AreByMoves scripts → AreLegal before.host
-    → IsSharedTick scripts t due before after → Round scripts t due before after
-shared_round {S} {A} scripts t due before after by_moves each tick =
+    → IsSharedTick scripts cores t due before after → Round scripts t due before after
+shared_round {S} {A} scripts cores t due before after by_moves each tick =
     let last : Site S = fold (does scripts t) tick.asked tick.sent in
     subst (λ (site : Site S). Round scripts t due before site) tick.made
     (record {
       order = order_to scripts t before tick.order tick.rest tick.later (tick.sent ++ last_due t last);
-      due_each = shared_due scripts t before due tick.order tick.rest tick.later tick.sent last tick.done tick.sending;
-      workers = shared_workers scripts t before tick.order tick.rest tick.later tick.sent last tick.workers
+      due_each = shared_due scripts t cores before due tick.order tick.rest tick.later tick.sent last tick.done
           tick.sending;
+      workers = shared_workers scripts t IsWorker tt tt before tick.order tick.rest tick.later tick.sent last
+          (are_workers cores tick.order tick.workers)
+          (are_workers cores tick.sent (sent_workers scripts t cores tick.sent tick.sending));
       made = to_sent scripts t before tick.middle tick.asked tick.order tick.rest tick.later tick.sent (last_due t last)
           tick.beside tick.alone
           ∙ emissions_fold scripts t 0 last [] last.host.flows refl;
@@ -191,10 +198,24 @@ shared_round {S} {A} scripts t due before after by_moves each tick =
           tick.alone by_moves each);
     })
 
+-- and its entries are by its cores
+pub shared_low : {S A : Type 0} (scripts : Scripts S A) (cores t : ℕ) (due : Due A) (before after : Site S)
+    → AreByMoves scripts → AreLegal before.host → IsSharedTick scripts cores t due before after
+    → AllBelow cores before.host → AllBelow cores after.host
+shared_low {S} {A} scripts cores t due before after by_moves legal tick all =
+    let last : Site S = fold (does scripts t) tick.asked tick.sent in
+    made_low cores scripts t before after
+    (order_to scripts t before tick.order tick.rest tick.later (tick.sent ++ last_due t last)) by_moves legal
+    (shared_workers scripts t (IsWorkerOf cores) tt tick.some before tick.order tick.rest tick.later tick.sent last
+    tick.workers (sent_workers scripts t cores tick.sent tick.sending))
+    (to_sent scripts t before tick.middle tick.asked tick.order tick.rest tick.later tick.sent (last_due t last)
+    tick.beside tick.alone ∙ emissions_fold scripts t 0 last [] last.host.flows refl ∙ tick.made) all
+
 -- where the cores do nothing
-pub without_cores : {S A : Type 0} (scripts : Scripts S A) (t : ℕ) (due : Due A) (before : Site S)
-    → IsSharedTick scripts t due before (tick_without_cores scripts t due before)
-without_cores scripts t due before = record {
+pub without_cores : {S A : Type 0} (scripts : Scripts S A) (cores t : ℕ) (due : Due A) (before : Site S)
+    → 0 < cores → IsSharedTick scripts cores t due before (tick_without_cores scripts t due before)
+without_cores scripts cores t due before some = record {
+  some = some;
   order = [];
   workers = tt;
   rest = due.frames;

@@ -1,8 +1,9 @@
 -- A tick of a host with cores: what cores take and applications ask side by side, and all else by the slow path and the
 -- applications in their order.
-use Rattle.std.specs.Prelude.{◌≡◌, ℕ, ◌==◌, ◌++◌, Bool, List, map, filter, fold}
+use Rattle.std.specs.Prelude.{◌≡◌, ℕ, ◌<◌, ◌==◌, ◌++◌, Bool, List, map, filter, fold}
 use Rattle.tas_model.specs.declared.entry.FrameId.{FrameId}
 use Rattle.tas_model.specs.declared.entry.Caller.TheVariants.{Slow, Core}
+use Rattle.host_rounds.specs.Lists.{Each}
 use Rattle.host_rounds.specs.Hosts.{Host, Numbers}
 use Rattle.host_rounds.specs.Deliveries.{Arrival, same_frame, received, delivered}
 use Rattle.host_rounds.specs.Scripts.{Site, Scripts}
@@ -14,6 +15,10 @@ use Rattle.host_rounds.specs.SerialOrder.{slow_phase, ask_phase, emit_phase}
 pub record Taken : Type 0 where
   pub core : ℕ
   pub arrival : Arrival
+
+-- each was taken by one of so many cores
+abbrev pub AreOfCores : (cores : ℕ) → List Taken → Type 0
+AreOfCores cores order = Each (λ (x : Taken). x.core < cores) order
 
 -- What is left when cores took these frames, one after the other.
 abbrev pub taken_by_cores : Numbers → (tick : ℕ) → Host → List Taken → Host
@@ -54,12 +59,15 @@ tried_and_rest scripts t site tried rest =
     on_host (λ (host : Host). rest_phase scripts t host rest) (ask_phase scripts t site tried)
 
 -- The slow path gives up closed flows and lets time pass; cores take frames and applications ask side by side; the slow
--- path takes the other frames; the applications ask the rest in their order; and all that may go is sent.
-pub record IsCoresTick {S A : Type 0} (scripts : Scripts S A) (t : ℕ) (due : Due A) (before after : Site S)
+-- path takes the other frames; the applications ask the rest in their order; and all that may go is sent. The host has
+-- so many cores, numbered from 0 on, and one at least, which sends.
+pub record IsCoresTick {S A : Type 0} (scripts : Scripts S A) (cores t : ℕ) (due : Due A) (before after : Site S)
     : Type 0 where
+  pub some : 0 < cores
   pub rest : List Arrival
   pub middle : Host
   pub phase : IsCoresPhase t (slow_phase t before.host) due.frames rest middle
+  pub below : AreOfCores cores phase.order
   pub tried : List A
   pub later : List A
   pub asked : AreTried scripts due.asks tried later

@@ -1,12 +1,13 @@
 -- A tick of a host whose cores and applications share its flows: what they do side by side is one order of deeds, and
 -- all else is done by the slow path and the applications, one after the other.
-use Rattle.std.specs.Prelude.{◌≡◌, ℕ, ◌++◌, List, map, filter, fold}
+use Rattle.std.specs.Prelude.{◌≡◌, ℕ, ◌<◌, ◌++◌, List, map, filter, fold}
 use Rattle.host_rounds.specs.Lists.{Each}
 use Rattle.host_rounds.specs.Hosts.{Host}
 use Rattle.host_rounds.specs.Deliveries.{Arrival}
 use Rattle.host_rounds.specs.Scripts.{Site, Scripts}
 use Rattle.host_rounds.specs.Rounds.{Action, Frame, Ask, Emission, Deed, does, on_host, Due, Agent, is_by}
-use Rattle.host_rounds.specs.Rounds.{actions_of, IsWorker}
+use Rattle.host_rounds.specs.Rounds.{actions_of}
+use Rattle.host_rounds.specs.Cores.{IsWorkerOf}
 use Rattle.host_rounds.specs.SerialOrder.{slow_phase, ask_phase, emit_phase}
 use Rattle.core_rounds.specs.CoreTicks.{rest_phase}
 
@@ -23,9 +24,9 @@ AreDone scripts due order rest later =
     → filter (is_by scripts a) (actions_of order ++ asked_of_host rest later)
     ≡ filter (is_by scripts a) (asked_of_host due.frames due.asks)
 
--- It is a segment that a core or the slow path sends.
-pub record IsSending {A : Type 0} (deed : Deed A) : Type 0 where
-  pub worker : IsWorker deed.by
+-- It is a segment that the slow path sends, or one of so many cores.
+pub record IsSending {A : Type 0} (cores : ℕ) (deed : Deed A) : Type 0 where
+  pub worker : IsWorkerOf cores deed.by
   pub flow : ℕ
   pub sends : deed.action ≡ Emission flow
 
@@ -38,11 +39,13 @@ alone_phase scripts t site rest later =
 
 -- The slow path gives up closed flows and lets time pass. Then cores take frames and send, and applications ask, side
 -- by side: what they leave is what one order of their deeds leaves. The slow path takes the frames that are left, and
--- the applications ask what is left. Then cores send side by side again, and the slow path sends what may still go.
-pub record IsSharedTick {S A : Type 0} (scripts : Scripts S A) (t : ℕ) (due : Due A) (before after : Site S)
+-- the applications ask what is left. Then cores send side by side again, and the slow path sends what may still go. The
+-- host has so many cores, numbered from 0 on, and one at least.
+pub record IsSharedTick {S A : Type 0} (scripts : Scripts S A) (cores t : ℕ) (due : Due A) (before after : Site S)
     : Type 0 where
+  pub some : 0 < cores
   pub order : List (Deed A)
-  pub workers : Each (λ (deed : Deed A). IsWorker deed.by) order
+  pub workers : Each (λ (deed : Deed A). IsWorkerOf cores deed.by) order
   pub rest : List Arrival
   pub later : List A
   pub done : AreDone scripts due order rest later
@@ -51,7 +54,7 @@ pub record IsSharedTick {S A : Type 0} (scripts : Scripts S A) (t : ℕ) (due : 
   pub asked : Site S
   pub alone : alone_phase scripts t middle rest later ≡ asked
   pub sent : List (Deed A)
-  pub sending : Each IsSending sent
+  pub sending : Each (IsSending cores) sent
   pub made : on_host (emit_phase t) (fold (does scripts t) asked sent) ≡ after
 
 -- A tick in which the slow path takes all frames, and the applications ask after them.

@@ -5,5 +5,6 @@
 mod laws;
 
 pub use laws::{
-    cores_ticks_are_right, shared_ticks_are_right, shares_are_done, ticks_without_cores_are_shared,
+    cores_ticks_are_by_their_cores, cores_ticks_are_right, shared_ticks_are_by_their_cores,
+    shared_ticks_are_right, shares_are_done, ticks_without_cores_are_shared,
 };

@@ -10,7 +10,7 @@ use Rattle.core_rounds.specs.Shares.{IsNoTimer}
 use Rattle.core_rounds.proofs.Shares.{shares_done}
 use Rattle.host_books.specs.Books.{Book}
 use Rattle.host_books.specs.Tries.{Word, IsWord, IsSendWord, told_of}
-use Rattle.host_books.specs.Ticks.{Beside, deeds_of, site_before, site_after, IsTickOfPhases}
+use Rattle.host_books.specs.Ticks.{Beside, deeds_of, site_before, site_after, AreByWorkers, IsTickOfPhases}
 use Rattle.host_books.proofs.Orders.{all_done}
 
 module _ {S A : Type 0} (scripts : Scripts S A) (t : ℕ) where
@@ -25,26 +25,28 @@ module _ {S A : Type 0} (scripts : Scripts S A) (t : ℕ) where
   no_timers books [] each = tt
   no_timers books (w ∷ ws) each = (no_timer books w each.0, no_timers books ws each.1)
 
-  all_send : (books : List Book) (ws : List (Word S A)) → Each (IsSendWord t books) ws → Each IsSending (map told_of ws)
-  all_send books [] each = tt
-  all_send books (w ∷ ws) each =
+  all_send : (cores : ℕ) (books : List Book) (ws : List (Word S A)) → Each (IsSendWord t books) ws
+      → AreByWorkers cores (map told_of ws) → Each (IsSending cores) (map told_of ws)
+  all_send cores books [] each workers = tt
+  all_send cores books (w ∷ ws) each workers =
       let s = each.0 in (
         record {
-          worker = subst (λ (m : rounds.Deed A). rounds.IsWorker m.by) (sym s.is) tt;
+          worker = workers.0;
           flow = _;
           sends = ap (λ (m : rounds.Deed A). m.action) s.is;
         },
-        all_send books ws each.1,
+        all_send cores books ws each.1 workers.1,
       )
 
   left_by : (b : Beside scripts t) → fold (does scripts t) (site_before b) (deeds_of b) ≡ site_after b
   left_by b = all_done scripts t b.setting b.state b.known b.order (deeds_of b) b.told.after b.told.next b.told.are
 
-  pub tick_of_phases : (due : Due A) (before after : Site S) → IsTickOfPhases scripts t due before after
-      → IsSharedTick scripts t due before after
-  tick_of_phases due before after k = record {
+  pub tick_of_phases : (cores : ℕ) (due : Due A) (before after : Site S)
+      → IsTickOfPhases scripts cores t due before after → IsSharedTick scripts cores t due before after
+  tick_of_phases cores due before after k = record {
+    some = k.some;
     order = deeds_of k.first;
-    workers = k.first.told.workers;
+    workers = k.workers;
     rest = k.rest;
     later = k.later;
     done = shares_done scripts due (deeds_of k.first) k.rest k.later
@@ -59,6 +61,6 @@ module _ {S A : Type 0} (scripts : Scripts S A) (t : ℕ) where
     asked = site_before k.second;
     alone = k.alone;
     sent = deeds_of k.second;
-    sending = all_send k.second.setting.books k.second.words k.sends;
+    sending = all_send cores k.second.setting.books k.second.words k.sends k.senders;
     made = ap (on_host (emit_phase t)) (left_by k.second) ∙ k.made;
   }

@@ -66,6 +66,6 @@ pub fn words_are_done<S, A>()
 /// A tick in which cores and applications work side by side, and then cores send side by side, is a tick of a host
 /// whose flows are shared, so that it is a right one.
 pub fn ticks_of_phases_are_shared<S, A>()
-    ensures { (scripts : Scripts S A) (t : ℕ) (due : Due A) (before after : Site S)
-        → IsTickOfPhases scripts t due before after → IsSharedTick scripts t due before after }
+    ensures { (scripts : Scripts S A) (cores t : ℕ) (due : Due A) (before after : Site S)
+        → IsTickOfPhases scripts cores t due before after → IsSharedTick scripts cores t due before after }
 {}

@@ -1,6 +1,7 @@
 -- The emissions of a tick in serial order, as deeds.
 use Rattle.std.proofs.Common.{◌≡◌, ℕ, zero, suc, ◌+◌, false, List, [], ◌∷◌, ◌++◌, length, map, fold, filter, Option}
 use Rattle.std.proofs.Common.{Some, None, refl, sym, ap, ◌∙◌, append_assoc}
+use Rattle.tas_model.specs.declared.entry.Caller.{Caller}
 use Rattle.tas_model.specs.declared.entry.Caller.TheVariants.{Core}
 use Rattle.tas_model.specs.declared.entry.Call.TheVariants as calls
 use Rattle.tas_model.specs.NextSegment.{Going, going}
@@ -9,7 +10,6 @@ use Rattle.host_rounds.specs.Hosts.{Live, endpoint, with_call}
 use Rattle.host_rounds.specs.Upkeep.{emits, emits_where, quieted_within, quieted}
 use Rattle.host_rounds.specs.Scripts.{Site, Scripts}
 use Rattle.host_rounds.specs.Rounds.{Emission, Deed, does, Agent, OfFlow, OfFrame, OfScript, is_by, actions_of}
-use Rattle.host_rounds.specs.Rounds.{IsWorker}
 use Rattle.host_rounds.proofs.Lists.{fold_append, map_append, filter_append, each_append, change_past, length_push}
 use Rattle.host_rounds.proofs.SerialFrames.{at_flows}
 
@@ -106,20 +106,19 @@ emissions_due {S} {A} scripts a t n (l ∷ ls) =
     (actions_of (emissions_from t (n + 1) ls))
     ∙ rw (emission_due scripts a (most_of l) t n l, emissions_due scripts a t (n + 1) ls) refl
 
-emission_workers : (A : Type 0) (most t n : ℕ) (l : Live)
-    → Each (λ (m : Deed A). IsWorker m.by) (emissions_of most t n l)
-emission_workers A zero t n l = tt
-emission_workers A (suc most) t n l = by_going (going (endpoint l)) (λ next. emission_workers A most t n next) where
-  by_going : (o : Option Going) → ((next : Live) → Each (λ (m : Deed A). IsWorker m.by) (emissions_of most t n next))
-      → Each (λ (m : Deed A). IsWorker m.by)
-      (elim o [ None ↦ [] | Some g ↦ emission n ∷ emissions_of most t n (with_call l (Core 0) t calls.Emit []) ])
-  by_going None rest = tt
-  by_going (Some g) rest = (tt, rest (with_call l (Core 0) t calls.Emit []))
+module _ (W : Caller → Type 0) (core : W (Core 0)) (A : Type 0) where
+  emission_workers : (most t n : ℕ) (l : Live) → Each (λ (m : Deed A). W m.by) (emissions_of most t n l)
+  emission_workers zero t n l = tt
+  emission_workers (suc most) t n l = by_going (going (endpoint l)) (λ next. emission_workers most t n next) where
+    by_going : (o : Option Going) → ((next : Live) → Each (λ (m : Deed A). W m.by) (emissions_of most t n next))
+        → Each (λ (m : Deed A). W m.by)
+        (elim o [ None ↦ [] | Some g ↦ emission n ∷ emissions_of most t n (with_call l (Core 0) t calls.Emit []) ])
+    by_going None rest = tt
+    by_going (Some g) rest = (core, rest (with_call l (Core 0) t calls.Emit []))
 
-pub emissions_workers : (A : Type 0) (t n : ℕ) (ls : List Live)
-    → Each (λ (m : Deed A). IsWorker m.by) (emissions_from t n ls)
-emissions_workers A t n [] = tt
-emissions_workers A t n (l ∷ ls) =
-    each_append (λ (m : Deed A). IsWorker m.by) (emissions_of (most_of l) t n l) (emissions_from t (n + 1) ls)
-    (emission_workers A (most_of l) t n l)
-    (emissions_workers A t (n + 1) ls)
+  pub emissions_workers : (t n : ℕ) (ls : List Live) → Each (λ (m : Deed A). W m.by) (emissions_from t n ls)
+  emissions_workers t n [] = tt
+  emissions_workers t n (l ∷ ls) =
+      each_append (λ (m : Deed A). W m.by) (emissions_of (most_of l) t n l) (emissions_from t (n + 1) ls)
+      (emission_workers (most_of l) t n l)
+      (emissions_workers t (n + 1) ls)

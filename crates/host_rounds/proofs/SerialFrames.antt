@@ -12,7 +12,7 @@ use Rattle.host_rounds.specs.Upkeep.{timed}
 use Rattle.host_rounds.specs.Deliveries.{Packet, Damaged, Segment, Arrival, received, received_serially, rx_caller}
 use Rattle.host_rounds.specs.Deliveries.{is_fast, arrived, delivered_packet, delivered}
 use Rattle.host_rounds.specs.Scripts.{Site, Scripts}
-use Rattle.host_rounds.specs.Rounds.{Action, Frame, Ask, Deed, does, on_host, timers_from, actions_of, IsWorker}
+use Rattle.host_rounds.specs.Rounds.{Action, Frame, Ask, Deed, does, on_host, timers_from, actions_of}
 use Rattle.host_rounds.proofs.Lists.{change_past, length_push}
 
 -- ----- what the slow path does by itself
@@ -23,9 +23,11 @@ pub slow_actions : {A : Type 0} (xs : List (Action A)) → actions_of (by_slow x
 slow_actions [] = refl
 slow_actions {A} (x ∷ xs) = ap (λ (zs : List (Action A)). x ∷ zs) (slow_actions xs)
 
-pub slow_workers : {A : Type 0} (xs : List (Action A)) → Each (λ (m : Deed A). IsWorker m.by) (by_slow xs)
-slow_workers [] = tt
-slow_workers (x ∷ xs) = (tt, slow_workers xs)
+-- what is known of the slow path is known of each who does it
+pub slow_workers : {A : Type 0} (W : Caller → Type 0) → W Slow → (xs : List (Action A))
+    → Each (λ (m : Deed A). W m.by) (by_slow xs)
+slow_workers W slow [] = tt
+slow_workers W slow (x ∷ xs) = (slow, slow_workers W slow xs)
 
 abbrev pub at_flows : {S : Type 0} → Site S → List Live → Site S
 at_flows site ls = record site { host = record (site.host) { flows = ls } }
@@ -112,27 +114,28 @@ frames_actions {A} numbers t host (x ∷ xs) =
     ap (λ (zs : List (Action A)). Frame x ∷ zs)
     (frames_actions numbers t (delivered received_serially numbers t host x) xs)
 
-rx_worker : (b : Bool) → IsWorker (if b then Core 0 else Slow)
-rx_worker true = tt
-rx_worker false = tt
+module _ (W : Caller → Type 0) (slow : W Slow) (core : W (Core 0)) where
+  rx_worker : (b : Bool) → W (if b then Core 0 else Slow)
+  rx_worker true = core
+  rx_worker false = slow
 
-first_worker : (test : Live → Bool) (seg : Seg) (ls : List Live) → IsWorker (first_caller test seg ls)
-first_worker test seg [] = tt
-first_worker test seg (l ∷ ls) = by_test (test l) (first_worker test seg ls) where
-  by_test : (b : Bool) → IsWorker (first_caller test seg ls)
-      → IsWorker (elim b [ true ↦ rx_caller (endpoint l) seg | false ↦ first_caller test seg ls ])
-  by_test true h = rx_worker (is_fast (endpoint l) seg)
-  by_test false h = h
+  first_worker : (test : Live → Bool) (seg : Seg) (ls : List Live) → W (first_caller test seg ls)
+  first_worker test seg [] = slow
+  first_worker test seg (l ∷ ls) = by_test (test l) (first_worker test seg ls) where
+    by_test : (b : Bool) → W (first_caller test seg ls)
+        → W (elim b [ true ↦ rx_caller (endpoint l) seg | false ↦ first_caller test seg ls ])
+    by_test true h = rx_worker (is_fast (endpoint l) seg)
+    by_test false h = h
 
-packet_worker : (ls : List Live) (packet : Packet) → IsWorker (caller_of ls packet)
-packet_worker ls (Damaged rule) = tt
-packet_worker ls (Segment tuple seg) = first_worker (is_indexed_as tuple) seg ls
+  packet_worker : (ls : List Live) (packet : Packet) → W (caller_of ls packet)
+  packet_worker ls (Damaged rule) = slow
+  packet_worker ls (Segment tuple seg) = first_worker (is_indexed_as tuple) seg ls
 
-pub frames_workers : (A : Type 0) (numbers : Numbers) (t : ℕ) (host : Host) (frames : List Arrival)
-    → Each (λ (m : Deed A). IsWorker m.by) (frames_made numbers t host frames)
-frames_workers A numbers t host [] = tt
-frames_workers A numbers t host (x ∷ xs) =
-    (packet_worker host.flows x.packet, frames_workers A numbers t (delivered received_serially numbers t host x) xs)
+  pub frames_workers : (A : Type 0) (numbers : Numbers) (t : ℕ) (host : Host) (frames : List Arrival)
+      → Each (λ (m : Deed A). W m.by) (frames_made numbers t host frames)
+  frames_workers A numbers t host [] = tt
+  frames_workers A numbers t host (x ∷ xs) =
+      (packet_worker host.flows x.packet, frames_workers A numbers t (delivered received_serially numbers t host x) xs)
 
 -- ----- what the applications ask
 pub asks_fold : {S A : Type 0} (scripts : Scripts S A) (t : ℕ) (site : Site S) (asks : List A)

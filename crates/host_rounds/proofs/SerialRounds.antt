@@ -1,6 +1,8 @@
 -- The serial order is one of the right orders.
 use Rattle.std.proofs.Common.{◌≡◌, ℕ, ◌+◌, Bool, List, [], ◌∷◌, ◌++◌, map, fold, filter, refl, sym, subst, ap, ◌∙◌}
 use Rattle.std.proofs.Common.{append_assoc, append-nil}
+use Rattle.tas_model.specs.declared.entry.Caller.{Caller}
+use Rattle.tas_model.specs.declared.entry.Caller.TheVariants.{Slow, Core}
 use Rattle.host_rounds.specs.Lists.{Each}
 use Rattle.host_rounds.specs.Hosts.{Live, Host}
 use Rattle.host_rounds.specs.Upkeep.{swept, all_swept}
@@ -38,12 +40,12 @@ asks_due due = by_slow (map Ask due.asks)
 abbrev last_due : {S A : Type 0} → Scripts S A → ℕ → Site S → Due A → List (Deed A)
 last_due scripts t site due = emissions_from t 0 (after_asks scripts t site due).host.flows
 
-abbrev serial_order : {S A : Type 0} → Scripts S A → ℕ → Site S → Due A → List (Deed A)
+abbrev pub serial_order : {S A : Type 0} → Scripts S A → ℕ → Site S → Due A → List (Deed A)
 serial_order scripts t site due =
     timers_due site ++ (frames_due scripts t site due ++ (asks_due due ++ last_due scripts t site due))
 
 -- ----- what the order leaves
-serial_made : {S A : Type 0} (scripts : Scripts S A) (t : ℕ) (site : Site S) (due : Due A)
+pub serial_made : {S A : Type 0} (scripts : Scripts S A) (t : ℕ) (site : Site S) (due : Due A)
     → fold (does scripts t) (on_host all_swept site) (serial_order scripts t site due) ≡ serial_tick scripts t site due
 unfolding serial_tick
 serial_made {S} {A} scripts t site due =
@@ -103,18 +105,20 @@ serial_due scripts t site due a =
     (actions_of (last_due scripts t site due))
     (emissions_due scripts a t 0 (after_asks scripts t site due).host.flows)
 
-serial_workers : {S A : Type 0} (scripts : Scripts S A) (t : ℕ) (site : Site S) (due : Due A)
-    → Each (λ (m : Deed A). IsWorker m.by) (serial_order scripts t site due)
-serial_workers {S} {A} scripts t site due =
-    let W : Deed A → Type 0 = λ m. IsWorker m.by in
+-- what is known of the slow path and of core 0 is known of each who does something
+pub serial_workers : {S A : Type 0} (W : Caller → Type 0) → W Slow → W (Core 0) → (scripts : Scripts S A) (t : ℕ)
+    (site : Site S) (due : Due A) → Each (λ (m : Deed A). W m.by) (serial_order scripts t site due)
+serial_workers {S} {A} W slow core scripts t site due =
+    let By : Deed A → Type 0 = λ m. W m.by in
     let timers : List (Deed A) = timers_due site in
     let frames : List (Deed A) = frames_due scripts t site due in
     let asks : List (Deed A) = asks_due due in
     let last : List (Deed A) = last_due scripts t site due in
-    each_append W timers (frames ++ (asks ++ last)) (slow_workers (timers_from 0 (map swept site.host.flows)))
-    (each_append W frames (asks ++ last) (frames_workers A scripts.numbers t (slow_phase t site.host) due.frames)
-    (each_append W asks last (slow_workers (map Ask due.asks))
-    (emissions_workers A t 0 (after_asks scripts t site due).host.flows)))
+    each_append By timers (frames ++ (asks ++ last)) (slow_workers W slow (timers_from 0 (map swept site.host.flows)))
+    (each_append By frames (asks ++ last)
+    (frames_workers W slow core A scripts.numbers t (slow_phase t site.host) due.frames)
+    (each_append By asks last (slow_workers W slow (map Ask due.asks))
+    (emissions_workers W core A t 0 (after_asks scripts t site due).host.flows)))
 
 -- ----- the tick
 -- the histories before the last phase
@@ -148,7 +152,7 @@ serial_round scripts t due site by_moves each =
     record {
       order = serial_order scripts t site due;
       due_each = serial_due scripts t site due;
-      workers = serial_workers scripts t site due;
+      workers = serial_workers IsWorker tt tt scripts t site due;
       made = serial_made scripts t site due;
       quiet = serial_quiet scripts t site due by_moves each;
     }

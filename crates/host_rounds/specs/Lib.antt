@@ -16,3 +16,4 @@ pub mod EveryTick
 pub mod WorkedTicks
 pub mod Meetings
 pub mod Frames
+pub mod Cores

@@ -10,6 +10,7 @@ ghost use Rattle.host_rounds.specs.Scripts.{Site, Scripts};
 ghost use Rattle.host_rounds.specs.Moves.{AreByMoves};
 ghost use Rattle.host_rounds.specs.Rounds.{Due, Round};
 ghost use Rattle.host_rounds.specs.SerialOrder.{serial_tick};
+ghost use Rattle.host_rounds.specs.Cores.{AllBelow};
 ghost use Rattle.host_rounds.specs.EveryTick.{InEveryTick};
 ghost use Rattle.host_rounds.specs.Places.{uses, coming};
 ghost use Rattle.host_rounds.specs.Openings.{AreOpened, openings_of};
@@ -21,6 +22,12 @@ ghost use Rattle.host_rounds.specs.Histories.{HasHistory, IsSound};
 pub fn serial_ticks_are_right<S, A>()
     ensures { (scripts : Scripts S A) (t : ℕ) (due : Due A) (site : Site S) → AreByMoves scripts
         → Each HasHistory site.host.flows → Round scripts t due site (serial_tick scripts t site due) }
+{}
+
+/// In serial order a tick has one core, which is core 0: no other makes an entry.
+pub fn serial_ticks_have_one_core<S, A>()
+    ensures { (scripts : Scripts S A) (t : ℕ) (due : Due A) (site : Site S) → AreByMoves scripts
+        → Each HasHistory site.host.flows → AllBelow 1 site.host → AllBelow 1 (serial_tick scripts t site due).host }
 {}
 
 /// In every order of a tick each flow keeps a history of the endpoint.

@@ -69,6 +69,10 @@ IsApp c number a =
 abbrev pub IsClient : cores.Common → (number : ℕ) → Application → Socket × Socket → Type 0
 IsClient c number a sockets = IsApp c number a × IsSocket a sockets.0 × IsSocket a sockets.1
 
+-- it is application 0, and a task of it reads from this socket
+abbrev pub IsReading : cores.Common → Socket → Application → Type 0
+IsReading c s a = IsApp c 0 a × IsSocket a s
+
 -- so it has, of its own
 abbrev pub IsTalking : cores.Common → (number : ℕ) → Client → Type 0
 IsTalking c number x = IsClient c number x.app x.sockets

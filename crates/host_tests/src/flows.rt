@@ -71,6 +71,8 @@ fn is_expected(act: Act, ends: Ends) -> bool {
 #[derive(Clone, Copy, Drop)]
 pub struct Summary {
     pub last: Act,
+    /// How many entries there are.
+    pub entries: usize,
     /// The last entry's tick.
     tick: u32,
     /// No tick is below the one before, each entry is of a caller that may make it, what was read is the peer's stream,
@@ -86,6 +88,7 @@ pub struct Summary {
 
 const NOTHING: Summary = Summary {
     last: Act::Other,
+    entries: 0,
     tick: 0,
     is_in_order: true,
     received: 0,
@@ -125,6 +128,7 @@ impl Summary {
         };
         let next = Summary {
             last: act,
+            entries: self.entries.saturating_add(1),
             tick: entry.tick,
             is_in_order: self.is_in_order && is_next,
             received: self.received.saturating_add(count),
@@ -166,29 +170,58 @@ fn summary_of(flow: &FlowRecord) -> Summary {
 }
 
 /// Takes the record, looks at it and gives it back. `None` where another pass has it.
-fn summed(table: &FlowTable<FlowRecord>, pass: &mut Pass<FlowRecord>, pin: &Pin) -> Option<Summary>
-    requires { IsUser table.now pin.now pass.old × (pin.now.slot < table.now.slots) }
+fn taken<T: Drop, L: FnOnce(&FlowRecord) -> T>(
+    table: &FlowTable<FlowRecord>,
+    pass: &mut Pass<FlowRecord>,
+    pin: &Pin,
+    look: L,
+) -> Option<T>
+    requires pass { IsUser table.now pin.now pass.old × (pin.now.slot < table.now.slots) }
+    requires look { L.IsAlwaysCallable look }
     ensures { IsUser table.now pin.now pass.new }
 {
     let Ok(flow) = table.take(pass, pin) else {
         return None;
     };
-    let summary = summary_of(&flow);
+    let seen = look(&flow);
     table.give(pass, pin, flow);
-    Some(summary)
+    Some(seen)
 }
 
 /// Pins the flow and looks at it. `None` where it isn't open, or another pass has its record.
-fn seen(table: &FlowTable<FlowRecord>, pass: &mut Pass<FlowRecord>, id: FlowId) -> Option<Summary>
-    requires { IsGuest table.now pass.old × (id.slot < table.now.slots) }
+fn pinned<T: Drop, L: FnOnce(&FlowRecord) -> T>(
+    table: &FlowTable<FlowRecord>,
+    pass: &mut Pass<FlowRecord>,
+    id: FlowId,
+    look: L,
+) -> Option<T>
+    requires pass { IsGuest table.now pass.old × (id.slot < table.now.slots) }
+    requires look { L.IsAlwaysCallable look }
     ensures { IsGuest table.now pass.new }
 {
     let Ok(pin) = table.pin(pass, id) else {
         return None;
     };
-    let summary = summed(table, pass, &pin);
+    let seen = taken(table, pass, &pin, look);
     table.unpin(pass, pin);
-    summary
+    seen
+}
+
+/// Looks at the flow while the pass of a core holds its record.
+pub fn hold_by<T: Drop, L: FnOnce(&FlowRecord) -> T>(
+    shared: &Shared,
+    core: &mut CoreWorker,
+    id: FlowId,
+    look: L,
+) -> Option<T>
+    requires core { IsCore shared.now core.old }
+    requires look { L.IsAlwaysCallable look }
+    ensures { IsCore shared.now core.new }
+{
+    if id.slot >= shared.table.slots() {
+        return None;
+    }
+    pinned(&shared.table, &mut core.pass, id, look)
 }
 
 /// What the history of the flow is, by the pass of a core.
@@ -196,8 +229,5 @@ pub fn look_by(shared: &Shared, core: &mut CoreWorker, id: FlowId) -> Option<Sum
     requires { IsCore shared.now core.old }
     ensures { IsCore shared.now core.new }
 {
-    if id.slot >= shared.table.slots() {
-        return None;
-    }
-    seen(&shared.table, &mut core.pass, id)
+    hold_by(shared, core, id, summary_of)
 }

@@ -18,17 +18,17 @@ use std::thread::Threads;
 use tas_num::Gate;
 
 /// How many turns a worker waits at most.
-const TURNS: u32 = 10_000_000;
+pub const TURNS: u32 = 10_000_000;
 
 /// The points of core 1 on host 1, before its first frame and after it.
-const CORE: [u32; 2] = [66, 67];
+pub const CORE: [u32; 2] = [66, 67];
 
 /// The points of application 0, before its calls and after them.
 const APPLICATION: [u32; 2] = [0, 1];
 
 /// Holds the first who comes to one point until another point was passed, or for so many turns.
 #[derive(Drop)]
-struct Hold {
+pub struct Hold {
     held: u32,
     until: u32,
     was_held: AtomicBool,
@@ -37,7 +37,7 @@ struct Hold {
 }
 
 impl Hold {
-    fn new(held: u32, until: u32) -> Hold {
+    pub fn new(held: u32, until: u32) -> Hold {
         Hold {
             held,
             until,
@@ -45,6 +45,11 @@ impl Hold {
             was_passed: AtomicBool::new(false),
             ran_out: AtomicBool::new(false),
         }
+    }
+
+    /// Whether somebody was held until the other point was passed.
+    pub fn has_held(&self) -> bool {
+        self.was_held.load(Ordering::SeqCst) && !self.ran_out.load(Ordering::SeqCst)
     }
 
     fn wait(&self) {
@@ -102,9 +107,7 @@ fn is_run<R: Threads + Wait + Sync, G: Gate + Sync>(rt: &R, alloc: Global, gate:
 /// Whether somebody was held at the one point until another had passed the other one.
 fn meets<R: Threads + Wait + Sync>(rt: &R, alloc: Global, held: u32, until: u32) -> bool {
     let gate = Hold::new(held, until);
-    is_run(rt, alloc, &gate)
-        && gate.was_held.load(Ordering::SeqCst)
-        && !gate.ran_out.load(Ordering::SeqCst)
+    is_run(rt, alloc, &gate) && gate.has_held()
 }
 
 /// The core is before a frame while the application calls, and the other way round.

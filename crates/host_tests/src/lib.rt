@@ -3,6 +3,8 @@
 #![tactic(auto)]
 
 #[cfg(test)]
+mod asleep;
+#[cfg(test)]
 mod clients;
 #[cfg(test)]
 mod flows;
@@ -17,6 +19,8 @@ mod many;
 mod opening;
 #[cfg(test)]
 mod packets;
+#[cfg(test)]
+mod polls;
 #[cfg(test)]
 mod starting;
 #[cfg(test)]

@@ -1,13 +1,12 @@
 //! Many frames wait at once.
-ghost use Rattle.std.specs.Prelude.{◌≡◌, true};
-ghost use Rattle.host_tests.specs.Hosts.{AreCores, AreReady, IsApp, IsHost};
+ghost use Rattle.std.specs.Prelude.{◌≡◌};
+ghost use Rattle.host_tests.specs.Hosts.{AreCores, AreReady, IsHost};
 
 use crate::host::{deliver, end, settle, work_in_turn};
 use crate::hosts::{Client, Clients, Cores, Host};
-use crate::opening::{PEER, connect};
+use crate::opening::{PEER, accepted};
 use crate::packets::{frame_of, packet};
-use crate::starting::{listen_both, started};
-use crate::workers::accept;
+use crate::starting::started;
 use core_worker::Shared;
 use segment_fields::Flags;
 use slow_worker::SlowWorker;
@@ -18,27 +17,6 @@ use std::thread::Threads;
 
 /// How many frames come.
 const FRAMES: u32 = 20;
-
-/// The peer opens a connection, and application 0 accepts it. Whether it did.
-fn is_accepted<R: Threads + Wait + Sync>(
-    rt: &R,
-    alloc: Global,
-    shared: &Shared,
-    host: &mut Host,
-) -> bool
-    requires { IsHost shared.now host.old }
-    ensures ready { result ≡ true → AreReady shared.now host.new.slow host.new.cores }
-    ensures app { result ≡ true → IsApp shared.now 0 host.new.clients.first.app }
-{
-    if !listen_both(shared, &mut host.slow, &mut host.clients) {
-        return false;
-    }
-    if connect(rt, alloc, shared, &mut host.slow, &mut host.cores).is_none() {
-        return false;
-    }
-    let app = &mut host.clients.first.app;
-    accept(shared, &mut host.slow, app, 0, PEER.to).is_some()
-}
 
 /// The frames come to their core. Whether there was memory for them.
 fn are_delivered<R: Wait>(rt: &R, alloc: Global, shared: &Shared, cores: &mut Cores) -> bool
@@ -77,7 +55,7 @@ fn are_passed_on<R: Threads + Wait + Sync>(
 /// record.
 fn waiting<R: Threads + Wait + Sync>(rt: &R, alloc: Global) -> Option<usize> {
     let (shared, mut host) = started(rt, alloc)?;
-    if !is_accepted(rt, alloc, &shared, &mut host) {
+    if accepted(rt, alloc, &shared, &mut host).is_none() {
         end(rt, host);
         return None;
     }

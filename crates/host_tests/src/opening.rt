@@ -1,6 +1,7 @@
 //! A peer opens a connection, and its bytes come to the application that accepted it.
-ghost use Rattle.std.specs.Prelude.{◌≤◌, length};
-ghost use Rattle.host_tests.specs.Hosts.{AreCores, AreReady, IsHost};
+ghost use Rattle.std.specs.Prelude.{◌≤◌, length, IfSome};
+ghost use Rattle.libtas_sockets.specs.Apps.{IsSocket};
+ghost use Rattle.host_tests.specs.Hosts.{AreCores, AreReady, IsApp, IsHost};
 
 use crate::flows::{Act, Summary};
 use crate::host::{deliver, end, look, passed_by, settle, work_in_turn};
@@ -26,7 +27,7 @@ pub const PEER: Peer = Peer {
 };
 
 /// The first flow.
-const FLOW: FlowId = FlowId {
+pub const FLOW: FlowId = FlowId {
     slot: 0,
     generation: 1,
 };
@@ -78,7 +79,7 @@ fn is_open_after_turns<R: Threads + Wait + Sync>(
 }
 
 /// The peer's bytes come to their core, which has a turn. The core, and the flow's history then.
-fn receive<R: Threads + Wait + Sync>(
+pub fn receive<R: Threads + Wait + Sync>(
     rt: &R,
     alloc: Global,
     shared: &Shared,
@@ -165,6 +166,26 @@ fn greet_application<R: Threads + Wait + Sync>(
         hello,
         notes: [first, then],
     })
+}
+
+/// The peer opens a connection, and application 0 accepts it: its socket.
+pub fn accepted<R: Threads + Wait + Sync>(
+    rt: &R,
+    alloc: Global,
+    shared: &Shared,
+    host: &mut Host,
+) -> Option<Socket>
+    requires { IsHost shared.now host.old }
+    ensures ready { IfSome result (λ _. AreReady shared.now host.new.slow host.new.cores) }
+    ensures app { IfSome result (λ _. IsApp shared.now 0 host.new.clients.first.app) }
+    ensures socket { IfSome result (IsSocket host.new.clients.first.app) }
+{
+    if !listen_both(shared, &mut host.slow, &mut host.clients) {
+        return None;
+    }
+    connect(rt, alloc, shared, &mut host.slow, &mut host.cores)?;
+    let app = &mut host.clients.first.app;
+    accept(shared, &mut host.slow, app, 0, PEER.to)
 }
 
 /// All that was seen.

@@ -141,7 +141,8 @@ pub fn call(shared: &Shared, app: &mut App, number: u32, s: Socket, tick: u32, w
 /// The next note of an application.
 pub fn next_note<R: Wait>(rt: &R, shared: &Shared, app: &mut App, number: u32) -> Option<Note>
     requires { IsApp shared.now number app.old }
-    ensures { IsApp shared.now number app.new }
+    ensures app { IsApp shared.now number app.new }
+    ensures sockets { KeepsSockets app.old app.new }
 {
     app.events(rt, shared.queue(number)?)
 }

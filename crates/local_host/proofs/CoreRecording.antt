@@ -12,7 +12,7 @@ use Rattle.host_rounds.specs.Rounds.{on_host}
 use Rattle.host_rounds.specs.Deliveries.{Packet, Damaged, Segment, Arrival, Taking, received, arrived, delivered}
 use Rattle.host_rounds.specs.Deliveries.{delivered_packet}
 use Rattle.host_rounds.specs.SerialOrder.{slow_phase, emit_phase}
-use Rattle.core_rounds.specs.CoreTicks.{IsCoresPhase, IsCoresTick, rest_phase}
+use Rattle.core_rounds.specs.CoreTicks.{IsCoresTick, rest_phase}
 use Rattle.tas_model.specs.declared.entry.FrameId.{FrameId}
 use Rattle.tas_runs.specs.Records.{Item}
 use Rattle.tas_runs.specs.LocalScript.{Shown, capture_scripts, arrival_of, arrivals_in, due_in}
@@ -20,6 +20,7 @@ use Rattle.capture_items.specs.declared.item.Item as code
 use Rattle.capture_items.specs.Items.{item_in}
 use Rattle.local_host.specs.declared.arrival.Arrival as arrivals
 use Rattle.local_host.specs.Arriving.{arrival_in}
+use Rattle.local_host.proofs.OfCores.{PhaseOf}
 use Rattle.local_host.proofs.Recording.{asks, AreAlike}
 
 -- ----- the frames of a batch
@@ -74,18 +75,23 @@ rests_less items t site after end xs i d below made left =
     ∙ left)
 
 -- ----- a tick
-pub played_on_cores : (items : List Item) (t : ℕ) (batch : List Item) (site : Site (List Shown)) (slow : Host)
+pub played_on_cores : (items : List Item) (cores t : ℕ) (batch : List Item) (site : Site (List Shown)) (slow : Host)
     (frames rest : List Arrival) (middle : Host) (framed asked : Site (List Shown)) (last : Host)
-    → slow ≡ slow_phase t site.host → frames ≡ arrivals_in batch → IsCoresPhase t slow frames rest middle
+    → slow ≡ slow_phase t site.host → frames ≡ arrivals_in batch → PhaseOf cores t slow frames rest middle
     → framed ≡ rests items t (record site { host = middle }) rest → asked ≡ asks items t framed batch
-    → last ≡ emit_phase t asked.host
-    → IsCoresTick (capture_scripts items) t (due_in batch) site (record asked { host = last })
-played_on_cores items t batch site slow frames rest middle framed asked last first came phase second third fourth =
+    → last ≡ emit_phase t asked.host → 0 < cores
+    → IsCoresTick (capture_scripts items) cores t (due_in batch) site (record asked { host = last })
+played_on_cores items cores t batch site slow frames rest middle framed asked last first came took second third fourth
+    some =
+    let here : PhaseOf cores t (slow_phase t site.host) (arrivals_in batch) rest middle =
+    subst (λ (h : Host). PhaseOf cores t h (arrivals_in batch) rest middle) first
+    (subst (λ (xs : List Arrival). PhaseOf cores t slow xs rest middle) came took) in
     record {
+      some = some;
       rest = rest;
       middle = middle;
-      phase = subst (λ (h : Host). IsCoresPhase t h (arrivals_in batch) rest middle) first
-          (subst (λ (xs : List Arrival). IsCoresPhase t slow xs rest middle) came phase);
+      phase = here.0;
+      below = here.1;
       tried = [];
       later = (due_in batch).asks;
       asked = λ n. refl;

@@ -31,3 +31,4 @@ pub mod Given
 pub mod Searching
 pub mod FastSegments
 pub mod Acting
+pub mod OfCores

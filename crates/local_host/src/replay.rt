@@ -128,7 +128,7 @@ impl LocalReplay {
         gate: &G,
     ) -> Result<(), AllocError>
         ensures tick { (items : List model.Item) → AreNumbersOf items numbers.now
-            → OnOk result (IsCoresTick (capture_scripts items) tick (due_in (map item_in batch.now))
+            → OnOk result (IsCoresTick (capture_scripts items) cores.old.count tick (due_in (map item_in batch.now))
             self.old self.new) }
         ensures cores { cores.new ≡ cores.old }
     {

@@ -1,5 +1,5 @@
 -- A tick of a host and its scripts on cores, from what its phases leave.
-use Rattle.std.proofs.Common.{◌≡◌, ℕ, List, [], ◌∷◌, fold, Option, refl, sym, subst, ap, ◌∙◌}
+use Rattle.std.proofs.Common.{◌≡◌, ℕ, ◌<◌, All, List, [], ◌∷◌, fold, Option, refl, sym, subst, ap, ◌∙◌}
 use Rattle.tas_model.specs.declared.entry.HostParams.{HostParams}
 use Rattle.tas_model.specs.declared.entry.Caller.TheVariants.{Slow, Core}
 use Rattle.host_rounds.specs.Hosts.{Host, Numbers}
@@ -10,6 +10,7 @@ use Rattle.host_rounds.specs.SerialOrder.{slow_phase, ask_phase, emit_phase}
 use Rattle.core_rounds.specs.CoreTicks.{Taken, taken_by_cores, IsCoresPhase, rest_phase, IsCoresTick}
 use Rattle.local_host.specs.declared.attempts.Attempt.{Attempt}
 use Rattle.local_host.specs.SideWork.{IsSidePhase}
+use Rattle.local_host.proofs.OfCores.{PhaseOf, phase_of}
 use Rattle.scenario_text.specs.declared.scenario.Scenario.{Scenario}
 use Rattle.scenario_runs.specs.Applications.{Script}
 use Rattle.scenario_runs.specs.Worlds.{scripts_of, numbers_of, address_in}
@@ -39,10 +40,11 @@ lasts_phase t frames rest before after phase =
 
 -- ----- the cores, and beside them applications
 -- Cores took frames, and then those whose attempts were made had their turns.
-pub record SideBySide (s : Scenario) (params : HostParams) (t : ℕ) (before : Host) (frames rest : List Arrival)
-    (attempts : List (Option Attempt)) (after : Host) (scripts now : List Script) : Type 0 where
+pub record SideBySide (s : Scenario) (params : HostParams) (count t : ℕ) (before : Host)
+    (frames rest : List Arrival) (attempts : List (Option Attempt)) (after : Host) (scripts now : List Script)
+    : Type 0 where
   pub middle : Host
-  pub phase : IsCoresPhase t before frames rest middle
+  pub phase : PhaseOf count t before frames rest middle
   pub leads : Leads (numbers_of params) (address_in s.hosts) t [] (site_with middle scripts)
       (asked_all (numbers_of params) (address_in s.hosts) t (site_with middle scripts)
       (tried_in attempts (numbers_in scripts))) after now
@@ -52,36 +54,38 @@ slow_sound : (t : ℕ) (start timed : Host) (scripts : List Script) → timed �
 slow_sound t start timed scripts slow sound =
     sound_later start timed scripts (lasts_made start timed (slow_phase t start) slow (lasts_slow t start)) sound
 
-side_by_side : (s : Scenario) (params : HostParams) (t : ℕ) (start timed after : Host) (cores : List ℕ)
+side_by_side : (s : Scenario) (params : HostParams) (count t : ℕ) (start timed after : Host) (cores : List ℕ)
     (frames rest : List Arrival) (given attempts : List (Option Attempt)) (scripts : List Script)
-    → timed ≡ slow_phase t start → IsSidePhase t timed cores frames rest given attempts after
+    → timed ≡ slow_phase t start → All (λ (core : ℕ). core < count) cores
+    → IsSidePhase t timed cores frames rest given attempts after
     → AreAttemptsOf t scripts given → IsSound (site_with start scripts)
-    → SideBySide s params t timed frames rest attempts after scripts (answered_all attempts scripts)
-side_by_side s params t start timed after cores frames rest given attempts scripts slow side are sound = record {
-  middle = side.middle;
-  phase = side.phase.phase;
-  leads = subst (λ (h : Host). Leads numbers address t [] first end h (answered_all attempts scripts)) side.others
-      (leads_by_tries numbers address t attempts scripts 0 first end side.middle scripts after.flows refl
-      (subst (AreAttemptsOf t scripts) (sym side.same) are) side.made
-      (leads_start numbers address t (tried_in attempts (numbers_in scripts)) first middle_sound.numbers
-      middle_sound.scripts));
-} where
-  numbers : Numbers
-  numbers = numbers_of params
+    → SideBySide s params count t timed frames rest attempts after scripts (answered_all attempts scripts)
+side_by_side s params count t start timed after cores frames rest given attempts scripts slow low side are
+    sound = record {
+      middle = side.middle;
+      phase = phase_of count t timed cores frames rest side.middle low side.phase;
+      leads = subst (λ (h : Host). Leads numbers address t [] first end h (answered_all attempts scripts)) side.others
+          (leads_by_tries numbers address t attempts scripts 0 first end side.middle scripts after.flows refl
+          (subst (AreAttemptsOf t scripts) (sym side.same) are) side.made
+          (leads_start numbers address t (tried_in attempts (numbers_in scripts)) first middle_sound.numbers
+          middle_sound.scripts));
+    } where
+      numbers : Numbers
+      numbers = numbers_of params
 
-  address : List ℕ → ℕ
-  address = address_in s.hosts
+      address : List ℕ → ℕ
+      address = address_in s.hosts
 
-  first : Site (List Script)
-  first = site_with side.middle scripts
+      first : Site (List Script)
+      first = site_with side.middle scripts
 
-  end : Site (List Script)
-  end = asked_all numbers address t first (tried_in attempts (numbers_in scripts))
+      end : Site (List Script)
+      end = asked_all numbers address t first (tried_in attempts (numbers_in scripts))
 
-  middle_sound : IsSound first
-  middle_sound =
-      sound_later timed side.middle scripts (lasts_phase t frames rest timed side.middle side.phase.phase)
-      (slow_sound t start timed scripts slow sound)
+      middle_sound : IsSound first
+      middle_sound =
+          sound_later timed side.middle scripts (lasts_phase t frames rest timed side.middle side.phase.phase)
+          (slow_sound t start timed scripts slow sound)
 
 -- the scripts of these attempts can go on
 pub side_within : (t : ℕ) (before after : Host) (cores : List ℕ) (frames rest : List Arrival)
@@ -95,32 +99,32 @@ side_within t before after cores frames rest given attempts scripts side are =
 -- ----- and the frames that cores left
 -- From the start of a tick to where scripts ask the rest: the slow path, the cores and applications beside them, and
 -- the slow path again.
-pub record Before (s : Scenario) (params : HostParams) (t : ℕ) (frames rest : List Arrival)
+pub record Before (s : Scenario) (params : HostParams) (count t : ℕ) (frames rest : List Arrival)
     (attempts : List (Option Attempt)) (start met : Host) (scripts now : List Script) : Type 0 where
   pub timed : Host
   pub after : Host
   pub slow : timed ≡ slow_phase t start
-  pub side : SideBySide s params t timed frames rest attempts after scripts now
+  pub side : SideBySide s params count t timed frames rest attempts after scripts now
   pub came : met ≡ fold (delivered (received Slow) (numbers_of params) t) after rest
   pub sound : IsSound (site_with start scripts)
 
 -- what was read through slices among it
-pub before_rest : (s : Scenario) (params : HostParams) (t : ℕ) (start timed after met : Host) (cores : List ℕ)
+pub before_rest : (s : Scenario) (params : HostParams) (count t : ℕ) (start timed after met : Host) (cores : List ℕ)
     (frames : List Arrival) (left rest : List Arrival) (given shown attempts : List (Option Attempt))
     (listed scripts now : List Script)
     → timed ≡ slow_phase t start → listed ≡ scripts → AreAttemptsOf t listed given
-    → IsSidePhase t timed cores frames rest given attempts after
+    → All (λ (core : ℕ). core < count) cores → IsSidePhase t timed cores frames rest given attempts after
     → shown ≡ attempts → now ≡ answered_all shown scripts
     → left ≡ rest → met ≡ fold (delivered (received Slow) (numbers_of params) t) after left
-    → IsSound (site_with start scripts) → Before s params t frames rest attempts start met scripts now
-before_rest s params t start timed after met cores frames left rest given shown attempts listed scripts now slow same
-    are side told goes left_are came sound = record {
+    → IsSound (site_with start scripts) → Before s params count t frames rest attempts start met scripts now
+before_rest s params count t start timed after met cores frames left rest given shown attempts listed scripts now slow
+    same are low side told goes left_are came sound = record {
       timed = timed;
       after = after;
       slow = slow;
-      side = subst (SideBySide s params t timed frames rest attempts after scripts)
+      side = subst (SideBySide s params count t timed frames rest attempts after scripts)
           (sym (goes ∙ ap (λ (xs : List (Option Attempt)). answered_all xs scripts) told))
-          (side_by_side s params t start timed after cores frames rest given attempts scripts slow side
+          (side_by_side s params count t start timed after cores frames rest given attempts scripts slow low side
           (subst (λ (ss : List Script). AreAttemptsOf t ss given) same are) sound);
       came = came
           ∙ ap (λ (xs : List Arrival). fold (delivered (received Slow) (numbers_of params) t) after xs) left_are;
@@ -133,40 +137,45 @@ lasts_rest params t rest after met came =
     lasts_made after met (fold (delivered (received Slow) (numbers_of params) t) after rest) came
     (lasts_frames (received Slow) (numbers_of params) t rest after)
 
-pub lasts_before : (s : Scenario) (params : HostParams) (t : ℕ) (frames rest : List Arrival)
+pub lasts_before : (s : Scenario) (params : HostParams) (count t : ℕ) (frames rest : List Arrival)
     (attempts : List (Option Attempt)) (start met : Host) (scripts now : List Script)
-    → Before s params t frames rest attempts start met scripts now → Lasts start met
-lasts_before s params t frames rest attempts start met scripts now b =
+    → Before s params count t frames rest attempts start met scripts now → Lasts start met
+lasts_before s params count t frames rest attempts start met scripts now b =
     lasts_both start b.timed met (lasts_made start b.timed (slow_phase t start) b.slow (lasts_slow t start))
-    (lasts_both b.timed b.side.middle met (lasts_phase t frames rest b.timed b.side.middle b.side.phase)
+    (lasts_both b.timed b.side.middle met (lasts_phase t frames rest b.timed b.side.middle b.side.phase.0)
     (lasts_both b.side.middle b.after met b.side.leads.lasts (lasts_rest params t rest b.after met b.came)))
 
-pub sound_before : (s : Scenario) (params : HostParams) (t : ℕ) (frames rest : List Arrival)
+pub sound_before : (s : Scenario) (params : HostParams) (count t : ℕ) (frames rest : List Arrival)
     (attempts : List (Option Attempt)) (start met : Host) (scripts now : List Script)
-    → Before s params t frames rest attempts start met scripts now → IsSound (site_with met now)
-sound_before s params t frames rest attempts start met scripts now b =
-    let lasts : Lasts start met = lasts_before s params t frames rest attempts start met scripts now b in
+    → Before s params count t frames rest attempts start met scripts now → IsSound (site_with met now)
+sound_before s params count t frames rest attempts start met scripts now b =
+    let lasts : Lasts start met = lasts_before s params count t frames rest attempts start met scripts now b in
     record {
       listens = ap (λ (p : HostParams). p.fixed) lasts.params ∙ b.sound.listens;
       numbers = b.side.leads.rising;
       scripts = fits_later b.after met now (lasts_rest params t rest b.after met b.came) b.side.leads.fit;
     }
 
-pub played_on_cores : (s : Scenario) (params : HostParams) (t : ℕ) (frames rest : List Arrival)
+pub played_on_cores : (s : Scenario) (params : HostParams) (count t : ℕ) (frames rest : List Arrival)
     (attempts shown : List (Option Attempt)) (start met asked sent : Host) (before now last : List Script)
-    → Before s params t frames rest attempts start met before now
+    → Before s params count t frames rest attempts start met before now
     → shown ≡ attempts
     → site_with asked last ≡ ask_phase (scripts_of s params) t (site_with met now) (later_in shown (numbers_in now))
-    → sent ≡ emit_phase t asked
-    → IsCoresTick (scripts_of s params) t (record { frames = frames; asks = numbers_in before })
+    → sent ≡ emit_phase t asked → 0 < count
+    → IsCoresTick (scripts_of s params) count t (record { frames = frames; asks = numbers_in before })
     (site_with start before) (site_with sent last)
-played_on_cores s params t frames rest attempts shown start met asked sent before now last b told turns goes =
+played_on_cores s params count t frames rest attempts shown start met asked sent before now last b told turns goes
+    some =
+    let here : PhaseOf count t (slow_phase t start) frames rest b.side.middle =
+    subst (λ (h : Host). PhaseOf count t h frames rest b.side.middle) b.slow b.side.phase in
     let later : List ℕ = later_in attempts (numbers_in before) in
     let ask : Site (List Script) → List ℕ → Site (List Script) = λ site ns. ask_phase (scripts_of s params) t site ns in
     record {
+      some = some;
       rest = rest;
       middle = b.side.middle;
-      phase = subst (λ (h : Host). IsCoresPhase t h frames rest b.side.middle) b.slow b.side.phase;
+      phase = here.0;
+      below = here.1;
       tried = tried_in attempts (numbers_in before);
       later = later;
       asked = each_once attempts before b.sound.numbers;

@@ -117,7 +117,7 @@ impl<'a> ScenarioHost<'a> {
         cores: &mut Cores,
         gate: &G,
     ) -> Result<(), AllocError>
-        ensures tick { OnOk result (IsCoresTick (scripts_of s.now self.old.host.params) tick
+        ensures tick { OnOk result (IsCoresTick (scripts_of s.now self.old.host.params) cores.old.count tick
             (record { frames = map arrival_in arrivals.now; asks = map (λ (x : Script). x.number) self.old.scripts })
             self.old self.new) }
         ensures cores { cores.new ≡ cores.old }

@@ -45,7 +45,7 @@ pub(crate) fn play_tick_on_cores<R: Threads + Wait + Sync, G: Gate + Sync>(
 ) -> Result<(), AllocError>
     requires params { numbers.now.params ≡ host.old.params }
     requires sound { IsSound (site_with host.old scripts.old.items) }
-    ensures made { OnOk result (IsCoresTick (scripts_of s.now numbers.now.params) tick
+    ensures made { OnOk result (IsCoresTick (scripts_of s.now numbers.now.params) cores.old.count tick
         (record { frames = map arrival_in arrivals.now; asks = map (λ (x : Script). x.number) scripts.old.items })
         (site_with host.old scripts.old.items) (site_with host.new scripts.new.items)) }
     ensures params { OnOk result (host.new.params ≡ host.old.params) }
@@ -112,9 +112,9 @@ fn work_on_cores<'a, R: Threads + Wait + Sync, G: Gate + Sync>(
 ) -> Result<SideWork<'a>, AllocError>
     requires fresh { AreAnswered attempts.items attempts.items }
     requires tries { All CanTryIt attempts.items }
-    ensures made { IfOk result (λ side. (steered : List ℕ) × IsSidePhase tick host.old steered
-        (map arrival_in arrivals.now) (map arrival_in side.rest.items) attempts.entry.items side.attempts.items
-        host.new) }
+    ensures made { IfOk result (λ side. (steered : List ℕ) × All (λ core. core < cores.old.count) steered
+        × IsSidePhase tick host.old steered (map arrival_in arrivals.now) (map arrival_in side.rest.items)
+        attempts.entry.items side.attempts.items host.new) }
     ensures cores { cores.new ≡ cores.old }
 {
     let name = name_of(s.hosts.as_slice(), cores.host());

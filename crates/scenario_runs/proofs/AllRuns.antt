@@ -24,7 +24,7 @@ use Rattle.scenario_runs.specs.Histories.{AreInRange, AreSound}
 use Rattle.scenario_runs.proofs.ByMoves.{scenarios_by_moves}
 
 -- ----- the serial run
-abbrev AreLegal : World → Type 0
+abbrev pub AreLegal : World → Type 0
 AreLegal world = Each (λ (site : Site (List Script)). Each HasHistory site.host.flows) world
 
 serial_rounds : (s : Scenario) (whole : World) (t h : ℕ) (world : World) → AreLegal world
@@ -36,11 +36,11 @@ serial_rounds s whole t h (site ∷ sites) legal = (
   serial_rounds s whole t (h + 1) sites legal.1,
 )
 
-serial_is_tick : (s : Scenario) (t : ℕ) (world : World) → AreLegal world → IsTick s t world (serial_world s t world)
+pub serial_is_tick : (s : Scenario) (t : ℕ) (world : World) → AreLegal world → IsTick s t world (serial_world s t world)
 unfolding serial_world
 serial_is_tick s t world legal = serial_rounds s world t 0 world legal
 
-rounds_legal : (s : Scenario) (whole : World) (t h : ℕ) (before after : World) → AreRounds s whole t h before after
+pub rounds_legal : (s : Scenario) (whole : World) (t h : ℕ) (before after : World) → AreRounds s whole t h before after
     → AreLegal before → AreLegal after
 rounds_legal s whole t h [] [] rounds legal = tt
 rounds_legal s whole t h [] (a ∷ az) rounds legal = absurd rounds
@@ -87,7 +87,7 @@ serial_runs s (suc most) t world legal =
     by_rest next true h tick rest = (next, tick, λ g. refl, λ g. absurd (true≢false (sym h ∙ g)))
     by_rest next false h tick rest = (next, tick, λ g. absurd (true≢false (sym g ∙ h)), λ g. rest)
 
-start_legal : (s : Scenario) (hosts : List HostLine) → AreLegal (map (site_of s) hosts)
+pub start_legal : (s : Scenario) (hosts : List HostLine) → AreLegal (map (site_of s) hosts)
 start_legal s [] = tt
 start_legal s (h ∷ hs) = (tt, start_legal s hs)
 

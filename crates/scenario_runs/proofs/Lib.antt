@@ -1,3 +1,4 @@
 pub mod ByMoves
 pub mod AllRuns
 pub mod WorkedRuns
+pub mod AllBelow

@@ -1,6 +1,7 @@
 ghost use Rattle.tas_model.specs.declared.entry.HostParams.{HostParams};
 ghost use Rattle.host_rounds.specs.Logs.{RunLog};
 ghost use Rattle.host_rounds.specs.Moves.{AreByMoves};
+ghost use Rattle.host_rounds.specs.Cores.{CoresBelow};
 ghost use Rattle.scenario_text.specs.declared.scenario.Scenario.{Scenario};
 ghost use Rattle.scenario_runs.specs.Worlds.{scripts_of};
 ghost use Rattle.scenario_runs.specs.Runs.{Run, serial_run};
@@ -15,6 +16,11 @@ pub fn scenarios_ask_by_moves()
 /// The run in serial order is a run of its scenario.
 pub fn serial_order_is_right()
     ensures { (s : Scenario) → Run s (serial_run s) }
+{}
+
+/// The run in serial order has one core a host, which is core 0: no other makes an entry.
+pub fn serial_order_has_one_core()
+    ensures { (s : Scenario) → CoresBelow 1 (serial_run s).hosts }
 {}
 
 /// In every run of a scenario, whatever the order of its ticks, each flow is sound: it has a history of the

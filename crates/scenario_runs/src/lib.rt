@@ -5,5 +5,7 @@
 mod laws;
 mod worked;
 
-pub use laws::{flows_are_sound, scenarios_ask_by_moves, serial_order_is_right};
+pub use laws::{
+    flows_are_sound, scenarios_ask_by_moves, serial_order_has_one_core, serial_order_is_right,
+};
 pub use worked::worked_runs;

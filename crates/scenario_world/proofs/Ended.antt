@@ -1,8 +1,10 @@
 -- What the hosts of a world leave.
 use Rattle.std.proofs.Common.{◌≡◌, ℕ, List, [], ◌∷◌, ◌++◌, length, refl, sym, ap, ◌∙◌, subst, suc}
+use Rattle.std.proofs.Common.{Result, Ok, Err, IfOk}
 use Rattle.host_rounds.specs.Logs.{HostRun, Flow}
 use Rattle.host_rounds.specs.Hosts.{run_of, flows_of}
 use Rattle.host_rounds.specs.Lists.{Each}
+use Rattle.host_rounds.specs.Cores.{CoresBelow}
 use Rattle.host_rounds.specs.Scripts.{Site}
 use Rattle.host_rounds.specs.declared.log.LogLine.{LogLine}
 use Rattle.tas_model.specs.declared.entry.HostParams.{HostParams}
@@ -11,6 +13,9 @@ use Rattle.scenario_text.specs.declared.scenario.HostLine.{HostLine}
 use Rattle.scenario_runs.specs.Applications.{Script}
 use Rattle.scenario_runs.specs.Worlds.{World}
 use Rattle.scenario_runs.specs.Runs.{hosts_of}
+use Rattle.scenario_runs.specs.Histories.{AreBelow}
+use Rattle.scenario_runs.proofs.AllBelow.{hosts_low}
+use Rattle.scenario_world.specs.declared.world.WorldEnd.{WorldEnd}
 use Rattle.scenario_world.specs.Ends.{IsEnd, AreEnds, host_run, host_runs}
 use Rattle.scenario_world.specs.Playing.{params_of, line_params}
 
@@ -64,3 +69,11 @@ ends_shown (h ∷ hs) (s ∷ ss) (e ∷ es) params all =
     ∙ (ap (λ ls. run_by h.name h.params ls (flows_of s.host.flows)) (sym one.log)
     ∙ ap (λ fs. run_by h.name h.params e.log fs) (sym one.flows)) in
     ap (λ r. r ∷ hosts_of hs ss) here ∙ ap (λ rs. host_run h e ∷ rs) (ends_shown hs ss es rest all.1)
+
+-- and it is by so many cores, where the world is
+pub ends_low : {Y : Type 0} (cores : ℕ) (lines : List HostLine) (sites : World) (r : Result WorldEnd Y)
+    → params_of sites ≡ line_params lines → AreBelow cores sites → IfOk r (λ end. AreEnds sites end.hosts.items)
+    → IfOk r (λ end. CoresBelow cores (host_runs lines end.hosts.items))
+ends_low cores lines sites (Ok end) params low ends =
+    subst (CoresBelow cores) (ends_shown lines sites end.hosts.items params ends) (hosts_low cores lines sites low)
+ends_low cores lines sites (Err e) params low ends = tt

@@ -11,11 +11,15 @@ use Rattle.scenario_text.specs.declared.scenario.Scenario.{Scenario}
 use Rattle.scenario_runs.specs.Applications.{Script}
 use Rattle.scenario_runs.specs.Worlds.{World, scripts_of, sent_in, due_at}
 use Rattle.scenario_runs.specs.Runs.{AreRounds}
+use Rattle.scenario_runs.specs.Histories.{AreBelow}
 use Rattle.host_rounds.specs.Rounds.{Round}
+use Rattle.host_rounds.specs.Cores.{AllBelow}
+use Rattle.local_host.specs.Steered.{Steered}
 use Rattle.scenario_world.specs.declared.seats.Seat.{Seat}
 use Rattle.scenario_world.specs.Playing.{AreEarly, AreNumbered}
-use Rattle.scenario_world.specs.Seats.{HasPlayed, hosts_in, cores_in}
+use Rattle.scenario_world.specs.Seats.{HasPlayed, HaveCores, hosts_in, cores_in}
 use Rattle.scenario_world.proofs.CoresPlayed.{numbered_more}
+use Rattle.scenario_world.proofs.Ended.{each_more}
 
 -- ----- a seat more
 pub each_there : {X : Type 0} (P : X → Type 0) (xs : List X) (i : ℕ) (x : X) → Each P xs → slice_get xs i ≡ Some x → P x
@@ -33,6 +37,12 @@ pub seats_more : (seats after : List Seat) (seat : Seat) (i : ℕ) → length se
     → seat.cores.host ≡ i → after ≡ seats ++ seat ∷ [] → AreNumbered 0 (cores_in after)
 seats_more seats after seat i len numbered is more =
     numbered_more (cores_in seats) (cores_in after) seat.cores numbered (is ∙ sym (cores_len seats ∙ len))
+    (ap cores_in more ∙ map-append (λ (x : Seat). x.cores) seats (seat ∷ []))
+
+pub count_more : (count : ℕ) (seats after : List Seat) (seat : Seat) → HaveCores count seats
+    → seat.cores.count ≡ count → after ≡ seats ++ seat ∷ [] → HaveCores count after
+count_more count seats after seat counted is more =
+    each_more (λ (c : Steered). c.count ≡ count) (cores_in seats) (cores_in after) seat.cores counted is
     (ap cores_in more ∙ map-append (λ (x : Seat). x.cores) seats (seat ∷ []))
 
 -- ----- two lists that change places
@@ -99,6 +109,22 @@ seats_played s whole t n came (b ∷ bs) (a ∷ az) len played done numbered sam
       seats_played s whole t (n + 1) came bs az (omega (arith, len))
           (λ i d low. played (suc i) d (omega (arith, low))) (λ i d low. done (suc i) d (omega (arith, low)))
           numbered.1 same early.1,
+    )
+
+-- and each on its cores alone
+pub seats_low : (s : Scenario) (t count : ℕ) (came : List Sent) (bs az : List Seat) → length az ≡ length bs
+    → HaveAllPlayed s t came bs az → NoneFailed az → HaveCores count bs → AreEarly t (hosts_in bs)
+    → AreBelow count (hosts_in bs) → AreBelow count (hosts_in az)
+seats_low s t count came [] [] len played done counted early low = tt
+seats_low s t count came [] (a ∷ az) len played done counted early low = absurd (omega (arith, len))
+seats_low s t count came (b ∷ bs) [] len played done counted early low = absurd (omega (arith, len))
+seats_low s t count came (b ∷ bs) (a ∷ az) len played done counted early low =
+    let here : HasPlayed s t came b a = played 0 b (omega arith) (done 0 b (omega arith)) in (
+      subst (λ n. AllBelow n a.host.host) counted.0
+          (here.below (early.0).histories (subst (λ n. AllBelow n b.host.host) (sym counted.0) low.0)),
+      seats_low s t count came bs az (omega (arith, len))
+          (λ i d low. played (suc i) d (omega (arith, low))) (λ i d low. done (suc i) d (omega (arith, low)))
+          counted.1 early.1 low.1,
     )
 
 pub cores_same : (s : Scenario) (t : ℕ) (came : List Sent) (bs az : List Seat) → length az ≡ length bs

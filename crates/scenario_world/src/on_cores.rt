@@ -2,15 +2,17 @@ ghost use Rattle.std.specs.Prelude.{◌≡◌, ℕ, ◌+◌, ◌<◌, ◌≤◌,
 ghost use Rattle.host_rounds.specs.Lists.{Each};
 ghost use Rattle.host_rounds.specs.Histories.{HasHistory};
 ghost use Rattle.host_rounds.specs.Rounds.{Round};
+ghost use Rattle.host_rounds.specs.Cores.{AllBelow, CoresBelow};
 ghost use Rattle.link_script.specs.DueFrames as frames;
 ghost use Rattle.scenario_ranges.specs.Ranges.{IsInRange};
 ghost use Rattle.scenario_runs.specs.Worlds.{World, scripts_of, due_at, sent_in};
 ghost use Rattle.scenario_runs.specs.Runs.{AreRounds, IsTick, Run};
+ghost use Rattle.scenario_runs.specs.Histories.{AreBelow};
 ghost use Rattle.local_host.specs.declared.host.HostEnd.{HostEnd};
 ghost use Rattle.local_host.specs.Live.{IsLegal};
 ghost use Rattle.scenario_world.specs.Ends.{log_of};
 ghost use Rattle.scenario_world.specs.Playing.{IsWorld, AreEarly};
-ghost use Rattle.scenario_world.specs.Seats.{AreSeatsOf, HasPlayed, cores_in};
+ghost use Rattle.scenario_world.specs.Seats.{AreSeatsOf, HasPlayed, HaveCores, cores_in};
 ghost use denote.Param.Send.{IsSync};
 
 use crate::arriving::arrivals_at;
@@ -44,6 +46,7 @@ pub fn play_scenario_on_cores<R: Threads + Wait + Sync, G: Gate + Sync>(
     requires ranges { IsInRange s.now }
     requires cores { (0 < cores) × (cores ≤ 16) }
     ensures run { IfOk result (λ end. Run s.now (log_of s.now end)) }
+    ensures below { IfOk result (λ end. CoresBelow cores (log_of s.now end).hosts) }
     ensures hosts { IfOk result (λ end. length end.hosts.items ≡ length s.now.hosts) }
     ensures legal { IfOk result (λ end. Each (λ (e : HostEnd). Each IsLegal e.flows.items) end.hosts.items) }
 {
@@ -73,6 +76,8 @@ pub fn play_tick_on_cores<'a, R: Threads + Wait + Sync, G: Gate + Sync>(
     requires world { IsWorld s.now tick p.old }
     requires seats { AreSeatsOf (length s.now.hosts) seats.old }
     ensures tick { OnOk result (IsTick s.now tick p.old.hosts.items p.new.hosts.items) }
+    ensures below { (cores : ℕ) → HaveCores cores seats.old → AreBelow cores p.old.hosts.items
+        → OnOk result (AreBelow cores p.new.hosts.items) }
     ensures world { OnOk result (IsWorld s.now (tick + 1) p.new) }
     ensures seats { OnOk result (cores_in seats.new ≡ cores_in seats.old) }
 {
@@ -97,6 +102,8 @@ fn play_hosts_on_cores<'a, R: Threads + Wait + Sync, G: Gate + Sync>(
     requires seats { AreSeatsOf (length hosts.old) seats.old }
     ensures rounds { (whole : World) → due.now ≡ frames.due s.now.link (sent_in whole) tick → AreEarly tick hosts.old
         → OnOk result (AreRounds s.now whole tick 0 hosts.old hosts.new) }
+    ensures below { (cores : ℕ) → HaveCores cores seats.old → AreEarly tick hosts.old → AreBelow cores hosts.old
+        → OnOk result (AreBelow cores hosts.new) }
     ensures seats { OnOk result (cores_in seats.new ≡ cores_in seats.old) }
 {
     change_places(hosts, seats);
@@ -180,6 +187,8 @@ fn play_host_on_cores<R: Threads + Wait + Sync, G: Gate + Sync>(
         → Each HasHistory host.old.host.flows
         → OnOk result (Round (scripts_of s.now host.old.host.params) tick
         (due_at s.now whole tick cores.old.host host.old.scripts) host.old host.new) }
+    ensures below { Each HasHistory host.old.host.flows → AllBelow cores.old.count host.old.host
+        → OnOk result (AllBelow cores.old.count host.new.host) }
     ensures cores { cores.new ≡ cores.old }
 {
     let arrivals = arrivals_at(alloc, &*due, cores.host() as usize)?;

@@ -1,6 +1,6 @@
 ghost use Rattle.std.specs.Prelude.{◌≡◌, ◌≤◌, ◌<◌, All, false, length, IfOk, OnOk};
 ghost use Rattle.scenario_ranges.specs.Ranges.{IsInRange};
-ghost use Rattle.scenario_world.specs.Seats.{AreSeatsOf, hosts_in, cores_in};
+ghost use Rattle.scenario_world.specs.Seats.{AreSeatsOf, HaveCores, hosts_in, cores_in};
 
 use local_host::Cores;
 use scenario_host::ScenarioHost;
@@ -22,7 +22,8 @@ pub struct Seat<'a> {
 pub fn seats_of<'a>(alloc: Global, s: &'a Scenario, count: u32) -> Result<Vec<Seat<'a>>, AllocError>
     requires ranges { IsInRange s.now }
     requires count { (0 < count) × (count ≤ 16) }
-    ensures { IfOk result (λ seats. AreSeatsOf (length s.now.hosts) seats.items) }
+    ensures seats { IfOk result (λ seats. AreSeatsOf (length s.now.hosts) seats.items) }
+    ensures count { IfOk result (λ seats. HaveCores count seats.items) }
 {
     let mut seats = Vec::new(alloc);
     for number in 0..s.hosts.len() {

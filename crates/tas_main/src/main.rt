@@ -1,22 +1,15 @@
-//! The program: its words, its streams, and the one call that runs it.
+//! The program: its words, its streams, and the call that runs it.
 #![tactic(auto)]
 
-mod asking;
-mod input;
-mod runs;
-mod stop;
 mod streams;
-mod telling;
-mod top;
 
+use program_words::names_cores;
 use std::alloc::{AllocError, Global};
 use std::env;
 use std::process::ExitCode;
-use stop::Stop;
 use streams::{StderrSink, StdinSource, StdoutSink};
 use tas_num::NoGate;
-use telling::tell;
-use top::tas;
+use tas_top::{Stop, tas, tas_serial, tell};
 
 fn main(rt: HostRuntime) -> ExitCode {
     let alloc = rt.alloc();
@@ -27,15 +20,20 @@ fn main(rt: HostRuntime) -> ExitCode {
     };
     let mut source = StdinSource::new(rt.stdin());
     let mut sink = StdoutSink::new(rt.stdout());
-    ExitCode::from(tas(
-        &rt,
-        alloc,
-        &words,
-        &mut source,
-        &mut sink,
-        &mut faults,
-        &NoGate,
-    ))
+    let status = if names_cores(&words) {
+        tas(
+            &rt,
+            alloc,
+            &words,
+            &mut source,
+            &mut sink,
+            &mut faults,
+            &NoGate,
+        )
+    } else {
+        tas_serial(alloc, &words, &mut source, &mut sink, &mut faults)
+    };
+    ExitCode::from(status)
 }
 
 /// The words behind the program's name. The error is want of memory.

@@ -7,13 +7,15 @@ use Rattle.host_rounds.specs.Lists.{Each}
 use Rattle.host_rounds.specs.Histories.{HasHistory}
 use Rattle.host_rounds.specs.Scripts.{Site}
 use Rattle.host_rounds.specs.Rounds.{Round, Rounds}
+use Rattle.host_rounds.specs.Cores.{AllBelow, CoresBelow}
 use Rattle.host_rounds.proofs.AllLegal.{round_kept}
+use Rattle.host_rounds.proofs.AllBelow.{run_low}
 use Rattle.core_rounds.specs.CoreTicks.{IsCoresTick}
-use Rattle.core_rounds.proofs.CoresRounds.{cores_round}
+use Rattle.core_rounds.proofs.CoresRounds.{cores_round, cores_low}
 use Rattle.tas_runs.specs.Records.{Item, items_of}
 use Rattle.tas_runs.specs.Batches.{batches_of}
 use Rattle.tas_runs.specs.LocalScript.{Shown, capture_scripts, due_in}
-use Rattle.tas_runs.specs.Replays.{at_start, IsReplayOf, IsReplayFound, Replay}
+use Rattle.tas_runs.specs.Replays.{at_start, replay_log, IsReplayOf, IsReplayFound, Replay}
 use Rattle.tas_runs.proofs.ByMoves.{replays_by_moves}
 use Rattle.capture_items.specs.Found.{IsFound}
 use Rattle.capture_items.specs.declared.found.Found.{Found}
@@ -23,11 +25,18 @@ use Rattle.capture_items.proofs.Batches.{no_batch}
 abbrev pub BatchRound : List Item → (tick : ℕ) → (batch : List Item) → (before after : Site (List Shown)) → Type 0
 BatchRound items t batch before after = Round (capture_scripts items) t (due_in batch) before after
 
-pub batch_round : (items : List Item) (t : ℕ) (batch : List Item) (before after : Site (List Shown))
-    → Each HasHistory before.host.flows → IsCoresTick (capture_scripts items) t (due_in batch) before after
+pub batch_round : (items : List Item) (cores t : ℕ) (batch : List Item) (before after : Site (List Shown))
+    → Each HasHistory before.host.flows → IsCoresTick (capture_scripts items) cores t (due_in batch) before after
     → BatchRound items t batch before after
-batch_round items t batch before after histories tick =
-    cores_round (capture_scripts items) t (due_in batch) before after (replays_by_moves items) histories tick
+batch_round items cores t batch before after histories tick =
+    cores_round (capture_scripts items) cores t (due_in batch) before after (replays_by_moves items) histories tick
+
+-- by its cores alone
+pub batch_low : (items : List Item) (cores t : ℕ) (batch : List Item) (before after : Site (List Shown))
+    → Each HasHistory before.host.flows → IsCoresTick (capture_scripts items) cores t (due_in batch) before after
+    → AllBelow cores before.host → AllBelow cores after.host
+batch_low items cores t batch before after histories tick low =
+    cores_low (capture_scripts items) cores t (due_in batch) before after (replays_by_moves items) histories tick low
 
 pub batch_kept : (items : List Item) (t : ℕ) (batch : List Item) (before after : Site (List Shown))
     → Each HasHistory before.host.flows → BatchRound items t batch before after → Each HasHistory after.host.flows
@@ -60,6 +69,12 @@ ends_right local items xs t site none leads =
     leads site (subst (λ bs. Rounds (capture_scripts items) t (map due_in bs) site site) (sym empty) refl)
 
 -- ----- of a capture
+-- what its one host leaves
+pub host_low : (cores local records : ℕ) (items : List Item) (site : Site (List Shown)) (log : RunLog)
+    → log ≡ replay_log local records items site.host → AllBelow cores site.host → CoresBelow cores log.hosts
+host_low cores local records items site log is low =
+    subst (λ (r : RunLog). CoresBelow cores r.hosts) (sym is) (run_low cores site.host.flows low, tt)
+
 -- What is right of the items that were found in a capture is right of it.
 pub found_is_run : (bytes : List ℕ) (local : ℕ) (loose : Bool) (found : Found) (log : RunLog)
     → IsFound bytes local loose found → IsReplayOf local found.records found.items log

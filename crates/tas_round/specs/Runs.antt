@@ -13,6 +13,7 @@ use Rattle.tas_runs.specs.Batches.{batches_of}
 use Rattle.tas_runs.specs.LocalScript.{capture_scripts, due_in}
 use Rattle.tas_runs.specs.Replays.{at_start}
 use Rattle.host_rounds.specs.Rounds.{Rounds}
+use Rattle.host_rounds.specs.Cores.{AllBelow}
 use Rattle.host_rounds.specs.SerialOrder.{serial_ticks}
 use Rattle.tas_round.specs.declared.logs.HostRun as code_host
 use Rattle.tas_round.specs.declared.logs.RunLog as code
@@ -59,9 +60,10 @@ pub record Ended (local : ℕ) (items : List Item) (ending : Ending) : Type 0 wh
   pub met : ending.tally.items ≡ length items
   pub refused : ending.tally.refused ≡ count_by is_damaged items
 
--- the same after right ticks, in whatever order each of them went
-pub record EndedRight (local : ℕ) (items : List Item) (ending : Ending) : Type 0 where
+-- the same after right ticks, in whatever order each of them went, on so many cores
+pub record EndedRight (local cores : ℕ) (items : List Item) (ending : Ending) : Type 0 where
   pub played : Rounds (capture_scripts items) 0 (map due_in (batches_of items)) (at_start local) ending.replay
+  pub below : AllBelow cores ending.replay.host
   pub ticks : ending.ticks ≡ length (batches_of items)
   pub met : ending.tally.items ≡ length items
   pub refused : ending.tally.refused ≡ count_by is_damaged items
@@ -75,3 +77,8 @@ Refuses b (Pcap fault) = capture_of b ≡ Err (fault_in fault)
 abbrev pub AreCores : Mode → Type 0
 AreCores modes.Serial = ⊤
 AreCores (modes.Cores count) = (1 ≤ count) × (count ≤ 16)
+
+-- how many cores a host has: on one thread there is one, core 0
+abbrev pub cores_of : Mode → ℕ
+cores_of modes.Serial = 1
+cores_of (modes.Cores count) = count

@@ -1,4 +1,5 @@
 ghost use Rattle.std.specs.Prelude.{◌≤◌, ◌<◌, ◌^◌, length, IfOk, IfErr};
+ghost use Rattle.host_rounds.specs.Cores.{CoresBelow};
 ghost use Rattle.tas_runs.specs.Replays.{Replay};
 ghost use Rattle.capture_items.specs.Numbers.{AreNumbersOf};
 ghost use Rattle.tas_round.specs.Runs.{log_in, EndedRight, Refuses};
@@ -25,6 +26,7 @@ pub(crate) fn replay_on_cores<R: Threads + Wait + Sync, G: Gate + Sync>(
     requires small { length capture.now ≤ 67108864 }
     requires cores { (1 ≤ count) × (count ≤ 16) }
     ensures run { IfOk result (λ log. Replay local capture.now loose (log_in log)) }
+    ensures below { IfOk result (λ log. CoresBelow count (log_in log).hosts) }
     ensures refused { IfErr result (Refuses capture.now) }
 {
     let Found {
@@ -50,7 +52,7 @@ fn run_batches<R: Threads + Wait + Sync, G: Gate + Sync>(
 ) -> Result<Ending, AllocError>
     requires numbers { AreNumbersOf items numbers.now }
     requires few { length items < 2 ^ 32 }
-    ensures ended { IfOk result (EndedRight local items.entry) }
+    ensures ended { IfOk result (EndedRight local cores.old.count items.entry) }
     ensures few { IfOk result (λ ending. ending.tally.refused ≤ ending.tally.items) }
 {
     let mut left = BatchReader::of(items);

@@ -3,11 +3,12 @@ ghost use Rattle.tas_runs.specs.Records as model;
 ghost use Rattle.tas_runs.specs.Records.{is_damaged};
 ghost use Rattle.tas_runs.specs.Batches.{batches_of};
 ghost use Rattle.host_rounds.specs.Hosts.{run_of};
+ghost use Rattle.host_rounds.specs.Cores.{CoresBelow};
 ghost use Rattle.tas_runs.specs.Replays.{replay_log, Replay};
 ghost use Rattle.tas_runs.specs.SerialOrder.{serial_replay};
 ghost use Rattle.capture_items.specs.Found.{IsFound};
 ghost use Rattle.capture_items.specs.Numbers.{AreNumbersOf};
-ghost use Rattle.tas_round.specs.Runs.{host_in, log_in, AreCores, Ended, Refuses};
+ghost use Rattle.tas_round.specs.Runs.{host_in, log_in, AreCores, cores_of, Ended, Refuses};
 ghost use Rattle.tas_round.specs.declared.replaying.Mode.{Mode};
 
 use crate::logs::{FlowList, HostRun, HostRuns, RunLog};
@@ -76,6 +77,8 @@ pub fn replay<R: Threads + Wait + Sync, G: Gate + Sync>(
     // On one thread it is the one in serial order.
     ensures serial { mode ≡ Mode.Serial
         → IfOk result (λ log. serial_replay local capture.now loose ≡ Ok (log_in log)) }
+    // Each entry that a core made was made by one of so many.
+    ensures below { IfOk result (λ log. CoresBelow (cores_of mode) (log_in log).hosts) }
     ensures refused { IfErr result (Refuses capture.now) }
 {
     match mode {
@@ -94,6 +97,7 @@ pub fn replay_serially(
     requires small { length capture.now ≤ 67108864 }
     ensures run { IfOk result (λ log. Replay local capture.now loose (log_in log)) }
     ensures serial { IfOk result (λ log. serial_replay local capture.now loose ≡ Ok (log_in log)) }
+    ensures below { IfOk result (λ log. CoresBelow 1 (log_in log).hosts) }
     ensures refused { IfErr result (Refuses capture.now) }
 {
     let Found {

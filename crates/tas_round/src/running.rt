@@ -1,11 +1,12 @@
 ghost use Rattle.std.specs.Prelude.{◌≡◌, ◌≤◌, length, map, IfOk};
 ghost use Rattle.host_rounds.specs.Lists.{Each};
+ghost use Rattle.host_rounds.specs.Cores.{CoresBelow};
 ghost use Rattle.scenario_ranges.specs.Ranges.{IsInRange};
 ghost use Rattle.scenario_runs.specs.Runs.{Run, serial_run};
 ghost use Rattle.local_host.specs.Live.{IsLegal};
 ghost use Rattle.local_host.specs.declared.host.HostEnd.{HostEnd};
 ghost use Rattle.scenario_world.specs.Ends as left;
-ghost use Rattle.tas_round.specs.Runs.{host_in, log_in, AreCores};
+ghost use Rattle.tas_round.specs.Runs.{host_in, log_in, AreCores, cores_of};
 ghost use Rattle.tas_round.specs.declared.replaying.Mode.{Mode};
 
 use crate::logs::{FlowList, HostRun, HostRuns, RunLog};
@@ -34,6 +35,8 @@ pub fn run<R: Threads + Wait + Sync, G: Gate + Sync>(
     ensures run { IfOk result (λ log. Run s.now (log_in log)) }
     // On one thread it is the one in serial order.
     ensures serial { mode ≡ Mode.Serial → IfOk result (λ log. serial_run s.now ≡ log_in log) }
+    // Each entry that a core made was made by one of its host's, which are so many.
+    ensures below { IfOk result (λ log. CoresBelow (cores_of mode) (log_in log).hosts) }
 {
     match mode {
         Mode::Serial => run_serially(alloc, s),
@@ -52,6 +55,7 @@ fn run_on_cores<R: Threads + Wait + Sync, G: Gate + Sync>(
     requires ranges { IsInRange s.now }
     requires cores { (1 ≤ count) × (count ≤ 16) }
     ensures run { IfOk result (λ log. Run s.now (log_in log)) }
+    ensures below { IfOk result (λ log. CoresBelow count (log_in log).hosts) }
 {
     let end = play_scenario_on_cores(rt, alloc, s, count, gate)?;
     log_of(alloc, s, end)
@@ -62,6 +66,7 @@ pub fn run_serially(alloc: Global, s: &Scenario) -> Result<RunLog, AllocError>
     requires ranges { IsInRange s.now }
     ensures run { IfOk result (λ log. Run s.now (log_in log)) }
     ensures serial { IfOk result (λ log. serial_run s.now ≡ log_in log) }
+    ensures below { IfOk result (λ log. CoresBelow 1 (log_in log).hosts) }
 {
     let end = play_scenario(alloc, s)?;
     let log = log_of(alloc, s, end)?;

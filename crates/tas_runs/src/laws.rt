@@ -6,6 +6,7 @@ ghost use Rattle.host_rounds.specs.Lists.{Each};
 ghost use Rattle.host_rounds.specs.Scripts.{Site};
 ghost use Rattle.host_rounds.specs.Moves.{AreByMoves};
 ghost use Rattle.host_rounds.specs.Rounds.{Round};
+ghost use Rattle.host_rounds.specs.Cores.{CoresBelow};
 ghost use Rattle.host_rounds.specs.Places.{uses_hosts, coming};
 ghost use Rattle.host_rounds.specs.Openings.{AreOpened, openings_of};
 ghost use Rattle.host_rounds.specs.Histories.{IsSound, HasSentAll};
@@ -28,6 +29,12 @@ pub fn replays_ask_by_moves()
 pub fn serial_order_is_right()
     ensures { (local : ℕ) (bytes : List ℕ) (loose : Bool)
         → IfOk (serial_replay local bytes loose) (λ log. Replay local bytes loose log) }
+{}
+
+/// The run in serial order has one core, which is core 0: no other makes an entry.
+pub fn serial_order_has_one_core()
+    ensures { (local : ℕ) (bytes : List ℕ) (loose : Bool)
+        → IfOk (serial_replay local bytes loose) (λ log. CoresBelow 1 log.hosts) }
 {}
 
 /// In every run of a capture, whatever the order of its ticks, each flow is sound: it has a history of the endpoint, it

@@ -1,8 +1,11 @@
-use Rattle.std.proofs.Common.{length, sym, ap, ◌∙◌, subst, arith}
+use Rattle.std.proofs.Common.{◌≡◌, length, sym, ap, ◌∙◌, subst, arith}
+use Rattle.host_rounds.specs.Lists.{Each}
+use Rattle.local_host.specs.Steered.{Steered}
+use Rattle.scenario_runs.specs.Histories.{AreBelow}
 use Rattle.scenario_runs.specs.Runs.{AreRounds}
 use Rattle.scenario_world.specs.Playing.{AreEarly, AreNumbered}
 use Rattle.scenario_world.specs.Seats.{hosts_in}
-use Rattle.scenario_world.proofs.InSeats.{hosts_len, cores_len, seats_played, cores_same}
+use Rattle.scenario_world.proofs.InSeats.{hosts_len, cores_len, seats_played, seats_low, cores_same}
 use Rattle.scenario_world.proofs.on_cores.play_hosts_on_cores.Goals as goal
 
 pub change_places-requires : goal.change_places-requires
@@ -38,6 +41,18 @@ returns-clause-rounds g c = λ whole same early.
     c.in_ok-none_failed.ensures
     (subst (λ cs. AreNumbered 0 cs) (sym c.change_places.ensures.cores) c.requires.seats.numbered) same
     (subst (λ hs. AreEarly t hs) (sym c.change_places.ensures.seats) early)))
+
+pub returns-clause-below : goal.returns-clause-below
+returns-clause-below g c = λ count counted early low.
+    let t = c.args.tick in
+    let before = c.change_places.new.seats in
+    let after = c.play_seats.new.seats in
+    subst (AreBelow count) (sym c.change_places-2.ensures.hosts)
+    (seats_low c.args.s.now t count c.args.due.now before after c.play_seats.ensures.len c.play_seats.ensures.played
+    c.in_ok-none_failed.ensures
+    (subst (Each (λ (x : Steered). x.count ≡ count)) (sym c.change_places.ensures.cores) counted)
+    (subst (AreEarly t) (sym c.change_places.ensures.seats) early)
+    (subst (AreBelow count) (sym c.change_places.ensures.seats) low))
 
 pub returns-clause-seats : goal.returns-clause-seats
 returns-clause-seats g c =

@@ -1,18 +1,25 @@
 use Rattle.std.proofs.Common.{◌≡◌, ◌<◌, ◌+◌, not, false, length, sym, subst, ap, ◌∙◌, arith}
 use Rattle.std.proofs.lemmas.List.{with_items_is}
 use Rattle.std.proofs.lemmas.Result.{IfOk-weaker}
+use Rattle.host_rounds.specs.Lists.{Each}
+use Rattle.local_host.specs.Steered.{Steered}
 use Rattle.scenario_runs.specs.Worlds.{all_ended}
+use Rattle.scenario_runs.specs.Histories.{AreBelow}
+use Rattle.scenario_runs.proofs.AllBelow.{start_low}
 use Rattle.scenario_world.specs.Ends.{AreEnds}
 use Rattle.scenario_world.specs.Playing.{AreCoresOf}
-use Rattle.scenario_world.specs.Seats.{cores_in}
-use Rattle.scenario_world.proofs.Ended.{ends_len}
+use Rattle.scenario_world.specs.Seats.{HaveCores, cores_in}
+use Rattle.scenario_world.proofs.Ended.{ends_len, ends_low}
 use Rattle.scenario_world.proofs.Finishing.{begins_right, goes_on_right, rests_right, runs_out_right, run_shown}
 use Rattle.scenario_world.proofs.on_cores.play_scenario_on_cores.Goals as goal
 
 pub loop-tick-init : goal.loop-tick-init
 loop-tick-init g c = record {
   world = c.in_ok-playing.ensures.world;
-  seats = c.in_ok-seats.ensures;
+  seats = c.in_ok-seats.ensures.seats;
+  counted = c.in_ok-seats.ensures.count;
+  below = subst (AreBelow c.args.cores) (sym c.in_ok-playing.ensures.hosts)
+      (start_low c.args.cores c.args.s.now c.args.s.now.hosts);
   run = begins_right c.args.s.now c.in_ok-playing.playing.hosts.items c.in_ok-playing.ensures.hosts;
 }
 
@@ -27,6 +34,14 @@ returns-then-is_at_rest-clause-run g c =
     (rests_right s t c.loop-tick.playing.hosts.items p.hosts.items inside c.loop-tick.invariant.run
     c.in_ok-play_tick_on_cores.ensures.tick (sym (c.is_at_rest.ensures s world) ∙ c.if-is_at_rest.true))
     world.params c.end_of.ensures.ends c.end_of.ensures.ticks c.end_of.ensures.stalled
+
+pub returns-then-is_at_rest-clause-below : goal.returns-then-is_at_rest-clause-below
+returns-then-is_at_rest-clause-below g c =
+    ends_low c.args.cores c.args.s.now.hosts c.play_tick_on_cores.new.p.hosts.items c.end_of.result
+    c.in_ok-play_tick_on_cores.ensures.world.params
+    (c.in_ok-play_tick_on_cores.ensures.below c.args.cores
+    (subst (HaveCores c.args.cores) (sym c.deref_mut.ensures.value) c.loop-tick.invariant.counted)
+    c.loop-tick.invariant.below) c.end_of.ensures.ends
 
 pub returns-then-is_at_rest-clause-hosts : goal.returns-then-is_at_rest-clause-hosts
 returns-then-is_at_rest-clause-hosts g c =
@@ -46,12 +61,15 @@ loop-tick-preserved g c =
     let world = c.in_ok-play_tick_on_cores.ensures.world in
     let seats = c.play_tick_on_cores.new.seats in
     let len : length seats ≡ c.loop-tick.seats.len = omega arith in
+    let same = sym (ap cores_in (with_items_is c.loop-tick.seats seats len)
+    ∙ (c.in_ok-play_tick_on_cores.ensures.seats ∙ ap cores_in c.deref_mut.ensures.value)) in
     record {
       world = world;
-      seats = subst (λ cs. AreCoresOf (length s.hosts) cs)
-          (sym (ap cores_in (with_items_is c.loop-tick.seats seats len)
-          ∙ (c.in_ok-play_tick_on_cores.ensures.seats ∙ ap cores_in c.deref_mut.ensures.value)))
-          c.loop-tick.invariant.seats;
+      seats = subst (λ cs. AreCoresOf (length s.hosts) cs) same c.loop-tick.invariant.seats;
+      counted = subst (Each (λ (x : Steered). x.count ≡ c.args.cores)) same c.loop-tick.invariant.counted;
+      below = c.in_ok-play_tick_on_cores.ensures.below c.args.cores
+          (subst (HaveCores c.args.cores) (sym c.deref_mut.ensures.value) c.loop-tick.invariant.counted)
+          c.loop-tick.invariant.below;
       run = goes_on_right s t c.loop-tick.playing.hosts.items p.hosts.items inside c.loop-tick.invariant.run
           c.in_ok-play_tick_on_cores.ensures.tick (sym (c.is_at_rest.ensures s world) ∙ c.if-is_at_rest.false);
     }
@@ -67,6 +85,11 @@ returns-clause-run g c =
     run_shown s p.hosts.items s.limit (not c.have_ended-stalled.result) c.end_of-2.result
     (runs_out_right s t p.hosts.items (not c.have_ended-stalled.result) over c.loop-tick.invariant.run (ap not ended))
     c.loop-tick.invariant.world.params c.end_of-2.ensures.ends c.end_of-2.ensures.ticks c.end_of-2.ensures.stalled
+
+pub returns-clause-below : goal.returns-clause-below
+returns-clause-below g c =
+    ends_low c.args.cores c.args.s.now.hosts c.loop-tick.playing.hosts.items c.end_of-2.result
+    c.loop-tick.invariant.world.params c.loop-tick.invariant.below c.end_of-2.ensures.ends
 
 pub returns-clause-hosts : goal.returns-clause-hosts
 returns-clause-hosts g c =

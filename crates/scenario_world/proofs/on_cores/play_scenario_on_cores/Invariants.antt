@@ -1,6 +1,7 @@
 use Rattle.std.proofs.Common.{length}
+use Rattle.scenario_runs.specs.Histories.{AreBelow}
 use Rattle.scenario_world.specs.Playing.{IsWorld}
-use Rattle.scenario_world.specs.Seats.{AreSeatsOf}
+use Rattle.scenario_world.specs.Seats.{AreSeatsOf, HaveCores}
 use Rattle.scenario_world.proofs.Finishing.{LeadsRight}
 use Rattle.scenario_world.proofs.on_cores.play_scenario_on_cores.Given as goal
 
@@ -9,5 +10,7 @@ abbrev pub invariant-loop-tick : goal.invariant-loop-tick
 invariant-loop-tick g l = record {
   world : IsWorld l.s l.tick l.playing;
   seats : AreSeatsOf (length l.s.hosts) l.seats.items;
+  counted : HaveCores l.cores l.seats.items;
+  below : AreBelow l.cores l.playing.hosts.items;
   run : LeadsRight l.s l.tick l.playing.hosts.items;
 }

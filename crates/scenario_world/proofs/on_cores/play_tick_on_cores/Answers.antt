@@ -1,7 +1,9 @@
 use Rattle.std.proofs.Common.{◌≡◌, length, refl, sym, subst, ap, ◌∙◌, arith}
 use Rattle.std.proofs.lemmas.List.{with_items_is}
 use Rattle.local_host.proofs.Places.{ok_by}
+use Rattle.scenario_runs.specs.Histories.{AreBelow}
 use Rattle.scenario_runs.specs.Runs.{IsTick}
+use Rattle.scenario_world.specs.Playing.{AreEarly}
 use Rattle.scenario_world.specs.Seats.{AreSeatsOf}
 use Rattle.scenario_world.proofs.NextTick.{hosts_len, cores_played, are_played}
 use Rattle.scenario_world.proofs.on_cores.play_tick_on_cores.Goals as goal
@@ -37,4 +39,17 @@ returns-clause-tick g c =
     subst (λ az. IsTick s t p.hosts.items az) (sym (c.end_tick.ensures.hosts ∙ with_items_is p.hosts hosts len))
     (cores_played s t p c.in_ok-due.due c.deref_mut.result.now hosts c.requires.world c.in_ok-due.ensures
     c.deref_mut.ensures.value c.in_ok-play_hosts_on_cores.ensures.rounds))
+    c.end_tick.ensures.world
+
+pub returns-clause-below : goal.returns-clause-below
+returns-clause-below g c = λ count counted low.
+    let p = c.args.p.now in
+    let hosts = c.play_hosts_on_cores.new.hosts in
+    let len : length hosts ≡ p.hosts.len = omega arith in
+    let lent = sym c.deref_mut.ensures.value in
+    ok_by c.end_tick.result
+    (λ world.
+    subst (AreBelow count) (sym (c.end_tick.ensures.hosts ∙ with_items_is p.hosts hosts len))
+    (c.in_ok-play_hosts_on_cores.ensures.below count counted (subst (AreEarly c.args.tick) lent c.requires.world.early)
+    (subst (AreBelow count) lent low)))
     c.end_tick.ensures.world

@@ -2,7 +2,7 @@ use Rattle.std.proofs.Common.{[], ◌∷◌, false, length, ap, arith, length-ap
 use Rattle.local_host.specs.Steered.{Steered}
 use Rattle.scenario_ranges.specs.Ranges.{IsHostInRange}
 use Rattle.scenario_world.specs.declared.seats.Seat.{Seat}
-use Rattle.scenario_world.proofs.InSeats.{each_there, seats_more}
+use Rattle.scenario_world.proofs.InSeats.{each_there, seats_more, count_more}
 use Rattle.scenario_world.proofs.seats.seats_of.Goals as goal
 
 pub at_start-requires-clause-host : goal.at_start-requires-clause-host
@@ -25,4 +25,6 @@ loop-number-preserved c =
       numbered = seats_more seats c.push.new.self.items seat c.loop-number.number c.loop-number.invariant.len
           c.loop-number.invariant.numbered (ap (λ (x : Steered). x.host) c.in_ok-new.ensures)
           c.in_ok-push.ensures.items;
+      counted = count_more c.args.count seats c.push.new.self.items seat c.loop-number.invariant.counted
+          (ap (λ (x : Steered). x.count) c.in_ok-new.ensures) c.in_ok-push.ensures.items;
     }

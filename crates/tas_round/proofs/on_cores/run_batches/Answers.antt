@@ -4,9 +4,10 @@ use Rattle.std.proofs.lemmas.List.{length-map}
 use Rattle.tas_runs.specs.Records.{is_damaged}
 use Rattle.tas_runs.specs.LocalScript.{capture_scripts, due_in}
 use Rattle.capture_items.specs.Items.{item_in}
+use Rattle.local_host.specs.Steered.{Steered}
 use Rattle.tas_round.proofs.Playing.{next_counted, no_more_ticks, items_left, batch_within}
 use Rattle.tas_round.proofs.Playing.{counted_left, all_counted, none_left, some_left, some_there}
-use Rattle.tas_round.proofs.CoresPlaying.{batch_round, batch_kept, next_right, ends_right}
+use Rattle.tas_round.proofs.CoresPlaying.{batch_round, batch_low, batch_kept, next_right, ends_right}
 use Rattle.tas_round.proofs.on_cores.run_batches.Goals as goal
 
 pub with-tally-requires : goal.with-tally-requires
@@ -29,12 +30,16 @@ loop-batch-preserved g c =
     let nonempty : 0 < length batch = some_there batch c.deref.result.now _ c.is_empty.result c.deref.ensures.value
     c.deref.ensures.len c.is_empty.ensures c.if-is_empty.false in
     let first = c.in_ok-next_batch.ensures.first (some_left item_in xs rest batch front nonempty) in
-    let made : IsCoresTick (capture_scripts all) c.loop-batch.ticks (due_in (map item_in batch)) c.loop-batch.replay
-    c.play_on_cores.new.self =
-    subst (λ b. IsCoresTick (capture_scripts all) c.loop-batch.ticks (due_in (map item_in b)) c.loop-batch.replay
-    c.play_on_cores.new.self) c.deref.ensures.value (c.in_ok-play_on_cores.ensures.tick all c.requires.numbers) in
-    let round = batch_round all c.loop-batch.ticks (map item_in batch) c.loop-batch.replay c.play_on_cores.new.self
-    c.loop-batch.invariant.histories made in
+    let count = c.args.cores.now.count in
+    let made : IsCoresTick (capture_scripts all) count c.loop-batch.ticks (due_in (map item_in batch))
+    c.loop-batch.replay c.play_on_cores.new.self =
+    subst (λ n. IsCoresTick (capture_scripts all) n c.loop-batch.ticks (due_in (map item_in batch)) c.loop-batch.replay
+    c.play_on_cores.new.self) (ap (λ (s : Steered). s.count) c.loop-batch.invariant.cores)
+    (subst (λ b. IsCoresTick (capture_scripts all) c.loop-batch.cores.count c.loop-batch.ticks (due_in (map item_in b))
+    c.loop-batch.replay c.play_on_cores.new.self) c.deref.ensures.value
+    (c.in_ok-play_on_cores.ensures.tick all c.requires.numbers)) in
+    let round = batch_round all count c.loop-batch.ticks (map item_in batch) c.loop-batch.replay
+    c.play_on_cores.new.self c.loop-batch.invariant.histories made in
     let n = c.loop-batch.tally.items in
     let more : c.with-tally.result.items ≡ n + length (map item_in batch) = c.with-tally.ensures.items
     ∙ ap (λ b. n + length (map item_in b)) c.deref-in-loop-batch.ensures.value in
@@ -47,6 +52,9 @@ loop-batch-preserved g c =
           c.play_on_cores.new.self first round c.loop-batch.invariant.played;
       histories = batch_kept all c.loop-batch.ticks (map item_in batch) c.loop-batch.replay c.play_on_cores.new.self
           c.loop-batch.invariant.histories round;
+      cores = c.play_on_cores.ensures.cores ∙ c.loop-batch.invariant.cores;
+      below = batch_low all count c.loop-batch.ticks (map item_in batch) c.loop-batch.replay c.play_on_cores.new.self
+          c.loop-batch.invariant.histories made c.loop-batch.invariant.below;
       ticks = next_counted xs (map item_in batch) rest c.loop-batch.ticks _ first c.loop-batch.invariant.ticks;
       items = items_left xs (map item_in batch) rest n c.with-tally.result.items _ front more
           c.loop-batch.invariant.items;
@@ -64,6 +72,7 @@ returns-then-is_empty-clause-ended g c =
     record {
       played = ends_right c.args.local c.args.items xs c.loop-batch.ticks c.loop-batch.replay none
           c.loop-batch.invariant.played;
+      below = c.loop-batch.invariant.below;
       ticks = no_more_ticks xs c.loop-batch.ticks _ none c.loop-batch.invariant.ticks;
       met = omega (arith, ap length none, c.loop-batch.invariant.items);
       refused = all_counted is_damaged xs c.loop-batch.tally.refused _ none c.loop-batch.invariant.refused;

@@ -1,8 +1,9 @@
 use Rattle.std.proofs.Common.{rules, ◌≡◌, Ok, sym, ap, ◌∙◌, arith}
 use Rattle.host_rounds.specs.Logs.{RunLog}
+use Rattle.host_rounds.specs.Cores.{CoresBelow}
 use Rattle.tas_runs.specs.Replays.{Replay, replay_log}
 use Rattle.tas_runs.specs.SerialOrder.{serial_log, serial_replay}
-use Rattle.tas_runs.proofs.SerialRun.{serial_is_replay}
+use Rattle.tas_runs.proofs.SerialRun.{serial_is_replay, serial_replay_low}
 use Rattle.capture_items.proofs.Replays.{found_is_replayed}
 use Rattle.tas_round.specs.Runs.{log_in, Ended}
 use Rattle.tas_round.proofs.Playing.{ok_gives}
@@ -30,3 +31,9 @@ returns-clause-run c =
     let is_run = Replay c.args.local c.args.capture.now c.args.loose in
     let right = serial_is_replay c.args.local c.args.capture.now c.args.loose in
     ok_gives run is_run (log_in c.in_ok-log.log) (returns-clause-serial c) right
+
+pub returns-clause-below : goal.returns-clause-below
+returns-clause-below c =
+    let run = serial_replay c.args.local c.args.capture.now c.args.loose in
+    let low = serial_replay_low c.args.local c.args.capture.now c.args.loose in
+    ok_gives run (λ (log : RunLog). CoresBelow 1 log.hosts) (log_in c.in_ok-log.log) (returns-clause-serial c) low

@@ -1,5 +1,0 @@
-use Rattle.tas_main.proofs.runs.capture_on_cores.Goals as goal
-
-pub returns-in-Err-clause-refused : goal.returns-in-Err-clause-refused
-returns-in-Err-clause-refused g c =
-    c.stop_of.ensures c.args.local c.args.loose c.args.bytes.now c.in-Err.ensures.refused

@@ -1,4 +1,0 @@
-pub mod Runs
-pub mod Stops
-pub mod Outputs
-pub mod Telling

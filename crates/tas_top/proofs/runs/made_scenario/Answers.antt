@@ -1,0 +1,4 @@
+use Rattle.tas_top.proofs.runs.made_scenario.Goals as goal
+
+pub returns-in-Ok-clause-ranges : goal.returns-in-Ok-clause-ranges
+returns-in-Ok-clause-ranges c = c.what_is_read_is_in_range.ensures _ c.in-Ok.scenario c.in-Ok.ensures

@@ -1,0 +1,5 @@
+pub mod Runs
+pub mod Stops
+pub mod Outputs
+pub mod Telling
+pub mod Jobs

@@ -1,0 +1,13 @@
+//! The call that the program makes: it looks at words, reads the input, makes the run and writes what it left.
+#![tactic(auto)]
+
+mod asking;
+mod input;
+mod runs;
+mod stop;
+mod telling;
+mod top;
+
+pub use stop::Stop;
+pub use telling::tell;
+pub use top::{tas, tas_serial};
