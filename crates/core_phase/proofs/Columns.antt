@@ -1,9 +1,9 @@
 -- What a core does leaves an opening flow opening, a running one running, and a closed one closed, for the law
 -- deeds_leave_the_column.
-use Rattle.std.proofs.Common.{◌≡◌, ℕ, ◌+◌, ◌==◌, ◌&&◌, not, cond, Bool, true, false, List, [], ◌∷◌, ◌++◌, length}
+use Rattle.std.proofs.Common.{◌≡◌, ℕ, ◌+◌, ◌==◌, ◌&&◌, not, Bool, true, false, [], length}
 use Rattle.std.proofs.Common.{refl, sym, ap, ◌∙◌}
 use Rattle.std.proofs.Common.{subst, arith}
-use Rattle.std.specs.Prelude.{Option, Some, None, is_some, if◌then◌else◌, nat_lt, max, ⊤}
+use Rattle.std.specs.Prelude.{Option, Some, None, if◌then◌else◌, nat_lt, max, ⊤}
 use Rattle.std.proofs.lemmas.Bool.Decides.{nat_tests}
 use Rattle.tas_model.specs.declared.entry.Entry.{Entry}
 use Rattle.tas_model.specs.declared.entry.Caller.{Caller}
@@ -113,7 +113,7 @@ module _ (e : Endpoint) (tick : ℕ) (seg : Seg) (open_ : is_common (phase e) �
   taken_keeps q receive.Good =
       let a : Endpoint = after_ack e tick (place_of_ack e seg) q (seg_len seg) seg.head.window in
       data_keeps e a tick (wnd e) q seg
-          (ack_keeps e tick (place_of_ack e seg) q (seg_len seg) seg.head.window open_ begun)
+      (ack_keeps e tick (place_of_ack e seg) q (seg_len seg) seg.head.window open_ begun)
 
   bare_keeps : (v : AckVerdict) → P (bare_ack e tick seg v)
   bare_keeps receive.Stray = same
@@ -140,10 +140,10 @@ module _ (e : Endpoint) (tick : ℕ) (seg : Seg) (open_ : is_common (phase e) �
 
     reset_by : (ok bare rst equal syn ack : Bool) (q : ℕ) → rst ≡ false
         → NoReset (if not ok then (if bare then receive.BareAck else if rst then receive.Dropped else receive.Answered)
-           else if rst then (if equal then receive.Reset else receive.Answered)
-           else if syn then receive.Answered
-           else if ack then receive.Taken q
-           else receive.Dropped)
+        else if rst then (if equal then receive.Reset else receive.Answered)
+        else if syn then receive.Answered
+        else if ack then receive.Taken q
+        else receive.Dropped)
     reset_by ok bare true equal syn ack q e = absurd (cc e)
     reset_by false true false equal syn ack q e = tt
     reset_by false false false equal syn ack q e = tt
@@ -154,7 +154,7 @@ module _ (e : Endpoint) (tick : ℕ) (seg : Seg) (open_ : is_common (phase e) �
     reset_not : (r window q : ℕ) → NoReset (verdict_at r window q seg)
     reset_not r window q =
         reset_by (is_acceptable r window q (seg_len seg))
-            (window == 0 && q == r && not (is_rst seg) && not (is_syn seg))
+        (window == 0 && q == r && not (is_rst seg) && not (is_syn seg))
         (is_rst seg) (q == r) (is_syn seg) (is_ack seg) q plain
 
     place_not : (o : Option ℕ) (r window : ℕ) → NoReset (verdict_of_place o r window seg)
@@ -202,7 +202,7 @@ GoesOn e (Some g) = Keeps e g.after
 
 running_keeps : (e : Endpoint) (a b c : Bool)
     → GoesOn e (if a then Some (going_data e (data_len e))
-       else if b then Some (going_probe e) else if c then Some (going_fin e) else None)
+    else if b then Some (going_probe e) else if c then Some (going_fin e) else None)
 running_keeps e true b c = (refl, refl, refl)
 running_keeps e false true c = (refl, refl, refl)
 running_keeps e false false true = (refl, refl, refl)
@@ -210,7 +210,7 @@ running_keeps e false false false = tt
 
 opening_keeps : (e : Endpoint) (a : Bool)
     → GoesOn e (if a then Some (record { seg = bare (syn_head e e.peer); after = record e { tx = past e.tx 1 } })
-       else None)
+    else None)
 opening_keeps e true = (refl, refl, refl)
 opening_keeps e false = tt
 

@@ -150,7 +150,7 @@ idle_in h g k vs ls ms ws idle lent did fine told =
       );
       lanes = of_every (IsIdle (common_in k)) ws
           (subst (λ c. Every (IsIdle c) ws) (sym common)
-              (idle_again (common_in h) ms ws (done_ready (common_in h) 0 vs ms done) told.back));
+          (idle_again (common_in h) ms ws (done_ready (common_in h) 0 vs ms done) told.back));
     }
 
 lanes_same : (h g : HostPart) (vs ls : List Lane) → IsLentHost h g vs ls → g.lanes ≡ h.lanes
@@ -185,7 +185,7 @@ learned_as : (g k : HostPart) (gs ks : List HostPart) (ms ws : List Lane) (n : �
     → IsLearnedHost g k (take n ms) (take n ws) × BetweenHosts IsLearnedHost gs ks (drop n ms) (drop n ws)
 learned_as g k gs ks ms ws n same told =
     subst (λ j. IsLearnedHost g k (take j ms) (take j ws) × BetweenHosts IsLearnedHost gs ks (drop j ms) (drop j ws))
-        same told
+    same told
 
 pub all_phases : (hs gs ks : List HostPart) (vs ls ms ws : List Lane) → ByHosts IsIdleHost hs vs
     → BetweenHosts IsLentHost hs gs vs ls → AllZip HasPlayed ls ms → Every Works ms

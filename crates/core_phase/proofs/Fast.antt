@@ -17,8 +17,8 @@ no_control p seg e = by_control (is_control seg) refl e
   where
     by_control : (b : Bool) → is_control seg ≡ b
         → (if b then Some whys.Control
-           else if not (has seg.flags.0 ack) then Some whys.NoAck else if is_common p then None else Some whys.Phase)
-               ≡ None
+        else if not (has seg.flags.0 ack) then Some whys.NoAck else if is_common p then None else Some whys.Phase)
+        ≡ None
         → is_control seg ≡ false
     by_control true is h = absurd (cc h)
     by_control false is h = is
@@ -53,7 +53,7 @@ no_third false false false d h = refl
 pub no_reset : (p : Phase) (seg : Segment) → exception p seg ≡ None → has seg.flags.0 rst ≡ false
 no_reset p seg e =
     no_third (has seg.flags.0 syn) (has seg.flags.0 fin) (has seg.flags.0 rst) (has seg.flags.0 urg)
-        (no_control p seg e)
+    (no_control p seg e)
 
 -- ----- phases
 by_reason : (o : Option Reason) (e : Endpoint) → e.reason ≡ o → is_common (phase e) ≡ true → is_closed e ≡ false

@@ -49,7 +49,7 @@ use Rattle.tas_model.specs.Endpoint.{Endpoint}
 use Rattle.tas_model.specs.LegalHistory.{Legal, step}
 use Rattle.tas_model.specs.NextSegment.{Going, going, emitted}
 use Rattle.tas_model.proofs.Grows.{legal_by}
-use Rattle.core_phase.specs.Deeds.{IsSend, IsPutIn, ArePutIn, gathered, lines_by, AreLeft, IsTurnOf}
+use Rattle.core_phase.specs.Deeds.{IsSend, IsPutIn, ArePutIn, gathered, lines_by, IsTurnOf}
 use Rattle.core_phase.proofs.Tuples.{is_tuple}
 
 -- ----- steps
@@ -112,20 +112,19 @@ module _ (queues : List AppQueue) (check : Bool) (core tick : ℕ) (f : Frame) (
           let ds : List Deed = put_by r.id r after in
           let one : ds ≡ _ = ap (deeds_of r.id (history r)) (drop_front r.entries _) in (
             ds,
-            subst (λ x. IsPutIn check core tick f x ds) (sym is)
-                (
-                  _,
-                  one,
-                  refl,
-                  record {
-                    reads = reads;
-                    seg = seg;
-                    text = text;
-                    own = is_tuple r.tuple (tuple_of seg) same;
-                    fast = subst (λ p. exception p seg ≡ None) o.own.stands.phase fast;
-                    adds = record { legal = o.own.legal; made = refl };
-                  },
-                ),
+            subst (λ x. IsPutIn check core tick f x ds) (sym is) (
+              _,
+              one,
+              refl,
+              record {
+                reads = reads;
+                seg = seg;
+                text = text;
+                own = is_tuple r.tuple (tuple_of seg) same;
+                fast = subst (λ p. exception p seg ≡ None) o.own.stands.phase fast;
+                adds = record { legal = o.own.legal; made = refl };
+              },
+            ),
             subst (λ l. Grows l [] [] v w)
                 ((λ i. put_by (sym o.own.own i) r (history_by core tick f.id seg r (is i))))
                 (grows_use id r (history_by core tick f.id seg r h) v w o.given),

@@ -295,7 +295,7 @@ all_named c p n [] ms is =
 all_named c p n (v ∷ vs) [] is = absurd is
 all_named c p n (v ∷ vs) (m ∷ ms) (is, more) =
     let first : total (name_is p) ((pass_of m).view.turns ++ turns_in ms) ≡ cond (n == p) 1 0
-        + total (name_is p) (turns_in ms) =
+    + total (name_is p) (turns_in ms) =
     ap (λ ts. total (name_is p) (ts ++ turns_in ms)) is.one
     ∙ ap (λ k. cond {A = ℕ} (k == p) 1 0 + total (name_is p) (turns_in ms)) is.name in
     let rest = all_named c p (suc n) vs ms more in
@@ -329,10 +329,10 @@ all_even c i n [] ms is =
 all_even c i n (v ∷ vs) [] is = absurd is
 all_even c i n (v ∷ vs) (m ∷ ms) (is, more) =
     let lost : lost_in i ((pass_of m).view.turns ++ turns_in ms) ≡ total (at_slot i) is.turn.unpinned
-        + lost_in i (turns_in ms) =
+    + lost_in i (turns_in ms) =
     ap (λ ts. lost_in i (ts ++ turns_in ms)) is.one in
     let won : won_in i ((pass_of m).view.turns ++ turns_in ms) ≡ total (at_slot i) is.turn.pinned
-        + won_in i (turns_in ms) =
+    + won_in i (turns_in ms) =
     ap (λ ts. won_in i (ts ++ turns_in ms)) is.one in
     let one = is.even i in
     let rest = all_even c i (suc n) vs ms more in

@@ -36,7 +36,7 @@ tried s tick a b (attempts.Send bytes) after answer (offered, now, result, is, h
     (g.0, (offered, now, result, is, g.1), g.2)
 tried s tick a b (attempts.Recv buf) after answer (result, is, h) =
     let g = has_called a b s tick (ins.Recv (length buf.items)) (fault_in result)
-        (IsReceived buf.items (room_of after) result) h in
+    (IsReceived buf.items (room_of after) result) h in
     (g.0, (result, is, g.1), g.2)
 tried s tick a b attempts.Shut after answer (result, is, h) =
     let g = has_called a b s tick ins.Shut (fault_in result) (tells_done result) h in
@@ -111,7 +111,7 @@ try_stays s tick a b (attempts.Send bytes) after answer (offered, now, result, i
     call_stays a b s tick (ins.Send offered) (fault_in result) (tells_sent result) h
 try_stays s tick a b (attempts.Recv buf) after answer (result, is, h) =
     call_stays a b s tick (ins.Recv (length buf.items)) (fault_in result)
-        (IsReceived buf.items (room_of after) result) h
+    (IsReceived buf.items (room_of after) result) h
 try_stays s tick a b attempts.Shut after answer (result, is, h) =
     call_stays a b s tick ins.Shut (fault_in result) (tells_done result) h
 try_stays s tick a b attempts.Close after answer (result, is, m, h, e) =

@@ -1,5 +1,5 @@
 -- Deeds of lanes as words of a run, for the law deeds_are_words.
-use Rattle.std.proofs.Common.{◌≡◌, ℕ, Bool, true, false, List, [], ◌∷◌, refl, sym, ap, ◌∙◌, true≢false, subst}
+use Rattle.std.proofs.Common.{◌≡◌, ℕ, Bool, true, List, [], ◌∷◌, refl, sym, ap, ◌∙◌, true≢false, subst}
 use Rattle.std.specs.Prelude.{Option, Some, None, is_some, Result, Ok, Err, length}
 use Rattle.segment_fields.specs.declared.segment.Segment.{Segment}
 use Rattle.segment_fields.specs.declared.segment.Refused.{Refused}
@@ -24,7 +24,7 @@ use Rattle.app_reaper.specs.declared.one_call.CallFault.{CallFault}
 use Rattle.libtas_sockets.specs.Answers.{fault_in, fault_of, IsReceived}
 use Rattle.libtas_sockets.specs.declared.socket_error.SocketError.{SocketError}
 use Rattle.libtas_sockets.specs.declared.socket_error.SocketError.TheVariants as errors
-use Rattle.app_deeds.specs.Deeds.{IsCall, AreOfCall, tells_sent, tells_done}
+use Rattle.app_deeds.specs.Deeds.{AreOfCall, tells_sent, tells_done}
 use Rattle.core_worker.specs.Frames.{tuple_of}
 use Rattle.core_worker.specs.declared.frames.Frame.{Frame}
 use Rattle.core_phase.specs.Deeds.{IsRx, IsSend}
@@ -107,7 +107,7 @@ busy_none app t id (attempts.Recv buf) after answer ds h (result, e, are) =
     (busy_is_fault result (sym (ap is_busy e) ∙ h)) are
 busy_none app t id attempts.Shut after answer ds h (result, e, are) =
     fault_none app t id ins.Shut (fault_in result) (tells_done result) ds
-        (busy_is_fault result (sym (ap is_busy e) ∙ h))
+    (busy_is_fault result (sym (ap is_busy e) ∙ h))
     are
 busy_none app t id attempts.Close after answer ds h (result, e, are) =
     fault_none app t id ins.Close (fault_in result) (tells_done result) ds

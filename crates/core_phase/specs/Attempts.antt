@@ -95,7 +95,7 @@ AreOfTry app id tick (attempts.Send bytes) after answer ds =
 AreOfTry app id tick (attempts.Recv buf) after answer ds =
     (result : Result Received SocketError) × (answer ≡ answers.Read result)
     × AreOfCall app id tick (ins.Recv (length buf.items)) (fault_in result)
-        (IsReceived buf.items (room_of after) result) ds
+    (IsReceived buf.items (room_of after) result) ds
 AreOfTry app id tick attempts.Shut after answer ds =
     (result : Result (Unit {0}) SocketError) × (answer ≡ answers.Done result)
     × AreOfCall app id tick ins.Shut (fault_in result) (tells_done result) ds

@@ -35,8 +35,10 @@ pub record IsIdleHost (h : HostPart) (vs : List Lane) : Type 0 where
 
 -- all turns are lent
 pub record IsLentHost (h g : HostPart) (vs ls : List Lane) : Type 0 where
-  pub slow : g ≡ record h { slow = record (h.slow)
-      { view = record (h.slow.view) { made = h.slow.view.made + length vs } } }
+  pub slow : g ≡ record h {
+    slow = record (h.slow)
+        { view = record (h.slow.view) { made = h.slow.view.made + length vs } };
+  }
   pub lent : AreLent h.slow.view.made vs ls
 
 -- with all turns given back

@@ -39,6 +39,6 @@ returns-clause-phases g c =
     let ls = c.lend_parts.new.lanes.items in
     let ms = c.phase.new.jobs.items in
     all_phases c.args.hosts.now c.lend_parts.new.hosts c.collect_parts.new.hosts vs ls ms
-        c.collect_parts.new.lanes.items
+    c.collect_parts.new.lanes.items
     c.requires.idle c.lend_parts.ensures.lent c.phase.ensures.made
     (every Works ms (c.lanes_failed.ensures c.if-lanes_failed.false)) c.collect_parts.ensures.learned
