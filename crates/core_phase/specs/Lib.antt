@@ -1,0 +1,6 @@
+pub mod Deeds
+pub mod Attempts
+pub mod Lanes
+pub mod Phases
+pub mod Hosts
+pub mod Words
