@@ -1,8 +1,8 @@
 -- What leads anywhere can be made a report.
-use Rattle.std.proofs.Common.{◌≡◌, ℕ, ◌+◌, ◌≤◌, ◌<◌, Bool, true, false, cond, ◌&&◌, List, [], ◌∷◌, ◌++◌, length, map}
-use Rattle.std.proofs.Common.{inl, inr, ◌⊎◌, get_or, drop, Option, Some, None, refl, sym, ap, subst, ◌∙◌, arith}
-use Rattle.std.specs.Prelude.{slice_get, ◌==◌, IsSome, is_some, ⊤}
-use Rattle.std.proofs.lemmas.Bool.{eqb-true, and_parts}
+use Rattle.std.proofs.Common.{◌≡◌, ℕ, ◌+◌, ◌≤◌, ◌<◌, true, ◌&&◌, List, [], ◌∷◌, ◌++◌, length, map}
+use Rattle.std.proofs.Common.{inl, inr, ◌⊎◌, get_or, drop, Option, Some, None, refl, ap, subst, ◌∙◌, arith}
+use Rattle.std.specs.Prelude.{slice_get, ◌==◌, IsSome, ⊤}
+use Rattle.std.proofs.lemmas.Bool.{and_parts}
 use Rattle.std.proofs.lemmas.Option.{cond_some, same_Some, slice_get_cases}
 use Rattle.tas_model.specs.declared.entry.Entry.{Entry}
 use Rattle.tas_model.specs.declared.entry.Caller.TheVariants.{Slow}
@@ -12,7 +12,7 @@ use Rattle.tas_model.specs.declared.entry.Phase.TheVariants as phases
 use Rattle.report_lines.specs.Lines.{Line, Title, Host, Logged, Begins, Made, State, Read, End}
 use Rattle.report_form.specs.declared.place.Place.{Place}
 use Rattle.report_form.specs.declared.place.Place.TheVariants as places
-use Rattle.report_form.specs.Reports.{HostPart, rest_of_flow, hosts_lines, addrs_of, IsReport, MayBegin}
+use Rattle.report_form.specs.Reports.{HostPart, rest_of_flow, hosts_lines, addrs_of, MayBegin}
 use Rattle.report_form.specs.Places.{is_addr, host_at, flow_at, next_place, led, IsAt}
 use Rattle.report_form.proofs.Left.{is_own, left_by}
 use Rattle.report_form.proofs.Led.{led_one, led_on, led_nowhere, later_leads, first_leads, bytes_lead, title_leads}

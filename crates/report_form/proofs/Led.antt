@@ -1,7 +1,7 @@
 -- The lines of a report lead to its end, from each place on.
-use Rattle.std.proofs.Common.{◌≡◌, ℕ, ◌+◌, ◌-◌, ◌≤◌, ◌<◌, Bool, true, false, cond, ◌&&◌, List, [], ◌∷◌, ◌++◌, length}
+use Rattle.std.proofs.Common.{◌≡◌, ℕ, ◌+◌, ◌-◌, ◌≤◌, ◌<◌, Bool, true, cond, ◌&&◌, List, [], ◌∷◌, ◌++◌, length}
 use Rattle.std.proofs.Common.{map}
-use Rattle.std.proofs.Common.{get_or, drop, Option, Some, None, refl, sym, ap, subst, ◌∙◌, arith, append_assoc}
+use Rattle.std.proofs.Common.{get_or, drop, Option, Some, None, refl, sym, ap, ◌∙◌, arith, append_assoc}
 use Rattle.std.specs.Prelude.{slice_get, ◌==◌}
 use Rattle.std.proofs.lemmas.Bool.{eq-eqb}
 use Rattle.std.proofs.lemmas.List.{drop_more, length-drop}
@@ -12,11 +12,11 @@ use Rattle.tas_model.specs.declared.entry.FourTuple.{FourTuple}
 use Rattle.tas_model.specs.declared.entry.Phase.{Phase}
 use Rattle.tas_model.specs.declared.entry.Reason.{Reason}
 use Rattle.report_lines.specs.Events.{Event}
-use Rattle.report_lines.specs.Lines.{Line, Title, Host, Logged, Begins, Made, State, Read, End}
+use Rattle.report_lines.specs.Lines.{Line, Title, Host, Begins, Made, Read, End}
 use Rattle.report_form.specs.declared.place.Place.{Place}
 use Rattle.report_form.specs.declared.place.Place.TheVariants as places
-use Rattle.report_form.specs.Reports.{FlowPart, HostPart, Report, rest_of_flow, flow_lines, flows_lines, logged}
-use Rattle.report_form.specs.Reports.{host_lines, hosts_lines, report_lines, addrs_of, IsReport}
+use Rattle.report_form.specs.Reports.{FlowPart, HostPart, rest_of_flow, flow_lines, flows_lines, logged}
+use Rattle.report_form.specs.Reports.{host_lines, hosts_lines, addrs_of, IsReport}
 use Rattle.report_form.specs.Places.{is_addr, host_at, flow_at, next_place, led}
 
 -- ----- lists of lines

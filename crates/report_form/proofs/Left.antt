@@ -1,5 +1,5 @@
 -- What is left of a report, told by the place: lines that lead to the end are a report.
-use Rattle.std.proofs.Common.{◌≡◌, ℕ, ◌+◌, ◌≤◌, ◌<◌, Bool, true, false, cond, ◌&&◌, List, [], ◌∷◌, ◌++◌, length, map}
+use Rattle.std.proofs.Common.{◌≡◌, ℕ, ◌+◌, ◌≤◌, ◌<◌, true, ◌&&◌, List, [], ◌∷◌, ◌++◌, length, map}
 use Rattle.std.proofs.Common.{get_or, drop, Option, Some, None, refl, sym, ap, subst, ◌∙◌, arith, append_assoc}
 use Rattle.std.specs.Prelude.{slice_get, ◌==◌}
 use Rattle.std.proofs.lemmas.Bool.{eqb-true, and_parts}
@@ -13,8 +13,8 @@ use Rattle.report_lines.specs.Events.{Event}
 use Rattle.report_lines.specs.Lines.{Line, Title, Host, Logged, Begins, Made, State, Read, End}
 use Rattle.report_form.specs.declared.place.Place.{Place}
 use Rattle.report_form.specs.declared.place.Place.TheVariants as places
-use Rattle.report_form.specs.Reports.{FlowPart, HostPart, Report, rest_of_flow, flow_lines, flows_lines, logged}
-use Rattle.report_form.specs.Reports.{host_lines, hosts_lines, report_lines, addrs_of, IsReport}
+use Rattle.report_form.specs.Reports.{FlowPart, HostPart, rest_of_flow, flow_lines, flows_lines, logged}
+use Rattle.report_form.specs.Reports.{host_lines, hosts_lines, addrs_of, IsReport}
 use Rattle.report_form.specs.Places.{is_addr, host_at, flow_at, next_place, led}
 
 -- ----- what is left

@@ -5,7 +5,7 @@ use Rattle.report_lines.specs.Views.{seen_line}
 use Rattle.report_form.specs.declared.place.Place.{Place}
 use Rattle.report_form.specs.declared.place.Place.TheVariants as places
 use Rattle.report_form.specs.Reports.{MayBegin}
-use Rattle.report_form.specs.Places.{led, next_place, IsAt}
+use Rattle.report_form.specs.Places.{led, IsAt}
 use Rattle.report_form.proofs.Beginnings.{led_by_one, may_not_begin}
 use Rattle.report_form.proofs.place.Place.next.Goals as goal
 
