@@ -1,18 +1,19 @@
 -- Each step at a desk keeps its rule.
 use Rattle.std.proofs.Common.{◌≡◌, ◌≢◌, ℕ, zero, suc, Bool, true, false, List, [], ◌∷◌, slice_set, slice_index, ◌++◌}
 use Rattle.std.proofs.Common.{◌⊎◌, sym, refl, ap, ◌∙◌}
-use Rattle.std.proofs.Common.{subst, inl, inr, arith, true≢false}
+use Rattle.std.proofs.Common.{subst, inl, inr, arith, true≢false, eqb, ne_eqb}
 use Rattle.std.specs.Prelude.{Option, Some, None}
 use mathlib.Core.Option as O
 use mathlib.Core.Option.{some-injective, some-ne-none}
 use lib.ListN.{get_elem?}
+use prog.Atomic.{either}
 use Rattle.atomic_table.specs.Table.{State, Me, step, keeps, takes, gives, Allows, Splits, opening, Act, Valid}
 use Rattle.atomic_table.specs.Table.{stepped, Step, carried_after}
 use Rattle.crew.specs.declared.handover.View.{View}
 use Rattle.crew.specs.declared.handover.View.TheVariants.{Whole, Both, Unmanned, Idle, Sent, Stopped}
 use Rattle.crew.specs.declared.handover.View.TheVariants.{Away, Free, Works, Gone}
 use Rattle.crew.specs.Desks.{Fits, IsNew, IsManned, Sides, Lawful, at_rest}
-use Rattle.crew.specs.Desks.{clears, asks, hands_out, takes_back, stops, arrives, looks, hands_back}
+use Rattle.crew.specs.Desks.{clears, asks, hands_out, recalls, takes_back, stops, arrives, looks, claims, hands_back}
 
 module _ {W : Type 0} where
   -- which side a view is
@@ -97,6 +98,12 @@ module _ {W : Type 0} where
     first_same : {ws : List ℕ} {n m : ℕ} → ws ≡ n ∷ m ∷ [] → slice_set ws 0 (slice_index ws 0) ≡ n ∷ m ∷ []
     first_same e = λ i. slice_set (e i) 0 (first_word e i)
 
+    -- one that is exchanged for another, where it was as expected, becomes what this makes of it
+    first_exchanged : {ws : List ℕ} {n m : ℕ} (old new k : ℕ) → ws ≡ n ∷ m ∷ [] → either (eqb n old) new n ≡ k
+        → slice_set ws 0 (either (eqb (slice_index ws 0) old) new (slice_index ws 0)) ≡ k ∷ m ∷ []
+    first_exchanged {ws} {n} {m} old new k e is =
+        (λ i. slice_set (e i) 0 (either (eqb (first_word e i) old) new (first_word e i))) ∙ ap (λ b. b ∷ m ∷ []) is
+
     second_same : {ws : List ℕ} {n m : ℕ} → ws ≡ n ∷ m ∷ [] → slice_set ws 1 (slice_index ws 1) ≡ n ∷ m ∷ []
     second_same e = λ i. slice_set (e i) 1 (second_word e i)
 
@@ -153,7 +160,7 @@ module _ {W : Type 0} where
     unmanned_asks : (n : ℕ) (h : O.Option (Option W)) (w : View W) → Fits can made n h Unmanned w → IsManned 1 w
         → Fits can made n h Idle w
     unmanned_asks n h Free f m =
-        let z = f.0 in (λ e. absurd (omega arith), λ e. absurd (omega arith), f.1)
+        (inl f.0, f.1)
     unmanned_asks n h Away f m = absurd (omega arith)
     unmanned_asks n h Whole f m = absurd f
     unmanned_asks n h Both f m = absurd f
@@ -167,7 +174,7 @@ module _ {W : Type 0} where
     -- what is known of the worker where the desk was idle
     idle_has : (n m : ℕ) (h : O.Option (Option W)) (w : View W) → Fits can made n h Idle w → IsManned m w
         → (w ≡ Free) × (m ≡ 1) × (h ≡ O.none)
-    idle_has n m h Free f there = (refl, there, f.2)
+    idle_has n m h Free f there = (refl, there, f.1)
     idle_has n m h Whole f there = absurd f
     idle_has n m h Both f there = absurd f
     idle_has n m h Unmanned f there = absurd f
@@ -267,7 +274,7 @@ module _ {W : Type 0} where
 
     rest_stops : (n : ℕ) (h : O.Option (Option W)) (manned : Bool) (w : View W) → Fits can made n h (at_rest manned) w
         → Fits can made 3 h Stopped w
-    rest_stops n h true Free f = (refl, f.2)
+    rest_stops n h true Free f = (refl, f.1)
     rest_stops n h true Whole f = absurd f
     rest_stops n h true Both f = absurd f
     rest_stops n h true Unmanned f = absurd f
@@ -367,10 +374,81 @@ module _ {W : Type 0} where
                 homes = ap (λ hs. slice_set hs 0 O.none) homes;
                 sides = subst (λ vs. Sides can made law.word law.manned O.none (slice_set vs 0 Idle))
                     (sym (vs ∙ ap (λ w. Sent x ∷ w ∷ []) q.1))
-                    ((λ e. absurd (omega arith), λ e. absurd (omega arith), refl), subst (IsManned law.manned) q.1 m);
+                    ((inr two, refl), subst (IsManned law.manned) q.1 m);
               },
               (λ n. absurd (n (first_word law.words ∙ q.0)), λ e. (y, q.2.1, refl)),
             )
+
+    -- where this job is out, it waits, or it was begun
+    waits_is : (n : ℕ) (h : O.Option (Option W)) (x : W) (w : View W) → Fits can made n h (Sent x) w
+        → (n ≢ 1) ⊎ ((n ≡ 1) × (w ≡ Free) × can x × (h ≡ O.some (Some x)))
+    waits_is n h x Free (inl f) = inr (f.0, refl, f.1, f.2)
+    waits_is n h x Free (inr f) = inl (λ e. let z = f.0 in absurd (omega arith))
+    waits_is n h x (Works y) f = inl (λ e. let z = f.0 in absurd (omega arith))
+    waits_is n h x Whole f = absurd f
+    waits_is n h x Both f = absurd f
+    waits_is n h x Unmanned f = absurd f
+    waits_is n h x Idle f = absurd f
+    waits_is n h x (Sent y) f = absurd f
+    waits_is n h x Stopped f = absurd f
+    waits_is n h x Away f = absurd f
+    waits_is n h x Gone f = absurd f
+
+    -- a word that isn't 1 stays where 1 is exchanged for another
+    missed : (n new : ℕ) → n ≢ 1 → either (eqb n 1) new n ≡ n
+    missed n new ne = ap (λ b. either b new n) (ne_eqb n 1 ne)
+
+    pub recalls_it : (slots : ℕ) (x : W)
+        → Allows Law slots 0 (Sent x, []) 0 (λ n. either (eqb n 1) 0 n)
+        (recalls (step slots 0 1 0 O.none) (Sent x, []))
+    recalls_it slots x s law wide at near =
+        let p = dispatcher_at law.word law.manned law.home s.views (Sent x) refl law.sides at in
+        by_word p.0 p.1 p.2 p.3 (waits_is law.word law.home x p.0 p.2)
+      where
+        by_word : (w : View W) → s.views ≡ Sent x ∷ w ∷ [] → Fits can made law.word law.home (Sent x) w
+            → IsManned law.manned w
+            → (law.word ≢ 1) ⊎ ((law.word ≡ 1) × (w ≡ Free) × can x × (law.home ≡ O.some (Some x)))
+            → (v : View W) × (a : Act (Option W)) × Valid s.homes [] a
+            × Law (stepped s 0 (either (eqb (slice_index s.words 0) 1) 0 (slice_index s.words 0)) 0 [] v a)
+            × recalls (step slots 0 1 0 O.none) (Sent x, []) (slice_index s.words 0) (v, carried_after [] a)
+        by_word w vs f m (inl q) = (
+          Sent x,
+          keeps,
+          tt,
+          record {
+            word = law.word;
+            manned = law.manned;
+            home = law.home;
+            words = first_exchanged 1 0 law.word law.words (missed law.word 0 q);
+            homes = law.homes;
+            sides = subst (λ vs. Sides can made law.word law.manned law.home (slice_set vs 0 (Sent x))) (sym vs) (f, m);
+          },
+          (λ n. refl, λ e. absurd (q (sym (first_word law.words) ∙ e))),
+        )
+        by_word w vs f m (inr q) =
+            let homes : s.homes ≡ O.some (Some x) ∷ [] = law.homes ∙ ap (λ h. h ∷ []) q.3 in (
+              Idle,
+              takes 0 (Some x),
+              ap (λ hs. get_elem? hs 0) homes,
+              record {
+                word = 0;
+                manned = law.manned;
+                home = O.none;
+                words = first_exchanged 1 0 0 law.words (ap (λ n. either (eqb n 1) 0 n) q.0);
+                homes = ap (λ hs. slice_set hs 0 O.none) homes;
+                sides = subst (λ vs. Sides can made 0 law.manned O.none (slice_set vs 0 Idle))
+                    (sym (vs ∙ ap (λ w. Sent x ∷ w ∷ []) q.1))
+                    ((inl refl, refl), subst (IsManned law.manned) q.1 m);
+              },
+              (λ n. absurd (n (first_word law.words ∙ q.0)), λ e. refl),
+            )
+
+    -- what taking back tells, where this job is out
+    pub recalled : (st : Step (Option W)) (n : ℕ) (x : W) (m m' : Me (Option W) (View W)) → m ≡ (Sent x, [])
+        → recalls st m n m' → (n ≢ 1 → m' ≡ (Sent x, [])) × (n ≡ 1 → m' ≡ (Idle, (0, Some x) ∷ []))
+    recalled st n x m m' e told =
+        let t : recalls st (Sent x, []) n m' =
+        subst (λ (u : Me (Option W) (View W)). recalls st u n m') e told in t
 
     -- ----- the worker
     away_arrives : (n : ℕ) (h : O.Option (Option W)) (d : View W) → Fits can made n h d Away → Fits can made n h d Free
@@ -405,45 +483,100 @@ module _ {W : Type 0} where
           refl,
         )
 
-    -- a job waits for the worker, or no more come, or there is nothing
-    waits_is : (n : ℕ) (h : O.Option (Option W)) (d : View W) → Fits can made n h d Free
-        → ((n ≢ 1) × (n ≢ 3))
-        ⊎ (((n ≡ 1) × ((x : W) × (d ≡ Sent x) × can x × (h ≡ O.some (Some x))))
-        ⊎ ((n ≡ 3) × (d ≡ Stopped) × (h ≡ O.none)))
-    waits_is n h Unmanned f = let z = f.0 in inl (λ e. absurd (omega arith), λ e. absurd (omega arith))
-    waits_is n h Idle f = inl (f.0, f.1)
-    waits_is n h (Sent x) (inl f) = inr (inl (f.0, (x, refl, f.1, f.2)))
-    waits_is n h (Sent x) (inr f) = let z = f.0 in inl (λ e. absurd (omega arith), λ e. absurd (omega arith))
-    waits_is n h Stopped f = inr (inr (f.0, refl, f.1))
-    waits_is n h Whole f = absurd f
-    waits_is n h Both f = absurd f
-    waits_is n h Away f = absurd f
-    waits_is n h Free f = absurd f
-    waits_is n h (Works x) f = absurd f
-    waits_is n h Gone f = absurd f
+    -- the worker's view where the dispatcher's is known
+    views_with : {vs : List (View W)} {k : ℕ} (v d e : View W) → vs ≡ d ∷ Free ∷ [] → k ≡ 1 → d ≡ e
+        → slice_set vs k v ≡ e ∷ v ∷ []
+    views_with v d e is one same = (λ i. slice_set (is i) (one i) v) ∙ ap (λ b. b ∷ v ∷ []) same
 
-    pub looks_at : (slots k : ℕ)
-        → Allows Law slots k (Free, []) 0 (λ n. n) (looks can made (step slots 0 0 0 O.none) (Free, []))
-    looks_at slots k s law wide at near =
+    -- a job waits for the worker, or none does
+    found_is : (n : ℕ) (h : O.Option (Option W)) (d : View W) → Fits can made n h d Free
+        → (n ≢ 1) ⊎ ((n ≡ 1) × ((x : W) × (d ≡ Sent x) × can x × (h ≡ O.some (Some x))))
+    found_is n h Unmanned f = let z = f.0 in inl (λ e. absurd (omega arith))
+    found_is n h Idle (inl f, g) = inl (λ e. absurd (omega arith))
+    found_is n h Idle (inr f, g) = inl (λ e. absurd (omega arith))
+    found_is n h (Sent x) (inl f) = inr (f.0, (x, refl, f.1, f.2))
+    found_is n h (Sent x) (inr f) = let z = f.0 in inl (λ e. absurd (omega arith))
+    found_is n h Stopped f = let z = f.0 in inl (λ e. absurd (omega arith))
+    found_is n h Whole f = absurd f
+    found_is n h Both f = absurd f
+    found_is n h Away f = absurd f
+    found_is n h Free f = absurd f
+    found_is n h (Works x) f = absurd f
+    found_is n h Gone f = absurd f
+
+    pub claims_at : (slots k : ℕ)
+        → Allows Law slots k (Free, []) 0 (λ n. either (eqb n 1) 4 n)
+        (claims can made (step slots 0 1 4 O.none) (Free, []))
+    claims_at slots k s law wide at near =
         let p = worker_at law.word law.manned law.home s.views k Free refl law.sides at in
-        by_word p.0 p.1 p.2 p.3 p.4 (waits_is law.word law.home p.0 p.3)
+        by_word p.0 p.1 p.2 p.3 p.4 (found_is law.word law.home p.0 p.3)
       where
-        Found : Type 0
-        Found =
-            (v : View W) × (a : Act (Option W)) × Valid s.homes [] a
-            × Law (stepped s 0 (slice_index s.words 0) k [] v a)
-            × looks can made (step slots 0 0 0 O.none) (Free, []) (slice_index s.words 0) (v, carried_after [] a)
-
-        -- the worker's view where the dispatcher's is known
-        views_with : (v d e : View W) → s.views ≡ d ∷ Free ∷ [] → k ≡ 1 → d ≡ e → slice_set s.views k v ≡ e ∷ v ∷ []
-        views_with v d e vs one is = (λ i. slice_set (vs i) (one i) v) ∙ ap (λ b. b ∷ v ∷ []) is
-
         by_word : (d : View W) → s.views ≡ d ∷ Free ∷ [] → k ≡ 1 → Fits can made law.word law.home d Free
             → law.manned ≡ 1
-            → ((law.word ≢ 1) × (law.word ≢ 3))
-            ⊎ (((law.word ≡ 1) × ((x : W) × (d ≡ Sent x) × can x × (law.home ≡ O.some (Some x))))
-            ⊎ ((law.word ≡ 3) × (d ≡ Stopped) × (law.home ≡ O.none)))
-            → Found
+            → (law.word ≢ 1)
+            ⊎ ((law.word ≡ 1) × ((x : W) × (d ≡ Sent x) × can x × (law.home ≡ O.some (Some x))))
+            → (v : View W) × (a : Act (Option W)) × Valid s.homes [] a
+            × Law (stepped s 0 (either (eqb (slice_index s.words 0) 1) 4 (slice_index s.words 0)) k [] v a)
+            × claims can made (step slots 0 1 4 O.none) (Free, []) (slice_index s.words 0) (v, carried_after [] a)
+        by_word d vs one f m (inl q) = (
+          Free,
+          keeps,
+          tt,
+          record {
+            word = law.word;
+            manned = law.manned;
+            home = law.home;
+            words = first_exchanged 1 4 law.word law.words (missed law.word 4 q);
+            homes = law.homes;
+            sides = subst (Sides can made law.word law.manned law.home) (sym (views_with Free d d vs one refl)) (f, m);
+          },
+          (λ n. refl, λ e. absurd (q (sym (first_word law.words) ∙ e))),
+        )
+        by_word d vs one f m (inr q) =
+            let x = q.1.0 in
+            let homes : s.homes ≡ O.some (Some x) ∷ [] = law.homes ∙ ap (λ h. h ∷ []) q.1.3 in (
+              Works x,
+              takes 0 (Some x),
+              ap (λ hs. get_elem? hs 0) homes,
+              record {
+                word = 4;
+                manned = law.manned;
+                home = O.none;
+                words = first_exchanged 1 4 4 law.words (ap (λ n. either (eqb n 1) 4 n) q.0);
+                homes = ap (λ hs. slice_set hs 0 O.none) homes;
+                sides = subst (Sides can made 4 law.manned O.none)
+                    (sym (views_with (Works x) d (Sent x) vs one q.1.1)) ((refl, refl, refl), m);
+              },
+              (λ n. absurd (n (first_word law.words ∙ q.0)), λ e. (x, q.1.2, refl)),
+            )
+
+    -- no more jobs come, or some may
+    stopped_is : (n : ℕ) (h : O.Option (Option W)) (d : View W) → Fits can made n h d Free
+        → (n ≢ 3) ⊎ ((n ≡ 3) × (d ≡ Stopped) × (h ≡ O.none))
+    stopped_is n h Unmanned f = let z = f.0 in inl (λ e. absurd (omega arith))
+    stopped_is n h Idle (inl f, g) = inl (λ e. absurd (omega arith))
+    stopped_is n h Idle (inr f, g) = inl (λ e. absurd (omega arith))
+    stopped_is n h (Sent x) (inl f) = let z = f.0 in inl (λ e. absurd (omega arith))
+    stopped_is n h (Sent x) (inr f) = let z = f.0 in inl (λ e. absurd (omega arith))
+    stopped_is n h Stopped f = inr (f.0, refl, f.1)
+    stopped_is n h Whole f = absurd f
+    stopped_is n h Both f = absurd f
+    stopped_is n h Away f = absurd f
+    stopped_is n h Free f = absurd f
+    stopped_is n h (Works x) f = absurd f
+    stopped_is n h Gone f = absurd f
+
+    pub looks_at : (slots k : ℕ)
+        → Allows Law slots k (Free, []) 0 (λ n. n) (looks (step slots 0 0 0 O.none) (Free, []))
+    looks_at slots k s law wide at near =
+        let p = worker_at law.word law.manned law.home s.views k Free refl law.sides at in
+        by_word p.0 p.1 p.2 p.3 p.4 (stopped_is law.word law.home p.0 p.3)
+      where
+        by_word : (d : View W) → s.views ≡ d ∷ Free ∷ [] → k ≡ 1 → Fits can made law.word law.home d Free
+            → law.manned ≡ 1 → (law.word ≢ 3) ⊎ ((law.word ≡ 3) × (d ≡ Stopped) × (law.home ≡ O.none))
+            → (v : View W) × (a : Act (Option W)) × Valid s.homes [] a
+            × Law (stepped s 0 (slice_index s.words 0) k [] v a)
+            × looks (step slots 0 0 0 O.none) (Free, []) (slice_index s.words 0) (v, carried_after [] a)
         by_word d vs one f m (inl q) = (
           Free,
           keeps,
@@ -456,46 +589,23 @@ module _ {W : Type 0} where
             homes = law.homes;
             sides = subst (Sides can made law.word law.manned law.home) (sym (views_with Free d d vs one refl)) (f, m);
           },
-          (
-            λ n e. refl,
-            λ e. absurd (q.0 (sym (first_word law.words) ∙ e)),
-            λ e. absurd (q.1 (sym (first_word law.words) ∙ e)),
-          ),
+          (λ n. refl, λ e. absurd (q (sym (first_word law.words) ∙ e))),
         )
-        by_word d vs one f m (inr (inl q)) =
-            let x = q.1.0 in
-            let homes : s.homes ≡ O.some (Some x) ∷ [] = law.homes ∙ ap (λ h. h ∷ []) q.1.3 in
-            let found : slice_index s.words 0 ≡ 1 = first_word law.words ∙ q.0 in (
-              Works x,
-              takes 0 (Some x),
-              ap (λ hs. get_elem? hs 0) homes,
-              record {
-                word = law.word;
-                manned = law.manned;
-                home = O.none;
-                words = first_same law.words;
-                homes = ap (λ hs. slice_set hs 0 O.none) homes;
-                sides = subst (Sides can made law.word law.manned O.none)
-                    (sym (views_with (Works x) d (Sent x) vs one q.1.1)) ((q.0, refl, refl), m);
-              },
-              (λ n. absurd (n found), λ e. (x, q.1.2, refl), λ e. absurd (omega arith)),
-            )
-        by_word d vs one f m (inr (inr q)) =
-            let found : slice_index s.words 0 ≡ 3 = first_word law.words ∙ q.0 in (
-              Gone,
-              keeps,
-              tt,
-              record {
-                word = law.word;
-                manned = law.manned;
-                home = law.home;
-                words = first_same law.words;
-                homes = law.homes;
-                sides = subst (Sides can made law.word law.manned law.home)
-                    (sym (views_with Gone d Stopped vs one q.1)) ((q.0, q.2), m);
-              },
-              (λ n e. absurd (e found), λ e. absurd (omega arith), λ e. refl),
-            )
+        by_word d vs one f m (inr q) = (
+          Gone,
+          keeps,
+          tt,
+          record {
+            word = law.word;
+            manned = law.manned;
+            home = law.home;
+            words = first_same law.words;
+            homes = law.homes;
+            sides = subst (Sides can made law.word law.manned law.home)
+                (sym (views_with Gone d Stopped vs one q.1)) ((q.0, q.2), m);
+          },
+          (λ n. absurd (n (first_word law.words ∙ q.0)), λ e. refl),
+        )
 
     works_is : (n : ℕ) (h : O.Option (Option W)) (d : View W) (x : W) → Fits can made n h d (Works x) → d ≡ Sent x
     works_is n h (Sent y) x f = ap Sent (sym f.2)

@@ -1,6 +1,7 @@
 -- A desk: what holds of it between any two steps, and what each step tells. Its first word says how things stand: 0
--- nothing yet, 1 a job waits or is worked on, 2 the last one is done, 3 no more come. The second says whether a thread
--- is behind it.
+-- nothing waits, 1 a job waits, 2 the last one is done, 3 no more come, 4 a job is worked on. The second says whether a
+-- thread is behind it. Either side may make 1 something else, and whoever does has the job: the worker, who begins it
+-- by 4, or the dispatcher, who takes it back by 0.
 use Rattle.std.specs.Prelude.{◌≡◌, ◌≢◌, ℕ, Bool, true, false, List, [], ◌∷◌, ◌⊎◌, Option, Some, None, ⊤}
 use mathlib.Core.Option as O
 use Rattle.atomic_table.specs.Table.{State, Me, Step}
@@ -46,9 +47,9 @@ module _ {W : Type 0} (can : W → Type 0) (made : W → W → Type 0) where
   abbrev pub Fits : (word : ℕ) → O.Option (Option W) → View W → View W → Type 0
   Fits n h Unmanned Away = (n ≡ 0) × (h ≡ O.none)
   Fits n h Unmanned Free = (n ≡ 0) × (h ≡ O.none)
-  Fits n h Idle Free = (n ≢ 1) × (n ≢ 3) × (h ≡ O.none)
+  Fits n h Idle Free = ((n ≡ 0) ⊎ (n ≡ 2)) × (h ≡ O.none)
   Fits n h (Sent x) Free = IsOnDesk n h x
-  Fits n h (Sent x) (Works y) = (n ≡ 1) × (h ≡ O.none) × (y ≡ x)
+  Fits n h (Sent x) (Works y) = (n ≡ 4) × (h ≡ O.none) × (y ≡ x)
   Fits n h Stopped Away = (n ≡ 3) × (h ≡ O.none)
   Fits n h Stopped Free = (n ≡ 3) × (h ≡ O.none)
   Fits n h Stopped Gone = (n ≡ 3) × (h ≡ O.none)
@@ -83,12 +84,9 @@ module _ {W : Type 0} (can : W → Type 0) (made : W → W → Type 0) where
   abbrev pub takes_back : Step (Option W) → Me (Option W) (View W) → ℕ → Me (Option W) (View W) → Type 0
   takes_back st m n m' = TakesBackBy m.0 n m m'
 
-  -- the worker looks at it: where a job waits, it has that, and otherwise it may know that no more come
-  abbrev pub looks : Step (Option W) → Me (Option W) (View W) → ℕ → Me (Option W) (View W) → Type 0
-  looks st m n m' =
-      (n ≢ 1 → n ≢ 3 → m' ≡ m)
-      × (n ≡ 1 → (x : W) × can x × (m' ≡ (Works x, (0, Some x) ∷ [])))
-      × (n ≡ 3 → m' ≡ (Gone, []))
+  -- the worker begins the job that waits, if one does
+  abbrev pub claims : Step (Option W) → Me (Option W) (View W) → ℕ → Me (Option W) (View W) → Type 0
+  claims st m n m' = (n ≢ 1 → m' ≡ m) × (n ≡ 1 → (x : W) × can x × (m' ≡ (Works x, (0, Some x) ∷ [])))
 
 module _ {W : Type 0} where
   -- the empty desk is taken
@@ -108,6 +106,14 @@ module _ {W : Type 0} where
   abbrev pub hands_out : Step (Option W) → Me (Option W) (View W) → ℕ → Me (Option W) (View W) → Type 0
   hands_out st m n m' = m' ≡ (sent_of m.1, [])
 
+  -- the dispatcher takes back the job that waits, if it still does: it has that very job
+  abbrev pub RecallsBy : View W → ℕ → Me (Option W) (View W) → Me (Option W) (View W) → Type 0
+  RecallsBy (Sent x) n m m' = (n ≢ 1 → m' ≡ m) × (n ≡ 1 → m' ≡ (Idle, (0, Some x) ∷ []))
+  RecallsBy v n m m' = ⊤
+
+  abbrev pub recalls : Step (Option W) → Me (Option W) (View W) → ℕ → Me (Option W) (View W) → Type 0
+  recalls st m n m' = RecallsBy m.0 n m m'
+
   -- no more jobs come
   abbrev pub stops : Step (Option W) → Me (Option W) (View W) → ℕ → Me (Option W) (View W) → Type 0
   stops st m n m' = m' ≡ (Stopped, m.1)
@@ -115,6 +121,10 @@ module _ {W : Type 0} where
   -- the worker is there
   abbrev pub arrives : Step (Option W) → Me (Option W) (View W) → ℕ → Me (Option W) (View W) → Type 0
   arrives st m n m' = m' ≡ (Free, [])
+
+  -- the worker looks at the first word: it may know that no more jobs come
+  abbrev pub looks : Step (Option W) → Me (Option W) (View W) → ℕ → Me (Option W) (View W) → Type 0
+  looks st m n m' = (n ≢ 3 → m' ≡ m) × (n ≡ 3 → m' ≡ (Gone, []))
 
   -- what work made lies on the desk
   abbrev pub hands_back : Step (Option W) → Me (Option W) (View W) → ℕ → Me (Option W) (View W) → Type 0

@@ -1,7 +1,7 @@
 //! A phase: jobs that a crew's threads and the caller work on side by side.
 ghost use Rattle.std.specs.Prelude.{◌≡◌, ◌<◌, length, All, vec_capacity};
 ghost use Rattle.std.specs.List.{AllZip};
-ghost use Rattle.crew.specs.Crews.{IsReady, desk_of, desks_of};
+ghost use Rattle.crew.specs.Crews.{IsReady, IsOutAt, desk_of, desks_of};
 
 use crate::job::Job;
 use crate::post::{Post, take_post};
@@ -35,8 +35,9 @@ impl<W: Job + Drop> Crew<W> {
         self.posts.len()
     }
 
-    /// Works on all jobs side by side, and returns when each is done: each thread that has begun works on one, from the
-    /// last job on, and the caller on those that are left. A job is back in its place, as its own work left it.
+    /// Works on all jobs side by side, and returns when each is done: each thread is handed one, from the last job on,
+    /// and the caller works on those that are left, and then on each that no thread has begun meanwhile. A job is back
+    /// in its place, as its own work left it.
     pub fn phase<R: Wait, G: Gate>(&mut self, rt: &R, gate: &G, jobs: &mut Vec<W>)
         requires { All W.can jobs.old.items }
         ensures made { AllZip W.made jobs.old.items jobs.new.items }
@@ -76,7 +77,8 @@ fn work_all<R: Wait, G: Gate, W: Job + Drop>(
     posts.push_reserved(post);
 }
 
-/// The last job by this post's thread, where there is one, and the others by those posts' and the caller.
+/// The last job by this post's thread, where there is one, and the others by those posts' and the caller. Where that
+/// thread has not begun by then, as it sleeps or has no processor, the caller works in its place.
 #[cycle(sharing)]
 fn share<R: Wait, G: Gate, W: Job + Drop>(
     rt: &R,
@@ -107,8 +109,22 @@ fn share<R: Wait, G: Gate, W: Job + Drop>(
     };
     post.send(job);
     work_all(rt, gate, posts, jobs);
-    let job = post.receive(rt);
+    let job = finish(rt, gate, post);
     jobs.push_reserved(job);
+}
+
+/// The job that is out at this post, done: by the caller, where its thread has not begun it.
+fn finish<R: Wait, G: Gate, W: Job + Drop>(rt: &R, gate: &G, post: &mut Post<W>) -> W
+    requires { (x : W) × W.can x × IsOutAt x post.old }
+    ensures made { (x : W) → IsOutAt x post.old → W.made x result }
+    ensures ready { IsReady post.new }
+    ensures desk { desk_of post.new ≡ desk_of post.old }
+{
+    let Some(mut left) = post.recall() else {
+        return post.receive(rt);
+    };
+    left.work(rt, gate);
+    left
 }
 
 /// The jobs by the caller, one after the other.

@@ -5,7 +5,8 @@ ghost use Rattle.crew.specs.Desks.{IsAtRest, IsIdle, IsOut, IsStillOut, IsStoppe
 ghost use Rattle.crew.specs.Desks.{IsAway, IsFree, IsAtWork, IsGone, IsFound};
 
 use crate::handover::{
-    Arrive, Ask, Clear, HandBack, HandOut, Handover, Look, Part, Stop, TakeBack, View,
+    Arrive, Ask, Claim, Clear, HandBack, HandOut, Handover, Look, Part, Recall, Stop, TakeBack,
+    View,
 };
 use crate::job::Job;
 use atomic_table::{Seat, Table};
@@ -16,22 +17,39 @@ use std::sync::Wait;
 use std::sync::atomic::{AtomicBool, Ordering};
 use tas_num::Gate;
 
-/// The word that says how things stand: 0 at first, and then one of these.
+/// The word that says how things stand, by one of these.
 const STATE: usize = 0;
 
+/// Nothing waits: at first, and where a job was taken back.
+const NOTHING: u64 = 0;
+
+/// A job waits. Whoever makes this another number has the job.
 const JOB: u64 = 1;
 
 const DONE: u64 = 2;
 
 const STOP: u64 = 3;
 
+/// A job is worked on.
+const WORK: u64 = 4;
+
 /// The word that says whether a thread is behind the desk: 0 at first, and then this.
 const MANNED: usize = 1;
 
 const THERE: u64 = 1;
 
-/// How often a thread looks before it sleeps: about as long as the system takes to wake one that sleeps.
-const LOOKS: u32 = 500;
+/// How often a thread looks before it sleeps: somewhat longer than the system takes to wake one that sleeps, since a
+/// look takes some 50 ns, and a wake 34 to 50 µs until the thread runs.
+const LOOKS: u32 = 1_500;
+
+/// How often the caller looks whether a thread begins its job, before it takes it back: far longer than a thread that
+/// looks needs to see it, and shorter than a wake. A thread that wakes a moment later would find its job gone, and the
+/// caller work on all jobs alone.
+const PATIENCE: u32 = 200;
+
+/// The point of the gate that a thread passes once it found a job, and before it begins it. Jobs have points of their
+/// own.
+pub const BEFORE_JOB: u32 = u32::MAX;
 
 /// A desk. A contract sees its identity.
 #[derive(Drop)]
@@ -99,7 +117,7 @@ impl<W: Job + Drop> Desk<W> {
         self.table.shared.load::<Ask>(&mut dispatcher.seat, MANNED) == THERE
     }
 
-    /// Hands a job out.
+    /// Hands a job out, and wakes nobody: that is `wake`'s.
     pub(crate) fn send(&self, dispatcher: &mut Dispatcher<W>, job: W)
         requires idle { IsIdle self.now dispatcher.old.seat }
         requires can { W.can job }
@@ -108,8 +126,13 @@ impl<W: Job + Drop> Desk<W> {
         let shared = &self.table.shared;
         drop(shared.exchange(&mut dispatcher.seat, 0, Some(job)));
         shared.swap::<HandOut>(&mut dispatcher.seat, STATE, JOB);
+    }
+
+    /// Wakes the thread behind the desk, where it sleeps. One that is about to sleep says so first, and then looks at
+    /// the word once more: so after a job was handed out either this finds that it sleeps, or it finds the job.
+    pub(crate) fn wake(&self) {
         if self.worker_sleeps.load(Ordering::SeqCst) {
-            shared.wake_one(STATE);
+            self.table.shared.wake_one(STATE);
         }
     }
 
@@ -123,7 +146,36 @@ impl<W: Job + Drop> Desk<W> {
         shared.wake_one(STATE);
     }
 
-    /// Waits for the job that is out, and takes it back.
+    /// The job that is out, as it was handed out, where its thread does not begin it in a little time. Nobody begins it
+    /// any more then.
+    pub(crate) fn recall(&self, dispatcher: &mut Dispatcher<W>) -> Option<W>
+        requires { (x : W) × IsOut self.now x dispatcher.old.seat }
+        ensures job { IfSome result (λ y. (x : W) → IsOut self.now x dispatcher.old.seat → y ≡ x) }
+        ensures idle { OnSome result (IsIdle self.now dispatcher.new.seat) }
+        ensures none { result ≡ None → IsStillOut self.now dispatcher.old.seat dispatcher.new.seat }
+    {
+        self.await_begin();
+        let shared = &self.table.shared;
+        if shared.compare_exchange::<Recall>(&mut dispatcher.seat, STATE, JOB, NOTHING) != JOB {
+            return None;
+        }
+        let Some(job) = shared.exchange(&mut dispatcher.seat, 0, None) else {
+            unreachable!()
+        };
+        Some(job)
+    }
+
+    /// Gives the thread a little time to begin the job that is out.
+    fn await_begin(&self) {
+        for _ in 0..PATIENCE {
+            if self.table.shared.peek(STATE) != JOB {
+                return;
+            }
+            spin_loop();
+        }
+    }
+
+    /// Waits until the job that is out is done, and takes it back.
     pub(crate) fn receive<R: Wait>(&self, rt: &R, dispatcher: &mut Dispatcher<W>) -> W
         requires { (x : W) × IsOut self.now x dispatcher.old.seat }
         ensures made { (x : W) → IsOut self.now x dispatcher.old.seat → W.made x result }
@@ -134,7 +186,7 @@ impl<W: Job + Drop> Desk<W> {
             if let Some(job) = self.take_back(dispatcher) {
                 return job;
             }
-            looks = self.rest(rt, &self.dispatcher_sleeps, looks, JOB as u32);
+            looks = self.rest(rt, &self.dispatcher_sleeps, looks, WORK as u32);
         }
         unreachable!()
     }
@@ -156,7 +208,8 @@ impl<W: Job + Drop> Desk<W> {
         Some(job)
     }
 
-    /// Waits a little: the caller may look again at once, or this sleeps while the word's last bits are these.
+    /// Waits a little: who calls may look again at once, or this sleeps while the word's last bits are these. A thread
+    /// that was woken looks as often again, also where it came too late for its job: the next one may follow soon.
     fn rest<R: Wait>(&self, rt: &R, sleeps: &AtomicBool, looks: u32, word: u32) -> u32 {
         if looks < LOOKS {
             spin_loop();
@@ -165,7 +218,7 @@ impl<W: Job + Drop> Desk<W> {
         sleeps.store(true, Ordering::SeqCst);
         self.table.shared.park(rt, STATE, word);
         sleeps.store(false, Ordering::SeqCst);
-        looks
+        0
     }
 
     /// Works on each job that is handed out, until no more come.
@@ -178,7 +231,7 @@ impl<W: Job + Drop> Desk<W> {
             .swap::<Arrive>(&mut worker.seat, MANNED, THERE);
         let mut looks = 0;
         for _ in rt.forever() {
-            match self.look(worker) {
+            match self.look(gate, worker) {
                 Found::Stop => return,
                 Found::Job(job) => {
                     looks = 0;
@@ -190,8 +243,8 @@ impl<W: Job + Drop> Desk<W> {
         unreachable!()
     }
 
-    /// Takes the job that was handed out, where there is one.
-    fn look(&self, worker: &mut Worker<W>) -> Found<W>
+    /// Begins the job that was handed out, where there is one.
+    fn look<G: Gate>(&self, gate: &G, worker: &mut Worker<W>) -> Found<W>
         requires { IsFree self.now worker.old.seat }
         ensures { IsFound W.can self.now worker.new.seat result }
     {
@@ -202,6 +255,11 @@ impl<W: Job + Drop> Desk<W> {
         }
         if word != JOB {
             return Found::Nothing((word % 4) as u32);
+        }
+        gate.pass(BEFORE_JOB);
+        if shared.compare_exchange::<Claim>(&mut worker.seat, STATE, JOB, WORK) != JOB {
+            // It was taken back, which left this, and whatever came since is found by the next look.
+            return Found::Nothing(NOTHING as u32);
         }
         let Some(job) = shared.exchange(&mut worker.seat, 0, None) else {
             unreachable!()

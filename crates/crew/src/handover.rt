@@ -22,7 +22,7 @@ pub enum View<W> {
     Away,
     /// The worker has no job.
     Free,
-    /// The worker has this job.
+    /// The worker has begun this job.
     Works(W),
     /// The worker knows that no more jobs come.
     Gone,
@@ -80,6 +80,15 @@ impl<W> Play<Option<W>, View<W>> for HandOut {
     ghost then = { hands_out };
 }
 
+/// The dispatcher takes back the job that nobody has begun.
+pub struct Recall;
+
+impl<W> Play<Option<W>, View<W>> for Recall {
+    ghost use Rattle.crew.specs.Desks.{recalls};
+
+    ghost then = { recalls };
+}
+
 /// The dispatcher takes the job back, where it is done.
 pub struct TakeBack;
 
@@ -110,10 +119,19 @@ impl<W> Play<Option<W>, View<W>> for Arrive {
 /// The worker looks for a job.
 pub struct Look;
 
-impl<W: Job> Play<Option<W>, View<W>> for Look {
+impl<W> Play<Option<W>, View<W>> for Look {
     ghost use Rattle.crew.specs.Desks.{looks};
 
-    ghost then = { looks W.can W.made };
+    ghost then = { looks };
+}
+
+/// The worker begins a job.
+pub struct Claim;
+
+impl<W: Job> Play<Option<W>, View<W>> for Claim {
+    ghost use Rattle.crew.specs.Desks.{claims};
+
+    ghost then = { claims W.can W.made };
 }
 
 /// The worker hands a job back.

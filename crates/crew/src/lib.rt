@@ -9,5 +9,6 @@ mod job;
 mod post;
 
 pub use crew::Crew;
+pub use desk::BEFORE_JOB;
 pub use hiring::{Run, with_crew};
 pub use job::Job;

@@ -1,5 +1,6 @@
 //! A desk with a thread behind it, as the side sees it that hands jobs out.
-ghost use Rattle.std.specs.Prelude.{◌≡◌, ◌+◌, ◌<◌, ◌∷◌, ◌++◌, [], length, All, IsTrue, IfSome, None, vec_capacity};
+ghost use Rattle.std.specs.Prelude.{◌≡◌, ◌+◌, ◌<◌, ◌∷◌, ◌++◌, [], length, All, IsTrue, IfSome, OnSome, None};
+ghost use Rattle.std.specs.Prelude.{vec_capacity};
 ghost use Rattle.crew.specs.Crews.{desk_of, desks_of, IsReady, HasThread, IsOutAt, HasStopped};
 
 use crate::desk::{Desk, Dispatcher};
@@ -26,7 +27,7 @@ impl<W: Job + Drop> Post<W> {
         self.desk.is_manned(&mut self.dispatcher)
     }
 
-    /// Hands a job out.
+    /// Hands a job out, and wakes its thread, where that sleeps.
     pub(crate) fn send(&mut self, job: W)
         requires thread { HasThread self.old }
         requires can { W.can job }
@@ -34,9 +35,21 @@ impl<W: Job + Drop> Post<W> {
         ensures desk { desk_of self.new ≡ desk_of self.old }
     {
         self.desk.send(&mut self.dispatcher, job);
+        self.desk.wake();
     }
 
-    /// Waits for the job that is out, and takes it back.
+    /// The job that is out, as it was handed out, where its thread does not begin it in a little time.
+    pub(crate) fn recall(&mut self) -> Option<W>
+        requires { (x : W) × IsOutAt x self.old }
+        ensures job { IfSome result (λ y. (x : W) → IsOutAt x self.old → y ≡ x) }
+        ensures ready { OnSome result (IsReady self.new) }
+        ensures none { result ≡ None → (x : W) → IsOutAt x self.old → IsOutAt x self.new }
+        ensures desk { desk_of self.new ≡ desk_of self.old }
+    {
+        self.desk.recall(&mut self.dispatcher)
+    }
+
+    /// Waits until the job that is out is done, and takes it back.
     pub(crate) fn receive<R: Wait>(&mut self, rt: &R) -> W
         requires { (x : W) × IsOutAt x self.old }
         ensures made { (x : W) → IsOutAt x self.old → W.made x result }

@@ -1,24 +1,24 @@
 -- Two passes with a turn each, and what they are once the turns are back.
-use Rattle.std.proofs.Common.{◌≡◌, ℕ, zero, suc, ◌+◌, cond, true, false, List, [], ◌∷◌, ◌++◌, map, arith, tests}
+use Rattle.std.proofs.Common.{◌≡◌, ℕ, zero, suc, ◌+◌, cond, true, List, [], ◌∷◌, ◌++◌, map, arith, tests}
 use Rattle.std.proofs.Common.{ap, sym, ◌∙◌, refl, subst}
-use Rattle.std.specs.Prelude.{◌==◌, Result, Ok, Err, IfOk, None}
+use Rattle.std.specs.Prelude.{◌==◌, Result, Ok, Err, IfOk}
 use Rattle.std.proofs.lemmas.List.{map-append}
 use Rattle.atomic_table.specs.Seated.{TableId}
 use Rattle.slow_handshake.specs.Openings.{Openings}
 use Rattle.flow_lock.specs.Callers.{IsTurned}
-use Rattle.flow_lock.specs.Orders.{Order, total, named, once_below}
-use Rattle.flow_lock.specs.Passes.{Seen, first, left, right, with_turns, peeled}
+use Rattle.flow_lock.specs.Orders.{Order, total, once_below}
+use Rattle.flow_lock.specs.Passes.{Seen, with_turns, peeled}
 use Rattle.flow_lock.specs.Plays.{IsOrdered}
-use Rattle.flow_lock.specs.Steps.{HasTurn, HasAll, IsAlone, counted, pinned, opened}
+use Rattle.flow_lock.specs.Steps.{HasTurn, HasAll, IsAlone, noted}
+use Rattle.flow_lock.specs.declared.view.Deed.{Deed}
 use Rattle.flow_lock.specs.declared.view.Turn.{Turn}
 use Rattle.flow_lock.specs.declared.view.View.{View}
 use Rattle.app_reaper.specs.Reaping.{IsEnded, IsAtRest, IsHeld}
 use Rattle.app_reaper.specs.declared.ended.Ended.{Ended}
 use Rattle.app_reaper.proofs.Walking.{same_pins}
 use Rattle.libtas_sockets.specs.Apps.{Application}
-use Rattle.tas_model.specs.declared.entry.Caller.TheVariants as callers
-use Rattle.flow_lock.specs.declared.view.History.{History}
-use Rattle.libtas_sockets.specs.Connecting.{Opener, IsConnection, first_history, next_tuple}
+use Rattle.tas_model.specs.declared.entry.FlowId.{FlowId}
+use Rattle.libtas_sockets.specs.Connecting.{Opener, IsConnection}
 use Rattle.libtas_sockets.specs.Ending.{IsLeftIdle}
 use Rattle.libtas_sockets.specs.declared.socket.Socket.{Socket}
 use Rattle.libtas_sockets.specs.declared.socket_error.SocketError.{SocketError}
@@ -54,38 +54,39 @@ has_all v w a b made p =
     ∙ ap (once_below p) (sym made)))
 
 -- ----- an application connects
+-- what is written down in a turn leaves its name
+still_named : (ds : List Deed) (won lost : List FlowId) (ts : List Turn)
+    → map (λ (t : Turn). t.name) (noted ds won lost ts) ≡ map (λ (t : Turn). t.name) ts
+still_named ds won lost [] = refl
+still_named ds won lost (t ∷ ts) = refl
+
 pub first_connects : (t : TableId) (raddr rport tick : ℕ) (o : Openings) (a b : Application) (s n : Opener)
-    (x : Result Socket SocketError) → IsConnection raddr rport tick o a b s n x → s.pass.table ≡ t
-    → s.pass.view ≡ left (first 2) → IfOk x (λ q. HasFirstTurn t n.pass)
-first_connects t raddr rport tick o a b s n (Ok q) c table view =
-    let e = c.1.1 in
-    let h : History =
-    first_history (next_tuple o raddr rport) o.params (callers.App a.number) tick o.next_iss in record {
-      table = ap (λ (y : Opener). y.pass.table) e ∙ table;
-      turns = ap (λ (y : Opener). turns_of y.pass.view) e
-          ∙ ap (λ (v : View). turns_of (opened c.0 h v)) view;
-      baton = ap (λ (y : Opener). y.pass.view.baton) e ∙ ap (λ (v : View). v.baton) view;
-      made = ap (λ (y : Opener). y.pass.view.made) e ∙ ap (λ (v : View). v.made) view;
-      held = ap (λ (y : Opener). y.pass.view.held) e ∙ ap (λ (v : View). v.held) view;
+    (x : Result Socket SocketError) → IsConnection raddr rport tick o a b s n x → HasFirstTurn t s.pass
+    → IfOk x (λ q. HasFirstTurn t n.pass)
+first_connects t raddr rport tick o a b s n (Ok q) c is =
+    let e = c.1.1 in record {
+      table = ap (λ (y : Opener). y.pass.table) e ∙ is.table;
+      turns = ap (λ (y : Opener). turns_of y.pass.view) e ∙ (still_named _ _ _ s.pass.view.turns ∙ is.turns);
+      baton = ap (λ (y : Opener). y.pass.view.baton) e ∙ is.baton;
+      made = ap (λ (y : Opener). y.pass.view.made) e ∙ is.made;
+      held = ap (λ (y : Opener). y.pass.view.held) e ∙ is.held;
     }
-first_connects t raddr rport tick o a b s n (Err e) c table view = tt
+first_connects t raddr rport tick o a b s n (Err e) c is = tt
 
 pub second_connects : (t : TableId) (raddr rport tick : ℕ) (o : Openings) (a b : Application) (s n : Opener)
-    (x : Result Socket SocketError) → IsConnection raddr rport tick o a b s n x → a.pass.table ≡ t
-    → a.pass.view ≡ right (first 2) → IfOk x (λ q. HasSecondTurn t b.pass)
-second_connects t raddr rport tick o a b s n (Ok q) c table view =
+    (x : Result Socket SocketError) → IsConnection raddr rport tick o a b s n x → HasSecondTurn t a.pass
+    → a.begun ≡ [] → IfOk x (λ q. HasSecondTurn t b.pass × (b.begun ≡ []))
+second_connects t raddr rport tick o a b s n (Ok q) c is begun =
     let j = c.2 in
-    let e = j.1.3 in
-    let id = c.0 in
-    let x = j.1.0 in record {
-      table = ap (λ (y : Application). y.pass.table) j.2 ∙ table;
-      turns = ap turns_of e ∙ ap (λ (v : View). turns_of (pinned id (counted id.slot x (counted id.slot x v)))) view;
-      plain = (
-        ap (λ (v : View). v.slow) e ∙ ap (λ (v : View). v.slow) view,
-        ap (λ (v : View). v.baton) e ∙ ap (λ (v : View). v.baton) view,
-      );
-    }
-second_connects t raddr rport tick o a b s n (Err e) c table view = tt
+    let e = j.1.3 in (
+      record {
+        table = ap (λ (y : Application). y.pass.table) j.2 ∙ is.table;
+        turns = ap turns_of e ∙ (still_named [] (c.0 ∷ []) [] a.pass.view.turns ∙ is.turns);
+        plain = (ap (λ (v : View). v.slow) e ∙ is.plain.0, ap (λ (v : View). v.baton) e ∙ is.plain.1);
+      },
+      ap (λ (y : Application). y.begun) j.2 ∙ begun,
+    )
+second_connects t raddr rport tick o a b s n (Err e) c is begun = tt
 
 -- ----- the turns come back
 pub second_turned : (t : TableId) (s : Seen) → HasSecondTurn t s → IsTurned t s

@@ -29,7 +29,7 @@ use Rattle.app_reaper.specs.declared.sweeping.Swept.TheVariants.{Freed, Pinned}
 use Rattle.app_reaper.specs.declared.one_call.CallFault.{CallFault}
 use Rattle.app_reaper.specs.declared.one_call.CallFault.TheVariants.{Busy, OutOfMemory}
 use Rattle.app_reaper.proofs.Walking.{use_turned, refused_turned}
-use Rattle.libtas_sockets.specs.Apps.{Application, IsSocket, flow_of}
+use Rattle.libtas_sockets.specs.Apps.{Application, flow_of}
 use Rattle.libtas_sockets.specs.Calling.{HasCalled}
 use Rattle.libtas_sockets.specs.Connecting.{Opener, IsConnectionAs, IsJoined}
 use Rattle.libtas_sockets.specs.declared.socket.Socket.{Socket}

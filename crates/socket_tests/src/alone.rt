@@ -1,7 +1,6 @@
 //! An application that ended is reaped where nobody has a turn.
-ghost use Rattle.std.specs.Prelude.{◌≡◌, [], IfOk, IfSome};
+ghost use Rattle.std.specs.Prelude.{◌≡◌, ◌<◌, ◌≤◌, [], IfOk, IfSome};
 ghost use Rattle.tas_model.specs.Valid.{InRange};
-ghost use Rattle.flow_lock.specs.Passes.{first, left, right};
 ghost use Rattle.flow_lock.specs.Steps.{IsAlone};
 ghost use Rattle.app_reaper.specs.Reaping.{IsAtRest};
 ghost use Rattle.socket_tests.specs.Going.{HasFirstTurn, HasSecondTurn};
@@ -19,9 +18,10 @@ use std::test::*;
 use tas_model::FourTuple;
 use tas_num::Seq;
 
-/// A table of two slots, the slow path's pass, and one that was split off, each with its first turn.
-fn two_passes(
+/// A table, the slow path's pass, and one that was split off, each with its turn.
+pub fn two_passes(
     alloc: Global,
+    slots: u32,
 ) -> Result<
     (
         FlowTable<FlowRecord>,
@@ -30,30 +30,32 @@ fn two_passes(
     ),
     AllocError,
 >
-    ensures slow { IfOk result (λ t. (t.1.table ≡ t.0) × (t.1.view ≡ left (first 2))) }
-    ensures pass { IfOk result (λ t. (t.2.table ≡ t.0) × (t.2.view ≡ right (first 2))) }
+    requires { (0 < slots) × (slots ≤ 1024) }
+    ensures slow { IfOk result (λ t. HasFirstTurn t.0 t.1) }
+    ensures pass { IfOk result (λ t. HasSecondTurn t.0 t.2) }
+    ensures pins { IfOk result (λ t. (t.2.view.pins ≡ []) × (t.2.view.held ≡ [])) }
 {
-    let (table, mut slow) = FlowTable::<FlowRecord>::new(alloc, 2)?;
+    let (table, mut slow) = FlowTable::<FlowRecord>::new(alloc, slots)?;
     let pass = table.split(&mut slow);
     Ok((table, slow, pass))
 }
 
 /// The application connects, in the turns that the passes have.
-fn connect(
-    alloc: Global,
+pub fn connect(
     table: &FlowTable<FlowRecord>,
     path: &mut SlowPath,
     slow: &mut SlowPass<FlowRecord>,
+    pins: &mut PinList,
     app: &mut App,
 ) -> Result<Socket, SocketError>
-    requires slow { (slow.old.table ≡ table.now) × (slow.old.view ≡ left (first 2)) }
-    requires app { (app.old.pass.table ≡ table.now) × (app.old.pass.view ≡ right (first 2)) × (app.old.begun ≡ []) }
+    requires slow { HasFirstTurn table.now slow.old }
+    requires app { HasSecondTurn table.now app.old.pass × (app.old.begun ≡ []) }
     requires ranges { InRange path.old.params }
     ensures slow { IfOk result (λ _. HasFirstTurn table.now slow.new) }
-    ensures app { IfOk result (λ _. HasSecondTurn table.now app.new.pass) }
+    ensures app { IfOk result (λ _. HasSecondTurn table.now app.new.pass × (app.new.begun ≡ [])) }
+    ensures ranges { path.new.params ≡ path.old.params }
 {
-    let mut pins = PinList::new(alloc);
-    app.connect(table, path, slow, &mut pins, 167772161, 80, 1)
+    app.connect(table, path, slow, pins, 167772161, 80, 1)
 }
 
 /// The application connects. The port and the first number that come next then.
@@ -63,15 +65,16 @@ fn connected(
     slow: &mut SlowPass<FlowRecord>,
     app: &mut App,
 ) -> Option<(Option<u16>, Seq)>
-    requires slow { (slow.old.table ≡ table.now) × (slow.old.view ≡ left (first 2)) }
-    requires app { (app.old.pass.table ≡ table.now) × (app.old.pass.view ≡ right (first 2)) × (app.old.begun ≡ []) }
+    requires slow { HasFirstTurn table.now slow.old }
+    requires app { HasSecondTurn table.now app.old.pass × (app.old.begun ≡ []) }
     ensures slow { IfSome result (λ _. HasFirstTurn table.now slow.new) }
     ensures app { IfSome result (λ _. HasSecondTurn table.now app.new.pass) }
 {
     let Ok(mut path) = SlowPath::new(alloc, PARAMS) else {
         return None;
     };
-    match connect(alloc, table, &mut path, slow, app) {
+    let mut pins = PinList::new(alloc);
+    match connect(table, &mut path, slow, &mut pins, app) {
         Ok(_) => Some(next_numbers(&path)),
         Err(_) => None,
     }
@@ -126,7 +129,7 @@ fn reaped(
 /// An application connects and ends, and is reaped once all turns are back. The port and the first number that come
 /// next after it had connected, and the first entries of its flow.
 fn reaped_alone(alloc: Global) -> Option<((Option<u16>, Seq), [Option<Act>; 4])> {
-    let Ok((table, mut slow, pass)) = two_passes(alloc) else {
+    let Ok((table, mut slow, pass)) = two_passes(alloc, 2) else {
         return None;
     };
     let Ok(mut app) = application(alloc, pass) else {

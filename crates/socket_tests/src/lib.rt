@@ -6,6 +6,8 @@ mod alone;
 #[cfg(test)]
 mod flows;
 #[cfg(test)]
+mod many;
+#[cfg(test)]
 mod reaped;
 #[cfg(test)]
 mod sockets;

@@ -9,7 +9,7 @@ use Rattle.crew.proofs.crew.+sharing.Goals as goal
 pub share-returns-clause-made : goal.share-returns-clause-made
 share-returns-clause-made g t c =
     zip_pushed g.W.Job.made _ _ _ _ _ _ c.in-Some.ensures.items c.push_reserved.ensures.items
-    c.work_all-2.ensures.made (c.receive-job.ensures.made _ c.send.ensures.out)
+    c.work_all-2.ensures.made (c.finish-job.ensures.made _ c.send.ensures.out)
 
 pub work_all-returns-clause-ready : goal.work_all-returns-clause-ready
 work_all-returns-clause-ready g t c =
