@@ -1,24 +1,21 @@
 -- A host is sound still where a peer's SYN opened a flow alone: for the law frames_that_open_keep_it.
-use Rattle.std.proofs.Common.{◌≡◌, ℕ, ◌+◌, ◌<◌, ◌≤◌, ◌==◌, ◌&&◌, ◌||◌, not, cond, Bool, true, false, List, [], ◌∷◌}
+use Rattle.std.proofs.Common.{◌≡◌, ℕ, ◌+◌, ◌<◌, ◌==◌, ◌&&◌, ◌||◌, cond, Bool, true, false, List, [], ◌∷◌}
 use Rattle.std.proofs.Common.{◌++◌}
-use Rattle.std.proofs.Common.{map, length, refl, sym, ap, ◌∙◌, subst, inl, inr, arith, set, min, Some, Option, None}
-use Rattle.std.proofs.Common.{slice_get, count_by, true≢false, append-nil, length-set, if◌then◌else◌, leb, fold}
-use Rattle.std.proofs.Common.{length-append}
-use Rattle.std.specs.Prelude.{IsPermutation}
-use Rattle.std.specs.List.{filter, list_any, find}
+use Rattle.std.proofs.Common.{map, refl, sym, ap, ◌∙◌, subst, arith, Some, Option, None}
+use Rattle.std.proofs.Common.{count_by, true≢false, if◌then◌else◌, leb}
+use Rattle.std.specs.List.{list_any, find}
 use Rattle.std.specs.Option.{option_map}
 use Rattle.std.proofs.lemmas.Bool.Decides.{nat_tests}
-use Rattle.std.proofs.lemmas.List.Sums.{count_by-le-length}
 use Rattle.segment_fields.specs.declared.segment.Segment.{Segment}
 use Rattle.tas_model.specs.declared.entry.FlowId.{FlowId}
 use Rattle.tas_model.specs.declared.entry.FourTuple.{FourTuple}
 use Rattle.tas_model.specs.declared.entry.FrameId.{FrameId}
 use Rattle.tas_model.specs.LegalHistory.{replay}
-use Rattle.host_rounds.specs.Hosts.{Waiting, is_indexed_as, same_tuple}
+use Rattle.host_rounds.specs.Hosts.{is_indexed_as, same_tuple}
 use Rattle.host_rounds.specs.Lists.{Each}
-use Rattle.host_rounds.proofs.Lists.{fold_append, map_append, filter_append}
+use Rattle.host_rounds.proofs.Lists.{fold_append}
 use Rattle.core_rounds.proofs.Filters.{tally, count_cons}
-use Rattle.flow_index.specs.Changes.{Writing, AnswerAlike, after_change, found_from, found_after, is_same}
+use Rattle.flow_index.specs.Changes.{AnswerAlike, after_change, found_after, is_same}
 use Rattle.flow_index.specs.declared.change.Change.{Change}
 use Rattle.flow_index.specs.declared.change.Change.TheVariants.{Put}
 use Rattle.flow_index.specs.declared.change.Found.{Found}
@@ -29,15 +26,12 @@ use Rattle.flow_lock.specs.declared.view.History.{History}
 use Rattle.flow_clock.specs.Histories.{is_over, is_running}
 use Rattle.slow_handshake.specs.Openings.{Openings, first_port, has_port, is_taken, syn_answer}
 use Rattle.slow_handshake.specs.declared.openings.Listener.{Listener}
-use Rattle.slow_handshake.specs.declared.openings.SynAnswer.{SynAnswer}
 use Rattle.slow_handshake.specs.declared.openings.SynAnswer.TheVariants as syn
-use Rattle.slow_worker.specs.Opening.{IsIndexed, first_history}
+use Rattle.slow_worker.specs.Opening.{first_history}
 use Rattle.slow_worker.specs.Workers.{flow_with, has_tuple, id_of}
-use Rattle.slow_worker.specs.declared.known.KnownFlow.{KnownFlow}
 use Rattle.host_books.specs.Books.{Book, live_in}
 use Rattle.host_books.proofs.Indexing.{tuple_self}
 use Rattle.sound_hosts.specs.Hosts.{flows_in, known_flow, tuple_of, has_given_port}
-use Rattle.sound_hosts.specs.Opening.{new_book}
 use Rattle.sound_hosts.specs.Sound.{AreShown}
 use Rattle.sound_hosts.proofs.Fresh.{other, own}
 use Rattle.sound_hosts.proofs.Led.{alike}
@@ -159,31 +153,32 @@ module _ (known : List Held) (id : FlowId) (k : History) where
         → Each (λ (c : Book). c.indexed ≡ true → found_after (tuple_of known c) changes ≡ found.Flow c.id) bs
         → (b : Book) → b.id ≡ id
         → Each (λ (c : Book). c.indexed ≡ true → found_after (tuple_of after c) now ≡ found.Flow c.id) (bs ++ b ∷ [])
-    still_led [] others apart led b named =
-        (
-          λ is. ap (λ f. found_after (known_of f after).tuple now) named
-              ∙ (ap (λ (x : History). found_after x.tuple now) (own known id k)
-              ∙ (leads k.tuple
-              ∙ (ap (λ s. cond s (found.Flow id) (found_after k.tuple changes))
-              (alike k.tuple k.tuple ∙ tuple_self k.tuple)
-              ∙ ap (λ f. found.Flow f) (sym named)))),
-          tt,
-        )
-    still_led (c ∷ cs) others apart led b named =
-        (
-          λ is. ap (λ (x : History). found_after x.tuple now) (other known id k c.id others.0)
-              ∙ (leads (tuple_of known c)
-              ∙ (ap (λ s. cond s (found.Flow id) (found_after (tuple_of known c) changes))
-              (alike (tuple_of known c) k.tuple ∙ apart.0 is)
-              ∙ led.0 is)),
-          still_led cs others.1 apart.1 led.1 b named,
-        )
+    still_led [] others apart led b named = (
+      λ is. ap (λ f. found_after (known_of f after).tuple now) named
+          ∙ (ap (λ (x : History). found_after x.tuple now) (own known id k)
+          ∙ (leads k.tuple
+          ∙ (ap (λ s. cond s (found.Flow id) (found_after k.tuple changes))
+          (alike k.tuple k.tuple ∙ tuple_self k.tuple)
+          ∙ ap (λ f. found.Flow f) (sym named)))),
+      tt,
+    )
+    still_led (c ∷ cs) others apart led b named = (
+      λ is. ap (λ (x : History). found_after x.tuple now) (other known id k c.id others.0)
+          ∙ (leads (tuple_of known c)
+          ∙ (ap (λ s. cond s (found.Flow id) (found_after (tuple_of known c) changes))
+          (alike (tuple_of known c) k.tuple ∙ apart.0 is)
+          ∙ led.0 is)),
+      still_led cs others.1 apart.1 led.1 b named,
+    )
 
     none_left : (t : FourTuple) (bs : List Book) → Each IsOther bs → (b : Book) → b.id ≡ id → b.indexed ≡ true
         → list_any (is_indexed_as t) (map (live_in after) (bs ++ b ∷ [])) ≡ false
         → (list_any (is_indexed_as t) (map (live_in known) bs) ≡ false) × (same_tuple t k.tuple ≡ false)
-    none_left t [] others b named shown_ e = (refl, left (same_tuple t k.tuple)
-        ((λ i. (sym shown_ i && same_tuple t (sym tuple i)) || false) ∙ e))
+    none_left t [] others b named shown_ e = (
+      refl,
+      left (same_tuple t k.tuple)
+          ((λ i. (sym shown_ i && same_tuple t (sym tuple i)) || false) ∙ e),
+    )
       where
         tuple : (known_of b.id after).tuple ≡ k.tuple
         tuple = ap (λ f. (known_of f after).tuple) named ∙ ap (λ (x : History). x.tuple) (own known id k)

@@ -1,5 +1,5 @@
 -- The whole host where a peer's SYN opened a flow alone: for the law frames_that_open_keep_it.
-use Rattle.std.proofs.Common.{◌≡◌, ℕ, ◌+◌, ◌<◌, ◌≤◌, not, cond, Bool, true, false, List, [], ◌∷◌, ◌++◌, map, length}
+use Rattle.std.proofs.Common.{◌≡◌, ℕ, ◌+◌, ◌<◌, ◌≤◌, cond, Bool, true, false, List, [], ◌∷◌, ◌++◌, map, length}
 use Rattle.std.proofs.Common.{refl, sym}
 use Rattle.std.proofs.Common.{ap, ◌∙◌, subst, arith, set, min, Some, None, slice_get, count_by, append-nil}
 use Rattle.std.proofs.Common.{length-set, true≢false}
@@ -8,7 +8,6 @@ use Rattle.std.specs.List.{filter, list_any}
 use Rattle.std.proofs.lemmas.List.Sums.{count_by-le-length}
 use Rattle.segment_fields.specs.declared.segment.Segment.{Segment}
 use Rattle.tas_model.specs.declared.entry.FlowId.{FlowId}
-use Rattle.tas_model.specs.declared.entry.FourTuple.{FourTuple}
 use Rattle.tas_model.specs.declared.entry.FrameId.{FrameId}
 use Rattle.tas_model.specs.declared.entry.HostParams.{HostParams}
 use Rattle.host_rounds.specs.Hosts.{Waiting, same_tuple}
@@ -18,7 +17,7 @@ use Rattle.flow_index.specs.Changes.{AnswerAlike}
 use Rattle.flow_index.specs.declared.change.Change.{Change}
 use Rattle.flow_index.specs.declared.change.Change.TheVariants.{Put}
 use Rattle.flow_lock.specs.Answers.{next_in}
-use Rattle.flow_lock.specs.Orders.{known_of, same_flow}
+use Rattle.flow_lock.specs.Orders.{same_flow}
 use Rattle.flow_lock.specs.Steps.{mark, mark_at, noted, deeds_of, alone_or}
 use Rattle.flow_lock.specs.Histories.{unborn}
 use Rattle.flow_lock.specs.Words.{live_word, put_word}
@@ -29,8 +28,7 @@ use Rattle.flow_lock.specs.declared.view.Turn.{Turn}
 use Rattle.flow_lock.specs.declared.view.View.{View}
 use Rattle.flow_lock.specs.declared.word.Word.{Word}
 use Rattle.flow_state.specs.Flow.{Flow}
-use Rattle.flow_clock.specs.Histories.{is_over, is_running}
-use Rattle.slow_handshake.specs.Openings.{Openings, first_port, syn_answer}
+use Rattle.slow_handshake.specs.Openings.{first_port, syn_answer}
 use Rattle.slow_handshake.specs.declared.openings.Listener.{Listener}
 use Rattle.slow_handshake.specs.declared.openings.PassiveFlow.{PassiveFlow}
 use Rattle.slow_handshake.specs.declared.openings.SynAnswer.TheVariants as syn
@@ -42,7 +40,7 @@ use Rattle.libtas_sockets.specs.Apps as libtas
 use Rattle.host_books.specs.Books.{Book}
 use Rattle.host_books.specs.Indexes.{AreIndexed}
 use Rattle.sound_hosts.specs.Hosts.{CoreHost, known_in, id_of, is_indexed, is_doomed, is_filed, is_held_of, is_of_slot}
-use Rattle.sound_hosts.specs.Hosts.{stands_in, tuple_of, AreNumbered, flows_in, waiting_in, has_given_port}
+use Rattle.sound_hosts.specs.Hosts.{stands_in, tuple_of, flows_in, waiting_in, has_given_port}
 use Rattle.sound_hosts.specs.Opening.{new_book, with_book}
 use Rattle.sound_hosts.specs.Sound.{IsHostSound, IsMarked, IsApp, HasHolder, IsPlain, AreShown}
 use Rattle.sound_hosts.proofs.Fresh.{flows_more, waiting_more, indexed_more}
@@ -141,17 +139,16 @@ module _ (h : CoreHost) (w : Worker) (tick : ℕ) (frame : FrameId) (seg : Segme
   apps_more : (xs : List libtas.Application) → Each (IsApp h.table h.books) xs
       → Each (IsApp h.table (h.books ++ b ∷ [])) xs
   apps_more [] each = tt
-  apps_more (a ∷ xs) each =
-      (
-        record {
-          own = each.0.own;
-          turns = each.0.turns;
-          begun = each.0.begun;
-          sockets = subst (IsPermutation a.sockets) (sym (names_same (is_held_of a.number) h.books b refl))
-              each.0.sockets;
-        },
-        apps_more xs each.1,
-      )
+  apps_more (a ∷ xs) each = (
+    record {
+      own = each.0.own;
+      turns = each.0.turns;
+      begun = each.0.begun;
+      sockets = subst (IsPermutation a.sockets) (sym (names_same (is_held_of a.number) h.books b refl))
+          each.0.sockets;
+    },
+    apps_more xs each.1,
+  )
 
   pub opened_sound : IsHostSound (with_book b w h)
   opened_sound = record {
