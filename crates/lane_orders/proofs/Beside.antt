@@ -1,5 +1,5 @@
 -- What was done in all turns is one order of deeds of a run: for the law turns_are_beside.
-use Rattle.std.proofs.Common.{◌≡◌, ℕ, List, [], ◌∷◌, map, refl}
+use Rattle.std.proofs.Common.{ℕ, List, [], ◌∷◌, map, refl}
 use Rattle.host_rounds.specs.Scripts.{Scripts}
 use Rattle.host_rounds.specs.Lists.{Each}
 use Rattle.host_rounds.specs.Cores.{IsWorkerOf}

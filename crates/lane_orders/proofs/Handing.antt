@@ -1,5 +1,5 @@
 -- What was handed to all turns, and what they left: for the laws frames_are_handed_once and ticks_of_turns_are_shared.
-use Rattle.std.proofs.Common.{◌≡◌, ℕ, zero, suc, ◌<◌, ◌≤◌, Bool, true, false, List, [], ◌∷◌, ◌++◌, length, refl, sym}
+use Rattle.std.proofs.Common.{◌≡◌, ℕ, zero, suc, ◌≤◌, Bool, true, false, List, [], ◌∷◌, ◌++◌, length, refl, sym}
 use Rattle.std.proofs.Common.{ap, ◌∙◌, subst, arith, append_assoc, append-nil, length-append}
 use Rattle.std.specs.Prelude.{IsPermutation, nat_le}
 use Rattle.std.proofs.lemmas.Bool.Decides.{nat_tests}
@@ -8,7 +8,7 @@ use Rattle.std.proofs.lemmas.List.Sorted.{IsPermutation-append_left, IsPermutati
 use Rattle.std.proofs.lemmas.List.Sorted.{IsPermutation-append_comm}
 use Rattle.std.proofs.lemmas.List.Sorted.{length_permutation}
 use Rattle.host_rounds.specs.Deliveries.{Arrival}
-use Rattle.frame_steering.specs.Giving.{given_to, given_below}
+use Rattle.frame_steering.specs.Giving.{given_below}
 use Rattle.frame_steering.proofs.Given.{given_once}
 use Rattle.host_books.specs.Books.{Book}
 use Rattle.host_books.specs.Words.{joined_below}

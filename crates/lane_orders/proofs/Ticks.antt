@@ -16,11 +16,11 @@ use Rattle.core_rounds.proofs.Filters.{same_filter}
 use Rattle.host_books.specs.Books.{Book}
 use Rattle.host_books.specs.Words.{joined, joined_below}
 use Rattle.host_books.specs.Tries.{Word, IsWord, IsSendWord, told_of}
-use Rattle.host_books.specs.Ticks.{Beside, deeds_of}
+use Rattle.host_books.specs.Ticks.{deeds_of}
 use Rattle.host_books.proofs.Ticks.{tick_of_phases}
-use Rattle.lane_orders.specs.Turns.{Did, frame_by, ask_by, words_in, handed_below, left_below, asked_below}
+use Rattle.lane_orders.specs.Turns.{frame_by, ask_by, words_in, handed_below, left_below, asked_below}
 use Rattle.lane_orders.specs.Ticks.{Phase, IsHandOut, AreTried, IsTickOfTurns}
-use Rattle.lane_orders.proofs.Handing.{by_same, same_as_none, first_of_none, taken_or_left, none_handed, handed_once}
+use Rattle.lane_orders.proofs.Handing.{same_as_none, first_of_none, taken_or_left, none_handed, handed_once}
 
 no_more : {X : Type 0} (x : X) (xs : List X) → x ∷ xs ≡ [] → ⊥
 no_more x xs e = absurd (cc e)

@@ -1,5 +1,5 @@
 -- What cores and applications did side by side, turn by turn, in the words of a run.
-use Rattle.std.specs.Prelude.{◌≡◌, ℕ, zero, suc, ◌<◌, ◌≤◌, List, [], ◌++◌, map, IsPermutation}
+use Rattle.std.specs.Prelude.{◌≡◌, ℕ, zero, suc, ◌<◌, ◌≤◌, List, [], ◌++◌, IsPermutation}
 use Rattle.host_rounds.specs.Lists.{Each}
 use Rattle.host_rounds.specs.Deliveries.{Arrival}
 use Rattle.host_rounds.specs.Scripts.{Scripts}

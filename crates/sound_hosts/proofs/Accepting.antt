@@ -1,23 +1,21 @@
 -- The flow that an application accepts is on the slot of none of its sockets: for the law
 -- no_call_finds_its_slot_in_use.
-use Rattle.std.proofs.Common.{◌≡◌, ℕ, Bool, true, false, List, [], ◌∷◌, map, refl, sym, ap, ◌∙◌, subst, Some}
+use Rattle.std.proofs.Common.{◌≡◌, ℕ, Bool, true, false, List, [], map, refl, sym, ap, ◌∙◌, subst, Some}
 use Rattle.std.proofs.Common.{slice_get, true≢false}
-use Rattle.std.specs.Prelude.{IsPermutation}
 use Rattle.std.specs.List.{filter, list_any}
 use Rattle.std.proofs.lemmas.List.Sorted.{list_any-IsPermutation}
 use Rattle.tas_model.specs.declared.entry.FlowId.{FlowId}
 use Rattle.host_rounds.specs.Hosts.{is_waiting_by}
-use Rattle.host_rounds.specs.Lists.{Each}
 use Rattle.flow_lock.specs.Answers.{is_open_in}
 use Rattle.flow_lock.specs.Orders.{known_of, same_flow}
 use Rattle.flow_lock.specs.declared.view.Held.{Held}
 use Rattle.flow_clock.specs.Histories.{is_over}
-use Rattle.slow_handshake.specs.Openings.{Openings, first_ready, is_ready_at}
+use Rattle.slow_handshake.specs.Openings.{first_ready, is_ready_at}
 use Rattle.slow_handshake.specs.declared.openings.PassiveFlow.{PassiveFlow}
 use Rattle.libtas_sockets.specs.Apps as libtas
 use Rattle.host_books.specs.Books.{Book}
 use Rattle.host_books.specs.Indexes.{IsFindable}
-use Rattle.sound_hosts.specs.Hosts.{CoreHost, known_in, id_of, is_holder, is_held_of, waits, waiting_in}
+use Rattle.sound_hosts.specs.Hosts.{CoreHost, known_in, id_of, is_held_of, waits}
 use Rattle.sound_hosts.specs.Sound.{IsHostSound, IsApp, IsPlain}
 use Rattle.sound_hosts.proofs.Distinct.{IsWaiting, is_waiting}
 use Rattle.sound_hosts.proofs.OpenSockets.{each_at, not_held, and_both, not_true, standing}

@@ -11,9 +11,8 @@ use Rattle.tas_model.specs.declared.entry.Call.TheVariants as calls
 use Rattle.tas_model.specs.declared.entry.Entry.{Entry}
 use Rattle.tas_model.specs.declared.entry.HostParams.{HostParams}
 use Rattle.tas_model.specs.declared.entry.Reason.{Reason}
-use Rattle.tas_model.specs.Endpoint.{Endpoint}
 use Rattle.tas_model.specs.ApplicationCalls.{column_by, Opening, Running}
-use Rattle.tas_model.specs.LegalHistory.{Legal, replay, extended_by, shown}
+use Rattle.tas_model.specs.LegalHistory.{Legal, extended_by, shown}
 use Rattle.tas_model.proofs.Histories.{replay_push}
 use Rattle.host_rounds.specs.Hosts.{Live, Waiting}
 use Rattle.host_rounds.proofs.Advances.{call_over}

@@ -1,26 +1,21 @@
 -- No two books are of one flow, and a flow that waits for Accept has no socket: for the law
 -- no_call_finds_its_slot_in_use.
-use Rattle.std.proofs.Common.{◌≡◌, ℕ, ◌+◌, ◌≤◌, ◌==◌, ◌&&◌, ◌||◌, not, cond, Bool, true, false, List, [], ◌∷◌, ◌++◌}
+use Rattle.std.proofs.Common.{◌≡◌, ℕ, ◌+◌, ◌≤◌, ◌==◌, ◌&&◌, ◌||◌, cond, Bool, true, false, List, [], ◌∷◌, ◌++◌}
 use Rattle.std.proofs.Common.{map, refl}
-use Rattle.std.proofs.Common.{sym, ap, ◌∙◌, subst, arith, Some, Option, None, true≢false, count_by, suc, slice_get}
-use Rattle.std.specs.Prelude.{IsPermutation}
+use Rattle.std.proofs.Common.{sym, ap, ◌∙◌, subst, arith, Some, Option, None, count_by, suc, slice_get}
 use Rattle.std.specs.List.{filter, list_any, find}
 use Rattle.std.specs.Option.{option_map}
 use Rattle.std.proofs.lemmas.Bool.Decides.{nat_tests}
-use Rattle.std.proofs.lemmas.List.Sorted.{list_any-IsPermutation}
 use Rattle.tas_model.specs.declared.entry.FlowId.{FlowId}
-use Rattle.host_rounds.specs.Hosts.{Holder, Waiting, Application, GivenUp, is_waiting_by}
 use Rattle.host_rounds.specs.Lists.{Each}
 use Rattle.core_rounds.proofs.Filters.{tally, count_cons}
-use Rattle.flow_lock.specs.Orders.{known_of, same_flow}
+use Rattle.flow_lock.specs.Orders.{same_flow}
 use Rattle.flow_lock.specs.declared.view.Held.{Held}
-use Rattle.flow_clock.specs.Histories.{is_over}
-use Rattle.slow_handshake.specs.Openings.{Openings, first_ready, is_ready_at, id_of as passive_id}
+use Rattle.slow_handshake.specs.Openings.{id_of as passive_id}
 use Rattle.slow_handshake.specs.declared.openings.PassiveFlow.{PassiveFlow}
 use Rattle.host_books.specs.Books.{Book}
-use Rattle.host_books.specs.Indexes.{IsFindable}
 use Rattle.sound_hosts.proofs.OpenSockets.{each_at}
-use Rattle.sound_hosts.specs.Hosts.{id_of, is_of_slot, is_holder, is_held_of, waits, passive_flow, waiting_in}
+use Rattle.sound_hosts.specs.Hosts.{id_of, is_of_slot, waits, passive_flow, waiting_in}
 use Rattle.sound_hosts.specs.Hosts.{AreNumbered}
 
 -- ----- counts

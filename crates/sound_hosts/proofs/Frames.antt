@@ -1,5 +1,5 @@
 -- A frame that the slow path receives alone: for the law frames_alone_keep_it.
-use Rattle.std.proofs.Common.{◌≡◌, ℕ, refl, sym, ap, ◌∙◌, subst}
+use Rattle.std.proofs.Common.{◌≡◌, sym, ap, ◌∙◌, subst}
 use Rattle.segment_fields.specs.declared.segment.Segment.{Segment}
 use Rattle.tas_model.specs.declared.entry.Caller.TheVariants.{Slow}
 use Rattle.tas_model.specs.declared.entry.FlowId.{FlowId}
@@ -14,7 +14,7 @@ use Rattle.slow_worker.specs.Entering.{received, IsReceived}
 use Rattle.slow_worker.specs.Workers.{Worker, Sight, Setting, IsSound, sight_of, with_sight}
 use Rattle.sound_hosts.specs.Hosts.{CoreHost, known_in}
 use Rattle.sound_hosts.specs.Leading.{LedOn}
-use Rattle.sound_hosts.specs.Moving.{IsLedBy, with_slow}
+use Rattle.sound_hosts.specs.Moving.{with_slow}
 use Rattle.sound_hosts.specs.Sound.{IsHostSound}
 use Rattle.sound_hosts.proofs.OneFlow.{used_leads, led_sound}
 use Rattle.sound_hosts.proofs.Calls.{call_leads}

@@ -5,8 +5,8 @@ use Rattle.std.specs.List.{list_any}
 use Rattle.tas_model.specs.declared.entry.FlowId.{FlowId}
 use Rattle.tas_model.specs.declared.entry.FourTuple.{FourTuple}
 use Rattle.host_rounds.specs.Lists.{Each}
-use Rattle.host_rounds.specs.Hosts.{is_indexed_as, is_over, same_tuple}
-use Rattle.flow_index.specs.Changes.{Writing, found_after}
+use Rattle.host_rounds.specs.Hosts.{is_indexed_as, same_tuple}
+use Rattle.flow_index.specs.Changes.{found_after}
 use Rattle.flow_index.specs.declared.change.Change.{Change}
 use Rattle.flow_index.specs.declared.change.Found.TheVariants as found
 use Rattle.flow_lock.specs.Orders.{known_of}
@@ -15,7 +15,7 @@ use Rattle.host_books.specs.Books.{Book, live_in, IsAt}
 use Rattle.host_books.specs.Indexes.{AreIndexed, AreOnce, IsFindable}
 use Rattle.sound_hosts.specs.Hosts.{flows_in, tuple_of}
 use Rattle.sound_hosts.specs.Leading.{Leads}
-use Rattle.sound_hosts.specs.Sound.{AreShown, IsShown}
+use Rattle.sound_hosts.specs.Sound.{AreShown}
 
 module _ (before after : List Held) (same : (f : FlowId) → (known_of f after).tuple ≡ (known_of f before).tuple) where
   pub flows_same : (bs : List Book) → flows_in after bs ≡ flows_in before bs

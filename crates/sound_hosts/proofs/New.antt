@@ -1,5 +1,5 @@
 -- A host that opened no flow is sound: for the law new_hosts_are_sound.
-use Rattle.std.proofs.Common.{List, [], ◌∷◌, map, ap, sym, subst, inl, refl, ◌≡◌, false}
+use Rattle.std.proofs.Common.{List, [], ◌∷◌, map, ap, sym, subst, inl, ◌≡◌}
 use Rattle.std.specs.Prelude.{IsPermutation, ◌<◌}
 use Rattle.std.proofs.lemmas.List.Sorted.{IsPermutation-refl}
 use Rattle.atomic_table.specs.Seated.{TableId}

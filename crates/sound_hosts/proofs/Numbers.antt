@@ -1,5 +1,5 @@
 -- Marks and words of slots, the slot and the generation of the next flow, and marks and words once it is opened.
-use Rattle.std.proofs.Common.{◌≡◌, ◌≢◌, ℕ, zero, suc, ◌+◌, ◌<◌, ◌≤◌, ◌==◌, ◌&&◌, ◌||◌, not, cond, Bool, true, false}
+use Rattle.std.proofs.Common.{◌≡◌, ◌≢◌, ℕ, zero, suc, ◌+◌, ◌<◌, ◌≤◌, ◌==◌, ◌&&◌, ◌||◌, not, Bool, true, false}
 use Rattle.std.proofs.Common.{List, []}
 use Rattle.std.proofs.Common.{◌∷◌, ◌++◌, length, refl, sym, ap, ◌∙◌, subst, arith, inl, inr, set, min, Some, Option}
 use Rattle.std.proofs.Common.{None}
@@ -9,9 +9,7 @@ use Rattle.std.specs.List.{list_any}
 use Rattle.std.proofs.lemmas.Bool.Decides.{nat_tests}
 use Rattle.std.proofs.lemmas.List.Folds.{list_any-append}
 use Rattle.std.proofs.lemmas.List.Quantifiers.{position-Some}
-use Rattle.std.proofs.lemmas.List.Sums.{count_by-le-length}
 use Rattle.tas_model.specs.declared.entry.FlowId.{FlowId}
-use Rattle.host_rounds.specs.Hosts.{Holder, Waiting}
 use Rattle.host_rounds.specs.Lists.{Each}
 use Rattle.core_rounds.proofs.Filters.{tally, count_cons}
 use Rattle.flow_lock.specs.Answers.{is_free, next_in, next_of}
@@ -23,7 +21,7 @@ use Rattle.flow_lock.specs.declared.view.View.{View}
 use Rattle.flow_lock.specs.declared.word.Word.{Word}
 use Rattle.host_books.specs.Books.{Book}
 use Rattle.sound_hosts.specs.Hosts.{is_of_slot, stands_in, is_doomed_in, AreNumbered, word_of}
-use Rattle.sound_hosts.specs.Sound.{IsMarked, IsWorded, AreSlots}
+use Rattle.sound_hosts.specs.Sound.{IsMarked, IsWorded}
 use Rattle.sound_hosts.proofs.Distinct.{count_push}
 
 -- ----- the next flow

@@ -1,10 +1,9 @@
 -- A host is sound still where one flow's record was used alone: for the laws of what is done alone.
-use Rattle.std.proofs.Common.{◌≡◌, ℕ, zero, suc, ◌==◌, ◌&&◌, cond, Bool, true, false, List, [], ◌∷◌, refl, sym, ap, ◌∙◌}
-use Rattle.std.proofs.Common.{subst, inl, inr, arith, true≢false, set, count_by, slice_get, Some, map, ◌<◌, leb}
+use Rattle.std.proofs.Common.{◌≡◌, ℕ, zero, suc, cond, Bool, true, false, List, [], ◌∷◌, refl, sym, ap, ◌∙◌}
+use Rattle.std.proofs.Common.{subst, inl, count_by, slice_get, map, ◌<◌, leb}
 use Rattle.std.proofs.Common.{length, length-set}
 use Rattle.std.specs.Prelude.{IsPermutation}
 use Rattle.std.specs.List.{filter}
-use Rattle.std.proofs.lemmas.Bool.Decides.{nat_tests}
 use Rattle.tas_model.specs.declared.entry.FlowId.{FlowId}
 use Rattle.tas_model.specs.declared.entry.HostParams.{HostParams}
 use Rattle.flow_state.specs.Flow.{Flow}
@@ -18,12 +17,10 @@ use Rattle.flow_lock.specs.declared.view.Mark.{Mark}
 use Rattle.flow_lock.specs.declared.view.Turn.{Turn}
 use Rattle.flow_lock.specs.declared.view.View.{View}
 use Rattle.flow_lock.specs.declared.word.Word.{Word}
-use Rattle.app_reaper.specs.OneCall.{history, IsUse}
-use Rattle.flow_clock.specs.Histories.{is_over, is_running}
+use Rattle.app_reaper.specs.OneCall.{IsUse}
 use Rattle.flow_clock.proofs.Keeping.{after_use, each_map}
 use Rattle.slow_handshake.specs.Openings.{Openings, first_port}
 use Rattle.slow_handshake.specs.declared.openings.Listener.{Listener}
-use Rattle.slow_worker.specs.Entering.{phase_of, told}
 use Rattle.slow_worker.specs.Workers as slow
 use Rattle.slow_worker.specs.Workers.{Worker, sight_of, waiting}
 use Rattle.host_books.specs.Books.{Book}
@@ -31,7 +28,7 @@ use Rattle.host_books.proofs.Indexing.{is_same_flow}
 use Rattle.sound_hosts.specs.Hosts.{CoreHost, known_in, has_given_port, waiting_in, id_of, is_doomed, is_filed}
 use Rattle.sound_hosts.specs.Leading.{LedOn, Leads}
 use Rattle.sound_hosts.specs.Moving.{IsLed, IsLedBy, with_slow}
-use Rattle.sound_hosts.specs.Sound.{IsHostSound, IsMarked, IsWorded, AreSlots, AreOpening, IsShown}
+use Rattle.sound_hosts.specs.Sound.{IsHostSound, IsWorded, IsShown}
 use Rattle.sound_hosts.proofs.Kept.{flows_same, shown_same, indexed_still}
 use Rattle.sound_hosts.proofs.Told.{told_waiting, told_params, told_ports, told_listeners}
 

@@ -1,10 +1,8 @@
 -- The flows of an application's sockets are open: for the law no_call_finds_its_slot_in_use.
 use Rattle.std.proofs.Common.{◌≡◌, ℕ, zero, suc, ◌&&◌, not, cond, Bool, true, false, List, [], ◌∷◌, map, refl, sym}
 use Rattle.std.proofs.Common.{ap, ◌∙◌}
-use Rattle.std.proofs.Common.{subst, arith, All, Some, Option, None, slice_get, eqb, eq-eqb, true≢false}
-use Rattle.std.specs.Prelude.{IsPermutation}
-use Rattle.std.specs.List.{filter, list_any, find}
-use Rattle.std.specs.Option.{option_map}
+use Rattle.std.proofs.Common.{subst, All, Some, Option, slice_get, eqb, eq-eqb, true≢false}
+use Rattle.std.specs.List.{filter}
 use Rattle.std.proofs.lemmas.List.Elements.{All-nil, All-cons, All-head, All-tail}
 use Rattle.std.proofs.lemmas.List.Sorted.{All-permutation, IsPermutation-sym}
 use mathlib.Core.Option as O
@@ -14,11 +12,8 @@ use Rattle.tas_model.specs.declared.entry.FlowId.{FlowId}
 use Rattle.host_rounds.specs.Hosts.{Holder, Waiting, Application, GivenUp, is_held_by, is_waiting_by}
 use Rattle.host_rounds.specs.Lists.{Each}
 use Rattle.flow_lock.specs.Answers.{is_open_in}
-use Rattle.flow_lock.specs.Orders.{same_flow}
 use Rattle.flow_lock.specs.Steps.{mark, mark_at}
-use Rattle.flow_lock.specs.declared.view.Held.{Held}
 use Rattle.flow_lock.specs.declared.view.Mark.{Mark}
-use Rattle.flow_lock.specs.Callers.{IsOwner}
 use Rattle.flow_clock.specs.Ledgers.{IsKept}
 use Rattle.libtas_sockets.specs.Apps as libtas
 use Rattle.libtas_sockets.specs.Connecting.{AreOpen}

@@ -1,5 +1,5 @@
 -- An endpoint that is past its opening stays so: for the law calls_lead_on.
-use Rattle.std.proofs.Common.{◌≡◌, ℕ, ◌+◌, ◌<◌, ◌≤◌, ◌==◌, ◌&&◌, not, Bool, true, false, cond, Option, Some, None}
+use Rattle.std.proofs.Common.{◌≡◌, ℕ, ◌+◌, ◌<◌, ◌≤◌, ◌&&◌, not, Bool, true, false, Option, Some, None}
 use Rattle.std.proofs.Common.{IsSome}
 use Rattle.std.proofs.Common.{◌*◌, ◌-◌, refl, sym, ap, ◌∙◌, arith, eqb, ltb, leb, length, true≢false, min, List}
 use Rattle.std.proofs.Common.{if◌then◌else◌}
@@ -16,7 +16,7 @@ use Rattle.tas_model.specs.Endpoint.{Endpoint, Sending, phase, phase_by, is_fin_
 use Rattle.tas_model.specs.Endpoint.{send_room}
 use Rattle.tas_model.specs.Segments.{Outcome, unchanged, is_ack, acks, seg_len, is_fin}
 use Rattle.tas_model.specs.Reassembly.{with_data}
-use Rattle.tas_model.specs.Receive.{rx, rx_in, rx_later, rx_syn_sent, verdict, Verdict, Dropped, Answered, Reset}
+use Rattle.tas_model.specs.Receive.{rx, rx_in, rx_later, verdict, Verdict, Dropped, Answered, Reset}
 use Rattle.tas_model.specs.Receive.{BareAck}
 use Rattle.tas_model.specs.Receive.{Taken, AckVerdict, Stray, TooFar, Good, ack_verdict, place_of_ack, bare_ack, taken}
 use Rattle.tas_model.specs.Receive.{by_verdict, after_ack, after_data, after_duplicate, after_advance, is_duplicate}

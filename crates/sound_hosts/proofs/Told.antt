@@ -7,9 +7,8 @@ use Rattle.std.specs.List.{filter}
 use Rattle.std.proofs.lemmas.Bool.Decides.{nat_tests}
 use Rattle.tas_model.specs.declared.entry.FlowId.{FlowId}
 use Rattle.tas_model.specs.declared.entry.Reason.{Reason}
-use Rattle.tas_model.specs.declared.entry.Phase.{Phase}
 use Rattle.tas_model.specs.declared.entry.Phase.TheVariants as phases
-use Rattle.tas_model.specs.Endpoint.{Endpoint, phase, synchronized, is_fin_acked}
+use Rattle.tas_model.specs.Endpoint.{Endpoint, synchronized, is_fin_acked}
 use Rattle.host_rounds.specs.Hosts.{is_waiting_by}
 use Rattle.flow_lock.specs.Orders.{known_of, same_flow}
 use Rattle.flow_lock.specs.declared.view.Held.{Held}
@@ -19,7 +18,7 @@ use Rattle.slow_handshake.specs.Openings.{Openings, is_named, readied}
 use Rattle.slow_handshake.specs.declared.openings.PassiveFlow.{PassiveFlow}
 use Rattle.slow_worker.specs.Entering.{phase_of, told}
 use Rattle.host_books.specs.Books.{Book}
-use Rattle.sound_hosts.specs.Hosts.{waits, passive_flow, waiting_in}
+use Rattle.sound_hosts.specs.Hosts.{waiting_in}
 use Rattle.sound_hosts.specs.Leading.{LedOn}
 
 -- ----- what the lists are told

@@ -1,5 +1,5 @@
 -- What is known of flows before and after something was done: each history was led on.
-use Rattle.std.specs.Prelude.{◌≡◌, true, false, List, [], ◌⊎◌}
+use Rattle.std.specs.Prelude.{◌≡◌, true, List, [], ◌⊎◌}
 use Rattle.tas_model.specs.declared.entry.FlowId.{FlowId}
 use Rattle.flow_lock.specs.Orders.{known_of}
 use Rattle.flow_lock.specs.declared.view.Held.{Held}

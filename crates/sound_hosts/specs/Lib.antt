@@ -1,5 +1,6 @@
 pub mod Hosts
 pub mod Leading
 pub mod Moving
+pub mod Opening
 pub mod Ending
 pub mod Sound

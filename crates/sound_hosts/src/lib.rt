@@ -8,7 +8,8 @@ mod laws;
 mod sockets;
 
 pub use alone::{
-    calls_lead_on, frames_alone_keep_it, one_flow_led_keeps_it, uses_alone_lead_one_flow,
+    calls_lead_on, frames_alone_keep_it, frames_that_open_keep_it, one_flow_led_keeps_it,
+    uses_alone_lead_one_flow,
 };
 pub use ending::{sweeps_alone_keep_the_slots, time_leads_on};
 pub use laws::{new_hosts_are_sound, open_flows_are_led, phases_keep_the_lists};

@@ -1,11 +1,11 @@
 -- Answers of the proof of sockets/no_call_finds_its_slot_in_use.
-use Rattle.std.proofs.Common.{◌≡◌, true, false, List, sym, subst, ap, ◌∙◌, All}
+use Rattle.std.proofs.Common.{◌≡◌, true, List, sym, subst, ap, ◌∙◌, All}
 use Rattle.std.specs.List.{list_any}
 use Rattle.tas_model.specs.declared.entry.FlowId.{FlowId}
 use Rattle.flow_lock.specs.Answers.{is_open_in, next_in}
 use Rattle.flow_lock.specs.Orders.{same_flow}
 use Rattle.flow_lock.specs.declared.view.Mark.{Mark}
-use Rattle.libtas_sockets.specs.Apps.{IsSocket, socket_on}
+use Rattle.libtas_sockets.specs.Apps.{IsSocket}
 use Rattle.libtas_sockets.specs.declared.socket.Socket.{Socket}
 use Rattle.sound_hosts.proofs.OpenSockets.{sockets_open}
 use Rattle.sound_hosts.proofs.Accepting.{free}
