@@ -54,37 +54,24 @@ fn connections(
     FLOWS
 }
 
-/// How many flows the slow path has pins of then, and how many times the application connected.
-fn connected(
-    alloc: Global,
-    table: &FlowTable<FlowRecord>,
-    slow: &mut SlowPass<FlowRecord>,
-    app: &mut App,
-) -> Option<(usize, u32)>
-    requires slow { HasFirstTurn table.now slow.old }
-    requires app { HasSecondTurn table.now app.old.pass × (app.old.begun ≡ []) }
-{
-    let Ok(mut path) = SlowPath::new(alloc, PARAMS) else {
-        return None;
-    };
-    let mut pins = PinList::new(alloc);
-    let made = connections(table, &mut path, slow, &mut pins, app);
-    Some((pins.len(), made))
-}
-
-/// The same of an application and a table of their own.
-fn connected_alone(alloc: Global) -> Option<(usize, u32)> {
+/// How many flows the slow path has pins of, and how many times an application connected.
+fn connected(alloc: Global) -> Option<(usize, u32)> {
     let Ok((table, mut slow, pass)) = two_passes(alloc, FLOWS) else {
         return None;
     };
     let Ok(mut app) = application(alloc, pass) else {
         return None;
     };
-    connected(alloc, &table, &mut slow, &mut app)
+    let Ok(mut path) = SlowPath::new(alloc, PARAMS) else {
+        return None;
+    };
+    let mut pins = PinList::new(alloc);
+    let made = connections(&table, &mut path, &mut slow, &mut pins, &mut app);
+    Some((pins.len(), made))
 }
 
 #[test]
 fn an_application_connects_twenty_times_in_a_row(rt: HostRuntime) -> Result<(), Fail> {
-    assert_eq!(rt; connected_alone(rt.alloc()), Some((20, 20)));
+    assert_eq!(rt; connected(rt.alloc()), Some((20, 20)));
     Ok(())
 }
