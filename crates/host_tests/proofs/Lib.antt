@@ -1,3 +1,2 @@
 mod Steps
 mod Added
-mod Polled

@@ -55,10 +55,10 @@ fn are_passed_on<R: Threads + Wait + Sync>(
 /// record.
 fn waiting<R: Threads + Wait + Sync>(rt: &R, alloc: Global) -> Option<usize> {
     let (shared, mut host) = started(rt, alloc)?;
-    if accepted(rt, alloc, &shared, &mut host).is_none() {
+    let Some(_) = accepted(rt, alloc, &shared, &mut host) else {
         end(rt, host);
         return None;
-    }
+    };
     let Host {
         mut slow,
         mut cores,

@@ -237,9 +237,10 @@ fn a_task_asks_again_where_a_core_holds_the_record(rt: HostRuntime) -> Result<()
     let Some(held) = see_held(&rt) else {
         panic!(rt; "a step of the host failed")
     };
+    let is_same = held.entries[1] == held.entries[0];
+    assert!(rt; is_same);
     assert!(rt; matches!(held.polled.answer, Poll::Pending));
     assert!(rt; matches!(held.polled.last, Some(SocketError::Busy(word)) if word.busy));
-    assert_eq!(rt; held.entries[1], held.entries[0]);
     assert!(rt; held.is_woken);
     Ok(())
 }
