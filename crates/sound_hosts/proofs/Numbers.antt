@@ -203,7 +203,7 @@ word_own (x ∷ xs) (suc i) w lt = word_own xs i w (omega (arith, lt))
 
 module _ (v w : View) (id : FlowId) (b : Book) (named : b.id ≡ id) (worded : word_of b ≡ live_word id.generation)
     (words : w.words ≡ put_word id.slot (live_word id.generation) v.words) (within : id.slot < length v.words) where
-  words_more : (bs : List Book) → list_any (stands_in id.slot) bs ≡ false → Each (IsWorded v) bs
+  pub words_more : (bs : List Book) → list_any (stands_in id.slot) bs ≡ false → Each (IsWorded v) bs
       → Each (IsWorded w) (bs ++ b ∷ [])
   words_more [] none each =
       (
@@ -245,7 +245,7 @@ module _ (v w : View) (id : FlowId) (b : Book) (named : b.id ≡ id) (stands : b
   never_doomed : (i : ℕ) → is_doomed_in i b ≡ false
   never_doomed i = λ j. (not (shown j) && not b.filed) && (b.id.slot == i)
 
-  marks_more : (i : ℕ) (m : Mark) → slice_get w.marks i ≡ Some m → IsMarked (bs ++ b ∷ []) i m
+  pub marks_more : (i : ℕ) (m : Mark) → slice_get w.marks i ≡ Some m → IsMarked (bs ++ b ∷ []) i m
   marks_more i m e =
       by (at_set v.marks id.slot i (mark id.generation true false) m
       (ap (λ (ms : List Mark). slice_get ms i) (sym marks) ∙ e))

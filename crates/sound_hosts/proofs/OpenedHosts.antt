@@ -114,7 +114,7 @@ module _ (h : CoreHost) (w : Worker) (tick : ℕ) (frame : FrameId) (seg : Segme
   turns : h.slow.pass.view.turns ≡ []
   turns = sound.alone.1
 
-  view : View
+  abbrev view : View
   view = w.pass.view
 
   base : view.base ≡ after
