@@ -1,0 +1,43 @@
+use crate::{AuditFault, Verdict, audit};
+use std::test::*;
+
+/// A scenario, a line `==`, and the report of its run.
+const HELLO: &[u8] =
+    b"host a 10.0.0.1 iss 1000 rto 3\nhost b 10.0.0.2 iss 5000 rto 3\napp b server\nlisten lst 80\naccept s lst\nrecv s 5\nsend s world\nclose s\napp a client\nconnect s b 80\nsend s hello\nrecv s 5\nclose s\n==\ntas run\nhost a 10.0.0.1\nflow 0 slot 0.1 10.0.0.1:49152 10.0.0.2:80\n0 p1.0 connect iss 1000 = ok\n0 c0.0 emit = S seq 1000 ack 0 win 16384 mss 1460\n1 s.0 tick = quiet\n1 p1.1 ready = notyet\n2 s.1 tick = quiet\n2 s.2 rx b:0.0 AS seq 5000 ack 1001 win 16384 mss 1460 = A seq 1001 ack 5001 win 16384\n2 p1.2 ready = ok\n3 s.3 tick = quiet\n3 p1.3 send 5 = took 68656c6c6f\n3 c0.1 emit = AP seq 1001 ack 5001 win 16384 data 68656c6c6f\n4 s.4 tick = quiet\n4 p1.4 recv 5 = notyet\n5 s.5 tick = quiet\n5 c0.2 rx b:0.1 A seq 5001 ack 1006 win 16379 = none\n5 p1.5 recv 5 = notyet\n6 s.6 tick = quiet\n6 c0.3 rx b:0.2 AP seq 5001 ack 1006 win 16384 data 776f726c64 = A seq 1006 ack 5006 win 16379\n6 p1.6 recv 5 = got 776f726c64\n7 s.7 tick = quiet\n7 s.8 rx b:0.3 AF seq 5006 ack 1006 win 16384 = A seq 1006 ack 5007 win 16384\n7 p1.7 close = ok\n7 c0.4 emit = AF seq 1006 ack 5007 win 16384\n8 s.9 tick = quiet\n9 s.10 tick = quiet\n9 s.11 rx b:0.4 A seq 5007 ack 1007 win 16384 = none\nstate CLOSED done\nread 5 776f726c64\nhost b 10.0.0.2\n0 p0 listen 80 = ok\n1 p0 accept 80 = notyet\n2 p0 accept 80 = notyet\nflow 0 slot 0.1 10.0.0.2:80 10.0.0.1:49152\n1 s.0 passive a:0.0 iss 5000 S seq 1000 ack 0 win 16384 mss 1460 = ok\n1 c0.0 emit = AS seq 5000 ack 1001 win 16384 mss 1460\n2 s.1 tick = quiet\n3 s.2 tick = quiet\n3 s.3 rx a:0.1 A seq 1001 ack 5001 win 16384 = none\n3 p0.0 accept = ok\n4 s.4 tick = quiet\n4 c0.1 rx a:0.2 AP seq 1001 ack 5001 win 16384 data 68656c6c6f = A seq 5001 ack 1006 win 16379\n4 p0.1 recv 5 = got 68656c6c6f\n5 s.5 tick = quiet\n5 p0.2 send 5 = took 776f726c64\n5 c0.2 emit = AP seq 5001 ack 1006 win 16384 data 776f726c64\n6 s.6 tick = quiet\n6 p0.3 close = ok\n6 c0.3 emit = AF seq 5006 ack 1006 win 16384\n7 s.7 tick = quiet\n7 c0.4 rx a:0.3 A seq 1006 ack 5006 win 16379 = none\n8 s.8 tick = quiet\n8 c0.5 rx a:0.4 A seq 1006 ack 5007 win 16384 = none\n8 s.9 rx a:0.5 AF seq 1006 ack 5007 win 16384 = A seq 5007 ack 1007 win 16384\n9 s.10 tick = quiet\n10 s.11 tick = quiet\n10 s.12 control = cwnd 4386 ssthresh 65535\n11 s.13 tick = quiet\n12 s.14 tick = quiet\n13 s.15 tick = quiet\n14 s.16 tick = quiet\n15 s.17 tick = quiet\n16 s.18 tick = quiet\n17 s.19 tick = quiet\n18 s.20 tick = quiet\n19 s.21 tick = quiet\n20 s.22 tick = done\nstate CLOSED done\nread 5 68656c6c6f\nend 21 ticks\n";
+
+/// The text with the line of this number, counted from 1, in another form.
+fn verdict(rt: HostRuntime, text: &[u8]) -> (u64, u64, u64) {
+    match audit(rt.alloc(), text) {
+        Ok(Verdict::Legal { flows, entries }) => (0, flows, entries),
+        Ok(Verdict::Illegal { line }) => (9, line, 0),
+        Err(AuditFault::Refused { line }) => (3, line, 0),
+        Err(AuditFault::OutOfMemory) => (5, 0, 0),
+    }
+}
+
+#[test]
+fn the_report_of_a_run_is_legal(rt: HostRuntime) {
+    assert_eq!(rt; verdict(rt, HELLO), (0, 2, 58));
+}
+
+#[test]
+fn a_changed_byte_is_told_by_its_line(rt: HostRuntime) {
+    assert_eq!(rt;
+        verdict(
+            rt,
+            b"host a 10.0.0.1 iss 1000 rto 3\nhost b 10.0.0.2 iss 5000 rto 3\napp b server\nlisten lst 80\naccept s lst\nrecv s 5\nsend s world\nclose s\napp a client\nconnect s b 80\nsend s hello\nrecv s 5\nclose s\n==\ntas run\nhost a 10.0.0.1\nflow 0 slot 0.1 10.0.0.1:49152 10.0.0.2:80\n0 p1.0 connect iss 1000 = ok\n0 c0.0 emit = S seq 1000 ack 0 win 16384 mss 1460\n1 s.0 tick = quiet\n1 p1.1 ready = notyet\n2 s.1 tick = quiet\n2 s.2 rx b:0.0 AS seq 5000 ack 1001 win 16384 mss 1460 = A seq 1001 ack 5001 win 16384\n2 p1.2 ready = ok\n3 s.3 tick = quiet\n3 p1.3 send 5 = took 68656c6c6f\n3 c0.1 emit = AP seq 1001 ack 5001 win 16384 data 68656c6c6f\n4 s.4 tick = quiet\n4 p1.4 recv 5 = notyet\n5 s.5 tick = quiet\n5 c0.2 rx b:0.1 A seq 5001 ack 1006 win 16379 = none\n5 p1.5 recv 5 = notyet\n6 s.6 tick = quiet\n6 c0.3 rx b:0.2 AP seq 5001 ack 1006 win 16384 data 776f726c64 = A seq 1006 ack 5006 win 16379\n6 p1.6 recv 5 = got 776f726c65\n7 s.7 tick = quiet\n7 s.8 rx b:0.3 AF seq 5006 ack 1006 win 16384 = A seq 1006 ack 5007 win 16384\n7 p1.7 close = ok\n7 c0.4 emit = AF seq 1006 ack 5007 win 16384\n8 s.9 tick = quiet\n9 s.10 tick = quiet\n9 s.11 rx b:0.4 A seq 5007 ack 1007 win 16384 = none\nstate CLOSED done\nread 5 776f726c64\nhost b 10.0.0.2\n0 p0 listen 80 = ok\n1 p0 accept 80 = notyet\n2 p0 accept 80 = notyet\nflow 0 slot 0.1 10.0.0.2:80 10.0.0.1:49152\n1 s.0 passive a:0.0 iss 5000 S seq 1000 ack 0 win 16384 mss 1460 = ok\n1 c0.0 emit = AS seq 5000 ack 1001 win 16384 mss 1460\n2 s.1 tick = quiet\n3 s.2 tick = quiet\n3 s.3 rx a:0.1 A seq 1001 ack 5001 win 16384 = none\n3 p0.0 accept = ok\n4 s.4 tick = quiet\n4 c0.1 rx a:0.2 AP seq 1001 ack 5001 win 16384 data 68656c6c6f = A seq 5001 ack 1006 win 16379\n4 p0.1 recv 5 = got 68656c6c6f\n5 s.5 tick = quiet\n5 p0.2 send 5 = took 776f726c64\n5 c0.2 emit = AP seq 5001 ack 1006 win 16384 data 776f726c64\n6 s.6 tick = quiet\n6 p0.3 close = ok\n6 c0.3 emit = AF seq 5006 ack 1006 win 16384\n7 s.7 tick = quiet\n7 c0.4 rx a:0.3 A seq 1006 ack 5006 win 16379 = none\n8 s.8 tick = quiet\n8 c0.5 rx a:0.4 A seq 1006 ack 5007 win 16384 = none\n8 s.9 rx a:0.5 AF seq 1006 ack 5007 win 16384 = A seq 5007 ack 1007 win 16384\n9 s.10 tick = quiet\n10 s.11 tick = quiet\n10 s.12 control = cwnd 4386 ssthresh 65535\n11 s.13 tick = quiet\n12 s.14 tick = quiet\n13 s.15 tick = quiet\n14 s.16 tick = quiet\n15 s.17 tick = quiet\n16 s.18 tick = quiet\n17 s.19 tick = quiet\n18 s.20 tick = quiet\n19 s.21 tick = quiet\n20 s.22 tick = done\nstate CLOSED done\nread 5 68656c6c6f\nend 21 ticks\n"
+        ),
+        (9, 35, 0)
+    );
+}
+
+#[test]
+fn a_report_without_its_mark_is_refused(rt: HostRuntime) {
+    assert_eq!(rt;
+        verdict(
+            rt,
+            b"host a 10.0.0.1 iss 1000 rto 3\nhost b 10.0.0.2 iss 5000 rto 3\napp b server\nlisten lst 80\naccept s lst\nrecv s 5\nsend s world\nclose s\napp a client\nconnect s b 80\nsend s hello\nrecv s 5\nclose s\ntas run\nhost a 10.0.0.1\nflow 0 slot 0.1 10.0.0.1:49152 10.0.0.2:80\n0 p1.0 connect iss 1000 = ok\n0 c0.0 emit = S seq 1000 ack 0 win 16384 mss 1460\n1 s.0 tick = quiet\n1 p1.1 ready = notyet\n2 s.1 tick = quiet\n2 s.2 rx b:0.0 AS seq 5000 ack 1001 win 16384 mss 1460 = A seq 1001 ack 5001 win 16384\n2 p1.2 ready = ok\n3 s.3 tick = quiet\n3 p1.3 send 5 = took 68656c6c6f\n3 c0.1 emit = AP seq 1001 ack 5001 win 16384 data 68656c6c6f\n4 s.4 tick = quiet\n4 p1.4 recv 5 = notyet\n5 s.5 tick = quiet\n5 c0.2 rx b:0.1 A seq 5001 ack 1006 win 16379 = none\n5 p1.5 recv 5 = notyet\n6 s.6 tick = quiet\n6 c0.3 rx b:0.2 AP seq 5001 ack 1006 win 16384 data 776f726c64 = A seq 1006 ack 5006 win 16379\n6 p1.6 recv 5 = got 776f726c64\n7 s.7 tick = quiet\n7 s.8 rx b:0.3 AF seq 5006 ack 1006 win 16384 = A seq 1006 ack 5007 win 16384\n7 p1.7 close = ok\n7 c0.4 emit = AF seq 1006 ack 5007 win 16384\n8 s.9 tick = quiet\n9 s.10 tick = quiet\n9 s.11 rx b:0.4 A seq 5007 ack 1007 win 16384 = none\nstate CLOSED done\nread 5 776f726c64\nhost b 10.0.0.2\n0 p0 listen 80 = ok\n1 p0 accept 80 = notyet\n2 p0 accept 80 = notyet\nflow 0 slot 0.1 10.0.0.2:80 10.0.0.1:49152\n1 s.0 passive a:0.0 iss 5000 S seq 1000 ack 0 win 16384 mss 1460 = ok\n1 c0.0 emit = AS seq 5000 ack 1001 win 16384 mss 1460\n2 s.1 tick = quiet\n3 s.2 tick = quiet\n3 s.3 rx a:0.1 A seq 1001 ack 5001 win 16384 = none\n3 p0.0 accept = ok\n4 s.4 tick = quiet\n4 c0.1 rx a:0.2 AP seq 1001 ack 5001 win 16384 data 68656c6c6f = A seq 5001 ack 1006 win 16379\n4 p0.1 recv 5 = got 68656c6c6f\n5 s.5 tick = quiet\n5 p0.2 send 5 = took 776f726c64\n5 c0.2 emit = AP seq 5001 ack 1006 win 16384 data 776f726c64\n6 s.6 tick = quiet\n6 p0.3 close = ok\n6 c0.3 emit = AF seq 5006 ack 1006 win 16384\n7 s.7 tick = quiet\n7 c0.4 rx a:0.3 A seq 1006 ack 5006 win 16379 = none\n8 s.8 tick = quiet\n8 c0.5 rx a:0.4 A seq 1006 ack 5007 win 16384 = none\n8 s.9 rx a:0.5 AF seq 1006 ack 5007 win 16384 = A seq 5007 ack 1007 win 16384\n9 s.10 tick = quiet\n10 s.11 tick = quiet\n10 s.12 control = cwnd 4386 ssthresh 65535\n11 s.13 tick = quiet\n12 s.14 tick = quiet\n13 s.15 tick = quiet\n14 s.16 tick = quiet\n15 s.17 tick = quiet\n16 s.18 tick = quiet\n17 s.19 tick = quiet\n18 s.20 tick = quiet\n19 s.21 tick = quiet\n20 s.22 tick = done\nstate CLOSED done\nread 5 68656c6c6f\nend 21 ticks\n"
+        ),
+        (3, 14, 0)
+    );
+}
