@@ -1,6 +1,7 @@
 -- What the tries of words leave of the books and of the scripts.
 use Rattle.std.specs.Prelude.{◌≡◌, ℕ, false, List, map, fold}
 use Rattle.tas_model.specs.declared.entry.FlowId.{FlowId}
+use Rattle.tas_model.specs.declared.entry.Reply.{Reply}
 use Rattle.host_rounds.specs.Lists.{Each, change_first}
 use Rattle.host_rounds.specs.Hosts.{Holder}
 use Rattle.host_rounds.specs.Scripts.{Scripts}
@@ -18,9 +19,12 @@ pub record Leaving (S : Type 0) : Type 0 where
   pub holds : Holder → Holder
   pub next : S → S
 
--- what a try leaves that was made on this history, by its reply
+-- what a try leaves with this reply, and by the reply on this history
+abbrev pub leaving_by : {S A : Type 0} → Try S A → Reply → Leaving S
+leaving_by x reply = record { flow = x.flow; holds = x.holds reply; next = x.next reply }
+
 abbrev pub leaving_on : {S A : Type 0} → (t : ℕ) → History → Try S A → Leaving S
-leaving_on t h x = record { flow = x.flow; holds = x.holds (reply_on t x h); next = x.next (reply_on t x h) }
+leaving_on t h x = leaving_by x (reply_on t x h)
 
 -- what a word leaves, as a list of one, or none
 abbrev pub leavings_in : {S A : Type 0} → (t : ℕ) → Word S A → List (Leaving S)
