@@ -64,8 +64,8 @@ pub fn words_are_done<S, A>()
         → ToldAs scripts t s state known order (map told_of words) }
 {}
 
-/// What such an order leaves of the books and of how far the scripts are is what its tries leave, one after the other: of
-/// each, by the reply to its call, who has the socket then, and how far its script is.
+/// What such an order leaves of the books and of how far the scripts are is what its tries leave, one after the other:
+/// of each, by the reply to its call, who has the socket then, and how far its script is.
 pub fn words_leave<S, A>()
     ensures { (scripts : Scripts S A) (t : ℕ) (s : Setting) (state : S) (known : List Held) (order : Order)
         (words : List (Word S A)) → AreIndexed s.books known → IsRun known order

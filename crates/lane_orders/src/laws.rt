@@ -1,5 +1,5 @@
 //! The laws of turns that were taken side by side.
-ghost use Rattle.std.specs.Prelude.{ℕ, List, IsPermutation};
+ghost use Rattle.std.specs.Prelude.{◌≡◌, ℕ, List, IsPermutation};
 ghost use Rattle.host_rounds.specs.Deliveries.{Arrival};
 ghost use Rattle.host_rounds.specs.Scripts.{Site, Scripts};
 ghost use Rattle.host_rounds.specs.Rounds.{Due};
@@ -21,8 +21,8 @@ pub fn turns_are_beside<S, A>()
         → (b : Beside scripts t) × IsOfTurns scripts t s state known order turns did b }
 {}
 
-/// Where what the tries of turns leave is of different flows, and it doesn't matter which of their scripts goes on first,
-/// the host and the scripts after the turns are what the tries leave turn by turn, whatever their order was.
+/// Where what the tries of turns leave is of different flows, and it doesn't matter which of their scripts goes on
+/// first, the host and the scripts after the turns are what the tries leave turn by turn, whatever their order was.
 pub fn turns_leave_one_site<S, A>()
     ensures { (scripts : Scripts S A) (t : ℕ) (p : Phase scripts t) → AreAllPairs (LeaveAlike t) (words_in p.did)
         → site_after p.beside ≡ site_left p }

@@ -186,7 +186,7 @@ module _ (S A : Type 0) (check : Bool) (core t : ℕ) (books : List Book) where
     of_core = ((refl, refl, refl), tt);
   }
   one_rx f (handled.Refused n) ds p = no_words ds p.0
-  one_rx f (handled.Passed x) ds p = no_words ds p
+  one_rx f (handled.Passed x) ds p = no_words ds p.0
 
   rxs : (fs : List Frame) (hs : List Handled) (ds : List Deed) → ArePutIn check core t fs hs ds
       → Words ds (gathered entered_by fs hs)

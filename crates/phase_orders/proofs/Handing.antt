@@ -72,7 +72,7 @@ module _ (check : Bool) (cores : ℕ) (handed : List ℕ) (frames : List Frame) 
   dealt_length : (core : ℕ) (ls : List Lane) → AreDealt cores handed frames core ls → cores ≤ core + length ls
   dealt_length core [] le = omega (arith, le)
   dealt_length core (lanes.Core l ∷ ls) dealt =
-      let le : cores ≤ suc core + length ls = dealt_length (suc core) ls dealt.2.2.2 in omega (arith, le)
+      let le : cores ≤ suc core + length ls = dealt_length (suc core) ls dealt.3 in omega (arith, le)
   dealt_length core (lanes.App l ∷ ls) dealt =
       let le : cores ≤ suc core + length ls = dealt_length (suc core) ls dealt.1 in omega (arith, le)
 
@@ -88,11 +88,11 @@ module _ (check : Bool) (cores : ℕ) (handed : List ℕ) (frames : List Frame) 
     own_at core (lanes.Core l ∷ ls) (d ∷ ds) dealt each are zero m same lt =
         let here : core ≡ m = omega (arith, same) in
         are.0
-        ∙ ((λ i. arrivals_of (each.0 i) (dealt.2.2.0 i))
+        ∙ ((λ i. arrivals_of (each.0 i) (dealt.2 i))
         ∙ (given_map (arrival_of check) core handed frames
         ∙ ap (λ k. given_to k handed (arrivals_of check frames)) here))
     own_at core (lanes.Core l ∷ ls) (d ∷ ds) dealt each are (suc n) m same lt =
-        own_at (suc core) ls ds dealt.2.2.2 each.1 are.1 n m (omega (arith, same)) lt
+        own_at (suc core) ls ds dealt.3 each.1 are.1 n m (omega (arith, same)) lt
     own_at core (lanes.App l ∷ ls) (d ∷ ds) dealt each are n m same lt =
         let le : cores ≤ core = dealt.0 in absurd (omega (arith, le, same, lt))
 
@@ -106,7 +106,7 @@ module _ (check : Bool) (cores : ℕ) (handed : List ℕ) (frames : List Frame) 
     none_at core (lanes.Core l ∷ ls) (d ∷ ds) dealt are zero m same le =
         let lt : core < cores = dealt.0 in absurd (omega (arith, lt, same, le))
     none_at core (lanes.Core l ∷ ls) (d ∷ ds) dealt are (suc n) m same le =
-        none_at (suc core) ls ds dealt.2.2.2 are.1 n m (omega (arith, same)) le
+        none_at (suc core) ls ds dealt.3 are.1 n m (omega (arith, same)) le
     none_at core (lanes.App l ∷ ls) (d ∷ ds) dealt are zero m same le = are.0
     none_at core (lanes.App l ∷ ls) (d ∷ ds) dealt are (suc n) m same le =
         none_at (suc core) ls ds dealt.1 are.1 n m (omega (arith, same)) le

@@ -12,7 +12,7 @@ use Rattle.host_rounds.specs.Scripts.{Scripts}
 use Rattle.flow_lock.specs.declared.view.Deed.{Deed}
 use Rattle.host_books.specs.Books.{Book}
 use Rattle.host_books.specs.Leavings.{Leaving, leavings_in, leaving_on, AreAlike, LeaveAlike}
-use Rattle.host_books.specs.Tries.{Try, Word, MayPrecede, LetsPass, deed_of}
+use Rattle.host_books.specs.Tries.{Try, Word, MayPrecede, LetsPass, deed_of, reply_on}
 use Rattle.host_books.specs.Words.{ArePairs, joined}
 use Rattle.libtas_sockets.specs.Apps.{flow_of}
 use Rattle.core_worker.specs.Workers.{Worker}
@@ -174,7 +174,7 @@ module _ {S A : Type 0} (scripts : Scripts S A) (check : Bool) (cores t : ℕ) (
         left = refl;
         asked = ap (λ (b : Bool). cond b (x.ask ∷ []) []) (sym e);
         leave = subst (λ (b : Bool). IsLeftIf b x v.attempt w.attempt w.answer (leaving_on t d.before x ∷ [])) (sym e)
-            (_, told, refl);
+            (reply_on t x d.before, told, refl);
       })
 
   of_app : (o : Option (Try S A)) (v w : AppLane) (ds : List Deed) → IsTryBy o v

@@ -1,9 +1,8 @@
 -- A phase of lanes is one of turns: for the law phases_are_turns.
-use Rattle.std.proofs.Common.{◌≡◌, ℕ, zero, suc, ◌+◌, ◌≤◌, Bool, false, List, [], ◌∷◌, ◌++◌, length, map, refl, sym, ap}
-use Rattle.std.proofs.Common.{◌∙◌, subst, arith, inl, inr}
+use Rattle.std.proofs.Common.{◌≡◌, ℕ, zero, suc, ◌+◌, ◌≤◌, Bool, true, false, List, [], ◌∷◌, ◌++◌, length, map, refl, sym, ap}
+use Rattle.std.proofs.Common.{◌∙◌, subst, arith, inl, inr, true≢false}
 use Rattle.std.specs.Prelude.{Option, Some, None}
 use Rattle.std.proofs.lemmas.List.Sorted.{IsPermutation-refl}
-use Rattle.std.proofs.lemmas.Bool.Decides.{nat_tests}
 use Rattle.tas_model.specs.declared.entry.FlowId.{FlowId}
 use Rattle.tas_model.specs.declared.entry.Reply.{Reply}
 use Rattle.host_rounds.specs.Deliveries.{Arrival}
@@ -16,6 +15,8 @@ use Rattle.host_books.specs.Books.{Book, Setting}
 use Rattle.host_books.specs.Leavings.{Leaving, leavings_in, leaving_on, AreAlike, LeaveAlike}
 use Rattle.host_books.specs.Tries.{Try, Word, IsTry, AreTries, MayPrecede, LetsPass, deed_of}
 use Rattle.host_books.specs.Words.{ArePairs, joined}
+use Rattle.host_books.proofs.Indexing.{is_same_flow}
+use Rattle.host_books.proofs.Orders.{same_self}
 use Rattle.core_phase.specs.Phases.{AreParts, IsPhase}
 use Rattle.core_phase.specs.declared.lane.Lane.{Lane}
 use Rattle.lane_orders.specs.Turns.{Did, did_nothing, IsDone, IsByWorkers, AreTurns, words_in, ask_by, handed_below}
@@ -31,7 +32,12 @@ use Rattle.phase_orders.proofs.Gathering.{AreAcross, AreTwoByTwo, all_pairs_at}
 
 -- ----- words of different lanes
 same_back : (f g : FlowId) → same_flow f g ≡ false → same_flow g f ≡ false
-same_back f g e = grind (arith, nat_tests, e)
+same_back f g e = by (same_flow g f) refl
+  where
+    by : (b : Bool) → same_flow g f ≡ b → same_flow g f ≡ false
+    by false h = h
+    by true h =
+        absurd (true≢false (sym (same_self f) ∙ (ap (same_flow f) (sym (is_same_flow g f h)) ∙ e)))
 
 module _ {S A : Type 0} (scripts : Scripts S A) (t : ℕ) where
   back : (o q : Option (Try S A)) → IsApart scripts t o q → IsApart scripts t q o
@@ -209,7 +215,13 @@ module _ {S A : Type 0} (scripts : Scripts S A) (t : ℕ) where
           frames = λ i. one.frames i ++ more.frames i;
           left = λ i. one.left i ++ more.left i;
           asked = λ i. one.asked i ++ more.asked i;
-          leave = (_, _, refl, one.leave, more.leave);
+          leave = (
+            joined (leavings_in t) one.did.words,
+            joined (λ (d : Did S A). joined (leavings_in t) d.words) more.dids,
+            refl,
+            one.leave,
+            more.leave,
+          );
         }
 
   -- ----- a phase
@@ -257,7 +269,7 @@ module _ {S A : Type 0} (scripts : Scripts S A) (t : ℕ) where
           turns = refl;
           dids = all.dids;
           did = refl;
-          lanes = all.turns;
+          lane_turns = all.turns;
           frames = all.each_frames;
           workers = at_each (IsByWorkers cores) tt all.dids all.workers;
           handed = ap (λ n. handed_below n did) (sym all.long) ∙ (handed_in_list all.dids ∙ all.frames);
@@ -271,7 +283,7 @@ module _ {S A : Type 0} (scripts : Scripts S A) (t : ℕ) where
       )
     where
       named : (p : ℕ) → {ds : List Deed} → ds ≡ of (p + 0) l.phase.order → ds ≡ of p l.phase.order
-      named p e = e ∙ ap (λ k. of k l.phase.order) (omega arith)
+      named p e = let same : p + 0 ≡ p = omega arith in e ∙ ap (λ k. of k l.phase.order) same
 
       nothing_done : (books : List Book) → IsDone t books (did_nothing {S = S} {A = A})
       nothing_done books = record { each = tt; frames = IsPermutation-refl [] }

@@ -24,8 +24,8 @@ AreDealt cores handed frames core (lanes.Core l ∷ ls) =
 AreDealt cores handed frames core (lanes.App l ∷ ls) =
     (cores ≤ core) × AreDealt cores handed frames (suc core) ls
 
--- Each frame went to the core that the steering named for its group then, while groups moved: that is what `hand_out` of
--- `frame_steering` ensures of its answer.
+-- Each frame went to the core that the steering named for its group then, while groups moved: that is what `hand_out`
+-- of `frame_steering` ensures of its answer.
 pub record AreHandedOver (cores : ℕ) (tables : List Table) (moves : List GroupMove) (frames : List Frame)
     (now : List Table) (ls : List Lane) : Type 0 where
   pub groups : List ℕ

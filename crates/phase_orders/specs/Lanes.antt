@@ -177,7 +177,7 @@ pub record IsOfLanes {S A : Type 0} {scripts : Scripts S A} {check : Bool} {core
   pub turns : p.turns ≡ length l.before
   pub dids : List (Did S A)
   pub did : p.did ≡ did_at dids
-  pub lanes : AreLaneTurns t l.setting.books p.order 0 l.asks l.before l.after dids
+  pub lane_turns : AreLaneTurns t l.setting.books p.order 0 l.asks l.before l.after dids
   pub frames : AreFramesOf l.before dids
   pub workers : (n : ℕ) → IsByWorkers cores (p.did n)
   pub handed : handed_below p.turns p.did ≡ all_handed l.before
