@@ -1,5 +1,5 @@
 -- What turns leave of the books and the scripts, in whatever order they were: for the law turns_leave_alike.
-use Rattle.std.proofs.Common.{◌≡◌, ◌≢◌, ℕ, List, [], ◌∷◌}
+use Rattle.std.proofs.Common.{◌≡◌, ℕ, List, [], ◌∷◌}
 use Rattle.host_rounds.specs.Lists.{Each}
 use Rattle.flow_lock.specs.Orders.{Order}
 use Rattle.host_books.specs.Books.{Book}

@@ -1,8 +1,8 @@
 -- The host and the scripts that turns leave: for the law turns_leave_one_site.
-use Rattle.std.proofs.Common.{◌≡◌, ℕ, List, ◌∙◌}
+use Rattle.std.proofs.Common.{◌≡◌, ℕ, ◌∙◌}
 use Rattle.host_rounds.specs.Scripts.{Scripts}
 use Rattle.flow_lock.specs.Orders.{played}
-use Rattle.host_books.specs.Books.{Book, site_of}
+use Rattle.host_books.specs.Books.{site_of}
 use Rattle.host_books.specs.Leavings.{leavings_in, books_after, scripts_after, LeaveAlike}
 use Rattle.host_books.specs.Ticks.{site_after}
 use Rattle.host_books.specs.Words.{joined, AreAllPairs}

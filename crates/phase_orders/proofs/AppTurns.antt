@@ -1,8 +1,7 @@
 -- What a call that an application tried puts into its turn: for the law phases_are_turns.
 use Rattle.std.proofs.Common.{◌≡◌, ℕ, Bool, true, false, not, List, [], ◌∷◌, ◌++◌, length, refl, sym, ap, ◌∙◌, subst}
-use Rattle.std.specs.Prelude.{Option, Some, None, is_some, Result}
+use Rattle.std.specs.Prelude.{Option, Some, None, is_some}
 use Rattle.tas_model.specs.declared.entry.FlowId.{FlowId}
-use Rattle.tas_model.specs.declared.entry.Call.{Call}
 use Rattle.tas_model.specs.declared.entry.Call.TheVariants as calls
 use Rattle.tas_model.specs.declared.entry.Entry.{Entry}
 use Rattle.tas_model.specs.declared.entry.Reply.{Reply}

@@ -1,5 +1,5 @@
 -- A core's turn in the words of a run: for the law core_turns_have_words.
-use Rattle.std.proofs.Common.{◌≡◌, ℕ, Bool, true, false, cond, List, [], ◌∷◌, ◌++◌, map, refl, sym, ap, ◌∙◌, subst}
+use Rattle.std.proofs.Common.{◌≡◌, ℕ, Bool, cond, List, [], ◌∷◌, ◌++◌, map, refl, sym, ap, ◌∙◌, subst}
 use Rattle.std.proofs.Common.{append_assoc, append-nil, inl, inr}
 use Rattle.std.specs.Prelude.{IsPermutation, Option, is_some}
 use Rattle.std.proofs.lemmas.List.Sorted.{IsPermutation-refl, IsPermutation-trans, IsPermutation-sym}
@@ -7,7 +7,6 @@ use Rattle.std.proofs.lemmas.List.Sorted.{IsPermutation-cons}
 use Rattle.std.proofs.lemmas.List.Sorted.{IsPermutation-append_right, IsPermutation-middle, IsPermutation-map}
 use Rattle.segment_fields.specs.declared.segment.Refused.{Refused}
 use Rattle.segment_fields.specs.Text.{refusal}
-use Rattle.host_rounds.specs.Deliveries.{Arrival}
 use Rattle.host_rounds.specs.Lists.{Each}
 use Rattle.host_rounds.proofs.Lists.{map_append, each_append}
 use Rattle.flow_lock.specs.declared.view.Deed.{Deed}
@@ -21,7 +20,7 @@ use Rattle.core_worker.specs.declared.frames.PassedFrame.{PassedFrame}
 use Rattle.host_books.specs.Books.{Book}
 use Rattle.host_books.specs.Tries.{Word, IsWord, deed_of}
 use Rattle.host_books.specs.Words.{joined}
-use Rattle.core_phase.specs.Deeds.{IsRx, IsSend, IsPutIn, ArePutIn, gathered, lines_by, IsTurnOf}
+use Rattle.core_phase.specs.Deeds.{IsSend, IsPutIn, ArePutIn, gathered, lines_by, IsTurnOf}
 use Rattle.core_phase.specs.Words.{arrival_of, frame_word, send_word}
 use Rattle.core_phase.proofs.Wording.{frame_is, send_is}
 use Rattle.lane_orders.specs.Turns.{Did, frame_by}

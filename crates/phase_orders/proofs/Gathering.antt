@@ -1,7 +1,7 @@
 -- What turns have, turn by turn, as one list: for the law phases_are_turns.
 use Rattle.std.proofs.Common.{◌≡◌, ◌≢◌, ℕ, zero, suc, ◌+◌, ◌≤◌, List, [], ◌∷◌, ◌++◌, length, map, refl, sym, ap, ◌∙◌}
-use Rattle.std.proofs.Common.{subst, arith, append_assoc, append-nil}
-use Rattle.host_rounds.specs.Deliveries.{Arrival}
+use Rattle.std.proofs.Common.{arith, append_assoc, append-nil}
+use Rattle.std.specs.Prelude.{⊤}
 use Rattle.host_rounds.specs.Lists.{Each}
 use Rattle.flow_lock.specs.Orders.{Order, of}
 use Rattle.host_books.specs.Tries.{Word, deed_of}
@@ -11,7 +11,7 @@ use Rattle.phase_orders.specs.Lanes.{did_at}
 
 module _ {S A : Type 0} where
   -- ----- lists of what turns have
-  gathered_below : {B : Type 0} → (Did S A → List B) → (turns : ℕ) → (ℕ → Did S A) → List B
+  abbrev gathered_below : {B : Type 0} → (Did S A → List B) → (turns : ℕ) → (ℕ → Did S A) → List B
   gathered_below g zero did = []
   gathered_below g (suc p) did = gathered_below g p did ++ g (did p)
 
@@ -69,7 +69,8 @@ module _ {S A : Type 0} where
   pub deeds_at : (order : Order) (p : ℕ) (ds : List (Did S A)) → AreDeedsFrom order p ds → (n : ℕ)
       → map deed_of (did_at ds n).words ≡ of (n + p) order
   deeds_at order p [] rest n = sym (rest (n + p) (omega arith))
-  deeds_at order p (d ∷ ds) are zero = are.0
+  deeds_at order p (d ∷ ds) are zero =
+      let same : p ≡ 0 + p = omega arith in are.0 ∙ ap (λ k. of k order) same
   deeds_at order p (d ∷ ds) are (suc n) =
       let same : n + suc p ≡ suc n + p = omega arith in
       deeds_at order (suc p) ds are.1 n ∙ ap (λ k. of k order) same

@@ -1,9 +1,8 @@
 -- The frames that lanes were handed are a hand-out: for the law lanes_have_a_hand_out.
 use Rattle.std.proofs.Common.{◌≡◌, ℕ, zero, suc, ◌+◌, ◌<◌, ◌≤◌, ◌==◌, cond, Bool, true, false, List, [], ◌∷◌, length}
 use Rattle.std.proofs.Common.{map, refl, sym, ap, ◌∙◌, subst, arith}
-use Rattle.std.specs.Prelude.{Option}
+use Rattle.std.specs.Prelude.{Option, ⊤}
 use Rattle.std.specs.List.{AllZip}
-use Rattle.host_rounds.specs.Deliveries.{Arrival}
 use Rattle.host_rounds.specs.Lists.{Each}
 use Rattle.host_rounds.specs.Scripts.{Scripts}
 use Rattle.steering.specs.Tables.{Table}

@@ -1,12 +1,9 @@
 -- What one lane did in its turn, in the words of a run: for the law phases_are_turns.
-use Rattle.std.proofs.Common.{◌≡◌, ℕ, ◌<◌, Bool, true, false, cond, List, [], ◌∷◌, ◌++◌, map, refl, sym, ap, ◌∙◌}
+use Rattle.std.proofs.Common.{◌≡◌, ℕ, ◌<◌, Bool, true, false, cond, List, [], ◌∷◌, ◌++◌, map, refl, sym, ap}
 use Rattle.std.proofs.Common.{subst, inl, inr}
 use Rattle.std.specs.Prelude.{Option, Some, None, ◌⊎◌}
 use Rattle.std.proofs.lemmas.List.Sorted.{IsPermutation-refl}
-use Rattle.tas_model.specs.declared.entry.Caller.{Caller}
-use Rattle.tas_model.specs.declared.entry.Caller.TheVariants.{Core}
 use Rattle.host_rounds.specs.Cores.{IsWorkerOf}
-use Rattle.host_rounds.specs.Deliveries.{Arrival}
 use Rattle.host_rounds.specs.Lists.{Each}
 use Rattle.host_rounds.specs.Scripts.{Scripts}
 use Rattle.flow_lock.specs.declared.view.Deed.{Deed}
@@ -15,13 +12,10 @@ use Rattle.host_books.specs.Leavings.{Leaving, leavings_in, leaving_on, AreAlike
 use Rattle.host_books.specs.Tries.{Try, Word, MayPrecede, LetsPass, deed_of, reply_on}
 use Rattle.host_books.specs.Words.{ArePairs, joined}
 use Rattle.libtas_sockets.specs.Apps.{flow_of}
-use Rattle.core_worker.specs.Workers.{Worker}
 use Rattle.core_phase.specs.Attempts.{AreOfTry}
 use Rattle.core_phase.specs.Deeds.{IsTurnOf}
 use Rattle.core_phase.specs.Lanes.{IsOf}
 use Rattle.core_phase.specs.declared.attempt.Attempt.{Attempt}
-use Rattle.core_phase.specs.declared.attempt.Attempt.TheVariants as attempts
-use Rattle.core_phase.specs.declared.attempt.Answered.{Answered}
 use Rattle.core_phase.specs.declared.lane.CoreLane.{CoreLane}
 use Rattle.core_phase.specs.declared.lane.AppLane.{AppLane}
 use Rattle.core_phase.specs.declared.lane.Lane.{Lane}

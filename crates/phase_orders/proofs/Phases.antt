@@ -1,29 +1,27 @@
 -- A phase of lanes is one of turns: for the law phases_are_turns.
-use Rattle.std.proofs.Common.{◌≡◌, ℕ, zero, suc, ◌+◌, ◌≤◌, Bool, true, false, List, [], ◌∷◌, ◌++◌, length, map, refl, sym, ap}
+use Rattle.std.proofs.Common.{◌≡◌, ℕ, suc, ◌+◌, ◌≤◌, Bool, true, false, List, [], ◌∷◌, ◌++◌, length, map, refl, sym, ap}
 use Rattle.std.proofs.Common.{◌∙◌, subst, arith, inl, inr, true≢false}
-use Rattle.std.specs.Prelude.{Option, Some, None}
+use Rattle.std.specs.Prelude.{Option, Some, None, ⊤}
 use Rattle.std.proofs.lemmas.List.Sorted.{IsPermutation-refl}
 use Rattle.tas_model.specs.declared.entry.FlowId.{FlowId}
-use Rattle.tas_model.specs.declared.entry.Reply.{Reply}
-use Rattle.host_rounds.specs.Deliveries.{Arrival}
 use Rattle.host_rounds.specs.Lists.{Each}
 use Rattle.host_rounds.specs.Scripts.{Scripts}
-use Rattle.flow_lock.specs.Orders.{Order, of, played, same_flow}
+use Rattle.flow_lock.specs.Orders.{Order, of, same_flow}
 use Rattle.flow_lock.specs.declared.view.Deed.{Deed}
 use Rattle.flow_lock.specs.declared.view.View.{View}
 use Rattle.host_books.specs.Books.{Book, Setting}
 use Rattle.host_books.specs.Leavings.{Leaving, leavings_in, leaving_on, AreAlike, LeaveAlike}
-use Rattle.host_books.specs.Tries.{Try, Word, IsTry, AreTries, MayPrecede, LetsPass, deed_of}
+use Rattle.host_books.specs.Tries.{Try, Word, IsTry, AreTries, MayPrecede, LetsPass}
 use Rattle.host_books.specs.Words.{ArePairs, joined}
 use Rattle.host_books.proofs.Indexing.{is_same_flow}
 use Rattle.host_books.proofs.Orders.{same_self}
-use Rattle.core_phase.specs.Phases.{AreParts, IsPhase}
+use Rattle.core_phase.specs.Phases.{AreParts}
 use Rattle.core_phase.specs.declared.lane.Lane.{Lane}
-use Rattle.lane_orders.specs.Turns.{Did, did_nothing, IsDone, IsByWorkers, AreTurns, words_in, ask_by, handed_below}
+use Rattle.lane_orders.specs.Turns.{Did, did_nothing, IsDone, IsByWorkers, AreTurns, ask_by, handed_below}
 use Rattle.lane_orders.specs.Turns.{left_below, asked_below, leavings_below}
 use Rattle.lane_orders.specs.Ticks.{Phase}
 use Rattle.lane_orders.proofs.Beside.{beside}
-use Rattle.phase_orders.specs.Lanes.{AreSetOut, IsAsk, AreApart, IsApart, AreAllApart, LanePhase, handed_to, all_handed}
+use Rattle.phase_orders.specs.Lanes.{AreSetOut, IsAsk, AreApart, IsApart, AreAllApart, LanePhase, all_handed}
 use Rattle.phase_orders.specs.Lanes.{all_left, all_asked, AreLeavings, did_at, AreLaneTurns, AreFramesOf}
 use Rattle.phase_orders.specs.Lanes.{IsOfLanes}
 use Rattle.phase_orders.proofs.LaneTurns.{IsOfAsk, One, lane_turn, lets_pass, leave_alike}

@@ -1,6 +1,6 @@
 -- A tick of lanes is one of turns: for the law ticks_of_phases_are_shared.
 use Rattle.std.proofs.Common.{◌≡◌, ℕ, zero, suc, Bool, List, [], ◌∷◌, ◌++◌, refl, sym, ap, ◌∙◌, subst}
-use Rattle.std.specs.Prelude.{Option, None, IsPermutation}
+use Rattle.std.specs.Prelude.{Option, IsPermutation}
 use Rattle.host_rounds.specs.Deliveries.{Arrival}
 use Rattle.host_rounds.specs.Lists.{Each}
 use Rattle.host_rounds.specs.Scripts.{Site, Scripts}
@@ -13,10 +13,11 @@ use Rattle.host_books.specs.Ticks.{site_before, site_after}
 use Rattle.host_books.specs.Tries.{Try}
 use Rattle.core_phase.specs.declared.lane.Lane.{Lane}
 use Rattle.core_phase.specs.declared.lane.Lane.TheVariants as lanes
-use Rattle.lane_orders.specs.Turns.{Did, did_nothing, leavings_below}
+use Rattle.lane_orders.specs.Turns.{Did, leavings_below}
 use Rattle.lane_orders.specs.Ticks.{Phase, IsHandOut, AreTried, IsTickOfTurns}
 use Rattle.lane_orders.proofs.Leaving.{one_site}
 use Rattle.lane_orders.proofs.Ticks.{tick_of_turns}
+use Rattle.phase_orders.specs.AppTurns.{asked_by, IsLeftBy}
 use Rattle.phase_orders.specs.Lanes.{LanePhase, asked_in, all_asked, IsLeavingIn, AreLeavings, did_at, AreFramesOf}
 use Rattle.phase_orders.specs.Lanes.{IsOfLanes}
 use Rattle.phase_orders.specs.Ticks.{IsIdle, IsSilent, site_at, site_with, IsTickOfLanes}
@@ -33,21 +34,23 @@ module _ {S A : Type 0} where
   idle_at (v ∷ vs) (d ∷ ds) idle are zero = are.0 ∙ idle.0
   idle_at (v ∷ vs) (d ∷ ds) idle are (suc n) = idle_at vs ds idle.1 are.1 n
 
-  none_asked : (w : Lane) → asked_in {S = S} {A = A} None w ≡ []
-  none_asked (lanes.Core l) = refl
-  none_asked (lanes.App l) = refl
+  none_asked : (o : Option (Try S A)) (w : Lane) → IsSilent o → asked_in o w ≡ []
+  none_asked o (lanes.Core l) e = refl
+  none_asked o (lanes.App l) e = ap (λ (q : Option (Try S A)). asked_by q l.answer) e
 
   silent_asked : (os : List (Option (Try S A))) (ws : List Lane) → Each IsSilent os → all_asked os ws ≡ []
   silent_asked [] ws each = refl
   silent_asked (o ∷ os) [] each = refl
   silent_asked (o ∷ os) (w ∷ ws) each =
-      λ i. (ap (λ (q : Option (Try S A)). asked_in q w) each.0 ∙ none_asked w) i ++ silent_asked os ws each.1 i
+      λ i. none_asked o w each.0 i ++ silent_asked os ws each.1 i
 
-  none_left : (v w : Lane) (ls : List (Leaving S)) → IsLeavingIn {S = S} {A = A} None v w ls → ls ≡ []
-  none_left (lanes.Core v) (lanes.Core w) ls e = e
-  none_left (lanes.Core v) (lanes.App w) ls e = e
-  none_left (lanes.App v) (lanes.Core w) ls e = e
-  none_left (lanes.App v) (lanes.App w) ls e = e
+  none_left : (o : Option (Try S A)) (v w : Lane) (ls : List (Leaving S)) → IsSilent o → IsLeavingIn o v w ls
+      → ls ≡ []
+  none_left o (lanes.Core v) (lanes.Core w) ls silent it = it
+  none_left o (lanes.Core v) (lanes.App w) ls silent it = it
+  none_left o (lanes.App v) (lanes.Core w) ls silent it = it
+  none_left o (lanes.App v) (lanes.App w) ls silent it =
+      subst (λ (q : Option (Try S A)). IsLeftBy q v.attempt w.attempt w.answer ls) silent it
 
   silent_left : (os : List (Option (Try S A))) (vs ws : List Lane) (ls : List (Leaving S)) → Each IsSilent os
       → AreLeavings os vs ws ls → ls ≡ []
@@ -55,9 +58,7 @@ module _ {S A : Type 0} where
   silent_left (o ∷ os) [] ws ls each are = absurd are
   silent_left (o ∷ os) (v ∷ vs) [] ls each are = absurd are
   silent_left (o ∷ os) (v ∷ vs) (w ∷ ws) ls each (a, b, is, one, more) =
-      is
-      ∙ (λ i. none_left v w a (subst (λ (q : Option (Try S A)). IsLeavingIn q v w a) each.0 one) i
-      ++ silent_left os vs ws b each.1 more i)
+      is ∙ (λ i. none_left o v w a each.0 one i ++ silent_left os vs ws b each.1 more i)
 
 module _ {S A : Type 0} (scripts : Scripts S A) (check : Bool) (cores t : ℕ) where
   -- ----- hosts and scripts
