@@ -90,7 +90,8 @@ module _ (check : Bool) where
           ∙ sym (map_append (arrival_of check) (broken_in check v.worker.frames)
           (map frame_in w.worker.exceptions ++ map frame_in w.worker.deferred))
 
-      lanes_left : {S A : Type 0} (p : ℕ) (os : List (Option (Try S A))) (vs ws : List Lane) → AreSetOut check cores t os vs
+      lanes_left : {S A : Type 0} (p : ℕ) (os : List (Option (Try S A))) (vs ws : List Lane)
+          → AreSetOut check cores t os vs
           → AreParts order p vs ws → all_left vs ws ≡ arrivals_of check (all_left_frames vs ws)
       lanes_left p [] [] ws set parts = refl
       lanes_left p [] (v ∷ vs) ws set parts = absurd set
@@ -112,7 +113,8 @@ module _ (check : Bool) where
           r.1.lines
           ∙ (λ i. none i ++ lines_of (at.checks i) (at.tick i) (broken_in (at.checks i) v.worker.frames))
 
-      lanes_lines : {S A : Type 0} (p : ℕ) (os : List (Option (Try S A))) (vs ws : List Lane) → AreSetOut check cores t os vs
+      lanes_lines : {S A : Type 0} (p : ℕ) (os : List (Option (Try S A))) (vs ws : List Lane)
+          → AreSetOut check cores t os vs
           → AreParts order p vs ws → Each IsTold vs → joined log_of ws ≡ lines_of check t (all_broken check vs)
       lanes_lines p [] [] ws set parts told = ap (joined log_of) parts
       lanes_lines p [] (v ∷ vs) ws set parts told = absurd set

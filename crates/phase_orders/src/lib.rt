@@ -1,5 +1,5 @@
-//! What the lanes of a phase did, in the words of a run: turns, the hand-out of frames to lanes, what the slow path then
-//! collects, and ticks of phases.
+//! What the lanes of a phase did, in the words of a run: turns, the hand-out of frames to lanes, what the slow path
+//! then collects, and ticks of phases.
 #![tactic(auto)]
 
 mod laws;
