@@ -90,8 +90,9 @@ IsPlain b = b.filed ≡ true → b.indexed ≡ false
 
 -- ----- between ticks
 pub record IsHostSound (h : CoreHost) : Type 0 where
-  -- nobody has a turn, and no frame waits
+  -- nobody has a turn, the pass is the slow path's, and no frame waits
   pub alone : IsAlone h.slow.pass.view
+  pub slow_pass : h.slow.pass.view.slow ≡ true
   pub waiting : waiting h.slow ≡ []
   -- the slow path's worker may work
   pub sound : slow.IsSound h.table (slow.sight_of h.slow)
@@ -121,6 +122,7 @@ pub record IsNewApp (table : TableId) (a : libtas.Application) : Type 0 where
 -- the slow path and the applications of a host that opened no flow
 pub record IsNewHost (table : TableId) (w : slow.Worker) (xs : List libtas.Application) : Type 0 where
   pub alone : IsAlone w.pass.view
+  pub slow_pass : w.pass.view.slow ≡ true
   pub waits_not : waiting w ≡ []
   pub sound : slow.IsSound table (slow.sight_of w)
   pub slots : w.path.params.slots ≡ table.slots
