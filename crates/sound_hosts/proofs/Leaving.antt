@@ -93,7 +93,7 @@ waiting_left n id b = by (has_flow n id b) refl
     by false e = refl
 
 -- ----- lists
-any_names : (p : FlowId → Bool) (q : Book → Bool) (bs : List Book)
+pub any_names : (p : FlowId → Bool) (q : Book → Bool) (bs : List Book)
     → list_any p (map id_of (filter q bs)) ≡ list_any (λ (b : Book). q b && p b.id) bs
 any_names p q [] = refl
 any_names p q (b ∷ bs) = by (q b) (any_names p q bs)
@@ -453,7 +453,7 @@ module _ (table : TableId) (generation pins pins' : ℕ → ℕ) (bs : List Book
       flipped m e = grind (arith, nat_tests, e)
 
   -- ----- holders
-  b : Application
+  abbrev b : Application
   b = record a { sockets = without id.slot a.sockets }
 
   abbrev IsHad : Book → Holder → Type 0

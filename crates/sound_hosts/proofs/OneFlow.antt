@@ -95,7 +95,7 @@ pub ports_same : (before after : List Held) → ((f : FlowId) → (known_of f af
     → (bs : List Book) → count_by (has_given_port after) bs ≡ count_by (has_given_port before) bs
 ports_same before after same bs = ap (λ p. count_by p bs) (λ i b. leb first_port (same b.id i).lport)
 
-words_same : (v w : View) → ((slot : ℕ) → word_at w.words slot ≡ word_at v.words slot) → (bs : List Book)
+pub words_same : (v w : View) → ((slot : ℕ) → word_at w.words slot ≡ word_at v.words slot) → (bs : List Book)
     → Each (IsWorded v) bs → Each (IsWorded w) bs
 words_same v w same bs each = each_map (IsWorded v) (IsWorded w) bs (λ b is f. same b.id.slot ∙ is f) each
 

@@ -166,7 +166,7 @@ module _ (slots : ℕ) (v : View) (xs : List Book) (b : Book) (cs : List Book) (
   low : b.id.slot < slots
   low = within slots [] xs b cs numbered
 
-  low_mark : b.id.slot < length v.marks
+  pub low_mark : b.id.slot < length v.marks
   low_mark = let w : length v.marks ≡ slots = wide.0 in let l = low in omega (arith, l, w)
 
   low_word : b.id.slot < length v.words
@@ -182,11 +182,11 @@ module _ (slots : ℕ) (v : View) (xs : List Book) (b : Book) (cs : List Book) (
       (mark_there v.marks b.id.slot low_mark)
 
   -- the others
-  front : Each (λ (c : Book). c.filed ≡ false → (c.id.slot == b.id.slot) ≡ false) xs
+  pub front : Each (λ (c : Book). c.filed ≡ false → (c.id.slot == b.id.slot) ≡ false) xs
   front = all_elsewhere v b stands (λ f. own) xs (apart_before slots [] xs b cs numbered)
       (firsts (IsWorded v) xs b cs worded)
 
-  back : Each (λ (c : Book). c.filed ≡ false → (c.id.slot == b.id.slot) ≡ false) cs
+  pub back : Each (λ (c : Book). c.filed ≡ false → (c.id.slot == b.id.slot) ≡ false) cs
   back = all_elsewhere v b stands (λ f. own) cs (apart_behind slots [] xs b cs numbered)
       (lasts (IsWorded v) xs b cs worded)
 

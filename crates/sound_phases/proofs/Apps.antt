@@ -106,7 +106,7 @@ app_left : (order : Order) (p : ℕ) (v w : AppLane) → MayPlay (lanes.App v)
     → HasLeft (pins_left (lanes.App v) (lanes.App w)) v.app w.app
 app_left order p v w may part = by part.after part.did part.back
   where
-    ready : Application
+    abbrev ready : Application
     ready = with_view (record (v.app.pass.view) { turns = new_turn p ∷ [] }) v.app
 
     by : (after : Lane) → HasPlayed (with_turns_of (new_turn p ∷ []) (lanes.App v)) after

@@ -39,18 +39,19 @@ use Rattle.sound_hosts.specs.Hosts.{CoreHost, known_in, id_of, is_indexed, is_do
 use Rattle.sound_hosts.specs.Hosts.{flows_in, waiting_in, has_given_port, AreNumbered}
 use Rattle.sound_hosts.specs.Leading.{LedOn, Leads}
 use Rattle.sound_hosts.specs.Leaving.{reheld, left_by, books_left, has_flow}
-use Rattle.sound_hosts.specs.Sound.{IsHostSound, IsApp, IsMarked, IsPlain, IsWorded, AreShown, HasHolder}
+use Rattle.sound_hosts.specs.Sound.{IsHostSound, IsApp, IsMarked, IsMarkedAs, IsPlain, IsWorded, AreShown, HasHolder}
 use Rattle.sound_hosts.proofs.Kept.{flows_same, shown_same, indexed_still}
 use Rattle.sound_hosts.proofs.Leaving.{AreRight, IsNumberedBy, IsPinnedBy, AreApart, apart_of, only, waiting_left}
 use Rattle.sound_hosts.proofs.OneFlow.{ports_same}
 use Rattle.sound_hosts.proofs.OpenSockets.{all_each, each_at}
 use Rattle.sound_hosts.proofs.Reheld.{count_reheld, names_reheld, each_reheld, plain_reheld, marked_reheld, flows_reheld}
 use Rattle.sound_hosts.proofs.Reheld.{shown_reheld, indexed_reheld, StaysWaiting, waiting_same, waiting_reheld}
+use Rattle.sound_hosts.proofs.Standing.{every_at, stand_marked, within}
 use Rattle.sound_phases.specs.Phased.{apps_in, books_by, books_after, after_phase}
 use Rattle.sound_phases.proofs.Apps.{lanes_right, lanes_had}
 use Rattle.sound_phases.proofs.Deeds.{turns_lead, LaneHas}
 use Rattle.sound_phases.proofs.Orders.{IsHad, IsLeading, from_turns, run_leads, run_columns}
-use Rattle.sound_phases.proofs.Words.{every_at, IsMarkedAs, stand_marked, learned}
+use Rattle.sound_phases.proofs.Words.{learned}
 
 -- ----- what other holders keep, a phase does
 module _ (P : List Book → Type 0)
@@ -164,7 +165,7 @@ module _ (h : CoreHost) (vs ws : List Lane) (w : View) (sound : IsHostSound h) (
       )
 
   -- ----- books and applications
-  generation : ℕ → ℕ
+  abbrev generation : ℕ → ℕ
   generation i = (word_at h.slow.pass.view.words i).generation
 
   numbered_by : (cs : List Book) → Each (IsWorded v) cs → Each (IsNumberedBy generation) cs
@@ -210,10 +211,6 @@ module _ (h : CoreHost) (vs ws : List Lane) (w : View) (sound : IsHostSound h) (
   none_held : (i : ℕ) → holds_on i h.slow.pass.view ≡ 0
   none_held i = ap (λ (l : List Held). total (λ (x : Held). at_slot i x.flow) l) idle
 
-  low : (slots : ℕ) (before cs : List Book) → AreNumbered slots before cs → Each (λ (b : Book). b.id.slot < slots) cs
-  low slots before [] numbered = tt
-  low slots before (c ∷ cs) numbered = (numbered.0, low slots (before ++ c ∷ []) cs numbered.2)
-
   words_after : (cs : List Book) → Each (λ (b : Book). b.id.slot < h.table.slots) cs
       → Each (IsMarkedAs h.slow.pass.view.marks) cs → Each (IsPinnedBy (pins_at w.words)) cs → Each (IsWorded w) cs
   words_after [] x y z = tt
@@ -226,7 +223,7 @@ module _ (h : CoreHost) (vs ws : List Lane) (w : View) (sound : IsHostSound h) (
   )
 
   -- ----- the slow path
-  pass_after : Seen
+  abbrev pass_after : Seen
   pass_after = record (h.slow.pass) { view = w }
 
   alone : IsAlone w
@@ -259,7 +256,7 @@ module _ (h : CoreHost) (vs ws : List Lane) (w : View) (sound : IsHostSound h) (
         vs ws h.books (indexed_still known after leads h.books sound.indexed));
     table = record {
       marks = marked;
-      words = words_after bs (low h.table.slots [] bs right.numbered) stand right.pinned;
+      words = words_after bs (within h.table.slots [] bs right.numbered) stand right.pinned;
     };
     kept = record {
       flows = sound.kept.flows
