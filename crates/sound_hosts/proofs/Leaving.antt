@@ -241,8 +241,7 @@ module _ (table : TableId) (generation pins : ℕ → ℕ) (bs : List Book) (fro
         pinned = right.pinned;
         taken = record {
           apps = each_append (IsApp table bs) front (b ∷ back)
-              (firsts (IsApp table bs) front a back right.taken.apps)
-              (
+              (firsts (IsApp table bs) front a back right.taken.apps) (
                 record {
                   own = left.own ∙ own.own;
                   turns = left.turns;
@@ -281,7 +280,6 @@ module _ (table : TableId) (generation pins pins' : ℕ → ℕ) (bs : List Book
     (right : AreRight table generation pins bs (front ++ a ∷ back))
     (has : list_any (λ (f : FlowId). same_flow f id) a.sockets ≡ true)
     (less : (i : ℕ) → pins' i + total (at_slot i) (id ∷ []) ≡ pins i) where
-
   abbrev names : List FlowId
   names = map id_of (filter (is_held_of a.number) bs)
 
@@ -407,7 +405,7 @@ module _ (table : TableId) (generation pins pins' : ℕ → ℕ) (bs : List Book
       ∙ (sym (count_map id_of (same_flow f)
       (filter (λ (b : Book). is_held_of a.number b && not (same_flow b.id id)) bs))
       ∙ ap (λ l. count_by (same_flow f) l) (sym (names_reheld (left_by a.number id) (is_held_of a.number)
-      (λ (b : Book). is_held_of a.number b && not (same_flow b.id id)) bs (owns bs)))))))))))) 
+      (λ (b : Book). is_held_of a.number b && not (same_flow b.id id)) bs (owns bs))))))))))))
 
   -- ----- the others
   abbrev IsElse : Application → Type 0
@@ -513,8 +511,7 @@ module _ (table : TableId) (generation pins pins' : ℕ → ℕ) (bs : List Book
         pinned = each_reheld (left_by a.number id) IsBoth (IsPinnedBy pins') pinned bs (both bs right.pinned slots);
         taken = record {
           apps = each_append (IsApp table (map (reheld (left_by a.number id)) bs)) front (b ∷ back)
-              (others_right front ne.0 (firsts (IsApp table bs) front a back right.taken.apps))
-              (
+              (others_right front ne.0 (firsts (IsApp table bs) front a back right.taken.apps)) (
                 record { own = own.own; turns = own.turns; begun = own.begun; sockets = sockets },
                 others_right back ne.1 (lasts (IsApp table bs) front a back right.taken.apps),
               );

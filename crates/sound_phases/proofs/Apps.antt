@@ -58,30 +58,32 @@ module _ (s : Socket) (u : View) (none : u.turns ≡ []) where
     had = (socket_had s.0 a.sockets there, tt);
   }
 
+  error_left : (a m b : Application) → m ≡ with_view m.pass.view a → b ≡ m → HasLeft [] a (with_view u b)
+  error_left a m b e left = same_left a b (left ∙ (e ∙ ap (λ (y : Application). with_view y.pass.view a) (sym left)))
+
   close_left : {T : Type 0} (result : Result T SocketError) (a m b : Application) → IsSocket a s
       → m ≡ with_view m.pass.view a → b ≡ after_close result s m
       → HasLeft (left_by_close result (flow_of a s)) a (with_view u b)
   close_left (Ok x) a m b there e left = socket_left a m b there e left
-  close_left (Err x) a m b there e left =
-      same_left a b (left ∙ (e ∙ ap (λ (y : Application). with_view y.pass.view a) (sym left)))
+  close_left (Err x) a m b there e left = error_left a m b e left
 
   abort_left : {T : Type 0} (result : Result T SocketError) (a m b : Application) → IsSocket a s
       → m ≡ with_view m.pass.view a → b ≡ after_abort result s m
       → HasLeft (left_by_abort result (flow_of a s)) a (with_view u b)
   abort_left (Ok x) a m b there e left = socket_left a m b there e left
   abort_left (Err (errors.Closed x)) a m b there e left = socket_left a m b there e left
-  abort_left (Err errors.NotYet) a m b there e left = close_left (Err errors.NotYet) a m b there e left
-  abort_left (Err errors.NotOpen) a m b there e left = close_left (Err errors.NotOpen) a m b there e left
-  abort_left (Err errors.Shut) a m b there e left = close_left (Err errors.Shut) a m b there e left
-  abort_left (Err (errors.Busy x)) a m b there e left = close_left (Err (errors.Busy x)) a m b there e left
-  abort_left (Err (errors.Stale x)) a m b there e left = close_left (Err (errors.Stale x)) a m b there e left
-  abort_left (Err (errors.Moved x y)) a m b there e left = close_left (Err (errors.Moved x y)) a m b there e left
-  abort_left (Err (errors.Early x)) a m b there e left = close_left (Err (errors.Early x)) a m b there e left
-  abort_left (Err (errors.SlotInUse x)) a m b there e left = close_left (Err (errors.SlotInUse x)) a m b there e left
-  abort_left (Err (errors.PortInUse x)) a m b there e left = close_left (Err (errors.PortInUse x)) a m b there e left
-  abort_left (Err errors.NoPort) a m b there e left = close_left (Err errors.NoPort) a m b there e left
-  abort_left (Err errors.NoFlowSlot) a m b there e left = close_left (Err errors.NoFlowSlot) a m b there e left
-  abort_left (Err errors.OutOfMemory) a m b there e left = close_left (Err errors.OutOfMemory) a m b there e left
+  abort_left (Err errors.NotYet) a m b there e left = error_left a m b e left
+  abort_left (Err errors.NotOpen) a m b there e left = error_left a m b e left
+  abort_left (Err errors.Shut) a m b there e left = error_left a m b e left
+  abort_left (Err (errors.Busy x)) a m b there e left = error_left a m b e left
+  abort_left (Err (errors.Stale x)) a m b there e left = error_left a m b e left
+  abort_left (Err (errors.Moved x y)) a m b there e left = error_left a m b e left
+  abort_left (Err (errors.Early x)) a m b there e left = error_left a m b e left
+  abort_left (Err (errors.SlotInUse x)) a m b there e left = error_left a m b e left
+  abort_left (Err (errors.PortInUse x)) a m b there e left = error_left a m b e left
+  abort_left (Err errors.NoPort) a m b there e left = error_left a m b e left
+  abort_left (Err errors.NoFlowSlot) a m b there e left = error_left a m b e left
+  abort_left (Err errors.OutOfMemory) a m b there e left = error_left a m b e left
 
   pub try_left : (tick : ℕ) (a b : Application) (before after : Attempt) (answer : Answered) → MayTry a s before
       → HasTried s tick a b before after answer → HasLeft (pin_left (flow_of a s) before answer) a (with_view u b)
@@ -106,9 +108,6 @@ app_left : (order : Order) (p : ℕ) (v w : AppLane) → MayPlay (lanes.App v)
     → HasLeft (pins_left (lanes.App v) (lanes.App w)) v.app w.app
 app_left order p v w may part = by part.after part.did part.back
   where
-    abbrev ready : Application
-    ready = with_view (record (v.app.pass.view) { turns = new_turn p ∷ [] }) v.app
-
     by : (after : Lane) → HasPlayed (with_turns_of (new_turn p ∷ []) (lanes.App v)) after
         → lanes.App w ≡ with_turns_of [] after
         → HasLeft (pin_left (flow_of v.app v.socket) v.attempt w.answer) v.app w.app
@@ -122,7 +121,8 @@ app_left order p v w may part = by part.after part.did part.back
       where
         -- the turn that it was lent is no part of it
         of_ready : (b : Application) (answer : Answered) (u : View) → u.turns ≡ []
-            → HasLeft (pin_left (flow_of v.app v.socket) v.attempt answer) ready (with_view u b)
+            → HasLeft (pin_left (flow_of v.app v.socket) v.attempt answer)
+            (with_view (record (v.app.pass.view) { turns = new_turn p ∷ [] }) v.app) (with_view u b)
             → HasLeft (pin_left (flow_of v.app v.socket) v.attempt answer) v.app (with_view u b)
         of_ready b answer u none left = record {
           number = left.number;
@@ -147,7 +147,10 @@ module _ (table : TableId) (generation : ℕ → ℕ) (order : Order) where
       same i = let l : pins' i + 0 ≡ pins i = less i in omega (arith, l)
   lanes_right p (v ∷ vs) [] front pins pins' bs parts may less right = absurd parts
   lanes_right p (lanes.Core v ∷ vs) (lanes.Core w ∷ ws) front pins pins' bs parts may less right =
-      lanes_right (suc p) vs ws front pins pins' bs parts.1 may.1 less right
+      lanes_right (suc p) vs ws front pins pins' bs parts.1 may.1 (λ i. cores i) right
+    where
+      cores : (i : ℕ) → pins' i + left_on i vs ws ≡ pins i
+      cores i = let l : pins' i + (0 + left_on i vs ws) ≡ pins i = less i in omega (arith, l)
   lanes_right p (lanes.Core v ∷ vs) (lanes.App w ∷ ws) front pins pins' bs parts may less right =
       absurd parts.0.deeds
   lanes_right p (lanes.App v ∷ vs) (lanes.Core w ∷ ws) front pins pins' bs parts may less right =

@@ -33,7 +33,6 @@ use Rattle.core_phase.specs.declared.attempt.Attempt.TheVariants as attempts
 use Rattle.core_phase.specs.declared.attempt.Answered.{Answered}
 use Rattle.core_phase.specs.declared.lane.Lane.{Lane}
 use Rattle.core_phase.specs.declared.lane.Lane.TheVariants as lanes
-use Rattle.core_phase.proofs.Columns.{rx_column, send_column}
 use Rattle.host_books.specs.Books.{Book}
 use Rattle.host_books.specs.Tries.{Adds}
 use Rattle.libtas_sockets.specs.Apps.{flow_of}
@@ -41,7 +40,24 @@ use Rattle.sound_hosts.specs.Leading.{LedOn}
 use Rattle.sound_hosts.proofs.Calls.{call_leads}
 use Rattle.sound_phases.proofs.Orders.{IsHad, IsLeading}
 
+-- What frames and kicks leave of their flows: the law deeds_leave_the_column.
+abbrev pub FramesKeep : Type 0
+FramesKeep = (check : Bool) (core t : ℕ) (f : Frame) (d : Deed) → IsRx check core t f d → KeepsColumn d
+
+abbrev pub SendsKeep : Type 0
+SendsKeep = (core t : ℕ) (d : Deed) → IsSend core t d → KeepsColumn d
+
 module _ (bs : List Book) where
+  -- where something is tried, it is on a flow that the application has
+  abbrev pub TriesHad : FlowId → Attempt → Type 0
+  TriesHad id attempts.Nothing = Unit {0}
+  TriesHad id attempt = IsHad bs id
+
+  abbrev pub LaneHas : Lane → Type 0
+  LaneHas (lanes.Core l) = Unit {0}
+  LaneHas (lanes.App l) = TriesHad (flow_of l.app l.socket) l.attempt
+
+module _ (bs : List Book) (rx_column : FramesKeep) (send_column : SendsKeep) where
   adds_lead : (by : Caller) (t : ℕ) (call : Call) (offer : List ℕ) (d : Deed) → Adds by t call offer d
       → IsHad bs d.flow ⊎ KeepsColumn d → IsLeading bs d
   adds_lead by t call offer d adds column = record {
@@ -88,13 +104,8 @@ module _ (bs : List Book) where
       (inl (subst (IsHad bs) (sym flow) had)))
   call_is_led app id tick call (Some fault) tells ds had e = none_leads ds e
 
-  -- where something is tried, it is on a flow that the application has
-  abbrev pub TriesHad : FlowId → Attempt → Type 0
-  TriesHad id attempts.Nothing = Unit {0}
-  TriesHad id attempt = IsHad bs id
-
   pub try_leads : (app : ℕ) (id : FlowId) (tick : ℕ) (before after : Attempt) (answer : Answered) (ds : List Deed)
-      → TriesHad id before → AreOfTry app id tick before after answer ds → Each (IsLeading bs) ds
+      → TriesHad bs id before → AreOfTry app id tick before after answer ds → Each (IsLeading bs) ds
   try_leads app id tick attempts.Nothing after answer ds had e = none_leads ds e
   try_leads app id tick (attempts.Send bytes) after answer ds had (offered, now, result, is, are) =
       call_is_led app id tick (ins.Send offered) (fault_in result) (tells_sent result) ds had are
@@ -109,11 +120,7 @@ module _ (bs : List Book) where
       call_is_led app id tick ins.Abort (fault_in result) (tells_done result) ds had are
 
   -- ----- lanes
-  abbrev pub LaneHas : Lane → Type 0
-  LaneHas (lanes.Core l) = Unit {0}
-  LaneHas (lanes.App l) = TriesHad (flow_of l.app l.socket) l.attempt
-
-  lane_leads : (v w : Lane) (ds : List Deed) → LaneHas v → IsOf v w ds → Each (IsLeading bs) ds
+  lane_leads : (v w : Lane) (ds : List Deed) → LaneHas bs v → IsOf v w ds → Each (IsLeading bs) ds
   lane_leads (lanes.Core v) (lanes.Core w) ds had is =
       subst (Each (IsLeading bs)) (sym is.all)
       (each_append (IsLeading bs) is.entered is.sent
@@ -126,7 +133,7 @@ module _ (bs : List Book) where
 
   -- the deeds of each turn
   module _ (order : Order) where
-    pub turns_lead : (k : ℕ) (vs ws : List Lane) → AreParts order k vs ws → Each LaneHas vs
+    pub turns_lead : (k : ℕ) (vs ws : List Lane) → AreParts order k vs ws → Each (LaneHas bs) vs
         → ((p : ℕ) → k + length vs ≤ p → of p order ≡ [])
         → (p : ℕ) → k ≤ p → Each (IsLeading bs) (of p order)
     turns_lead k [] ws parts had others p le = none_leads (of p order) (others p (omega (arith, le)))

@@ -26,7 +26,7 @@ use Rattle.flow_lock.specs.declared.word.Word.{Word}
 use Rattle.flow_clock.specs.Histories.{is_over, is_running_in}
 use Rattle.flow_clock.proofs.Keeping.{still_kept}
 use Rattle.libtas_sockets.specs.Apps.{Application}
-use Rattle.core_phase.specs.Lanes.{MayPlay}
+use Rattle.core_phase.specs.Lanes.{MayPlay, pins_left}
 use Rattle.core_phase.specs.Phases.{IsPhase}
 use Rattle.core_phase.specs.declared.lane.Lane.{Lane}
 use Rattle.core_phase.specs.declared.lane.Lane.TheVariants as lanes
@@ -49,7 +49,7 @@ use Rattle.sound_hosts.proofs.Reheld.{shown_reheld, indexed_reheld, StaysWaiting
 use Rattle.sound_hosts.proofs.Standing.{every_at, stand_marked, within}
 use Rattle.sound_phases.specs.Phased.{apps_in, books_by, books_after, after_phase}
 use Rattle.sound_phases.proofs.Apps.{lanes_right, lanes_had}
-use Rattle.sound_phases.proofs.Deeds.{turns_lead, LaneHas}
+use Rattle.sound_phases.proofs.Deeds.{FramesKeep, SendsKeep, turns_lead}
 use Rattle.sound_phases.proofs.Orders.{IsHad, IsLeading, from_turns, run_leads, run_columns}
 use Rattle.sound_phases.proofs.Words.{learned}
 
@@ -67,7 +67,7 @@ module _ (P : List Book → Type 0)
   after_keeps (lanes.Core v ∷ vs) (lanes.App w ∷ ws) bs p = after_keeps vs ws bs p
   after_keeps (lanes.App v ∷ vs) (lanes.Core w ∷ ws) bs p = after_keeps vs ws bs p
   after_keeps (lanes.App v ∷ vs) (lanes.App w ∷ ws) bs p =
-      after_keeps vs ws (books_by (lanes.App v) (lanes.App w) bs) (left_keeps v.app.number _ bs p)
+      after_keeps vs ws (books_by (lanes.App v) (lanes.App w) bs) (left_keeps v.app.number (pins_left (lanes.App v) (lanes.App w)) bs p)
 
 -- the names of those that pass a test that doesn't read holders
 same_names : (p : Book → Bool) → ((holder : Book → Holder) (b : Book) → p (reheld holder b) ≡ p b) → (vs ws : List Lane)
@@ -81,7 +81,7 @@ same_names p same vs ws bs =
     each holder (c ∷ cs) = (same holder c, each holder cs)
 
 -- ----- flows that wait
-over_in : Column → Bool
+abbrev over_in : Column → Bool
 over_in (Over why) = true
 over_in Opening = false
 over_in Running = false
@@ -114,7 +114,7 @@ not_had bs apart n b at waits (m, any) =
     by GivenUp w e = true≢false (sym w)
 
 -- ----- the host
-module _ (h : CoreHost) (vs ws : List Lane) (w : View) (sound : IsHostSound h) (same_apps : apps_in vs ≡ h.apps)
+module _ (rx_column : FramesKeep) (send_column : SendsKeep) (h : CoreHost) (vs ws : List Lane) (w : View) (sound : IsHostSound h) (same_apps : apps_in vs ≡ h.apps)
     (may : All MayPlay vs) (phase : IsPhase vs ws h.slow.pass.view w)
     (wide : length w.words ≡ length h.slow.pass.view.words) where
   abbrev v : View
@@ -133,7 +133,7 @@ module _ (h : CoreHost) (vs ws : List Lane) (w : View) (sound : IsHostSound h) (
   may_each = all_each MayPlay vs may
 
   idle : h.slow.pass.view.held ≡ []
-  idle = sound.sound.0.ready.2.1
+  idle = sound.sound.0.ready.2
 
   base : w.base ≡ after
   base = ap (λ (x : View). x.base) phase.known
@@ -144,7 +144,7 @@ module _ (h : CoreHost) (vs ws : List Lane) (w : View) (sound : IsHostSound h) (
 
   leading : Each (λ x. IsLeading h.books x.1) phase.order
   leading = from_turns (IsLeading h.books) phase.order
-      (λ p. turns_lead h.books phase.order 0 vs ws phase.parts (lanes_had h.table h.books vs apps may_each)
+      (λ p. turns_lead h.books rx_column send_column phase.order 0 vs ws phase.parts (lanes_had h.table h.books vs apps may_each)
       (λ q le. phase.others q (omega (arith, le))) p (omega arith))
 
   leads : Leads known after
