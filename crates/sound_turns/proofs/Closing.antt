@@ -103,8 +103,7 @@ module _ (known : List Held) (b : Book) where
         → AreShown (xs ++ swept_book b ∷ cs) known (changes ++ Remove (tuple_of known b) ∷ [])
     shown_without xs cs is once shown = record {
       led = each_append (IsLedBy (changes ++ Remove (tuple_of known b) ∷ [])) xs (swept_book b ∷ cs)
-          (still_led xs (away_front is xs cs once) (firsts (IsLedBy changes) xs b cs shown.led))
-          (
+          (still_led xs (away_front is xs cs once) (firsts (IsLedBy changes) xs b cs shown.led)) (
             λ e. absurd (true≢false (sym e)),
             still_led cs (away_back is xs cs once) (lasts (IsLedBy changes) xs b cs shown.led),
           );

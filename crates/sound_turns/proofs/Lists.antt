@@ -1,5 +1,5 @@
 -- Lists of books of which one is another: for the law time_keeps_it.
-use Rattle.std.proofs.Common.{◌≡◌, ℕ, zero, suc, ◌+◌, ◌≤◌, ◌&&◌, ◌||◌, not, cond, Bool, true, false, List, [], ◌∷◌, ◌++◌}
+use Rattle.std.proofs.Common.{◌≡◌, ℕ, zero, suc, ◌+◌, ◌≤◌, ◌<◌, ◌==◌, ◌&&◌, ◌||◌, not, cond, Bool, true, false, List, [], ◌∷◌, ◌++◌}
 use Rattle.std.proofs.Common.{map, refl, sym, ap, ◌∙◌, subst, arith, count_by, inl, inr, true≢false, append_assoc}
 use Rattle.std.specs.Prelude.{IsPermutation, ◌⊎◌}
 use Rattle.std.specs.List.{filter, list_any}
@@ -199,8 +199,7 @@ module _ (b c : Book) (named : c.id ≡ b.id) where
   at_swap zero f (x ∷ xs) cs at = (
     at.0,
     each_append (λ (d : Book). same_flow f d.id ≡ false) xs (c ∷ cs)
-        (firsts (λ (d : Book). same_flow f d.id ≡ false) xs b cs at.1)
-        (
+        (firsts (λ (d : Book). same_flow f d.id ≡ false) xs b cs at.1) (
           ap (same_flow f) named ∙ middle (λ (d : Book). same_flow f d.id ≡ false) xs b cs at.1,
           lasts (λ (d : Book). same_flow f d.id ≡ false) xs b cs at.1,
         ),
@@ -212,11 +211,10 @@ module _ (b c : Book) (named : c.id ≡ b.id) where
     once_swap : (xs cs : List Book) → AreOnce known (xs ++ b ∷ cs) → AreOnce known (xs ++ c ∷ cs)
     once_swap [] cs once = (λ is. absurd (true≢false (sym is ∙ gone)), once.1)
     once_swap (x ∷ xs) cs once = (
-      λ is. each_append (IsApart x) xs (c ∷ cs) (firsts (IsApart x) xs b cs (once.0 is))
-          (
-            ap (λ i. i && same_tuple (live_in known x).flow.tuple (live_in known c).flow.tuple) gone,
-            lasts (IsApart x) xs b cs (once.0 is),
-          ),
+      λ is. each_append (IsApart x) xs (c ∷ cs) (firsts (IsApart x) xs b cs (once.0 is)) (
+        ap (λ i. i && same_tuple (live_in known x).flow.tuple (live_in known c).flow.tuple) gone,
+        lasts (IsApart x) xs b cs (once.0 is),
+      ),
       once_swap xs cs once.1,
     )
       where

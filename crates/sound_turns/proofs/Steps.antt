@@ -262,7 +262,7 @@ pub again_passing : (h : CoreHost) (bs : List Book) (f : FlowId) (tried left : L
     → IsPassing h bs (f ∷ tried) left l → WasSweptAgain f l m → (cs : List Book) × IsPassing h cs tried left m
 again_passing h bs f tried left l m p was =
     let s = split_of is_doomed f (tried ++ l.doomed) bs p.doomed in
-    by s.0 s.1 s.2.0 s.2.1
+    by s.0 s.1 s.2 s.3
   where
     by : (front back : List FlowId) (s : IsSplit is_doomed f front back bs)
         → IsPermutation (tried ++ l.doomed) (front ++ back) → (cs : List Book) × IsPassing h cs tried left m

@@ -184,18 +184,18 @@ module _ (h : CoreHost) (xs : List Book) (b : Book) (cs : List Book) (v w : View
       (low_mark h.table.slots v xs b cs stands t.alone t.wide t.numbered t.slots open_)
       ∙ ap (λ (m : Mark). record m { doomed = true }) marked
 
-  apps_still : (as : List Application) → Each (IsApp h.table (xs ++ b ∷ cs)) as
-      → Each (IsApp h.table (xs ++ swept_book b ∷ cs)) as
+  apps_still : (ys : List Application) → Each (IsApp h.table (xs ++ b ∷ cs)) ys
+      → Each (IsApp h.table (xs ++ swept_book b ∷ cs)) ys
   apps_still [] each = tt
-  apps_still (x ∷ as) each = (
+  apps_still (y ∷ ys) each = (
     record {
       own = each.0.own;
       turns = each.0.turns;
       begun = each.0.begun;
-      sockets = subst (IsPermutation x.sockets)
-          (sym (names_swap (is_held_of x.number) xs b (swept_book b) cs refl refl)) each.0.sockets;
+      sockets = subst (IsPermutation y.sockets)
+          (sym (names_swap (is_held_of y.number) xs b (swept_book b) cs refl refl)) each.0.sockets;
     },
-    apps_still as each.1,
+    apps_still ys each.1,
   )
 
   held_stays : is_held_by b.holder ≡ true → not (is_held_by b.holder) ≡ false
@@ -203,8 +203,7 @@ module _ (h : CoreHost) (xs : List Book) (b : Book) (cs : List Book) (v w : View
 
   holders_still : Each (HasHolder h.apps) (xs ++ swept_book b ∷ cs)
   holders_still =
-      each_append (HasHolder h.apps) xs (swept_book b ∷ cs) (firsts (HasHolder h.apps) xs b cs t.holders)
-      (
+      each_append (HasHolder h.apps) xs (swept_book b ∷ cs) (firsts (HasHolder h.apps) xs b cs t.holders) (
         λ e. ((middle (HasHolder h.apps) xs b cs t.holders e).0, held_stays e),
         lasts (HasHolder h.apps) xs b cs t.holders,
       )
