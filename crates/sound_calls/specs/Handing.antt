@@ -1,0 +1,36 @@
+-- An application that acts alone: it has the baton, with all that the slow path knew.
+use Rattle.std.specs.Prelude.{ℕ, List, ◌∷◌, ◌++◌, Option, ⊤}
+use Rattle.tas_model.specs.declared.entry.Reply.{Reply}
+use Rattle.flow_state.specs.declared.call.CallIn.{CallIn}
+use Rattle.flow_lock.specs.Passes.{with_baton, without_baton}
+use Rattle.app_reaper.specs.declared.one_call.CallFault.{CallFault}
+use Rattle.slow_worker.specs.Workers.{Worker}
+use Rattle.libtas_sockets.specs.Apps.{Application, with_view}
+use Rattle.libtas_sockets.specs.Calling.{HasCalled}
+use Rattle.libtas_sockets.specs.declared.socket.Socket.{Socket}
+use Rattle.host_books.specs.Books.{Book}
+use Rattle.sound_hosts.specs.Hosts.{CoreHost}
+
+-- The slow path hands the baton to the application.
+abbrev pub handing : Worker → Worker
+handing w = record w { pass = record (w.pass) { view = without_baton w.pass.view } }
+
+abbrev pub handed : Worker → Application → Application
+handed w a = with_view (with_baton a.pass.view w.pass.view) a
+
+-- The host, were the baton given back now by this application, which stands between those.
+abbrev pub given_back : (front : List Application) → Application → (back : List Application) → CoreHost → CoreHost
+given_back front a back h = record h {
+  slow = record (h.slow) {
+    pass = record (h.slow.pass) { view = with_baton h.slow.pass.view a.pass.view };
+  };
+  apps = front ++ with_view (without_baton a.pass.view) a ∷ back;
+}
+
+-- with these books
+abbrev pub with_books : List Book → CoreHost → CoreHost
+with_books books h = record h { books = books }
+
+-- a call on a socket was made or refused, whatever it tells of its reply
+abbrev pub HasMade : (before after : Application) → Socket → (tick : ℕ) → CallIn → Option CallFault → Type 0
+HasMade a b s tick call fault = HasCalled a b s tick call fault (λ (reply : Reply). ⊤)
