@@ -43,7 +43,7 @@ pub same_led : (h : History) → LedOn h h
 same_led h = record { tuple = refl; over = λ o. o; running = λ r. inl r; none = λ n. n }
 
 -- books that stay
-no_lift : (bs : List Book) (P : List Book → Type 0) → Lifts bs bs P
+pub no_lift : (bs : List Book) (P : List Book → Type 0) → Lifts bs bs P
 no_lift bs P keeps p = p
 
 -- ----- the baton is handed over
@@ -51,7 +51,6 @@ pub handed_sound : (h : CoreHost) (front back : List Application) (a : Applicati
     → h.apps ≡ front ++ a ∷ back
     → IsHostSound (given_back front (handed h.slow a) back (with_slow (handing h.slow) h))
 handed_sound h front back a sound apps =
-
     moved_sound h sound (record (h.slow.pass.view) { baton = true })
     (record {
       alone = (refl, sound.alone.1, sound.alone.2);

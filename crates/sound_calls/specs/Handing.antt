@@ -2,7 +2,7 @@
 use Rattle.std.specs.Prelude.{ℕ, List, ◌∷◌, ◌++◌, Option, ⊤}
 use Rattle.tas_model.specs.declared.entry.Reply.{Reply}
 use Rattle.flow_state.specs.declared.call.CallIn.{CallIn}
-use Rattle.flow_lock.specs.Passes.{with_baton, without_baton}
+use Rattle.flow_lock.specs.Passes.{Seen, with_baton, without_baton}
 use Rattle.app_reaper.specs.declared.one_call.CallFault.{CallFault}
 use Rattle.slow_worker.specs.Workers.{Worker}
 use Rattle.libtas_sockets.specs.Apps.{Application, with_view}
@@ -10,6 +10,7 @@ use Rattle.libtas_sockets.specs.Calling.{HasCalled}
 use Rattle.libtas_sockets.specs.declared.socket.Socket.{Socket}
 use Rattle.host_books.specs.Books.{Book}
 use Rattle.sound_hosts.specs.Hosts.{CoreHost}
+use Rattle.sound_hosts.specs.Leaving.{books_left}
 
 -- The slow path hands the baton to the application.
 abbrev pub handing : Worker → Worker
@@ -34,3 +35,12 @@ with_books books h = record h { books = books }
 -- a call on a socket was made or refused, whatever it tells of its reply
 abbrev pub HasMade : (before after : Application) → Socket → (tick : ℕ) → CallIn → Option CallFault → Type 0
 HasMade a b s tick call fault = HasCalled a b s tick call fault (λ (reply : Reply). ⊤)
+
+-- The host without the application that stood between those, whose sockets are given up, and with this pass of its slow
+-- path.
+abbrev pub after_kill : (front : List Application) → Application → (back : List Application) → Seen → CoreHost → CoreHost
+after_kill front a back pass h = record h {
+  slow = record (h.slow) { pass = pass };
+  apps = front ++ back;
+  books = books_left a.number a.sockets h.books;
+}

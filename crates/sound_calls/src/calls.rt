@@ -44,5 +44,5 @@ pub fn releases_alone_keep_it()
     ensures { (h : CoreHost) (front back : List Application) (a : Application) (s : Socket)
         → IsHostSound (given_back front a back h) → IsAlone a.pass.view → IsSocket a s
         → IsHostSound (given_back front (without_socket s a) back
-            (with_books (books_left a.number (flow_of a s ∷ []) h.books) h)) }
+        (with_books (books_left a.number (flow_of a s ∷ []) h.books) h)) }
 {}

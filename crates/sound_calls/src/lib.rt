@@ -1,6 +1,8 @@
-//! What an application does that acts alone keeps a host of shared flows sound.
+//! What applications do alone keeps a host of shared flows sound.
 #![tactic(auto)]
 
 mod calls;
+mod kills;
 
 pub use calls::{calls_alone_keep_it, handed_over_keeps_it, releases_alone_keep_it};
+pub use kills::kills_keep_it;
