@@ -171,19 +171,22 @@ made a b s tick call fault told (called, same) = (by fault called, same)
 
 pub call_alone : (h : CoreHost) (front back : List Application) (a b : Application) (s : Socket) (tick : ℕ)
     (call : CallIn) (fault : Option CallFault) → IsHostSound (given_back front a back h) → IsAlone a.pass.view
-    → IsSocket a s → HasMade a b s tick call fault → IsHostSound (given_back front b back h)
+    → IsSocket a s → HasMade a b s tick call fault → IsHostSound (given_back front b back h) × IsAlone b.pass.view
 call_alone h front back a b s tick call fault sound alone socket (called, same) = by fault called
   where
     used : (r : Flow) (k : History) → IsOwn (flow_of a s) a.pass.view r → IsUse (flow_of a s) r k a.pass.view b.pass.view
-        → LedOn (history r) k → IsHostSound (given_back front b back h)
+        → LedOn (history r) k → IsHostSound (given_back front b back h) × IsAlone b.pass.view
     used r k own given led =
-        led_alone h front a b back s (flow_of a s) k sound alone socket refl
-        (subst (λ (x : History). LedOn x k) (own.known alone) led)
-        (used_leads (flow_of a s) r k a.pass.view b.pass.view alone given) same
+        let by_use : IsLed (flow_of a s) k a.pass.view b.pass.view =
+        used_leads (flow_of a s) r k a.pass.view b.pass.view alone given in (
+          led_alone h front a b back s (flow_of a s) k sound alone socket refl
+              (subst (λ (x : History). LedOn x k) (own.known alone) led) by_use same,
+          by_use.alone,
+        )
 
     by : (f : Option CallFault)
         → IsCalled (flow_of a s) (App a.number) tick call a.pass.view b.pass.view f (λ (r : Reply). Unit {0})
-        → IsHostSound (given_back front b back h)
+        → IsHostSound (given_back front b back h) × IsAlone b.pass.view
     by None (reply, entry, tells) =
         used entry.flow (history_with entry.flow (App a.number) tick call) entry.own entry.given
         (call_leads (history entry.flow) (App a.number) tick (call_of call) (offer_of call) entry.own.legal)

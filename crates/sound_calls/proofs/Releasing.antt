@@ -242,3 +242,7 @@ module _ (h : CoreHost) (front back : List Application) (a : Application) (s : S
       (sound.opening.flows
       ∙ sym (waiting_reheld (left_by a.number (flow_of a s)) a.pass.view.base h.books (still h.books)))
       (words_after cs but_after right.pinned) right.taken
+
+  pub still_alone : IsAlone (without_socket s a).pass.view
+  still_alone =
+      (alone.0, ap (λ (ts : List Turn). noted [] [] (flow_of a s ∷ []) ts) alone.1, alone.2)

@@ -4,5 +4,7 @@
 mod calls;
 mod kills;
 
-pub use calls::{calls_alone_keep_it, handed_over_keeps_it, releases_alone_keep_it};
+pub use calls::{
+    accepts_alone_keep_it, calls_alone_keep_it, handed_over_keeps_it, releases_alone_keep_it,
+};
 pub use kills::kills_keep_it;
