@@ -16,7 +16,8 @@ ghost use Rattle.sound_hosts.specs.Moving.{with_slow};
 ghost use Rattle.sound_hosts.specs.Sound.{IsHostSound};
 ghost use Rattle.sound_calls.specs.Handing.{after_accepting, given_back, handed, handing, with_books, HasMade};
 
-/// A host whose slow path handed the baton to one of its applications is sound, were the baton given back now: with what
+/// A host whose slow path handed the baton to one of its applications is sound, were the baton given back now: with
+/// what
 /// [`App::pass_on`] says. And then it is that host, with what [`App::pass_back`] says.
 ///
 /// [`App::pass_on`]: libtas_sockets::App::pass_on
@@ -38,7 +39,8 @@ pub fn calls_alone_keep_it()
         → IsHostSound (given_back front b back h) × IsAlone b.pass.view }
 {}
 
-/// And after the application gave up a socket alone, as [`App::release`] does, [`App::close`] where it made its entry, and
+/// And after the application gave up a socket alone, as [`App::release`] does, [`App::close`] where it made its entry,
+/// and
 /// [`App::abort`] also where the flow was closed. The socket's flow is nobody's then.
 ///
 /// [`App::release`]: libtas_sockets::App::release
@@ -52,8 +54,8 @@ pub fn releases_alone_keep_it()
         × IsAlone (without_socket s a).pass.view }
 {}
 
-/// And after it accepted a flow alone, or tried to: with what [`App::accept`] says where a flow is ready at the port. The
-/// flow is the application's then, or it left its list where it was found closed, and else it waits on.
+/// And after it accepted a flow alone, or tried to: with what [`App::accept`] says where a flow is ready at the port.
+/// The flow is the application's then, or it left its list where it was found closed, and else it waits on.
 ///
 /// [`App::accept`]: libtas_sockets::App::accept
 pub fn accepts_alone_keep_it()

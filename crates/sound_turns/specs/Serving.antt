@@ -2,7 +2,7 @@
 use Rattle.std.specs.Prelude.{◌≡◌, List, [], ◌++◌, map}
 use Rattle.tas_model.specs.declared.entry.FlowId.{FlowId}
 use Rattle.host_rounds.specs.Hosts.{Waiting}
-use Rattle.slow_worker.specs.Workers.{Worker, Sight, with_sight}
+use Rattle.slow_worker.specs.Workers.{Worker}
 use Rattle.host_books.specs.Books.{Book}
 use Rattle.sound_hosts.specs.Hosts.{CoreHost}
 use Rattle.sound_hosts.specs.Moving.{with_slow}
