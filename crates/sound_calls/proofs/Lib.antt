@@ -5,3 +5,4 @@ pub mod Accepting
 pub mod Acceptances
 pub mod Listening
 pub mod Places
+pub mod Closing

@@ -58,7 +58,8 @@ module _ (n : ℕ) (id : FlowId) where
       → map (reheld (left_by n id)) bs ≡ with_holder place (λ (x : Holder). GivenUp) bs
   left_at place [] at any = absurd at
   left_at zero (b ∷ bs) at any =
-      let own : has_flow n id b ≡ true = or_left (has_flow n id b) (list_any (has_flow n id) bs) (none_has bs at.1) any in
+      let own : has_flow n id b ≡ true =
+      or_left (has_flow n id b) (list_any (has_flow n id) bs) (none_has bs at.1) any in
       λ i. record b { holder = cond (own i) GivenUp b.holder } ∷ others_left bs at.1 i
   left_at (suc place) (b ∷ bs) at any =
       λ i. record b { holder = cond (not_left b at.0 i) GivenUp b.holder }
