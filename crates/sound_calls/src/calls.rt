@@ -57,7 +57,8 @@ pub fn releases_alone_keep_it()
         × IsAlone (without_socket s a).pass.view }
 {}
 
-/// So a close and an abort keep it, of which each may give up the socket: with what [`App::close`] and [`App::abort`] say.
+/// So a close and an abort keep it, of which each may give up the socket: with what [`App::close`] and [`App::abort`]
+/// say.
 ///
 /// [`App::close`]: libtas_sockets::App::close
 /// [`App::abort`]: libtas_sockets::App::abort
