@@ -75,7 +75,7 @@ tells k id o = by_reason (endpoint_of k).reason (endpoint_of k).peer refl refl
     by_reason None (Some first) r q = by_una first (e.tx.una == 0) r q refl
 
 -- ----- the flows that wait
-named_is : (id f : FlowId) → (f.slot == id.slot && f.generation == id.generation) ≡ same_flow id f
+pub named_is : (id f : FlowId) → (f.slot == id.slot && f.generation == id.generation) ≡ same_flow id f
 named_is id f = grind (arith, nat_tests)
 
 cond_false : {X : Type 0} (x : Bool) (a b : X) → cond (x && false) a b ≡ b
@@ -104,7 +104,7 @@ module _ (known : List Held) (id : FlowId) (k : History) where
   abbrev stays : PassiveFlow → Bool
   stays f = not (is_named id f)
 
-  left_waiting : is_over k ≡ true → (bs : List Book) → waiting_in after bs ≡ filter stays (waiting_in known bs)
+  pub left_waiting : is_over k ≡ true → (bs : List Book) → waiting_in after bs ≡ filter stays (waiting_in known bs)
   left_waiting over [] = refl
   left_waiting over (b ∷ bs) = by_same (same_flow id b.id) refl (left_waiting over bs)
     where

@@ -1,0 +1,15 @@
+//! What applications do alone keeps a host of shared flows sound.
+#![tactic(auto)]
+
+mod calls;
+mod changing;
+mod kills;
+mod listeners;
+
+pub use calls::{
+    accepts_alone_keep_it, calls_alone_keep_it, closes_alone_keep_it, handed_over_keeps_it,
+    releases_alone_keep_it,
+};
+pub use changing::holders_change_at_a_place;
+pub use kills::kills_keep_it;
+pub use listeners::listens_keep_it;
