@@ -1,17 +1,15 @@
 -- What one entry more does to what a judge knows.
-use Rattle.std.proofs.Common.{◌≡◌, ℕ, ◌+◌, ◌≤◌, ◌<◌, max, cond, List, [], ◌∷◌, ◌++◌, Option, Some, None, refl, sym, ap}
+use Rattle.std.proofs.Common.{◌≡◌, ℕ, ◌≤◌, List, [], ◌∷◌, ◌++◌, Option, sym, ap}
 use Rattle.std.proofs.Common.{subst, ◌∙◌, arith}
 use Rattle.tas_model.specs.declared.entry.Entry.{Entry}
-use Rattle.tas_model.specs.declared.entry.Caller.{Caller}
 use Rattle.tas_model.specs.declared.entry.HostParams.{HostParams}
 use Rattle.tas_model.specs.declared.entry.Reply.{Reply}
-use Rattle.tas_model.specs.declared.entry.Reply.TheVariants as replies
 use Rattle.tas_model.specs.Endpoint.{Endpoint}
 use Rattle.tas_model.specs.Segments.{Outcome}
-use Rattle.tas_model.specs.LegalHistory.{step, state_or, moved, replay, last_tick, next_number, Gives, reply_or, shown}
-use Rattle.tas_model.specs.LegalHistory.{MayFollow, Legal, extended_by}
+use Rattle.tas_model.specs.LegalHistory.{step, state_or, replay, last_tick, next_number, Gives}
+use Rattle.tas_model.specs.LegalHistory.{MayFollow, Legal}
 use Rattle.tas_model.proofs.Histories.{along_split, replay_push}
-use Rattle.flow_judge.specs.Trials.{trial, offer, IsWithin, Answers, tried_reply, tried_entry}
+use Rattle.flow_judge.specs.Trials.{trial, IsWithin, Answers, tried_reply, tried_entry}
 use Rattle.flow_judge.proofs.Sends.{same_step, told}
 
 -- the last entry of a legal history may follow

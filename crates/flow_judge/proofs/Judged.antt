@@ -1,28 +1,23 @@
 -- What a judge knows after one entry more.
-use Rattle.std.proofs.Common.{◌≡◌, ℕ, ◌+◌, ◌≤◌, ◌<◌, ◌^◌, cond, Bool, true, false, List, [], ◌∷◌, ◌++◌, length}
-use Rattle.std.proofs.Common.{refl, sym, ap, subst, ◌∙◌, arith, length-append}
+use Rattle.std.proofs.Common.{◌≡◌, ℕ, ◌+◌, ◌≤◌, cond, Bool, true, false, List, [], ◌∷◌, ◌++◌, length}
+use Rattle.std.proofs.Common.{refl, sym, ap, subst, ◌∙◌, length-append}
 use Rattle.std.proofs.lemmas.Grind.{flat_map-append}
 use Rattle.std.proofs.lemmas.List.{append-nil}
 use Rattle.tas_model.specs.declared.entry.Caller.{Caller}
-use Rattle.tas_num.specs.declared.seq.Seq.{Seq}
-use Rattle.tas_model.specs.declared.entry.Call.TheVariants as calls
 use Rattle.tas_model.specs.declared.entry.Entry.{Entry}
-use Rattle.tas_model.specs.declared.entry.FrameId.{FrameId}
-use Rattle.tas_model.specs.declared.entry.Seg.{Seg}
 use Rattle.tas_model.specs.declared.entry.HostParams.{HostParams}
 use Rattle.tas_model.specs.declared.entry.Reply.{Reply}
 use Rattle.tas_model.specs.declared.entry.Reply.TheVariants as replies
-use Rattle.tas_model.specs.LegalHistory.{Legal, MayFollow, replay, opened, next_number, last_tick, same_caller}
-use Rattle.tas_model.specs.LegalHistory.{Opens}
+use Rattle.tas_model.specs.LegalHistory.{Legal, MayFollow, replay, opened, last_tick, same_caller}
 use Rattle.tas_model.specs.Outputs.{bytes_read, given_bytes}
 use Rattle.tas_model.proofs.Histories.{legal_push, replay_first}
-use Rattle.flow_state.specs.Flow.{Flow, first_connect, first_passive}
-use Rattle.flow_state.proofs.Counting.{number_push, number_fits}
+use Rattle.flow_state.specs.Flow.{Flow}
+use Rattle.flow_state.proofs.Counting.{number_push}
 use Rattle.flow_state.proofs.Runs.{last_push}
 use Rattle.flow_judge.specs.declared.numbers.CallerNumber.{CallerNumber}
 use Rattle.flow_judge.specs.Numbers.{next_in}
-use Rattle.flow_judge.specs.Trials.{IsWithin, tried_entry}
-use Rattle.flow_judge.specs.Making.{Confirms, Denies}
+use Rattle.flow_judge.specs.Trials.{tried_entry}
+use Rattle.flow_judge.specs.Making.{Confirms}
 use Rattle.flow_judge.specs.Judging.{Judge, HasJudged, Begins}
 use Rattle.flow_judge.proofs.Entries.{follows}
 

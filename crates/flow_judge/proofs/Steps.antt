@@ -1,9 +1,6 @@
 -- Which calls are no step, and what a tried call shows.
-use Rattle.std.proofs.Common.{◌≡◌, ℕ, ◌+◌, ◌≤◌, ◌<◌, ◌^◌, ◌↔◌, Bool, true, false, cond, List, [], ◌∷◌, ◌++◌, length}
-use Rattle.std.proofs.Common.{arith}
-use Rattle.std.specs.Prelude.{IfSome, IsTrue, nat_lt}
-use Rattle.std.proofs.lemmas.Bool.Decides.{nat_tests}
-use Rattle.std.proofs.lemmas.List.{append-nil}
+use Rattle.std.proofs.Common.{◌≡◌, ℕ, ◌<◌, ◌^◌, ◌↔◌, Bool, true, false, List, length}
+use Rattle.std.specs.Prelude.{IfSome, IsTrue}
 use Rattle.std.proofs.Common.{Option, Some, None, is_some, IsSome, refl, sym, ap, subst, ◌∙◌}
 use Rattle.tas_model.specs.declared.entry.HostParams.{HostParams}
 use Rattle.tas_model.specs.declared.entry.Phase.{Phase}
@@ -16,10 +13,10 @@ use Rattle.tas_model.specs.declared.entry.Reply.{Reply}
 use Rattle.tas_model.specs.Endpoint.{Endpoint, phase}
 use Rattle.tas_model.specs.Segments.{Outcome}
 use Rattle.tas_model.specs.Valid.{InRange}
-use Rattle.tas_model.specs.ApplicationCalls.{Column, Opening, Over, Running, column, accept_in}
+use Rattle.tas_model.specs.ApplicationCalls.{Column, column, accept_in}
 use Rattle.tas_model.specs.NextSegment.{Going, going, emitted}
 use Rattle.tas_model.specs.Timers.{ticks, tick_in, filled}
-use Rattle.tas_model.specs.LegalHistory.{step, replay, Legal, Gives, control_in, extended_by, MayFollow, last_tick}
+use Rattle.tas_model.specs.LegalHistory.{step, replay, Legal, Gives, control_in, extended_by}
 use Rattle.tas_model.specs.LegalHistory.{taken_bytes}
 use Rattle.tas_model.proofs.ValidCalls.{valid_replay}
 use Rattle.flow_state.specs.declared.call.Answer.{Answer}
@@ -37,10 +34,10 @@ use Rattle.fast_tx.proofs.Told.{serves_is}
 use Rattle.flow_state.specs.Calls.{reply_bytes}
 use Rattle.flow_state.specs.Flow.{last_reply}
 use Rattle.flow_state.proofs.Looking.{last_reply_push}
-use Rattle.flow_judge.specs.Trials.{trial_by, trial, offer_by, offer, IsWithin, Answers, tried_entry}
-use Rattle.flow_judge.specs.Making.{HasNoStep, is_running_stage, Makes, IsMade, Tries, IsTried, Confirms, Denies}
+use Rattle.flow_judge.specs.Trials.{trial, offer, IsWithin, Answers, tried_entry}
+use Rattle.flow_judge.specs.Making.{HasNoStep, is_running_stage, IsMade, Tries, IsTried, Confirms, Denies}
 use Rattle.flow_judge.proofs.Sends.{same_step, send_over}
-use Rattle.flow_judge.proofs.Entries.{replies_so, never_follows}
+use Rattle.flow_judge.proofs.Entries.{replies_so}
 
 -- ----- no step
 accept_none : (s : Stage) (e : Endpoint) → is_running_stage s ≡ false → accept_in (column_of s) e ≡ None
@@ -114,10 +111,6 @@ tried (Some a) before after x call within same_call same_offer made = record {
       same_offer);
 }
 
--- an entry that is never answered so
-pub denied_by_none : (f : Flow) (x : Entry) → ((t : ℕ) → Answers (replay f.params f.entries) t x → ⊥) → Denies f x
-denied_by_none f x never h same last may = never_follows f.params f.entries h x same never may
-
 -- an entry that got another reply
 pub denied_by_reply : (f : Flow) (x : Entry) → IsWithin x.call x.reply
     → ((tried_entry f.params f.entries x).reply ≡ x.reply → ⊥) → Denies f x
@@ -169,30 +162,7 @@ denied before after x bytes answer same tries last tells is =
     (got_reply before after x bytes answer tries last)).1 e in
     absurd (cc (yes_, is)))
 
--- ----- calls with bytes
--- the call of an entry, where it is known
-pub trial_is : (x : Entry) (call : Call) → x.call ≡ call → trial x ≡ trial_by call x.reply
-trial_is x call e = ap (λ (c : Call). trial_by c x.reply) e
-
-pub offer_is : (x : Entry) (call : Call) → x.call ≡ call → offer x ≡ offer_by call x.reply
-offer_is x call e = ap (λ (c : Call). offer_by c x.reply) e
-
-pub within_is : (x : Entry) (call : Call) → x.call ≡ call → IsWithin call x.reply → IsWithin x.call x.reply
-within_is x call e within = subst (λ (c : Call). IsWithin c x.reply) (sym e) within
-
--- what a Send offers
-pub offered_more : (offered : ℕ) (reply : Reply) → length (taken_bytes reply) < offered
-    → offer_by (calls.Send offered) reply ≡ taken_bytes reply ++ 0 ∷ []
-offered_more offered reply less =
-    let t : nat_lt (length (taken_bytes reply)) offered ≡ true = grind (arith, nat_tests, less) in
-    ap (λ (b : Bool). taken_bytes reply ++ cond b (0 ∷ []) []) t
-
-pub offered_all : (offered : ℕ) (reply : Reply) → offered ≤ length (taken_bytes reply)
-    → offer_by (calls.Send offered) reply ≡ taken_bytes reply
-offered_all offered reply least =
-    let f : nat_lt (length (taken_bytes reply)) offered ≡ false = grind (arith, nat_tests, least) in
-    ap (λ (b : Bool). taken_bytes reply ++ cond b (0 ∷ []) []) f ∙ append-nil (taken_bytes reply)
-
+-- ----- a Send
 -- an endpoint takes no more than was offered
 pub never_over : (e : Endpoint) (x : Entry) (offered : ℕ) → x.call ≡ calls.Send offered
     → offered < length (taken_bytes x.reply) → (tick : ℕ) → Answers e tick x → ⊥

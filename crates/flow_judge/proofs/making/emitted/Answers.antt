@@ -1,4 +1,3 @@
-use Rattle.std.proofs.Common.{sym, ◌∙◌}
 use Rattle.flow_state.specs.declared.call.CallIn.TheVariants as ins
 use Rattle.flow_judge.proofs.Steps.{made_by, no_emission}
 use Rattle.flow_judge.proofs.making.emitted.Goals as goal

@@ -1,7 +1,7 @@
-use Rattle.std.proofs.Common.{◌<◌, ◌^◌, length, Option, subst, arith}
+use Rattle.std.proofs.Common.{Option, subst, arith}
 use Rattle.flow_state.specs.declared.call.Answer.{Answer}
 use Rattle.report_lines.specs.Views.{seen_entry}
-use Rattle.flow_judge.specs.Making.{IsTried, Tries}
+use Rattle.flow_judge.specs.Making.{IsTried}
 use Rattle.flow_judge.proofs.Steps.{confirmed, denied}
 use Rattle.flow_judge.proofs.trial.confirms.Goals as goal
 
