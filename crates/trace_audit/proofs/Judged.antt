@@ -1,19 +1,17 @@
 -- What a watch knows with one line more.
-use Rattle.std.proofs.Common.{◌≡◌, ℕ, ◌+◌, ◌<◌, ◌↔◌, Bool, true, false, List, [], ◌∷◌, ◌++◌, length, Option, Some, None}
+use Rattle.std.proofs.Common.{◌≡◌, ℕ, List, [], ◌∷◌, ◌++◌, Option, Some, None}
 use Rattle.std.proofs.Common.{refl, sym, ap, subst, ◌∙◌}
-use Rattle.std.specs.Prelude.{slice_get, IfSome, IsTrue, ⊤}
+use Rattle.std.specs.Prelude.{slice_get, IfSome}
 use Rattle.std.specs.Option.{option_map}
 use Rattle.tas_model.specs.declared.entry.Entry.{Entry}
 use Rattle.tas_model.specs.declared.entry.HostParams.{HostParams}
 use Rattle.tas_model.specs.declared.entry.FourTuple.{FourTuple}
 use Rattle.tas_model.specs.declared.entry.Phase.{Phase}
 use Rattle.tas_model.specs.declared.entry.Reason.{Reason}
-use Rattle.tas_model.specs.Endpoint.{phase}
-use Rattle.tas_model.specs.LegalHistory.{Legal, MayFollow, replay}
-use Rattle.tas_model.specs.Outputs.{bytes_read}
+use Rattle.tas_model.specs.LegalHistory.{Legal, MayFollow}
 use Rattle.flow_judge.specs.Judging.{Judge, HasJudged}
 use Rattle.flow_judge.proofs.Entries.{last_may}
-use Rattle.report_lines.specs.Lines.{Line, Begins, Made, State, Read}
+use Rattle.report_lines.specs.Lines.{Made, State, Read}
 use Rattle.trace_audit.specs.Shown.{ShownFlow, Now, begun, with_entry, with_state, with_read, with_line}
 use Rattle.trace_audit.specs.Right.{IsFromPeer, AreLegal, IsStateOf, IsReadOf, IsRight, IsRightNow}
 use Rattle.trace_audit.specs.Watching.{IsOpen, HasEntries, HasBegun, IsJudged}
@@ -175,9 +173,9 @@ read_wrong hosts j n count bytes is wrong right =
     wrong is.shown.entries is.judged now.read
 
 -- ----- a flow that has only begun shows neither
-pub begun_has_none : (hosts : List HostParams) (b : Begun) (n : Now) {P : ShownFlow → Type 0} → HasBegun hosts b n
+pub begun_has_none : (hosts : List HostParams) (b : Begun) (n : Now) (P : ShownFlow → Type 0) → HasBegun hosts b n
     → IfSome n.flow (λ f. HasEntries f × P f) → ⊥
-begun_has_none hosts b n {P} begins comes =
+begun_has_none hosts b n P begins comes =
     let some : HasEntries (begun b.tuple) × P (begun b.tuple) =
     subst (λ (o : Option ShownFlow). IfSome o (λ f. HasEntries f × P f)) begins.flow comes in
     let e : ◌≡◌ {A = List Entry} [] (some.0.0 ∷ some.0.1) = some.0.2 in absurd (cc (e))

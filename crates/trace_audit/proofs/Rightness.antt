@@ -1,12 +1,12 @@
 -- Up to which line the flow is right, with one line more.
 use Rattle.std.proofs.Common.{◌≡◌, ℕ, zero, suc, ◌+◌, ◌<◌, ◌≤◌, Bool, true, false, leb, List, [], ◌∷◌, ◌++◌, length}
-use Rattle.std.proofs.Common.{take, refl, sym, ◌∙◌, ap, subst, arith, length-append}
+use Rattle.std.proofs.Common.{take, refl, sym, subst, arith, length-append}
 use Rattle.std.proofs.lemmas.List.{take-append-le, take_all}
 use Rattle.std.proofs.lemmas.Bool.Decides.{nat_tests}
 use Rattle.std.proofs.lemmas.List.Sums.{fold-append}
 use Rattle.tas_model.specs.declared.entry.HostParams.{HostParams}
 use Rattle.report_lines.specs.Lines.{Line}
-use Rattle.trace_audit.specs.Shown.{Now, with_line, nothing_shown, shown}
+use Rattle.trace_audit.specs.Shown.{with_line, nothing_shown, shown}
 use Rattle.trace_audit.specs.Right.{IsRightNow, IsRightAt, AreRight, IsFirstWrong}
 
 -- what one line more shows
