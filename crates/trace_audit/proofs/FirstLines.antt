@@ -52,21 +52,12 @@ pub line_alone : (xs : List ℕ) → position (λ (c : ℕ). eqb c 10) xs ≡ No
 line_alone [] e some = absurd (some refl)
 line_alone (c ∷ cs) e some = one_line c cs (none_found (λ (x : ℕ). eqb x 10) (c ∷ cs) 0 e)
 
--- how many there are
-pub line_less : (n : ℕ) (ls : List (List ℕ)) (line : List ℕ) (rest : List (List ℕ)) → ls ≡ line ∷ rest
-    → n + length ls ≡ n + 1 + length rest
-line_less n ls line rest e =
-    let all : length ls ≡ length (line ∷ rest) = ap (λ (l : List (List ℕ)). length l) e in omega (arith, all)
-
 -- ----- up to the line `==`
 -- So many lines were looked at, none of which is `==`; they are so many bytes.
 pub record AreBefore (text : List ℕ) (count from : ℕ) : Type 0 where
   pub rest : drop count (text_lines text) ≡ text_lines (drop from text)
   pub bytes : take from text ≡ concat (take count (text_lines text))
   pub none : LacksMark (take count (text_lines text))
-
-pub before_none : (text : List ℕ) → AreBefore text 0 0
-before_none text = record { rest = refl; bytes = refl; none = tt }
 
 -- what is there behind a front
 taken_on : (text : List ℕ) (from : ℕ) (line rest : List ℕ) → from ≤ length text → drop from text ≡ line ++ rest

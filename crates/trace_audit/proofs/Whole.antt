@@ -1,7 +1,7 @@
 -- What is found in a whole text, by what is found in its halves.
 use Rattle.std.proofs.Common.{◌≡◌, ℕ, ◌+◌, List, [], ◌∷◌, length, take, Ok, Err, sym, ◌∙◌, ap}
 use Rattle.std.proofs.Common.{inl, inr}
-use Rattle.std.specs.Prelude.{◌≢◌, Result, IfOk, IfErr}
+use Rattle.std.specs.Prelude.{◌≢◌, Result, IfOk}
 use Rattle.tas_model.specs.Valid.{InRange}
 use Rattle.host_rounds.specs.Lists.{Each}
 use Rattle.scenario_text.specs.Reads.{reads}
@@ -10,26 +10,14 @@ use Rattle.scenario_text.specs.declared.scenario.Scenario.{Scenario}
 use Rattle.scenario_text.specs.declared.reading.ScenarioFault.{ScenarioFault}
 use Rattle.scenario_text.specs.declared.reading.ScenarioFault.TheVariants as scenario_faults
 use Rattle.scenario_ranges.specs.Ranges.{IsHostInRange}
-use Rattle.trace_audit.specs.TextLines.{text_lines, LacksMark}
+use Rattle.trace_audit.specs.TextLines.{text_lines}
 use Rattle.trace_audit.specs.Forms.{params_of, IsForm}
 use Rattle.trace_audit.specs.Verdicts.{IsFound, IsUnfound, fault_in}
-use Rattle.trace_audit.specs.Watching.{HasHalves, IsReportVerdict, IsReportFault}
+use Rattle.trace_audit.specs.Watching.{HasHalves, IsReportVerdict}
 use Rattle.trace_audit.specs.declared.auditing.Verdict.{Verdict}
 use Rattle.trace_audit.specs.declared.auditing.Verdict.TheVariants as verdicts
 use Rattle.trace_audit.specs.declared.auditing.AuditFault.{AuditFault}
-use Rattle.trace_audit.specs.declared.auditing.AuditFault.TheVariants as faults
 use Rattle.trace_audit.specs.declared.halves.Halves.{Halves}
-
--- ----- a text without a line `==`
-pub unmarked_fault : (text : List ℕ) (fault : ScenarioFault) → LacksMark (text_lines text)
-    → (fault ≢ scenario_faults.OutOfMemory → reads text ≡ Err fault) → IsUnfound text (fault_in fault)
-unmarked_fault text scenario_faults.OutOfMemory lacks refused = tt
-unmarked_fault text (scenario_faults.Refused number kind) lacks refused =
-    inl (lacks, inl (kind, refused (λ same. absurd (cc (same)))))
-
-pub unmarked_end : (text : List ℕ) (s : Scenario) (number : ℕ) → LacksMark (text_lines text) → reads text ≡ Ok s
-    → number ≡ length (text_lines text) + 1 → IsUnfound text (faults.Refused number)
-unmarked_end text s number lacks is behind = inl (lacks, inr (s, is, behind))
 
 -- ----- a text with one
 pub marked_fault : (text : List ℕ) (h : Halves) (fault : ScenarioFault) → HasHalves text h
@@ -78,22 +66,6 @@ whole_verdict text h s (verdicts.Illegal number) has is r = record {
   place = r.found.2;
 }
 
-pub whole_fault : (text : List ℕ) (h : Halves) (s : Scenario) (fault : AuditFault) → HasHalves text h
-    → reads h.scenario.now ≡ Ok s → IsReportFault s.hosts (h.count + 1) (text_lines h.report.now) fault
-    → IsUnfound text fault
-whole_fault text h s faults.OutOfMemory has is r = tt
-whole_fault text h s (faults.Refused number) has is r =
-    inr (inr (
-      take h.count (text_lines text),
-      text_lines h.report.now,
-      has.halves,
-      s,
-      ap reads (sym has.scenario) ∙ is,
-      r.0,
-      r.1,
-      r.2 ∙ ap (λ (n : ℕ). n + r.0 + 1) (before_is text h has),
-    ))
-
 -- ----- the hosts
 pub ranges_of : (hosts : List HostLine) → Each IsHostInRange hosts → Each InRange (params_of hosts)
 ranges_of [] each = tt
@@ -104,8 +76,3 @@ pub found_so : (r : Result Verdict AuditFault) (P Q : Verdict → Type 0) → If
     → IfOk r Q
 found_so (Ok v) P Q is so = so v is
 found_so (Err fault) P Q is so = tt
-
-pub unfound_so : (r : Result Verdict AuditFault) (P Q : AuditFault → Type 0) → IfErr r P
-    → ((fault : AuditFault) → P fault → Q fault) → IfErr r Q
-unfound_so (Ok v) P Q is so = tt
-unfound_so (Err fault) P Q is so = so fault is
