@@ -5,7 +5,10 @@ use Rattle.std.proofs.lemmas.List.Quantifiers.{position-Some}
 use Rattle.tas_model.specs.declared.entry.Call.{Call}
 use Rattle.host_rounds.specs.Lists.{change_at}
 use Rattle.host_rounds.specs.Hosts.{Live, Host, Holder, at_flow, is_ready, is_running}
-use Rattle.asked_host.specs.Asking.{asked_by, held_by}
+use Rattle.flow_state.specs.declared.call.CallIn.{CallIn}
+use Rattle.flow_state.specs.declared.call.CallIn.TheVariants as ins
+use Rattle.flow_state.specs.Calls.{offer_of}
+use Rattle.asked_host.specs.Asking.{IsEndCall, asked_by, held_by}
 
 -- ----- one flow changes
 pub length_at : (f : Live → Live) (n : ℕ) (ls : List Live) → length (change_at n f ls) ≡ length ls
@@ -23,6 +26,13 @@ pub held_after : (holder : Holder) (app place t : ℕ) (call : Call) (before mid
     → mid ≡ asked_by app place t call [] before → after ≡ held_by holder place mid
     → after ≡ held_by holder place (asked_by app place t call [] before)
 held_after holder app place t call before mid after made given = given ∙ ap (held_by holder place) made
+
+-- ----- a call that ends a socket
+-- it offers nothing
+pub no_offer : (call : CallIn) → IsEndCall call → offer_of call ≡ []
+no_offer ins.Close ends = refl
+no_offer ins.Abort ends = refl
+no_offer call ends = absurd ends
 
 -- ----- a flow that may be accepted
 pub found_below : (test : Live → Bool) (ls : List Live) (place : ℕ) → position test ls ≡ Some place → place < length ls
