@@ -20,13 +20,13 @@ use Rattle.lane_orders.proofs.Ticks.{tick_of_turns}
 use Rattle.phase_orders.specs.AppTurns.{asked_by, IsLeftBy}
 use Rattle.phase_orders.specs.Lanes.{LanePhase, asked_in, all_asked, IsLeavingIn, AreLeavings, did_at, AreFramesOf}
 use Rattle.phase_orders.specs.Lanes.{IsOfLanes}
-use Rattle.phase_orders.specs.Ticks.{IsIdle, IsSilent, site_at, site_with, IsTickOfLanes}
+use Rattle.phase_orders.specs.Ticks.{HasNoFrames, IsSilent, site_at, site_with, IsTickOfLanes}
 use Rattle.phase_orders.proofs.Handing.{hand_out_of}
 use Rattle.phase_orders.proofs.Phases.{phase_of_turns}
 
 -- ----- where nothing was handed out and nothing was asked
 module _ {S A : Type 0} where
-  idle_at : (vs : List Lane) (ds : List (Did S A)) → Each IsIdle vs → AreFramesOf vs ds → (n : ℕ)
+  idle_at : (vs : List Lane) (ds : List (Did S A)) → Each HasNoFrames vs → AreFramesOf vs ds → (n : ℕ)
       → (did_at ds n).frames ≡ []
   idle_at [] [] idle are n = refl
   idle_at [] (d ∷ ds) idle are n = absurd are

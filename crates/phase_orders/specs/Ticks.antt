@@ -30,8 +30,8 @@ site_with l ls =
     site_of (record (l.setting) { books = books_after ls l.setting.books }) l.next.base (scripts_after ls l.state)
 
 -- no frame is handed to the lane, and its script asks nothing
-abbrev pub IsIdle : Lane → Type 0
-IsIdle v = handed_to v ≡ []
+abbrev pub HasNoFrames : Lane → Type 0
+HasNoFrames v = handed_to v ≡ []
 
 abbrev pub IsSilent : {S A : Type 0} → Option (Try S A) → Type 0
 IsSilent o = o ≡ None
@@ -67,6 +67,6 @@ pub record IsTickOfLanes {S A : Type 0} (scripts : Scripts S A) (check : Bool) (
   pub second : LanePhase scripts check cores t
   pub alone : (ls : List (Leaving S)) → AreLeavings first.asks first.before first.after ls
       → alone_phase scripts t (site_with first ls) rest later ≡ site_at second
-  pub idle : Each IsIdle second.before
+  pub idle : Each HasNoFrames second.before
   pub silent : Each IsSilent second.asks
   pub made : on_host (emit_phase t) (site_with second []) ≡ after
