@@ -45,7 +45,8 @@ IsSilent o = o ≡ None
 --   line each, and those that the cores passed on, as it has collected them (`left_frames_are_collected`);
 -- * `tried`: that the scripts of this tick are asked in their order, one ask of each beside the others at most;
 -- * `alone`: the slow path's later turns, and the calls of applications, one after the other, each a move of the host;
---   the books and scripts before them are what the asks that were made leave, by any reply that their answers tell;
+--   the books and scripts before them are what the asks that were made leave, each by the reply of some legal history
+--   that its answer is by;
 -- * `idle`, `silent`: the cores were handed nothing for the second phase, and no application tries anything in it;
 -- * `made`: the segments that the slow path sends alone.
 pub record IsTickOfLanes {S A : Type 0} (scripts : Scripts S A) (check : Bool) (cores t : ℕ) (due : Due A)
@@ -65,7 +66,7 @@ pub record IsTickOfLanes {S A : Type 0} (scripts : Scripts S A) (check : Bool) (
   pub later : List A
   pub tried : AreTried scripts due.asks (all_asked first.asks first.after) later
   pub second : LanePhase scripts check cores t
-  pub alone : (ls : List (Leaving S)) → AreLeavings first.asks first.before first.after ls
+  pub alone : (ls : List (Leaving S)) → AreLeavings t first.asks first.before first.after ls
       → alone_phase scripts t (site_with first ls) rest later ≡ site_at second
   pub idle : Each HasNoFrames second.before
   pub silent : Each IsSilent second.asks
