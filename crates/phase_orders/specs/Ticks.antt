@@ -29,17 +29,19 @@ abbrev pub site_with : {S A : Type 0} → {scripts : Scripts S A} → {check : B
 site_with l ls =
     site_of (record (l.setting) { books = books_after ls l.setting.books }) l.next.base (scripts_after ls l.state)
 
--- no frame is handed to the lane, and its script asks nothing
+-- no frame is handed to the lane
 abbrev pub HasNoFrames : Lane → Type 0
 HasNoFrames v = handed_to v ≡ []
 
+-- no script asks anything of it
 abbrev pub IsSilent : {S A : Type 0} → Option (Try S A) → Type 0
 IsSilent o = o ≡ None
 
 -- The frames and asks that are due in a tick, and what is done with them. Who plays the tick shows of each part:
 -- * `slow`: the slow path's first turn of the tick, whose time passes once for each flow (`IsTimePassed` of
 --   `slow_worker`), each of its calls a move of the host (`calls_alone_are_moves` of `host_books`);
--- * `first`, `second`: what `play_phase` or `play_phases` of `core_phase` ensures;
+-- * `first`, `second`: what `play_phase` or `play_phases` of `core_phase` ensures, on lanes that were set out with what
+--   the scripts ask of the host as it is before;
 -- * `handed`: what `hand_out` of `frame_steering` ensures, and that each core's worker was handed those of its core;
 -- * `left`: the slow path takes, in whatever order, the frames whose packets break a rule of reading, which are a
 --   line each, and those that the cores passed on, as it has collected them (`left_frames_are_collected`);
