@@ -23,8 +23,9 @@ abbrev pub begun_history : (app raddr rport tick : ℕ) → CoreHost → History
 begun_history app raddr rport tick h =
     first_history (next_tuple h.slow.path raddr rport) h.slow.path.params (callers.App app) tick h.slow.path.next_iss
 
--- What the slow path's view knows after the barrier: the flow has its history, its slot's mark that a flow stands there,
--- and its word two pins more, of the slow path and of the application; the words have the marks, and none is busy.
+-- What the slow path's view knows after the barrier: the flow has its history, its slot's mark that a flow stands
+-- there, and its word two pins more, of the slow path and of the application; the words have the marks, and none is
+-- busy.
 pub record IsOpenedIn (id : FlowId) (k : History) (v w : View) : Type 0 where
   pub alone : IsAlone w
   pub slow : w.slow ≡ v.slow

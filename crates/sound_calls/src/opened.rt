@@ -11,8 +11,8 @@ ghost use Rattle.sound_calls.specs.Connecting.{IsOpenedBy, HasConnected, after_c
 
 /// A host is sound still where the next flow was opened for an application that connected, which pinned it: once the
 /// slow path learned at the barrier what [`App::connect`] did, and its worker has what [`SlowWorker::know`] says. No
-/// flow of its list may have the four-tuple, fewer than 4,294,967,295 flows were opened before, and the word of the next
-/// slot has no pins.
+/// flow of its list may have the four-tuple, fewer than 4,294,967,295 flows were opened before, and the word of the
+/// next slot has no pins.
 ///
 /// [`App::connect`]: libtas_sockets::App::connect
 /// [`SlowWorker::know`]: slow_worker::SlowWorker::know
