@@ -1,7 +1,7 @@
 -- What the table, the histories and the applications have of the books, while the slow path goes from flow to flow: for
 -- the law time_keeps_it.
-use Rattle.std.proofs.Common.{◌≡◌, ◌≢◌, ℕ, zero, suc, ◌<◌, ◌==◌, ◌&&◌, not, true, false, List, [], ◌∷◌}
-use Rattle.std.proofs.Common.{◌++◌, length, refl, sym, ap, ◌∙◌, subst, arith, inl, inr, set, slice_get}
+use Rattle.std.proofs.Common.{◌≡◌, ◌≢◌, ℕ, ◌<◌, ◌==◌, ◌&&◌, not, true, false, List, [], ◌∷◌}
+use Rattle.std.proofs.Common.{◌++◌, length, refl, sym, ap, ◌∙◌, subst, inl, inr, slice_get}
 use Rattle.std.proofs.Common.{true≢false, eq-eqb, length-set}
 use Rattle.std.specs.Prelude.{IsPermutation, ◌⊎◌}
 use Rattle.tas_model.specs.declared.entry.FlowId.{FlowId}
