@@ -404,4 +404,5 @@ is_phase c v w vs ms ws alone is back (order, o) counted = record {
       omega arith;
   busy = counted.1;
   marks = counted.2;
+  wide = counted.3;
 }

@@ -48,8 +48,8 @@ left_on i (v ∷ vs) [] = 0
 left_on i (v ∷ vs) (w ∷ ws) = total (at_slot i) (pins_left v w) + left_on i vs ws
 
 -- There is one order of all that was done, and nobody else did anything. In it each lane's deeds stand in their order,
--- and they lead from the histories before to those after. The words have as many pins less as sockets were given up,
--- the marks that the slow path has, and are busy where it holds the record.
+-- and they lead from the histories before to those after. There are as many words, with as many pins less as
+-- sockets were given up and the marks that the slow path has, and they are busy where it holds the record.
 pub record IsPhase (vs ws : List Lane) (v w : View) : Type 0 where
   pub order : Order
   pub parts : AreParts order 0 vs ws
@@ -60,3 +60,4 @@ pub record IsPhase (vs ws : List Lane) (v w : View) : Type 0 where
   pub busy : (i : ℕ) (x : Word) → get_elem? w.words i ≡ O.some x → flag x.busy ≡ holds_on i v
   pub marks : v.slow ≡ true → (i : ℕ) (x : Word) → get_elem? w.words i ≡ O.some x
       → get_elem? v.marks i ≡ O.some (mark_of x)
+  pub wide : length w.words ≡ length v.words

@@ -1,6 +1,6 @@
 -- What a step at one word makes of the order and of what is known.
 use Rattle.std.proofs.Common.{◌≡◌, ◌≢◌, ℕ, zero, suc, ◌+◌, ◌<◌, List, [], ◌∷◌, length, cond, set, false, true, sym}
-use Rattle.std.proofs.Common.{refl, ap, ◌∙◌, subst, ⊎_elim, arith, append-nil}
+use Rattle.std.proofs.Common.{refl, ap, ◌∙◌, subst, ⊎_elim, arith, append-nil, length-set}
 use mathlib.Core.Option as O
 use mathlib.Core.Option.{some-injective, some-ne-none}
 use mathlib.Core.Logic.{dite}
@@ -82,6 +82,7 @@ word_act H ws i w F v v' won lost at near may same here else_ = record {
   pins = pins_move ws i w (F w) won lost at near here else_;
   known = λ none_ all g. all g ∙ ap (known_of g) (sym same.3);
   words = λ none_ is. same.4 ∙ known_set v.turns v.words ws i w F none_ is at;
+  wide = length-set ws i (F w);
 }
 
 -- these deeds leave the flow f with the history l, and all others as they are
@@ -121,4 +122,5 @@ history_act H f l ws i w F v v' ds won lost at near may same here else_ leaves =
   known = λ none_ all g. known_after H f l v.base all g
       ∙ ap (known_of g) (sym (same.3 ∙ ap (λ z. alone_or z (record { flow = f; history = l } ∷ v.base) v.base) none_));
   words = λ none_ is. same.4 ∙ known_set v.turns v.words ws i w F none_ is at;
+  wide = length-set ws i (F w);
 }

@@ -21,7 +21,7 @@ use Rattle.flow_lock.specs.declared.view.Held.{Held}
 use Rattle.flow_lock.specs.declared.view.History.{History}
 use Rattle.flow_lock.specs.declared.view.Turn.{Turn}
 use Rattle.flow_lock.proofs.Sums.{total-set, term_le, total-append, total_one, in_both, one_only, set_same}
-use Rattle.flow_lock.proofs.Ordering.{one_more, no_baton, learnt_order, Fair, fair, reordered}
+use Rattle.flow_lock.proofs.Ordering.{one_more, no_baton, learnt_order, learnt_wide, Fair, fair, reordered}
 use Rattle.flow_lock.proofs.Changes.{changes, found_word, fits_same}
 use Rattle.flow_lock.proofs.Pinning.{seen}
 
@@ -586,6 +586,7 @@ module _ {R : Type 0} (flow : R → FlowId) (history : R → History) where
                 ∙ total_one (holds_on i) s.views id me.0 at
                 (λ j u ne q. ap (total (λ (h : Held). at_slot i h.flow)) (l.2 j u ne q))),
             fits.marks,
+            learnt_wide r.H r.ws s.views id me.0 at baton o,
           ),
           refl,
         ),

@@ -109,6 +109,7 @@ module _ {R : Type 0} (flow : R → FlowId) (history : R → History) where
           now = λ f. refl;
           pins = λ i. refl;
           same = λ z. absurd (omega arith);
+          wide = refl;
           own = λ j v e. one_only (λ (y : View). (k : ℕ) (t : Turn) → get_elem? y.turns k ≡ O.some t
               → of t.name [] ≡ t.deeds) j (first n) v
               (λ k t q. one_only (λ (y : Turn). of y.name [] ≡ y.deeds) k (new_turn 0) t refl q) e;

@@ -203,6 +203,7 @@ kept_order H ws views id v v' me kept idle o = record {
       let d : won_on k v' ≡ won_on k v = ap (total (λ (t : Turn). total (at_slot k) t.pinned)) kept.0 in
       omega (arith, o.pins k);
   same = o.same;
+  wide = o.wide;
   own = λ j u e k t q. ⊎_elim
       (λ (c : (j ≡ id) × (v' ≡ u)). o.own id v me k t
       (subst (λ l. get_elem? l k ≡ O.some t) (ap (λ (y : View). y.turns) (sym c.1) ∙ kept.0) q))
@@ -241,6 +242,7 @@ pub record Act (H H' : FlowId → History) (ws ws' : List Word) (v v' : View) (d
   -- alone
   pub known : v.turns ≡ [] → ((g : FlowId) → H g ≡ known_of g v.base) → (g : FlowId) → H' g ≡ known_of g v'.base
   pub words : v.turns ≡ [] → v.words ≡ ws → v'.words ≡ ws'
+  pub wide : length ws' ≡ length ws
 
 pub acts_order : (H H' : FlowId → History) (ws ws' : List Word) (views : List View) (id : ℕ) (v v' : View)
     (ds : List Deed) (won lost : List FlowId) → get_elem? views id ≡ O.some v
@@ -268,6 +270,7 @@ acts_order H H' ws ws' views id v v' ds won lost me act o = ⊎_elim in_turn by_
               let z : pins_at v'.words k ≡ pins_at ws' k = ap (λ l. pins_at l k) (act.words is.1 a.words) in
               omega arith;
           same = λ _. act.words is.1 a.words;
+          wide = ap (λ (l : List Word). length l) (act.words is.1 a.words);
           own = λ j u e m t q. absurd (some-ne-none t (sym (subst (λ l. get_elem? l m ≡ O.some t) (nobody' j u e) q)));
           names = λ p. total_none (named p) (set views id v')
               (λ j u e. ap (total (λ (t : Turn). cond (eqb t.name p) 1 0)) (nobody' j u e)) ∙ sym (none_below p);
@@ -339,6 +342,7 @@ acts_order H H' ws ws' views id v v' ds won lost me act o = ⊎_elim in_turn by_
               ∙ (noted_won ds won lost k t ts
               ∙ ap (λ l. total (λ (y : Turn). total (at_slot k) y.pinned) l + total (at_slot k) won) (sym turns)) in
               omega (arith, o.pins k, act.pins k);
+          wide = o.wide ∙ sym act.wide;
           same = λ z. absurd (let a = term_le (named p) views id v me in
               let b : once_below p o.made ≡ once_below p 0 = ap (once_below p) z in omega (arith, none_below p));
           own = λ j u e k x q. ⊎_elim
@@ -414,6 +418,7 @@ learnt_order H ws views id v me baton all o =
         now = o.now;
         pins = λ m. omega (arith, none_lost m, none_won m);
         same = λ _. refl;
+        wide = refl;
         own = λ j u e m t q. absurd (some-ne-none t (sym (subst (λ l. get_elem? l m ≡ O.some t) (nobody' j u e) q)));
         names = λ p. total_none (named p) (set views id v')
             (λ j u e. ap (total (λ (t : Turn). cond (eqb t.name p) 1 0)) (nobody' j u e)) ∙ sym (none_below p);
@@ -445,6 +450,12 @@ learnt_order H ws views id v me baton all o =
     quick false f t = f refl
     quick true f t = t refl
 
+-- and it learns as many words as it knew
+pub learnt_wide : (H : FlowId → History) (ws : List Word) (views : List View) (id : ℕ) (v : View)
+    → get_elem? views id ≡ O.some v → v.baton ≡ true → Ordered H ws views → length ws ≡ length v.words
+learnt_wide H ws views id v me baton o =
+    sym o.wide ∙ ap (λ (l : List Word). length l) (sym (o.knows id v me baton).2)
+
 -- what each of some views owes
 pub record Fair {H : FlowId → History} {ws : List Word} {views : List View} (o : Ordered H ws views) (made : ℕ)
     (v : View) : Type 0 where
@@ -469,6 +480,7 @@ reordered o vs made more names lost won batons each = record {
   now = o.now;
   pins = λ k. omega (arith, o.pins k, lost k, won k);
   same = λ z. o.same (omega arith);
+  wide = o.wide;
   own = λ j v e. (each j v e).own;
   names = λ p. omega (arith, names p, o.names p);
   unborn = λ p le. o.unborn p (omega arith);

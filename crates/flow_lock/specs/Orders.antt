@@ -1,5 +1,6 @@
 -- Orders of what was done.
 use Rattle.std.specs.Prelude.{◌≡◌, ℕ, ◌+◌, ◌≤◌, nat_lt, Bool, true, false, ◌==◌, cond, ◌&&◌, ◌⊎◌, List, [], ◌∷◌}
+use Rattle.std.specs.Prelude.{length}
 use mathlib.Core.Option as O
 use lib.ListN.{get_elem?}
 use Rattle.tas_model.specs.declared.entry.FlowId.{FlowId}
@@ -82,6 +83,7 @@ pub record Ordered (H : FlowId → History) (ws : List Word) (views : List View)
   pub now : (f : FlowId) → H f ≡ known_of f (played base order)
   pub pins : (i : ℕ) → pins_at ws i + total (lost_on i) views ≡ pins_at words i + total (won_on i) views
   pub same : made ≡ 0 → words ≡ ws
+  pub wide : length words ≡ length ws
   -- each view knows all that was done in its turns, and no turn is in two views
   pub own : (j : ℕ) (v : View) → get_elem? views j ≡ O.some v
       → (k : ℕ) (t : Turn) → get_elem? v.turns k ≡ O.some t → of t.name order ≡ t.deeds

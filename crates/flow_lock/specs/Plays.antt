@@ -1,5 +1,5 @@
 -- What each step tells.
-use Rattle.std.specs.Prelude.{◌≡◌, ◌≢◌, ℕ, ◌+◌, ◌/◌, ◌%◌, ◌≤◌, true, false, [], ◌∷◌, Option, Some, None}
+use Rattle.std.specs.Prelude.{◌≡◌, ◌≢◌, ℕ, ◌+◌, ◌/◌, ◌%◌, ◌≤◌, true, false, [], ◌∷◌, length, Option, Some, None}
 use mathlib.Core.Option as O
 use lib.ListN.{get_elem?}
 use Rattle.atomic_table.specs.Table.{Me, Step, rest}
@@ -57,13 +57,14 @@ IsOrdered order v w =
     × IsRun v.base order
     × (w ≡ record v { turns = []; made = 0; base = played v.base order; words = w.words })
 
--- The words have the pins that the turns leave and the slow path's marks, and none is busy but the one of a record
--- held.
+-- There are as many words. They have the pins that the turns leave and the slow path's marks, and none is busy but the
+-- one of a record held.
 abbrev pub IsCounted : View → View → Type 0
 IsCounted v w =
     ((i : ℕ) → pins_at w.words i + lost_on i v ≡ pins_at v.words i + won_on i v)
     × ((i : ℕ) (x : Word) → get_elem? w.words i ≡ O.some x → flag x.busy ≡ holds_on i v)
     × (v.slow ≡ true → (i : ℕ) (x : Word) → get_elem? w.words i ≡ O.some x → get_elem? v.marks i ≡ O.some (mark_of x))
+    × (length w.words ≡ length v.words)
 
 -- a load that tells of the views alone: no view stands for more passes than there may be
 abbrev pub tallies : {S : Type 0} → Step S → Me S View → ℕ → Me S View → Type 0

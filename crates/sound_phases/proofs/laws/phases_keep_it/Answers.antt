@@ -3,6 +3,6 @@ use Rattle.sound_phases.proofs.Phases.{phase_sound}
 use Rattle.sound_phases.proofs.laws.phases_keep_it.Goals as goal
 
 pub returns : goal.returns
-returns c h vs ws w sound apps may phase wide =
+returns c h vs ws w sound apps may phase =
     phase_sound c.deeds_leave_the_column.ensures.frame c.deeds_leave_the_column.ensures.send h vs ws w sound apps may
-    phase wide
+    phase phase.wide
