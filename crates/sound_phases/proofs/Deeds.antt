@@ -75,7 +75,7 @@ module _ (bs : List Book) (rx_column : FramesKeep) (send_column : SendsKeep) whe
   put_leads check core tick f (handled.Entered id) ds (d, e, flow, rx) =
       one_leads ds d e (adds_lead _ tick _ [] d rx.adds (inr (rx_column check core tick f d rx)))
   put_leads check core tick f (handled.Refused n) ds put = none_leads ds put.0
-  put_leads check core tick f (handled.Passed why) ds put = none_leads ds put
+  put_leads check core tick f (handled.Passed why) ds put = none_leads ds put.0
 
   puts_lead : (check : Bool) (core tick : ℕ) (fs : List Frame) (hs : List Handled) (ds : List Deed)
       → ArePutIn check core tick fs hs ds → Each (IsLeading bs) ds

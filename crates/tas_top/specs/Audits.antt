@@ -128,3 +128,10 @@ pub record IsAuditable (a : Audited) : Type 0 where
   pub form : IsForm input said
   pub read : ¬ Rose a.source.faults a.left.faults
   pub written : ¬ Rose a.sink.faults a.written.faults
+
+-- ----- the whole
+-- The status has its end, which says what became of the streams; and a right input gives 0 or 9, or want of memory,
+-- where no stream fails.
+pub record IsAudit (a : Audited) (status : ℕ) : Type 0 where
+  pub ends : (end : End) × (status ≡ status_at end) × EndsSo a end
+  pub complete : IsAuditable a → (status ≡ 0) ⊎ ((status ≡ 9) ⊎ (status ≡ 6))

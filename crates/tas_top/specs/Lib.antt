@@ -4,3 +4,4 @@ pub mod Outputs
 pub mod Telling
 pub mod Jobs
 pub mod Audits
+pub mod Answers

@@ -6,6 +6,8 @@ ghost use Rattle.tas_round.specs.Runs.{log_in};
 ghost use Rattle.tas_round.specs.Written.{WroteText};
 ghost use Rattle.tas_round.specs.declared.logs.RunLog as code;
 ghost use Rattle.tas_top.specs.Runs.{given, IsRun};
+ghost use Rattle.tas_top.specs.Answers.{HasCause, IsOrderly};
+ghost use Rattle.tas_top.specs.Audits.{audited, IsAudit};
 ghost use Rattle.tas_top.specs.Jobs.{IsFit, IsLogOf, Makes};
 ghost use Rattle.tas_top.specs.Stops.{Cause, status_of, writes_nothing, Unrun, Unwritten, Unwrites, WordsFirst};
 ghost use Rattle.tas_top.specs.Stops.{Untouched};
@@ -13,15 +15,17 @@ ghost use Rattle.tas_top.specs.Stops.{ReadsFor, ReadsPast, ReadBefore, IsOfMade,
 ghost use Rattle.tas_top.specs.Telling.{IsTold};
 ghost use Rattle.tas_top.specs.Outputs.{output, text_of, WritesAll, WritesFront, IsWhole};
 ghost use Rattle.program_words.specs.Requests.{input_in, request_in};
+ghost use Rattle.program_words.specs.Audits.{is_audit};
 ghost use Rattle.program_words.specs.Words.{form_of, names_cores, IsAsked, IsMade, most_bytes};
 ghost use Rattle.tas_top.specs.declared.stop.Stop.{Stop};
 
 use crate::asking::asked_by;
+use crate::audits::tas_audit;
 use crate::input::read_input;
 use crate::runs::{Job, run_in_order, run_on_cores};
 use crate::stop::Stop;
 use crate::telling::tell;
-use program_words::{Input, Request, names_cores};
+use program_words::{Input, Request, asks_audit, names_cores};
 use std::alloc::Global;
 use std::mem::ManuallyDrop;
 use std::sync::Wait;
@@ -29,9 +33,10 @@ use std::thread::Threads;
 use tas_num::{Gate, IoFault, Sink, Source};
 use tas_round::{RunLog, write_capture, write_report, write_summary};
 
-/// Runs what the words ask for, and answers the status that the program ends with. The output goes to `sink`. Where the
-/// status is not 0, a fault line goes to `faults`; if that fails, the status stays. With cores it starts threads and
-/// waits for them, and its clauses say what holds where it returns; words that name none are for [`tas_serial`].
+/// Runs what the words ask for, or judges the report that the input has, and answers the status that the program ends
+/// with. The output goes to `sink`. Where the status is not 0, a fault line goes to `faults`; if that fails, the status
+/// stays. With cores it starts threads and waits for them, and its clauses say what holds where it returns; words that
+/// name none are for [`tas_serial`].
 pub fn tas<R: Threads + Wait + Sync, S: Source, K: Sink, F: Sink, G: Gate + Sync>(
     rt: &R,
     alloc: Global,
@@ -42,47 +47,31 @@ pub fn tas<R: Threads + Wait + Sync, S: Source, K: Sink, F: Sink, G: Gate + Sync
     gate: &G,
 ) -> u8
     // At status 0 and 1 the sink grew by exactly the text of the run that was asked for, and 1 says that it is stalled.
-    ensures headline { (result ≡ 0) ⊎ (result ≡ 1)
+    ensures headline { is_audit (map string_bytes words.now) ≡ false → (result ≡ 0) ⊎ (result ≡ 1)
         → WritesAll (given (map string_bytes words.now) (S.state source.old) (S.state source.new)
         (K.state sink.old) (K.state sink.new)) result }
     // Every status but 0 has its cause, and the fault line tells of it.
-    ensures cause { (result ≡ 0) ⊎ ((stop : Stop) × (result ≡ status_of stop)
-        × Cause (given (map string_bytes words.now) (S.state source.old) (S.state source.new)
-        (K.state sink.old) (K.state sink.new)) stop
-        × IsTold stop (F.state faults.old) (F.state faults.new)) }
-    // At status 0 nothing is told.
-    ensures silent { result ≡ 0 → F.state faults.new ≡ F.state faults.old }
-    // The words are looked at first: every status but 2 is one of words that ask for a run, and at 2 nothing is read.
-    ensures order { (result ≡ 2) ⊎ IsAsked (map string_bytes words.now) }
-    ensures unread { result ≡ 2 → S.state source.new ≡ S.state source.old }
-    // Then all of the input is read, which is within its length at 0, 1, 3 and 5; at 7 one byte past that was taken.
-    ensures read { (result ≡ 0) ⊎ ((result ≡ 1) ⊎ ((result ≡ 3) ⊎ (result ≡ 5)))
-        → ReadsFor (form_of (map string_bytes words.now)) (S.state source.old) (S.state source.new) }
-    ensures past { result ≡ 7
-        → ReadsPast (most_bytes (map string_bytes words.now)) (S.state source.old) (S.state source.new) }
-    // For a made scenario nothing is read, whatever the status, so that 3, 4 and 7 do not come.
-    ensures made { IsMade (form_of (map string_bytes words.now)) → S.state source.new ≡ S.state source.old }
-    ensures sure { IsMade (form_of (map string_bytes words.now))
-        → (result ≢ 3) × ((result ≢ 4) × (result ≢ 7)) }
-    // A fault of a stream is told as its own status.
-    ensures reading { (result ≡ 4) ⊎ ((S.state source.new).faults ≡ (S.state source.old).faults) }
-    ensures writing { (result ≡ 5) ⊎ ((K.state sink.new).faults ≡ (K.state sink.old).faults) }
-    // At 5 and 6 the sink grew by a front of the text.
-    ensures front { (result ≡ 5) ⊎ (result ≡ 6)
-        → WritesFront (given (map string_bytes words.now) (S.state source.old) (S.state source.new)
-        (K.state sink.old) (K.state sink.new)) }
-    // At 6 it did not grow either, unless it is one that takes memory to grow.
-    ensures memory { result ≡ 6 → (K.state sink.old).grows ≡ false
-        → Keeps (K.state sink.old).held (K.state sink.new).held }
-    // At every other status it is as it was.
-    ensures nothing { (result ≡ 2) ⊎ ((result ≡ 3) ⊎ ((result ≡ 4) ⊎ (result ≡ 7)))
-        → K.state sink.new ≡ K.state sink.old }
+    ensures cause { is_audit (map string_bytes words.now) ≡ false
+        → HasCause (given (map string_bytes words.now) (S.state source.old) (S.state source.new)
+        (K.state sink.old) (K.state sink.new)) (F.state faults.old) (F.state faults.new) result }
+    // What a status says of the words, of what was read, and of what was written beside the text.
+    ensures orderly { is_audit (map string_bytes words.now) ≡ false
+        → IsOrderly (given (map string_bytes words.now) (S.state source.old) (S.state source.new)
+        (K.state sink.old) (K.state sink.new)) (F.state faults.old) (F.state faults.new) result }
     // Words that ask for a run, and a scenario or a capture within its length where one is wanted, give status 0 or 1,
     // or want of memory, where no stream fails.
-    ensures complete { IsWhole (given (map string_bytes words.now) (S.state source.old) (S.state source.new)
+    ensures complete { is_audit (map string_bytes words.now) ≡ false
+        → IsWhole (given (map string_bytes words.now) (S.state source.old) (S.state source.new)
         (K.state sink.old) (K.state sink.new))
         → (result ≡ 0) ⊎ ((result ≡ 1) ⊎ (result ≡ 6)) }
+    // The word `audit` has a report judged, and this is how that ends.
+    ensures audit { is_audit (map string_bytes words.now) ≡ true
+        → IsAudit (audited (S.state source.old) (S.state source.new) (K.state sink.old) (K.state sink.new)
+        (F.state faults.old) (F.state faults.new)) result }
 {
+    if asks_audit(words) {
+        return tas_audit(alloc, source, sink, faults);
+    }
     if names_cores(words) {
         let make = |job: Job|
             requires { IsFit job × (is_some job.asked.cores ≡ true) }
@@ -105,47 +94,31 @@ pub fn tas_serial<S: Source, K: Sink, F: Sink>(
 ) -> u8
     requires serial { names_cores (form_of (map string_bytes words.now)) ≡ false }
     // At status 0 and 1 the sink grew by exactly the text of the run that was asked for, and 1 says that it is stalled.
-    ensures headline { (result ≡ 0) ⊎ (result ≡ 1)
+    ensures headline { is_audit (map string_bytes words.now) ≡ false → (result ≡ 0) ⊎ (result ≡ 1)
         → WritesAll (given (map string_bytes words.now) (S.state source.old) (S.state source.new)
         (K.state sink.old) (K.state sink.new)) result }
     // Every status but 0 has its cause, and the fault line tells of it.
-    ensures cause { (result ≡ 0) ⊎ ((stop : Stop) × (result ≡ status_of stop)
-        × Cause (given (map string_bytes words.now) (S.state source.old) (S.state source.new)
-        (K.state sink.old) (K.state sink.new)) stop
-        × IsTold stop (F.state faults.old) (F.state faults.new)) }
-    // At status 0 nothing is told.
-    ensures silent { result ≡ 0 → F.state faults.new ≡ F.state faults.old }
-    // The words are looked at first: every status but 2 is one of words that ask for a run, and at 2 nothing is read.
-    ensures order { (result ≡ 2) ⊎ IsAsked (map string_bytes words.now) }
-    ensures unread { result ≡ 2 → S.state source.new ≡ S.state source.old }
-    // Then all of the input is read, which is within its length at 0, 1, 3 and 5; at 7 one byte past that was taken.
-    ensures read { (result ≡ 0) ⊎ ((result ≡ 1) ⊎ ((result ≡ 3) ⊎ (result ≡ 5)))
-        → ReadsFor (form_of (map string_bytes words.now)) (S.state source.old) (S.state source.new) }
-    ensures past { result ≡ 7
-        → ReadsPast (most_bytes (map string_bytes words.now)) (S.state source.old) (S.state source.new) }
-    // For a made scenario nothing is read, whatever the status, so that 3, 4 and 7 do not come.
-    ensures made { IsMade (form_of (map string_bytes words.now)) → S.state source.new ≡ S.state source.old }
-    ensures sure { IsMade (form_of (map string_bytes words.now))
-        → (result ≢ 3) × ((result ≢ 4) × (result ≢ 7)) }
-    // A fault of a stream is told as its own status.
-    ensures reading { (result ≡ 4) ⊎ ((S.state source.new).faults ≡ (S.state source.old).faults) }
-    ensures writing { (result ≡ 5) ⊎ ((K.state sink.new).faults ≡ (K.state sink.old).faults) }
-    // At 5 and 6 the sink grew by a front of the text.
-    ensures front { (result ≡ 5) ⊎ (result ≡ 6)
-        → WritesFront (given (map string_bytes words.now) (S.state source.old) (S.state source.new)
-        (K.state sink.old) (K.state sink.new)) }
-    // At 6 it did not grow either, unless it is one that takes memory to grow.
-    ensures memory { result ≡ 6 → (K.state sink.old).grows ≡ false
-        → Keeps (K.state sink.old).held (K.state sink.new).held }
-    // At every other status it is as it was.
-    ensures nothing { (result ≡ 2) ⊎ ((result ≡ 3) ⊎ ((result ≡ 4) ⊎ (result ≡ 7)))
-        → K.state sink.new ≡ K.state sink.old }
+    ensures cause { is_audit (map string_bytes words.now) ≡ false
+        → HasCause (given (map string_bytes words.now) (S.state source.old) (S.state source.new)
+        (K.state sink.old) (K.state sink.new)) (F.state faults.old) (F.state faults.new) result }
+    // What a status says of the words, of what was read, and of what was written beside the text.
+    ensures orderly { is_audit (map string_bytes words.now) ≡ false
+        → IsOrderly (given (map string_bytes words.now) (S.state source.old) (S.state source.new)
+        (K.state sink.old) (K.state sink.new)) (F.state faults.old) (F.state faults.new) result }
     // Words that ask for a run, and a scenario or a capture within its length where one is wanted, give status 0 or 1,
     // or want of memory, where no stream fails.
-    ensures complete { IsWhole (given (map string_bytes words.now) (S.state source.old) (S.state source.new)
+    ensures complete { is_audit (map string_bytes words.now) ≡ false
+        → IsWhole (given (map string_bytes words.now) (S.state source.old) (S.state source.new)
         (K.state sink.old) (K.state sink.new))
         → (result ≡ 0) ⊎ ((result ≡ 1) ⊎ (result ≡ 6)) }
+    // The word `audit` has a report judged, and this is how that ends.
+    ensures audit { is_audit (map string_bytes words.now) ≡ true
+        → IsAudit (audited (S.state source.old) (S.state source.new) (K.state sink.old) (K.state sink.new)
+        (F.state faults.old) (F.state faults.new)) result }
 {
+    if asks_audit(words) {
+        return tas_audit(alloc, source, sink, faults);
+    }
     let make = |job: Job|
         requires { IsFit job × (job.asked.cores ≡ None) }
         ensures { IsLogOf job result }
