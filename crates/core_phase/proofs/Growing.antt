@@ -134,16 +134,16 @@ module _ (queues : List AppQueue) (check : Bool) (core tick : ℕ) (f : Frame) (
           → is_same r.tuple (tuple_of seg) ≡ true
           → Adds (IsPutIn check core tick f h) v w
       by_why None e is same = entered is same e
-      by_why (Some y) e is same = kept (handled.Passed (passed.Fast y)) is refl refl
+      by_why (Some y) e is same = kept (handled.Passed (passed.Fast y)) is refl (refl, reads)
 
       by_same : (b : Bool) → is_same r.tuple (tuple_of seg) ≡ b → Adds (IsPutIn check core tick f h) v w
       by_same true e = by_why (exception r.parts.phase seg) refl (o.answer ∙ rw e refl) e
-      by_same false e = kept (handled.Passed passed.Absent) (o.answer ∙ rw e refl) refl refl
+      by_same false e = kept (handled.Passed passed.Absent) (o.answer ∙ rw e refl) refl (refl, reads)
 
   tried : (id : FlowId) (h : Handled) (v w : View) (ss ts : List AppSender)
       → IsTried queues core tick f.id seg id v w ss ts h → Adds (IsPutIn check core tick f h) v w
   tried id (handled.Passed (passed.Busy x)) v w ss ts t =
-      ([], refl, grows_same v w (ap (λ (y : View). y.turns) t.0.0.1))
+      ([], (refl, reads), grows_same v w (ap (λ (y : View). y.turns) t.0.0.1))
   tried id (handled.Passed passed.Absent) v w ss ts t = offered id (handled.Passed passed.Absent) v w ss ts t
   tried id (handled.Passed (passed.Stale x)) v w ss ts t = offered id (handled.Passed (passed.Stale x)) v w ss ts t
   tried id (handled.Passed (passed.Moved x y)) v w ss ts t = offered id (handled.Passed (passed.Moved x y)) v w ss ts t
@@ -158,9 +158,11 @@ module _ (queues : List AppQueue) (check : Bool) (core tick : ℕ) (f : Frame) (
 
   pub received : (id : FlowId) (h : Handled) (v w : View) (ss ts : List AppSender)
       → IsReceived queues core tick f.id seg id v w ss ts h → Puts (IsPutIn check core tick f h) v w
-  received id (handled.Passed (passed.Stale x)) v w ss ts r = puts_none _ v w refl
+  received id (handled.Passed (passed.Stale x)) v w ss ts r =
+      puts_none (IsPutIn check core tick f (handled.Passed (passed.Stale x))) v w (refl, reads)
       (turns_refused id v w (refused.Stale x) r.0)
-  received id (handled.Passed (passed.Moved x y)) v w ss ts r = puts_none _ v w refl
+  received id (handled.Passed (passed.Moved x y)) v w ss ts r =
+      puts_none (IsPutIn check core tick f (handled.Passed (passed.Moved x y))) v w (refl, reads)
       (turns_refused id v w (refused.Moved x y) r.0)
   received id (handled.Passed passed.Absent) v w ss ts r = by_pin id (handled.Passed passed.Absent) v w ss ts r
   received id (handled.Passed (passed.Busy x)) v w ss ts r = by_pin id (handled.Passed (passed.Busy x)) v w ss ts r
@@ -175,7 +177,7 @@ pub at_index : (c : Common) (tick : ℕ) (w : Worker) (f : Frame) (seg : Segment
     → Puts (IsPutIn w.check_sums w.core tick f h) s.pass.view n.pass.view
 at_index c tick w f seg text reads None s n h r =
     puts_none (IsPutIn w.check_sums w.core tick f h) s.pass.view n.pass.view
-    (subst (λ x. IsPutIn w.check_sums w.core tick f x []) (sym r.0) refl) (ap (λ (y : View). y.turns) r.1)
+    (subst (λ x. IsPutIn w.check_sums w.core tick f x []) (sym r.0) (refl, reads)) (ap (λ (y : View). y.turns) r.1)
 at_index c tick w f seg text reads (Some id) s n h r =
     received c.queues w.check_sums w.core tick f reads seg text id h s.pass.view n.pass.view s.senders n.senders r
 

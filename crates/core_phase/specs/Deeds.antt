@@ -47,13 +47,14 @@ abbrev pub KeepsColumn : Deed → Type 0
 KeepsColumn d = column (endpoint_of (longer d.before (d.entry ∷ []))) ≡ column (endpoint_of d.before)
 
 -- ----- frames
--- What a frame with this answer put into the turn. One that was refused breaks the rule of reading that was named.
+-- What a frame with this answer put into the turn. One that was refused breaks the rule of reading that was named, and
+-- one that was passed on breaks none.
 abbrev pub IsPutIn : (check : Bool) (core tick : ℕ) → Frame → Handled → List Deed → Type 0
 IsPutIn check core tick f (handled.Entered id) ds =
     (d : Deed) × (ds ≡ d ∷ []) × (d.flow ≡ id) × IsRx check core tick f d
 IsPutIn check core tick f (handled.Refused n) ds =
     (ds ≡ []) × ((r : Refused) × (refusal check f.packet ≡ Some r) × (n ≡ number_of r))
-IsPutIn check core tick f h ds = ds ≡ []
+IsPutIn check core tick f (handled.Passed p) ds = (ds ≡ []) × (refusal check f.packet ≡ None)
 
 -- what frames with these answers put into it, one after the other
 abbrev pub ArePutIn : (check : Bool) (core tick : ℕ) → List Frame → List Handled → List Deed → Type 0

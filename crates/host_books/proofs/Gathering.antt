@@ -1,11 +1,13 @@
--- What holds of each turn's words holds of all in one order: for the law words_are_gathered.
+-- What holds of each turn's words holds of all in one order: for the laws words_are_gathered and
+-- turns_leave_alike.
 use Rattle.std.proofs.Common.{◌≡◌, ◌≢◌, ℕ, zero, suc, ◌<◌, ◌≤◌, ◌==◌, cond, Bool, true, false, List, [], ◌∷◌, ◌++◌}
-use Rattle.std.proofs.Common.{map, take, drop, refl, sym, ap, ◌∙◌, subst, arith, true≢false, append_assoc}
+use Rattle.std.proofs.Common.{map, fold, take, drop, refl, sym, ap, ◌∙◌, subst, arith, true≢false, append_assoc}
 use Rattle.std.specs.Prelude.{IsPermutation, nat_lt}
 use Rattle.std.proofs.lemmas.Bool.Decides.{nat_tests}
 use Rattle.std.proofs.lemmas.List.Sorted.{IsPermutation-refl, IsPermutation-trans, IsPermutation-append_left}
 use Rattle.std.proofs.lemmas.List.Sorted.{IsPermutation-append_right, IsPermutation-append_comm}
 use Rattle.host_rounds.specs.Lists.{Each}
+use Rattle.host_rounds.proofs.Lists.{fold_append}
 use Rattle.flow_lock.specs.Orders.{Order, of}
 use Rattle.flow_lock.specs.declared.view.Deed.{Deed}
 use Rattle.host_books.specs.Words.{without_first, merged, deed_in, AreOf, AreBelow, joined, joined_below}
@@ -279,3 +281,104 @@ module _ {M : Type 0} where
           (subst (IsPermutation (g f.word ++ joined_below g n left)) (ap (joined g) (sym (split x xs words f)))
           (IsPermutation-append_right (g f.word) (joined_below g n left) (joined g (merged xs left))
           (all_moved n xs left (below_next n x xs below) (next x xs words are))))
+
+      -- ----- in the order of deeds, or turn by turn
+      module _ {X : Type 0} (f : X → B → X) where
+        -- it doesn't matter which comes first
+        abbrev pub AreEither : M → M → Type 0
+        AreEither m k = Each (λ (b : B). Each (λ (c : B). (x : X) → f (f x b) c ≡ f (f x c) b) (g k)) (g m)
+
+        one_past : (b : B) (cs : List B) → Each (λ (c : B). (x : X) → f (f x b) c ≡ f (f x c) b) cs → (x : X)
+            → fold f (f x b) cs ≡ f (fold f x cs) b
+        one_past b [] either x = refl
+        one_past b (c ∷ cs) either x = ap (λ y. fold f y cs) (either.0 x) ∙ one_past b cs either.1 (f x c)
+
+        all_past : (bs cs : List B)
+            → Each (λ (b : B). Each (λ (c : B). (x : X) → f (f x b) c ≡ f (f x c) b) cs) bs → (x : X)
+            → fold f (fold f x bs) cs ≡ fold f (fold f x cs) bs
+        all_past [] cs either x = refl
+        all_past (b ∷ bs) cs either x =
+            all_past bs cs either.1 (f x b) ∙ ap (λ y. fold f y bs) (one_past b cs either.0 x)
+
+        words_past : (m : M) (ks : List M) → Each (AreEither m) ks → (x : X)
+            → fold f (fold f x (g m)) (joined g ks) ≡ fold f (fold f x (joined g ks)) (g m)
+        words_past m [] either x = refl
+        words_past m (k ∷ ks) either x =
+            fold_append f (fold f x (g m)) (g k) (joined g ks)
+            ∙ (ap (λ y. fold f y (joined g ks)) (all_past (g m) (g k) either.0 x)
+            ∙ (words_past m ks either.1 (fold f x (g k))
+            ∙ ap (λ y. fold f y (g m)) (sym (fold_append f x (g k) (joined g ks)))))
+
+        turns_past : (m : M) (n : ℕ) (words : ℕ → List M)
+            → ((q : ℕ) → q < n → Each (AreEither m) (words q)) → (x : X)
+            → fold f (fold f x (g m)) (joined_below g n words) ≡ fold f (fold f x (joined_below g n words)) (g m)
+        turns_past m zero words either x = refl
+        turns_past m (suc k) words either x =
+            fold_append f (fold f x (g m)) (joined_below g k words) (joined g (words k))
+            ∙ (ap (λ y. fold f y (joined g (words k)))
+            (turns_past m k words (λ q lt. either q (omega (arith, lt))) x)
+            ∙ (words_past m (words k) (either k (omega arith)) (fold f x (joined_below g k words))
+            ∙ ap (λ y. fold f y (g m)) (sym (fold_append f x (joined_below g k words) (joined g (words k))))))
+
+        -- the first word of a turn is done first
+        first_out : (n r : ℕ) (words : ℕ → List M) (m : M) (ms : List M) → words r ≡ m ∷ ms → r < n
+            → AreAllPairs AreEither words → (x : X)
+            → fold f x (joined_below g n words)
+            ≡ fold f (fold f x (g m)) (joined_below g n (without_first r words))
+        first_out zero r words m ms is lt pairs x = absurd (omega (arith, lt))
+        first_out (suc k) r words m ms is lt pairs x =
+            by (r == k) refl (λ low. first_out k r words m ms is low pairs x)
+          where
+            lower : (r == k) ≡ false → r < k
+            lower h = grind (arith, nat_tests, h, lt)
+
+            below : List B
+            below = joined_below g k words
+
+            rest : List B
+            rest = joined g (cond (r == k) (drop 1 (words k)) (words k))
+
+            differs : (q : ℕ) → q < r → r ≢ q
+            differs q low same = absurd (omega (arith, low, same))
+
+            either : (q : ℕ) → q < r → Each (AreEither m) (words q)
+            either q low =
+                (subst (Each (λ (w : M). Each (AreEither w) (words q))) is (pairs.1 r q (differs q low))).0
+
+            by : (b : Bool) → (r == k) ≡ b
+                → (r < k → fold f x (joined_below g k words)
+                ≡ fold f (fold f x (g m)) (joined_below g k (without_first r words)))
+                → fold f x (joined_below g k words ++ joined g (words k))
+                ≡ fold f (fold f x (g m)) (joined_below g k (without_first r words)
+                ++ joined g (cond (r == k) (drop 1 (words k)) (words k)))
+            by true e more =
+                let here : words k ≡ m ∷ ms = ap words (sym (is_turn r k e)) ∙ is in
+                let le : k ≤ r = let s = is_turn r k e in omega (arith, s) in
+                let kept : below ≡ joined_below g k (without_first r words) = sym (same_below k r words le) in
+                let own : joined g ms ≡ rest = λ i. joined g (cond (sym e i) (drop 1 (sym here i)) (sym here i)) in
+                fold_append f x below (joined g (words k))
+                ∙ (ap (λ l. fold f (fold f x below) (joined g l)) here
+                ∙ (fold_append f (fold f x below) (g m) (joined g ms)
+                ∙ (ap (λ y. fold f y (joined g ms))
+                (sym (turns_past m k words (λ q lt. either q (omega (arith, lt, le))) x))
+                ∙ ((λ i. fold f (fold f (fold f x (g m)) (kept i)) (own i))
+                ∙ sym (fold_append f (fold f x (g m)) (joined_below g k (without_first r words)) rest)))))
+            by false e more =
+                let own : joined g (words k) ≡ rest =
+                λ i. joined g (cond (sym e i) (drop 1 (words k)) (words k)) in
+                fold_append f x below (joined g (words k))
+                ∙ ((λ i. fold f (more (lower e) i) (own i))
+                ∙ sym (fold_append f (fold f x (g m)) (joined_below g k (without_first r words)) rest))
+
+        pub all_folded : (n : ℕ) (order : Order) (words : ℕ → List M) → AreBelow n order → AreOf deed order words
+            → AreAllPairs AreEither words → (x : X)
+            → fold f x (joined g (merged order words)) ≡ fold f x (joined_below g n words)
+        all_folded n [] words below are pairs x = ap (fold f x) (sym (no_words n words are))
+        all_folded n (y ∷ ys) words below are pairs x =
+            let one = first y ys words are in
+            let left : ℕ → List M = without_first y.0 words in
+            ap (λ l. fold f x (joined g l)) (split y ys words one)
+            ∙ (fold_append f x (g one.word) (joined g (merged ys left))
+            ∙ (all_folded n ys left (below_next n y ys below) (next y ys words are)
+            (still_pairs AreEither y.0 words pairs) (fold f x (g one.word))
+            ∙ sym (first_out n y.0 words one.word one.rest one.is (first_below n y ys below) pairs x)))

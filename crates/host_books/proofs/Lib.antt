@@ -5,3 +5,4 @@ pub mod Telling
 pub mod Ticks
 mod AloneCalls
 pub mod Gathering
+pub mod Leaving

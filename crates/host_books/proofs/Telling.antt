@@ -1,5 +1,5 @@
--- Deeds in the words of a run, put together: for the law words_are_done.
-use Rattle.std.proofs.Common.{◌≡◌, ℕ, zero, suc, cond, true, false, List, [], ◌∷◌, map, refl, sym, ap, ◌∙◌}
+-- Deeds in the words of a run, put together: for the laws words_are_done and words_leave.
+use Rattle.std.proofs.Common.{◌≡◌, ℕ, zero, suc, cond, Bool, true, false, List, [], ◌∷◌, map, refl, sym, ap, ◌∙◌}
 use Rattle.std.proofs.Common.{subst, inl, inr, true≢false}
 use Rattle.std.specs.Prelude.{Option, Some, None, is_some}
 use Rattle.tas_model.specs.declared.entry.FlowId.{FlowId}
@@ -15,7 +15,8 @@ use Rattle.tas_model.specs.Endpoint.{Endpoint, is_closed}
 use Rattle.tas_model.specs.ApplicationCalls.{Column, Over, column}
 use Rattle.tas_model.specs.NextSegment.{going, going_in}
 use Rattle.tas_model.specs.LegalHistory.{Legal}
-use Rattle.host_rounds.specs.Lists.{Each}
+use Rattle.host_rounds.specs.Lists.{Each, change_first}
+use Rattle.host_rounds.proofs.Lists.{fold_append}
 use Rattle.host_rounds.specs.Hosts.{Live, Holder, Waiting}
 use Rattle.host_rounds.specs.Deliveries.{Segment}
 use Rattle.host_rounds.specs.Scripts.{Scripts}
@@ -27,13 +28,15 @@ use Rattle.flow_lock.specs.declared.view.Deed.{Deed}
 use Rattle.flow_lock.specs.declared.view.Held.{Held}
 use Rattle.flow_lock.specs.declared.view.History.{History}
 use Rattle.host_books.specs.Books.{Book, Setting, IsAt}
-use Rattle.host_books.specs.Deeds.{Makes, IsFrameOf, IsSendOf, IsAskOf, IsDoneAs, with_holder}
+use Rattle.host_books.specs.Deeds.{Makes, IsFrameOf, IsSendOf, IsAskOf, IsDoneAs, with_holder, held_as}
 use Rattle.host_books.specs.Indexes.{endpoint_of, AreIndexed, KeepsClosed}
 use Rattle.host_books.specs.Tries.{place_of, Adds, Try, reply_on, IsTry, MayPrecede, Word, IsFrameWord, IsSendWord}
 use Rattle.host_books.specs.Tries.{IsTryWord, IsWord, AreTries, AreApart, deed_of, told_of, ToldAs}
-use Rattle.host_books.specs.Words.{deed_in}
+use Rattle.host_books.specs.Words.{deed_in, joined}
+use Rattle.host_books.specs.Leavings.{Leaving, leaving_on, leavings_in, book_after, script_after, books_after}
+use Rattle.host_books.specs.Leavings.{scripts_after, AreLeft}
 use Rattle.host_books.proofs.Orders.{same_self}
-use Rattle.host_books.proofs.Indexing.{found, has_place, still_indexed, held_indexed}
+use Rattle.host_books.proofs.Indexing.{found, has_place, still_indexed, held_indexed, is_same_flow}
 
 -- ----- one deed
 no_entries : (params : HostParams) (es : List Entry) → es ≡ [] → Legal params es → ⊥
@@ -73,6 +76,14 @@ placed zero id (b ∷ bs) at =
 placed (suc n) id (b ∷ bs) at =
     ap (λ x. cond x 0 (suc (place_of id bs))) at.0 ∙ ap suc (placed n id bs at.1)
 
+-- the change at its place is that of its book
+pub changed : (n : ℕ) (id : FlowId) (holds : Holder → Holder) (bs : List Book) → IsAt n id bs
+    → with_holder n holds bs ≡ change_first (λ (b : Book). same_flow id b.id) (held_as holds) bs
+changed n id holds [] at = absurd at
+changed zero id holds (b ∷ bs) at =
+    let here : same_flow id b.id ≡ true = ap (same_flow id) at.0 ∙ same_self id in rw (here, change_first) refl
+changed (suc n) id holds (b ∷ bs) at = rw (at.0, change_first) (ap (λ l. b ∷ l) (changed n id holds bs at.1))
+
 -- another holder is at the same place
 place_held : (id : FlowId) (n : ℕ) (holds : Holder → Holder) (bs : List Book)
     → place_of id (with_holder n holds bs) ≡ place_of id bs
@@ -107,6 +118,8 @@ module _ {S A : Type 0} (scripts : Scripts S A) (t : ℕ) where
     indexed : AreIndexed after (put known w.deed)
     worker : IsWorker w.told.by
     words : (v : Word S A) → IsWord t s.books v → IsWord t after v
+    books : after ≡ books_after (leavings_in t w) s.books
+    scripts_are : next ≡ scripts_after (leavings_in t w) state
     still : (y : Try S A) → Each (λ (x : Try S A). MayPrecede scripts t x y) w.tries → IsTry scripts t s state y
         → IsTry scripts t (record s { books = after }) next y
 
@@ -138,6 +151,8 @@ module _ {S A : Type 0} (scripts : Scripts S A) (t : ℕ) where
         indexed = still_indexed known d there keeps s.books f.adds.legal are;
         worker = subst (λ (m : rounds.Deed A). IsWorker m.by) (sym f.is) tt;
         words = λ v is. is;
+        books = ap (λ xs. books_after (map (leaving_on t d.before) xs) s.books) (sym f.tries_not);
+        scripts_are = ap (λ xs. scripts_after (map (leaving_on t d.before) xs) state) (sym f.tries_not);
         still = λ y may is. is;
       }
 
@@ -178,6 +193,8 @@ module _ {S A : Type 0} (scripts : Scripts S A) (t : ℕ) where
         indexed = still_indexed known d there keeps s.books f.adds.legal are;
         worker = subst (λ (m : rounds.Deed A). IsWorker m.by) (sym f.is) tt;
         words = λ v is. is;
+        books = ap (λ xs. books_after (map (leaving_on t d.before) xs) s.books) (sym f.tries_not);
+        scripts_are = ap (λ xs. scripts_after (map (leaving_on t d.before) xs) state) (sym f.tries_not);
         still = λ y may is. is;
       }
 
@@ -194,6 +211,10 @@ module _ {S A : Type 0} (scripts : Scripts S A) (t : ℕ) where
       let is_try : IsTry scripts t s state x =
       (subst (λ xs. Each (IsTry scripts t s state) xs) a.tries tries).0 in
       let reply : Reply = reply_on t x (known_of x.flow known) in
+      let left : Leaving S = record { flow = x.flow; holds = x.holds reply; next = x.next reply } in
+      let history : known_of x.flow known ≡ d.before = ap (λ f. known_of f known) (sym a.flow) ∙ sym there in
+      let leaves : left ∷ [] ≡ leavings_in t w =
+      (λ i. leaving_on t (history i) x ∷ []) ∙ ap (map (leaving_on t d.before)) (sym a.tries) in
       let of_ask : IsAskOf scripts t s state known d w.told (with_holder at.0 (x.holds reply) s.books)
       (x.next reply state) = record {
         by = Slow;
@@ -217,6 +238,9 @@ module _ {S A : Type 0} (scripts : Scripts S A) (t : ℕ) where
             (still_indexed known d there keeps s.books a.adds.legal are);
         worker = subst (λ (m : rounds.Deed A). IsWorker m.by) (sym a.is) tt;
         words = λ v is. word_held at.0 (x.holds reply) s.books v is;
+        books = changed at.0 x.flow (x.holds reply) s.books here
+            ∙ ap (λ l. books_after l s.books) leaves;
+        scripts_are = ap (λ l. scripts_after l state) leaves;
         still = λ y may is.
             (subst (λ xs. Each (λ (z : Try S A). MayPrecede scripts t z y) xs) a.tries may).0 s state at.0 reply here
             is;
@@ -273,16 +297,17 @@ module _ {S A : Type 0} (scripts : Scripts S A) (t : ℕ) where
   tails : {X : Type 0} (a b : X) (xs ys : List X) → a ∷ xs ≡ b ∷ ys → xs ≡ ys
   tails a b xs ys e = cc e
 
+  -- with what they leave
+  abbrev pub Told : Setting → S → List Held → Order → List (Word S A) → Type 0
+  Told s state known order ws = (r : ToldAs scripts t s state known order (map told_of ws)) × AreLeft ws r
+
   pub told : (s : Setting) (state : S) (known : List Held) (order : Order) (ws : List (Word S A))
       → AreIndexed s.books known → IsRun known order → map deed_of ws ≡ map deed_in order → Each (IsWord t s.books) ws
-      → AreTries scripts t s state ws → AreApart scripts t ws → ToldAs scripts t s state known order (map told_of ws)
-  told s state known [] [] index run same each tries apart = record {
-    after = s.books;
-    next = state;
-    are = (refl, refl);
-    indexed = index;
-    workers = tt;
-  }
+      → AreTries scripts t s state ws → AreApart scripts t ws → Told s state known order ws
+  told s state known [] [] index run same each tries apart = (
+    record { after = s.books; next = state; are = (refl, refl); indexed = index; workers = tt },
+    record { books = refl; next = refl },
+  )
   told s state known [] (w ∷ ws) index run same each tries apart = absurd (cc same)
   told s state known (y ∷ ys) [] index run same each tries apart = absurd (cc same)
   told s state known (y ∷ ys) (w ∷ ws) index run same each tries apart =
@@ -290,21 +315,71 @@ module _ {S A : Type 0} (scripts : Scripts S A) (t : ℕ) where
       let one : Done s state known w =
       word_done s state known w index
       (subst (λ (d : Deed). IsNext d.before (known_of d.flow known)) (sym is) run.0) each.0 tries.0 in
-      let r : ToldAs scripts t (record s { books = one.after }) one.next (put known y.1) ys (map told_of ws) =
+      let r : Told (record s { books = one.after }) one.next (put known y.1) ys ws =
       told (record s { books = one.after }) one.next (put known y.1) ys ws
       (subst (λ (d : Deed). AreIndexed one.after (put known d)) is one.indexed) run.1
       (tails w.deed y.1 (map deed_of ws) (map deed_in ys) same)
       (all_words ws (IsWord t s.books) (IsWord t one.after) one.words each.1)
       (still_all s (record s { books = one.after }) state one.next w.tries ws one.still apart.0 tries.1) apart.1 in
-      record {
-        after = r.after;
-        next = r.next;
-        are = (
-          one.after,
-          one.next,
-          subst (λ (d : Deed). IsDoneAs scripts t s state known d w.told one.after one.next) is one.is,
-          r.are,
-        );
-        indexed = r.indexed;
-        workers = (one.worker, r.workers);
-      }
+      let more : List (Leaving S) = joined (leavings_in t) ws in (
+        record {
+          after = r.0.after;
+          next = r.0.next;
+          are = (
+            one.after,
+            one.next,
+            subst (λ (d : Deed). IsDoneAs scripts t s state known d w.told one.after one.next) is one.is,
+            r.0.are,
+          );
+          indexed = r.0.indexed;
+          workers = (one.worker, r.0.workers);
+        },
+        record {
+          books = r.1.books
+              ∙ (ap (books_after more) one.books ∙ sym (fold_append book_after s.books (leavings_in t w) more));
+          next = r.1.next
+              ∙ (ap (scripts_after more) one.scripts_are
+              ∙ sym (fold_append script_after state (leavings_in t w) more));
+        },
+      )
+
+-- ----- in any order
+-- its book changes
+here : {S : Type 0} (x : Leaving S) (b : Book) (bs : List Book) → same_flow x.flow b.id ≡ true
+    → book_after (b ∷ bs) x ≡ held_as x.holds b ∷ bs
+here x b bs e = rw (e, change_first) refl
+
+-- a book of another flow stays
+past : {S : Type 0} (x : Leaving S) (b : Book) (bs : List Book) → same_flow x.flow b.id ≡ false
+    → book_after (b ∷ bs) x ≡ b ∷ book_after bs x
+past x b bs e = rw (e, change_first) refl
+
+pub books_alike : {S : Type 0} (x y : Leaving S) → same_flow x.flow y.flow ≡ false → (bs : List Book)
+    → book_after (book_after bs x) y ≡ book_after (book_after bs y) x
+books_alike x y apart [] = refl
+books_alike x y apart (b ∷ bs) =
+    by (same_flow x.flow b.id) (same_flow y.flow b.id) refl refl (books_alike x y apart bs)
+  where
+    cons : List Book → List Book
+    cons l = b ∷ l
+
+    same : same_flow x.flow b.id ≡ true → same_flow y.flow b.id ≡ true → same_flow x.flow y.flow ≡ true
+    same e g = ap (same_flow x.flow) (is_same_flow y.flow b.id g) ∙ e
+
+    by : (p q : Bool) → same_flow x.flow b.id ≡ p → same_flow y.flow b.id ≡ q
+        → book_after (book_after bs x) y ≡ book_after (book_after bs y) x
+        → book_after (book_after (b ∷ bs) x) y ≡ book_after (book_after (b ∷ bs) y) x
+    by true true e g rest = absurd (true≢false (sym (same e g) ∙ apart))
+    by true false e g rest =
+        ap (λ l. book_after l y) (here x b bs e)
+        ∙ (past y (held_as x.holds b) bs g
+        ∙ (sym (here x b (book_after bs y) e) ∙ sym (ap (λ l. book_after l x) (past y b bs g))))
+    by false true e g rest =
+        ap (λ l. book_after l y) (past x b bs e)
+        ∙ (here y b (book_after bs x) g
+        ∙ (sym (past x (held_as y.holds b) bs e) ∙ sym (ap (λ l. book_after l x) (here y b bs g))))
+    by false false e g rest =
+        ap (λ l. book_after l y) (past x b bs e)
+        ∙ (past y b (book_after bs x) g
+        ∙ (ap cons rest
+        ∙ (sym (past x b (book_after bs y) e) ∙ sym (ap (λ l. book_after l x) (past y b bs g)))))

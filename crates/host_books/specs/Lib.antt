@@ -3,4 +3,5 @@ pub mod Deeds
 pub mod Indexes
 pub mod Words
 pub mod Tries
+pub mod Leavings
 pub mod Ticks

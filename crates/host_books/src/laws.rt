@@ -15,6 +15,7 @@ ghost use Rattle.flow_lock.specs.declared.view.Held.{Held};
 ghost use Rattle.host_books.specs.Books.{Book, Setting, live_in, site_of, IsAt, IsFirstAt};
 ghost use Rattle.host_books.specs.Deeds.{AreCoreDeeds, AreDoneAs, with_holder};
 ghost use Rattle.host_books.specs.Indexes.{endpoint_of, AreIndexed, KeepsClosed};
+ghost use Rattle.host_books.specs.Leavings.{AreLeft};
 ghost use Rattle.host_books.specs.Ticks.{IsTickOfPhases};
 ghost use Rattle.host_books.specs.Tries.{Word, IsWord, AreTries, AreApart, ToldAs, deed_of, told_of};
 ghost use Rattle.host_books.specs.Words.{deed_in};
@@ -61,6 +62,16 @@ pub fn words_are_done<S, A>()
         → map deed_of words ≡ map deed_in order → Each (IsWord t s.books) words
         → AreTries scripts t s state words → AreApart scripts t words
         → ToldAs scripts t s state known order (map told_of words) }
+{}
+
+/// What such an order leaves of the books and of how far the scripts are is what its tries leave, one after the other:
+/// of each, by the reply to its call, who has the socket then, and how far its script is.
+pub fn words_leave<S, A>()
+    ensures { (scripts : Scripts S A) (t : ℕ) (s : Setting) (state : S) (known : List Held) (order : Order)
+        (words : List (Word S A)) → AreIndexed s.books known → IsRun known order
+        → map deed_of words ≡ map deed_in order → Each (IsWord t s.books) words
+        → AreTries scripts t s state words → AreApart scripts t words
+        → (told : ToldAs scripts t s state known order (map told_of words)) × AreLeft words told }
 {}
 
 /// A tick in which cores and applications work side by side, and then cores send side by side, is a tick of a host

@@ -9,6 +9,6 @@ mod words;
 pub use alone::calls_alone_are_moves;
 pub use laws::{
     deeds_keep_the_index, open_flows_are_found, orders_are_of_all, orders_are_of_cores,
-    ticks_of_phases_are_shared, words_are_done,
+    ticks_of_phases_are_shared, words_are_done, words_leave,
 };
-pub use words::{orders_are_merged, words_are_gathered};
+pub use words::{orders_are_merged, turns_leave_alike, words_are_gathered};

@@ -4,7 +4,10 @@ ghost use mathlib.Core.Option as O;
 ghost use lib.ListN.{get_elem?};
 ghost use Rattle.flow_lock.specs.Orders.{Order, of};
 ghost use Rattle.flow_lock.specs.declared.view.Deed.{Deed};
-ghost use Rattle.host_books.specs.Words.{merged, AreWords, deed_in, AreOf, AreBelow, joined, joined_below};
+ghost use Rattle.host_books.specs.Books.{Book};
+ghost use Rattle.host_books.specs.Leavings.{leavings_in, books_after, scripts_after, LeaveAlike};
+ghost use Rattle.host_books.specs.Tries.{Word, deed_of};
+ghost use Rattle.host_books.specs.Words.{merged, AreWords, deed_in, AreOf, AreBelow, joined, joined_below, AreAllPairs};
 
 /// Where each turn has a word for each of its deeds, the words have one order, too. Each word stands where its deed
 /// does, and those that pass a test, where they are all of one turn, stand as they do there.
@@ -28,4 +31,17 @@ pub fn words_are_gathered<M, B>()
     ensures moved { (deed : M → Deed) (has : M → List B) (turns : ℕ) (order : Order) (words : ℕ → List M)
         → AreBelow turns order → AreOf deed order words
         → IsPermutation (joined_below has turns words) (joined has (merged order words)) }
+{}
+
+/// Where what tries leave is of different flows, and it doesn't matter which of their scripts goes on first, the words
+/// of all turns leave in the order of their deeds what they leave turn by turn.
+pub fn turns_leave_alike<S, A>()
+    ensures books { (t : ℕ) (order : Order) (turns : ℕ) (words : ℕ → List (Word S A)) → AreBelow turns order
+        → AreOf deed_of order words → AreAllPairs (LeaveAlike t) words → (books : List Book) (state : S)
+        → books_after (joined (leavings_in t) (merged order words)) books
+        ≡ books_after (joined_below (leavings_in t) turns words) books }
+    ensures scripts { (t : ℕ) (order : Order) (turns : ℕ) (words : ℕ → List (Word S A)) → AreBelow turns order
+        → AreOf deed_of order words → AreAllPairs (LeaveAlike t) words → (books : List Book) (state : S)
+        → scripts_after (joined (leavings_in t) (merged order words)) state
+        ≡ scripts_after (joined_below (leavings_in t) turns words) state }
 {}

@@ -7,7 +7,8 @@ use Rattle.flow_lock.specs.Orders.{Order}
 use Rattle.flow_lock.specs.declared.view.Held.{Held}
 use Rattle.host_books.specs.Books.{Setting}
 use Rattle.host_books.specs.Ticks.{Beside, AreByWorkers}
-use Rattle.host_books.specs.Tries.{Word, IsWord, IsTry, LetsPass, deed_of, told_of}
+use Rattle.host_books.specs.Leavings.{AreLeft}
+use Rattle.host_books.specs.Tries.{Word, IsWord, IsTry, ToldAs, LetsPass, deed_of, told_of}
 use Rattle.host_books.specs.Words.{merged}
 use Rattle.host_books.proofs.Gathering.{all_each, all_deeds, all_pairs, all_moved}
 use Rattle.host_books.proofs.Telling.{told}
@@ -25,7 +26,12 @@ pub beside : {S A : Type 0} (scripts : Scripts S A) (t : ℕ) (s : Setting) (sta
 beside {S} {A} scripts t s state known order turns did are =
     let words : List (Word S A) = merged order (words_in did) in
     let each : Each (IsWord t s.books) words =
-    all_each (IsWord t s.books) order (words_in did) (λ p. (are.done p).each) in (
+    all_each (IsWord t s.books) order (words_in did) (λ p. (are.done p).each) in
+    let both : (r : ToldAs scripts t s state known order (map told_of words)) × AreLeft words r =
+    told scripts t s state known order words are.indexed are.run
+    (all_deeds deed_of order (words_in did) are.deeds) each
+    (all_each (λ (w : Word S A). Each (IsTry scripts t s state) w.tries) order (words_in did) are.tries)
+    (all_pairs deed_of (LetsPass scripts t) order (words_in did) are.deeds are.apart) in (
       record {
         setting = s;
         state = state;
@@ -33,16 +39,15 @@ beside {S} {A} scripts t s state known order turns did are =
         order = order;
         words = words;
         each = each;
-        told = told scripts t s state known order words are.indexed are.run
-            (all_deeds deed_of order (words_in did) are.deeds) each
-            (all_each (λ (w : Word S A). Each (IsTry scripts t s state) w.tries) order (words_in did) are.tries)
-            (all_pairs deed_of (LetsPass scripts t) order (words_in did) are.deeds are.apart);
+        told = both.0;
       },
       record {
         setting_is = refl;
         state_is = refl;
         known_is = refl;
         order_is = refl;
+        words_are = refl;
+        leave = both.1;
         taken = all_moved deed_of frame_by turns order (words_in did) are.below are.deeds;
         asked = all_moved deed_of ask_by turns order (words_in did) are.below are.deeds;
         workers = λ cores each. told_by cores words

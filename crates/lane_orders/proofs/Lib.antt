@@ -1,3 +1,4 @@
 pub mod Handing
 pub mod Beside
 pub mod Ticks
+pub mod Leaving

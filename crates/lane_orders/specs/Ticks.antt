@@ -6,12 +6,13 @@ use Rattle.host_rounds.specs.Rounds.{Due, on_host}
 use Rattle.host_rounds.specs.SerialOrder.{slow_phase, emit_phase}
 use Rattle.core_rounds.specs.SharedTicks.{alone_phase}
 use Rattle.core_rounds.specs.Shares.{AreDistinct, is_asked_by}
-use Rattle.flow_lock.specs.Orders.{Order}
+use Rattle.flow_lock.specs.Orders.{Order, played}
 use Rattle.flow_lock.specs.declared.view.Held.{Held}
-use Rattle.host_books.specs.Books.{Setting}
+use Rattle.host_books.specs.Books.{Setting, site_of}
+use Rattle.host_books.specs.Leavings.{books_after, scripts_after}
 use Rattle.host_books.specs.Ticks.{Beside, site_before, site_after}
 use Rattle.lane_orders.specs.Turns.{Did, IsByWorkers, AreTurns, IsOfTurns, AreGiven}
-use Rattle.lane_orders.specs.Turns.{left_below, asked_below}
+use Rattle.lane_orders.specs.Turns.{left_below, asked_below, leavings_below}
 
 -- Turns that were taken side by side, and the deeds of a run that they are.
 pub record Phase {S A : Type 0} (scripts : Scripts S A) (t : ℕ) : Type 0 where
@@ -24,6 +25,12 @@ pub record Phase {S A : Type 0} (scripts : Scripts S A) (t : ℕ) : Type 0 where
   pub are : AreTurns scripts t setting state known order turns did
   pub beside : Beside scripts t
   pub of_turns : IsOfTurns scripts t setting state known order turns did beside
+
+-- the host and the scripts after these turns, as what their tries leave turn by turn
+abbrev pub site_left : {S A : Type 0} → {scripts : Scripts S A} → {t : ℕ} → Phase scripts t → Site S
+site_left {t = t} p =
+    site_of (record (p.setting) { books = books_after (leavings_below t p.turns p.did) p.setting.books })
+    (played p.known p.order) (scripts_after (leavings_below t p.turns p.did) p.state)
 
 -- The frames that came were handed out to so many cores, each once, as the steering named the cores.
 pub record IsHandOut {S A : Type 0} (frames : List Arrival) (cores turns : ℕ) (did : ℕ → Did S A) : Type 0 where

@@ -11,8 +11,9 @@ use Rattle.frame_steering.specs.Giving.{given_to}
 use Rattle.host_books.specs.Books.{Book, Setting}
 use Rattle.host_books.specs.Indexes.{AreIndexed}
 use Rattle.host_books.specs.Ticks.{Beside, deeds_of, AreByWorkers}
+use Rattle.host_books.specs.Leavings.{Leaving, leavings_in, AreLeft}
 use Rattle.host_books.specs.Tries.{Word, IsWord, AreTries, LetsPass, deed_of}
-use Rattle.host_books.specs.Words.{AreOf, AreBelow, AreAllPairs, joined, joined_below}
+use Rattle.host_books.specs.Words.{AreOf, AreBelow, AreAllPairs, merged, joined, joined_below}
 
 -- ----- one turn
 -- The words of its deeds, the frames that were handed to it, and those of them that it left to the slow path.
@@ -60,6 +61,10 @@ left_below (suc p) did = left_below p did ++ (did p).left
 abbrev pub asked_below : {S A : Type 0} → (turns : ℕ) → (ℕ → Did S A) → List A
 asked_below turns did = joined_below ask_by turns (words_in did)
 
+-- what the tries of these turns leave of the books and the scripts
+abbrev pub leavings_below : {S A : Type 0} → (t turns : ℕ) → (ℕ → Did S A) → List (Leaving S)
+leavings_below t turns did = joined_below (leavings_in t) turns (words_in did)
+
 -- One order of deeds in the table is what was done in these turns, and in no others. What was asked in them are asks of
 -- the scripts as they stand, whatever comes before them.
 pub record AreTurns {S A : Type 0} (scripts : Scripts S A) (t : ℕ) (s : Setting) (state : S) (known : List Held)
@@ -72,14 +77,16 @@ pub record AreTurns {S A : Type 0} (scripts : Scripts S A) (t : ℕ) (s : Settin
   pub tries : (p : ℕ) → AreTries scripts t s state (did p).words
   pub apart : AreAllPairs (LetsPass scripts t) (words_in did)
 
--- The deeds that were done side by side take the frames that the turns took, ask what was asked in them, and are by the
--- workers whose turns they were.
+-- The deeds that were done side by side are those of the turns, take the frames that these took, ask what was asked in
+-- them, leave what their tries leave, and are by the workers whose turns they were.
 pub record IsOfTurns {S A : Type 0} (scripts : Scripts S A) (t : ℕ) (s : Setting) (state : S) (known : List Held)
     (order : Order) (turns : ℕ) (did : ℕ → Did S A) (b : Beside scripts t) : Type 0 where
   pub setting_is : b.setting ≡ s
   pub state_is : b.state ≡ state
   pub known_is : b.known ≡ known
   pub order_is : b.order ≡ order
+  pub words_are : b.words ≡ merged order (words_in did)
+  pub leave : AreLeft b.words b.told
   pub taken : IsPermutation (joined_below frame_by turns (words_in did)) (joined frame_by b.words)
   pub asked : IsPermutation (asked_below turns did) (joined ask_by b.words)
   pub workers : (cores : ℕ) → ((p : ℕ) → IsByWorkers cores (did p)) → AreByWorkers cores (deeds_of b)

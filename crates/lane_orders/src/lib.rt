@@ -4,4 +4,6 @@
 
 mod laws;
 
-pub use laws::{frames_are_handed_once, ticks_of_turns_are_shared, turns_are_beside};
+pub use laws::{
+    frames_are_handed_once, ticks_of_turns_are_shared, turns_are_beside, turns_leave_one_site,
+};

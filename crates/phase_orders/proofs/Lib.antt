@@ -1,0 +1,7 @@
+pub mod CoreTurns
+pub mod AppTurns
+pub mod LaneTurns
+pub mod Gathering
+pub mod Phases
+pub mod Handing
+pub mod Ticks

@@ -1,0 +1,5 @@
+pub mod CoreTurns
+pub mod AppTurns
+pub mod Lanes
+pub mod Handing
+pub mod Ticks
