@@ -34,6 +34,7 @@ pub new_sound : (table : TableId) (w : Worker) (xs : List libtas.Application) â†
     â†’ IsHostSound (without_flows table w xs)
 new_sound table w xs new = record {
   alone = new.alone;
+  slow_pass = new.slow_pass;
   waiting = new.waits_not;
   sound = new.sound;
   slots = new.slots;

@@ -48,6 +48,7 @@ pub used_leads : (id : FlowId) (r : Flow) (k : History) (v w : View) → IsAlone
 used_leads id r k v w alone u = record {
   alone = (after_use id r k v w u).alone alone;
   idle = ap (λ (x : View). x.held) u.3;
+  slow = ap (λ (x : View). x.slow) u.3;
   pins = ap (λ (x : View). x.pins) u.3;
   marks = ap (λ (x : View). x.marks) u.3;
   base = ap (λ (x : View). x.base) u.3
@@ -90,11 +91,11 @@ module _ (known : List Held) (id : FlowId) (k : History) (led : LedOn (known_of 
 
 -- ----- a host
 -- how many ports were given goes by four-tuples alone
-ports_same : (before after : List Held) → ((f : FlowId) → (known_of f after).tuple ≡ (known_of f before).tuple)
+pub ports_same : (before after : List Held) → ((f : FlowId) → (known_of f after).tuple ≡ (known_of f before).tuple)
     → (bs : List Book) → count_by (has_given_port after) bs ≡ count_by (has_given_port before) bs
 ports_same before after same bs = ap (λ p. count_by p bs) (λ i b. leb first_port (same b.id i).lport)
 
-words_same : (v w : View) → ((slot : ℕ) → word_at w.words slot ≡ word_at v.words slot) → (bs : List Book)
+pub words_same : (v w : View) → ((slot : ℕ) → word_at w.words slot ≡ word_at v.words slot) → (bs : List Book)
     → Each (IsWorded v) bs → Each (IsWorded w) bs
 words_same v w same bs each = each_map (IsWorded v) (IsWorded w) bs (λ b is f. same b.id.slot ∙ is f) each
 
@@ -119,6 +120,7 @@ led_sound h w id k sound led by kept =
     λ f. ap (λ (p : HostParams). p.fixed) (sym params) ∙ f in
     record {
       alone = by.view.alone;
+      slow_pass = by.view.slow ∙ sound.slow_pass;
       waiting = ap waiting by.rest ∙ sound.waiting;
       sound = kept;
       slots = ap (λ (p : HostParams). p.slots) params ∙ sound.slots;

@@ -22,7 +22,7 @@ use Rattle.sound_hosts.specs.Hosts.{CoreHost, id_of, is_indexed, is_doomed, is_h
 use Rattle.sound_hosts.specs.Sound.{IsHostSound, IsApp, HasHolder}
 
 -- ----- marks
-mark_here : (ms : List Mark) (i : ℕ) (m : Mark) → get_elem? ms i ≡ O.some m → mark_at ms i ≡ m
+pub mark_here : (ms : List Mark) (i : ℕ) (m : Mark) → get_elem? ms i ≡ O.some m → mark_at ms i ≡ m
 mark_here [] i m e = absurd (some-ne-none m (sym e))
 mark_here (x ∷ xs) zero m e = some-injective x m e
 mark_here (x ∷ xs) (suc i) m e = mark_here xs i m e

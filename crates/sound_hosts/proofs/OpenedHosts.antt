@@ -158,6 +158,7 @@ module _ (h : CoreHost) (w : Worker) (tick : ℕ) (frame : FrameId) (seg : Segme
           ∙ ap (λ (ts : List Turn). noted (deeds_of id (unborn k) k.entries) (id ∷ []) [] ts) turns,
       ap (λ (s : Sight). s.pass.view.made) opened.after ∙ sound.alone.2,
     );
+    slow_pass = ap (λ (s : Sight). s.pass.view.slow) opened.after ∙ sound.slow_pass;
     waiting = ap waiting rest ∙ sound.waiting;
     sound = kept;
     slots = ap (λ (p : HostParams). p.slots) params ∙ sound.slots;

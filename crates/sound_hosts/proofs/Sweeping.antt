@@ -23,20 +23,19 @@ use Rattle.app_reaper.specs.Sweeping.{IsSweep}
 use Rattle.app_reaper.specs.declared.sweeping.Swept.{Swept}
 use Rattle.app_reaper.specs.declared.sweeping.Swept.TheVariants.{Freed, Pinned}
 use Rattle.host_books.specs.Books.{Book}
-use Rattle.sound_hosts.specs.Hosts.{CoreHost, is_of_slot, stands_in, is_doomed_in, word_of, AreNumbered}
+use Rattle.sound_hosts.specs.Hosts.{is_of_slot, stands_in, is_doomed_in, word_of, AreNumbered}
 use Rattle.sound_hosts.specs.Ending.{is_freed, swept_as}
-use Rattle.sound_hosts.specs.Sound.{IsHostSound, IsMarked, IsWorded, AreSlots}
+use Rattle.sound_hosts.specs.Sound.{IsMarked, IsWorded, AreSlots}
 use Rattle.sound_hosts.proofs.Distinct.{distinct}
 use Rattle.sound_hosts.proofs.Numbers.{at_set, mark_there, word_else, word_own, none_doomed, apart, unlike}
-use Rattle.sound_hosts.proofs.OpenSockets.{standing}
 
 -- ----- one of a list is another
-any_swap : {X : Type 0} (p : X → Bool) (xs : List X) (x y : X) (cs : List X) → p y ≡ p x
+pub any_swap : {X : Type 0} (p : X → Bool) (xs : List X) (x y : X) (cs : List X) → p y ≡ p x
     → list_any p (xs ++ y ∷ cs) ≡ list_any p (xs ++ x ∷ cs)
 any_swap p [] x y cs e = ap (λ b. b || list_any p cs) e
 any_swap p (a ∷ xs) x y cs e = ap (λ b. p a || b) (any_swap p xs x y cs e)
 
-count_swap : {X : Type 0} (p : X → Bool) (xs : List X) (x y : X) (cs : List X) → p y ≡ p x
+pub count_swap : {X : Type 0} (p : X → Bool) (xs : List X) (x y : X) (cs : List X) → p y ≡ p x
     → count_by p (xs ++ y ∷ cs) ≡ count_by p (xs ++ x ∷ cs)
 count_swap p [] x y cs e =
     count_cons p y cs ∙ (ap (λ b. tally b + count_by p cs) e ∙ sym (count_cons p x cs))
@@ -62,11 +61,11 @@ any_none : {X : Type 0} (p : X → Bool) (xs : List X) (x : X) (cs : List X) →
 any_none p [] x cs a e c = λ i. e i || no_one p cs c i
 any_none p (a ∷ xs) x cs each e c = λ i. each.0 i || any_none p xs x cs each.1 e c i
 
-firsts : {X : Type 0} (P : X → Type 0) (zs : List X) (x : X) (cs : List X) → Each P (zs ++ x ∷ cs) → Each P zs
+pub firsts : {X : Type 0} (P : X → Type 0) (zs : List X) (x : X) (cs : List X) → Each P (zs ++ x ∷ cs) → Each P zs
 firsts P [] x cs e = tt
 firsts P (z ∷ zs) x cs e = (e.0, firsts P zs x cs e.1)
 
-lasts : {X : Type 0} (P : X → Type 0) (zs : List X) (x : X) (cs : List X) → Each P (zs ++ x ∷ cs) → Each P cs
+pub lasts : {X : Type 0} (P : X → Type 0) (zs : List X) (x : X) (cs : List X) → Each P (zs ++ x ∷ cs) → Each P cs
 lasts P [] x cs e = e.1
 lasts P (z ∷ zs) x cs e = lasts P zs x cs e.1
 
@@ -75,7 +74,7 @@ each_swap : {X : Type 0} (P Q : X → Type 0) (xs : List X) (x y : X) (cs : List
 each_swap P Q xs x y cs each f q g =
     each_append Q xs (y ∷ cs) (f (firsts P xs x cs each)) (q, g (lasts P xs x cs each))
 
-middle : {X : Type 0} (P : X → Type 0) (xs : List X) (x : X) (cs : List X) → Each P (xs ++ x ∷ cs) → P x
+pub middle : {X : Type 0} (P : X → Type 0) (xs : List X) (x : X) (cs : List X) → Each P (xs ++ x ∷ cs) → P x
 middle P [] x cs e = e.0
 middle P (a ∷ xs) x cs e = middle P xs x cs e.1
 
@@ -149,76 +148,69 @@ free_if : (x : Bool) → 1 + flag x ≡ 1 → false ≡ x
 free_if true e = absurd (omega (arith, e))
 free_if false e = refl
 
-module _ (h : CoreHost) (sound : IsHostSound h) (xs : List Book) (b : Book) (cs : List Book)
-    (split : h.books ≡ xs ++ b ∷ cs) (stands : b.filed ≡ false) where
-  numbered : AreNumbered h.table.slots [] (xs ++ b ∷ cs)
-  numbered = subst (AreNumbered h.table.slots []) split sound.numbered
+-- What the table has of books: the marks and words of all slots, which are as many as the table has, and of the one that
+-- is swept its mark says that it stands.
+module _ (slots : ℕ) (v : View) (xs : List Book) (b : Book) (cs : List Book) (stands : b.filed ≡ false)
+    (alone : IsAlone v) (wide : (length v.marks ≡ slots) × (length v.words ≡ slots))
+    (numbered : AreNumbered slots [] (xs ++ b ∷ cs)) (table : AreSlots (xs ++ b ∷ cs) v)
+    (open_ : is_open_in v.marks b.id ≡ true) where
+  worded : Each (IsWorded v) (xs ++ b ∷ cs)
+  worded = table.words
 
-  worded : Each (IsWorded h.slow.pass.view) (xs ++ b ∷ cs)
-  worded = subst (Each (IsWorded h.slow.pass.view)) split sound.table.words
+  marked : (i : ℕ) (m : Mark) → slice_get v.marks i ≡ Some m → IsMarked (xs ++ b ∷ cs) i m
+  marked = table.marks
 
-  marked : (i : ℕ) (m : Mark) → slice_get h.slow.pass.view.marks i ≡ Some m → IsMarked (xs ++ b ∷ cs) i m
-  marked =
-      subst (λ (bs : List Book). (i : ℕ) (m : Mark) → slice_get h.slow.pass.view.marks i ≡ Some m → IsMarked bs i m)
-      split sound.table.marks
+  own : word_at v.words b.id.slot ≡ word_of b
+  own = middle (IsWorded v) xs b cs worded stands
 
-  own : word_at h.slow.pass.view.words b.id.slot ≡ word_of b
-  own = middle (IsWorded h.slow.pass.view) xs b cs worded stands
+  low : b.id.slot < slots
+  low = within slots [] xs b cs numbered
 
-  low : b.id.slot < h.table.slots
-  low = within h.table.slots [] xs b cs numbered
+  pub low_mark : b.id.slot < length v.marks
+  low_mark = let w : length v.marks ≡ slots = wide.0 in let l = low in omega (arith, l, w)
 
-  low_mark : b.id.slot < length h.slow.pass.view.marks
-  low_mark = let w : length h.slow.pass.view.marks ≡ h.table.slots = sound.wide.0 in let l = low in omega (arith, l, w)
+  low_word : b.id.slot < length v.words
+  low_word = let w : length v.words ≡ slots = wide.1 in let l = low in omega (arith, l, w)
 
-  low_word : b.id.slot < length h.slow.pass.view.words
-  low_word = let w : length h.slow.pass.view.words ≡ h.table.slots = sound.wide.1 in let l = low in omega (arith, l, w)
-
-  -- its mark says so
-  open_ : is_open_in h.slow.pass.view.marks b.id ≡ true
-  open_ = middle (λ (c : Book). c.filed ≡ false → is_open_in h.slow.pass.view.marks c.id ≡ true) xs b cs
-      (subst (Each (λ (c : Book). c.filed ≡ false → is_open_in h.slow.pass.view.marks c.id ≡ true)) split
-      (standing h sound)) stands
-
-  generation : (mark_at h.slow.pass.view.marks b.id.slot).generation ≡ b.id.generation
+  generation : (mark_at v.marks b.id.slot).generation ≡ b.id.generation
   generation =
-      eqb-true (mark_at h.slow.pass.view.marks b.id.slot).generation b.id.generation
-      (and_right (mark_at h.slow.pass.view.marks b.id.slot).live _ open_)
+      eqb-true (mark_at v.marks b.id.slot).generation b.id.generation
+      (and_right (mark_at v.marks b.id.slot).live _ open_)
 
-  mark_is : IsMarked (xs ++ b ∷ cs) b.id.slot (mark_at h.slow.pass.view.marks b.id.slot)
-  mark_is = marked b.id.slot (mark_at h.slow.pass.view.marks b.id.slot)
-      (mark_there h.slow.pass.view.marks b.id.slot low_mark)
+  mark_is : IsMarked (xs ++ b ∷ cs) b.id.slot (mark_at v.marks b.id.slot)
+  mark_is = marked b.id.slot (mark_at v.marks b.id.slot)
+      (mark_there v.marks b.id.slot low_mark)
 
   -- the others
-  front : Each (λ (c : Book). c.filed ≡ false → (c.id.slot == b.id.slot) ≡ false) xs
-  front = all_elsewhere h.slow.pass.view b stands (λ f. own) xs (apart_before h.table.slots [] xs b cs numbered)
-      (firsts (IsWorded h.slow.pass.view) xs b cs worded)
+  pub front : Each (λ (c : Book). c.filed ≡ false → (c.id.slot == b.id.slot) ≡ false) xs
+  front = all_elsewhere v b stands (λ f. own) xs (apart_before slots [] xs b cs numbered)
+      (firsts (IsWorded v) xs b cs worded)
 
-  back : Each (λ (c : Book). c.filed ≡ false → (c.id.slot == b.id.slot) ≡ false) cs
-  back = all_elsewhere h.slow.pass.view b stands (λ f. own) cs (apart_behind h.table.slots [] xs b cs numbered)
-      (lasts (IsWorded h.slow.pass.view) xs b cs worded)
+  pub back : Each (λ (c : Book). c.filed ≡ false → (c.id.slot == b.id.slot) ≡ false) cs
+  back = all_elsewhere v b stands (λ f. own) cs (apart_behind slots [] xs b cs numbered)
+      (lasts (IsWorded v) xs b cs worded)
 
   -- ----- what the sweep found
   abbrev doomed_word : Word
-  doomed_word = record (word_at h.slow.pass.view.words b.id.slot) { doomed = true }
+  doomed_word = record (word_at v.words b.id.slot) { doomed = true }
 
-  condemned_words : (condemned b.id h.slow.pass.view).words
-      ≡ put_word b.id.slot doomed_word h.slow.pass.view.words
-  condemned_words = ap (λ (ts : List Turn). alone_or ts (put_word b.id.slot doomed_word h.slow.pass.view.words)
-      h.slow.pass.view.words) sound.alone.1
+  condemned_words : (condemned b.id v).words
+      ≡ put_word b.id.slot doomed_word v.words
+  condemned_words = ap (λ (ts : List Turn). alone_or ts (put_word b.id.slot doomed_word v.words)
+      v.words) alone.1
 
-  condemned_word : word_at (condemned b.id h.slow.pass.view).words b.id.slot ≡ doomed_word
+  condemned_word : word_at (condemned b.id v).words b.id.slot ≡ doomed_word
   condemned_word = ap (λ ws. word_at ws b.id.slot) condemned_words
-      ∙ word_own h.slow.pass.view.words b.id.slot doomed_word low_word
+      ∙ word_own v.words b.id.slot doomed_word low_word
 
-  still_alone : IsAlone (condemned b.id h.slow.pass.view)
-  still_alone = sound.alone
+  still_alone : IsAlone (condemned b.id v)
+  still_alone = alone
 
   pins_are : doomed_word.pins ≡ 1 + flag (is_held_by b.holder)
   pins_are = ap (λ (x : Word). x.pins) own
 
   -- it was freed exactly where no application has its socket
-  pub freed_if : (w : View) (a : Swept) → IsSweep b.id h.slow.pass.view w a → is_freed a ≡ not (is_held_by b.holder)
+  pub freed_if : (w : View) (a : Swept) → IsSweep b.id v w a → is_freed a ≡ not (is_held_by b.holder)
   freed_if w Freed s =
       let found : sole_word b.id.generation ≡ doomed_word = s.0 still_alone ∙ condemned_word in
       let one : 1 + flag (is_held_by b.holder) ≡ 1 = sym pins_are ∙ sym (ap (λ (x : Word). x.pins) found) in
@@ -231,8 +223,8 @@ module _ (h : CoreHost) (sound : IsHostSound h) (xs : List Book) (b : Book) (cs 
 
   -- ----- the slots after it
   -- words of others
-  others_worded : (w : View) → ((k : ℕ) → k ≢ b.id.slot → word_at w.words k ≡ word_at h.slow.pass.view.words k)
-      → (zs : List Book) → Each (IsWorded h.slow.pass.view) zs
+  others_worded : (w : View) → ((k : ℕ) → k ≢ b.id.slot → word_at w.words k ≡ word_at v.words k)
+      → (zs : List Book) → Each (IsWorded v) zs
       → Each (λ (c : Book). c.filed ≡ false → (c.id.slot == b.id.slot) ≡ false) zs → Each (IsWorded w) zs
   others_worded w same [] each away = tt
   others_worded w same (z ∷ zs) each away = (
@@ -244,7 +236,7 @@ module _ (h : CoreHost) (sound : IsHostSound h) (xs : List Book) (b : Book) (cs 
   slot_test = grind (arith, nat_tests)
 
   -- marks of other slots
-  other_marks : (a : Swept) (i : ℕ) (m : Mark) → i ≢ b.id.slot → slice_get h.slow.pass.view.marks i ≡ Some m
+  other_marks : (a : Swept) (i : ℕ) (m : Mark) → i ≢ b.id.slot → slice_get v.marks i ≡ Some m
       → IsMarked (xs ++ swept_as a b ∷ cs) i m
   other_marks a i m ne at =
       let old = marked i m at in
@@ -263,33 +255,33 @@ module _ (h : CoreHost) (sound : IsHostSound h) (xs : List Book) (b : Book) (cs 
       none_of true = refl
       none_of false = refl
 
-  pub slots_still : (w : View) (a : Swept) → IsSweep b.id h.slow.pass.view w a
+  pub slots_still : (w : View) (a : Swept) → IsSweep b.id v w a
       → AreSlots (xs ++ swept_as a b ∷ cs) w
   slots_still w Freed s =
       let words : w.words ≡ put_word b.id.slot (dead_word b.id.generation) (put_word b.id.slot doomed_word
-      h.slow.pass.view.words) =
+      v.words) =
       ap (λ (x : View). x.words) s.1
       ∙ (ap (λ (ts : List Turn). alone_or ts (put_word b.id.slot (dead_word b.id.generation)
-      (condemned b.id h.slow.pass.view).words) (condemned b.id h.slow.pass.view).words) sound.alone.1
+      (condemned b.id v).words) (condemned b.id v).words) alone.1
       ∙ ap (put_word b.id.slot (dead_word b.id.generation)) condemned_words) in
-      let marks : w.marks ≡ set (condemned b.id h.slow.pass.view).marks b.id.slot (mark b.id.generation false false) =
+      let marks : w.marks ≡ set (condemned b.id v).marks b.id.slot (mark b.id.generation false false) =
       ap (λ (x : View). x.marks) s.1 in
       record {
         marks = λ i m at. by_mark i m
-            (at_set (condemned b.id h.slow.pass.view).marks b.id.slot i (mark b.id.generation false false) m
+            (at_set (condemned b.id v).marks b.id.slot i (mark b.id.generation false false) m
             (ap (λ (ms : List Mark). slice_get ms i) (sym marks) ∙ at));
-        words = each_swap (IsWorded h.slow.pass.view) (IsWorded w) xs b (swept_as Freed b) cs worded
+        words = each_swap (IsWorded v) (IsWorded w) xs b (swept_as Freed b) cs worded
             (λ each. others_worded w (away words) xs each front) (λ f. absurd (true≢false f))
             (λ each. others_worded w (away words) cs each back);
       }
     where
       away : w.words ≡ put_word b.id.slot (dead_word b.id.generation) (put_word b.id.slot doomed_word
-          h.slow.pass.view.words) → (k : ℕ) → k ≢ b.id.slot → word_at w.words k ≡ word_at h.slow.pass.view.words k
+          v.words) → (k : ℕ) → k ≢ b.id.slot → word_at w.words k ≡ word_at v.words k
       away words k ne =
           ap (λ ws. word_at ws k) words
-          ∙ (word_else (put_word b.id.slot doomed_word h.slow.pass.view.words) b.id.slot k (dead_word b.id.generation)
+          ∙ (word_else (put_word b.id.slot doomed_word v.words) b.id.slot k (dead_word b.id.generation)
           ne
-          ∙ word_else h.slow.pass.view.words b.id.slot k doomed_word ne)
+          ∙ word_else v.words b.id.slot k doomed_word ne)
 
       none : list_any (stands_in b.id.slot) (xs ++ swept_as Freed b ∷ cs) ≡ false
       none = any_none (stands_in b.id.slot) xs (swept_as Freed b) cs (none_stands b.id.slot xs front) refl
@@ -297,7 +289,7 @@ module _ (h : CoreHost) (sound : IsHostSound h) (xs : List Book) (b : Book) (cs 
 
       by_mark : (i : ℕ) (m : Mark)
           → ((i ≡ b.id.slot) × (m ≡ mark b.id.generation false false))
-          ⊎ ((i ≢ b.id.slot) × (slice_get (condemned b.id h.slow.pass.view).marks i ≡ Some m))
+          ⊎ ((i ≢ b.id.slot) × (slice_get (condemned b.id v).marks i ≡ Some m))
           → IsMarked (xs ++ swept_as Freed b ∷ cs) i m
       by_mark i m (inl (here, is)) =
           subst (λ k. IsMarked (xs ++ swept_as Freed b ∷ cs) k m) (sym here) (record {
@@ -309,38 +301,38 @@ module _ (h : CoreHost) (sound : IsHostSound h) (xs : List Book) (b : Book) (cs 
                 ∙ sym (none_doomed b.id.slot (xs ++ swept_as Freed b ∷ cs) none);
           })
       by_mark i m (inr (ne, at)) =
-          by_old (at_set h.slow.pass.view.marks b.id.slot i
-          (record (mark_at h.slow.pass.view.marks b.id.slot) { doomed = true }) m at)
+          by_old (at_set v.marks b.id.slot i
+          (record (mark_at v.marks b.id.slot) { doomed = true }) m at)
         where
-          by_old : ((i ≡ b.id.slot) × (m ≡ record (mark_at h.slow.pass.view.marks b.id.slot) { doomed = true }))
-              ⊎ ((i ≢ b.id.slot) × (slice_get h.slow.pass.view.marks i ≡ Some m))
+          by_old : ((i ≡ b.id.slot) × (m ≡ record (mark_at v.marks b.id.slot) { doomed = true }))
+              ⊎ ((i ≢ b.id.slot) × (slice_get v.marks i ≡ Some m))
               → IsMarked (xs ++ swept_as Freed b ∷ cs) i m
           by_old (inl (here, is)) = absurd (ne here)
           by_old (inr (differs, there)) = other_marks Freed i m differs there
   slots_still w (Pinned n pin) s = by_steps s.3
     where
-      done : w.words ≡ (condemned b.id h.slow.pass.view).words → w.marks ≡ (condemned b.id h.slow.pass.view).marks
+      done : w.words ≡ (condemned b.id v).words → w.marks ≡ (condemned b.id v).marks
           → AreSlots (xs ++ swept_as (Pinned n pin) b ∷ cs) w
       done words marks = record {
         marks = λ i m at. by_mark i m
-            (at_set h.slow.pass.view.marks b.id.slot i
-            (record (mark_at h.slow.pass.view.marks b.id.slot) { doomed = true }) m
+            (at_set v.marks b.id.slot i
+            (record (mark_at v.marks b.id.slot) { doomed = true }) m
             (ap (λ (ms : List Mark). slice_get ms i) (sym marks) ∙ at));
-        words = each_swap (IsWorded h.slow.pass.view) (IsWorded w) xs b (swept_as (Pinned n pin) b) cs worded
+        words = each_swap (IsWorded v) (IsWorded w) xs b (swept_as (Pinned n pin) b) cs worded
             (λ each. others_worded w away xs each front)
             (λ f. ap (λ ws. word_at ws b.id.slot) words
             ∙ (condemned_word ∙ ap (λ (x : Word). record x { doomed = true }) own))
             (λ each. others_worded w away cs each back);
       }
         where
-          away : (k : ℕ) → k ≢ b.id.slot → word_at w.words k ≡ word_at h.slow.pass.view.words k
+          away : (k : ℕ) → k ≢ b.id.slot → word_at w.words k ≡ word_at v.words k
           away k ne =
               ap (λ ws. word_at ws k) (words ∙ condemned_words)
-              ∙ word_else h.slow.pass.view.words b.id.slot k doomed_word ne
+              ∙ word_else v.words b.id.slot k doomed_word ne
 
           by_mark : (i : ℕ) (m : Mark)
-              → ((i ≡ b.id.slot) × (m ≡ record (mark_at h.slow.pass.view.marks b.id.slot) { doomed = true }))
-              ⊎ ((i ≢ b.id.slot) × (slice_get h.slow.pass.view.marks i ≡ Some m))
+              → ((i ≡ b.id.slot) × (m ≡ record (mark_at v.marks b.id.slot) { doomed = true }))
+              ⊎ ((i ≢ b.id.slot) × (slice_get v.marks i ≡ Some m))
               → IsMarked (xs ++ swept_as (Pinned n pin) b ∷ cs) i m
           by_mark i m (inl (here, is)) =
               subst (λ k. IsMarked (xs ++ swept_as (Pinned n pin) b ∷ cs) k m) (sym here) (record {
@@ -356,8 +348,8 @@ module _ (h : CoreHost) (sound : IsHostSound h) (xs : List Book) (b : Book) (cs 
               })
           by_mark i m (inr (differs, there)) = other_marks (Pinned n pin) i m differs there
 
-      by_steps : (w ≡ counted b.id.slot s.0 (condemned b.id h.slow.pass.view))
-          ⊎ ((y : Word) × (w ≡ counted b.id.slot s.0 (counted b.id.slot y (condemned b.id h.slow.pass.view))))
+      by_steps : (w ≡ counted b.id.slot s.0 (condemned b.id v))
+          ⊎ ((y : Word) × (w ≡ counted b.id.slot s.0 (counted b.id.slot y (condemned b.id v))))
           → AreSlots (xs ++ swept_as (Pinned n pin) b ∷ cs) w
       by_steps (inl e) = done (ap (λ (x : View). x.words) e) (ap (λ (x : View). x.marks) e)
       by_steps (inr y) = done (ap (λ (x : View). x.words) y.1) (ap (λ (x : View). x.marks) y.1)

@@ -104,7 +104,7 @@ module _ (known : List Held) (id : FlowId) (k : History) where
   abbrev stays : PassiveFlow → Bool
   stays f = not (is_named id f)
 
-  left_waiting : is_over k ≡ true → (bs : List Book) → waiting_in after bs ≡ filter stays (waiting_in known bs)
+  pub left_waiting : is_over k ≡ true → (bs : List Book) → waiting_in after bs ≡ filter stays (waiting_in known bs)
   left_waiting over [] = refl
   left_waiting over (b ∷ bs) = by_same (same_flow id b.id) refl (left_waiting over bs)
     where

@@ -3,4 +3,5 @@ pub mod Leading
 pub mod Moving
 pub mod Opening
 pub mod Ending
+pub mod Leaving
 pub mod Sound

@@ -13,6 +13,7 @@ use Rattle.sound_hosts.specs.Hosts.{CoreHost}
 pub record IsLed (id : FlowId) (k : History) (v w : View) : Type 0 where
   pub alone : IsAlone w
   pub idle : w.held ≡ []
+  pub slow : w.slow ≡ v.slow
   pub pins : w.pins ≡ v.pins
   pub marks : w.marks ≡ v.marks
   pub base : w.base ≡ record { flow = id; history = k } ∷ v.base

@@ -1,6 +1,6 @@
 -- What holds of a host between ticks: its books agree with what the slow path, the applications, the index and the
 -- slots of the table have of each flow.
-use Rattle.std.specs.Prelude.{◌≡◌, ℕ, ◌<◌, ◌≤◌, ◌==◌, true, false, List, [], map, count_by, length, slice_get, Some}
+use Rattle.std.specs.Prelude.{◌≡◌, ℕ, ◌<◌, ◌≤◌, ◌==◌, not, true, false, List, [], map, count_by, length, slice_get, Some}
 use Rattle.std.specs.Prelude.{IsPermutation}
 use Rattle.std.specs.List.{list_any, filter}
 use Rattle.atomic_table.specs.Seated.{TableId}
@@ -11,7 +11,7 @@ use Rattle.flow_state.specs.Flow.{Flow}
 use Rattle.flow_index.specs.Changes.{Writing, found_after}
 use Rattle.flow_index.specs.declared.change.Change.{Change}
 use Rattle.flow_index.specs.declared.change.Found.TheVariants as found
-use Rattle.flow_lock.specs.Steps.{IsAlone}
+use Rattle.flow_lock.specs.Steps.{IsAlone, mark, mark_at}
 use Rattle.flow_lock.specs.Words.{word_at}
 use Rattle.flow_lock.specs.declared.view.Held.{Held}
 use Rattle.flow_lock.specs.declared.view.Mark.{Mark}
@@ -37,6 +37,10 @@ pub record IsMarked (books : List Book) (slot : ℕ) (m : Mark) : Type 0 where
 -- the word of a flow's slot
 abbrev pub IsWorded : View → Book → Type 0
 IsWorded v b = b.filed ≡ false → word_at v.words b.id.slot ≡ word_of b
+
+-- By its mark the slot of a flow whose record stands has it, doomed where the index doesn't lead to it.
+abbrev pub IsMarkedAs : List Mark → Book → Type 0
+IsMarkedAs ms b = b.filed ≡ false → mark_at ms b.id.slot ≡ mark b.id.generation true (not b.indexed)
 
 -- the marks and words of all slots
 pub record AreSlots (books : List Book) (v : View) : Type 0 where
@@ -90,8 +94,9 @@ IsPlain b = b.filed ≡ true → b.indexed ≡ false
 
 -- ----- between ticks
 pub record IsHostSound (h : CoreHost) : Type 0 where
-  -- nobody has a turn, and no frame waits
+  -- nobody has a turn, the pass is the slow path's, and no frame waits
   pub alone : IsAlone h.slow.pass.view
+  pub slow_pass : h.slow.pass.view.slow ≡ true
   pub waiting : waiting h.slow ≡ []
   -- the slow path's worker may work
   pub sound : slow.IsSound h.table (slow.sight_of h.slow)
@@ -121,6 +126,7 @@ pub record IsNewApp (table : TableId) (a : libtas.Application) : Type 0 where
 -- the slow path and the applications of a host that opened no flow
 pub record IsNewHost (table : TableId) (w : slow.Worker) (xs : List libtas.Application) : Type 0 where
   pub alone : IsAlone w.pass.view
+  pub slow_pass : w.pass.view.slow ≡ true
   pub waits_not : waiting w ≡ []
   pub sound : slow.IsSound table (slow.sight_of w)
   pub slots : w.path.params.slots ≡ table.slots

@@ -1,0 +1,5 @@
+pub mod Orders
+pub mod Deeds
+pub mod Apps
+pub mod Words
+pub mod Phases

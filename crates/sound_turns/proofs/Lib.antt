@@ -1,0 +1,9 @@
+pub mod Lists
+pub mod Running
+pub mod Sweeps
+pub mod Steps
+pub mod Closing
+pub mod Known
+pub mod Times
+pub mod Serving
+pub mod Whole
