@@ -79,6 +79,7 @@ impl SlowWorker {
             &mut timed,
             tick,
         );
+        self.pins.index();
         self.flows.keep(&self.pins);
         self.time = Clock::Passing {
             tick,
