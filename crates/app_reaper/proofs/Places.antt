@@ -1,6 +1,6 @@
 -- Where numbers stand first in a list, while it grows.
-use Rattle.std.proofs.Common.{◌≡◌, ap, sym, ◌∙◌, refl, subst, ℕ, ◌+◌, ◌<◌, ◌≤◌, List, [], ◌∷◌, ◌++◌, cond, Bool, true, false}
-use Rattle.std.proofs.Common.{◌-◌, arith, tests, nat_lt, length, position, take, drop, map, suc, true≢false, get_or, not}
+use Rattle.std.proofs.Common.{◌≡◌, ap, sym, ◌∙◌, refl, ℕ, ◌+◌, ◌<◌, ◌≤◌, List, [], ◌∷◌, ◌++◌, cond, Bool, true, false}
+use Rattle.std.proofs.Common.{arith, tests, nat_lt, length, position, take, drop, map, suc, true≢false, get_or}
 use Rattle.std.specs.Prelude.{◌==◌, Option, Some, None, remove}
 use Rattle.std.specs.List.{position_or_len}
 use Rattle.std.proofs.lemmas.List.{length-append, length-map, length-take-le, map-append, take-map, drop-map, take_more}
@@ -85,7 +85,7 @@ more_placed before after list place x near here old new n =
 pub position_of : {A : Type 0} (p : ℕ → Bool) (f : A → ℕ) (xs : List A)
     → position p (map f xs) ≡ position (λ x. p (f x)) xs
 position_of p f xs =
-    let len : length (map f xs) ≡ length xs = length-map f xs in
+    let len : length (map f xs) ≡ length xs = length-map xs f in
     ap (λ (l : ℕ). cond (nat_lt (position_or_len p (map f xs)) l) (Some (position_or_len p (map f xs))) None) len
     ∙ ap (λ (n : ℕ). cond (nat_lt n (length xs)) (Some n) None) (of p f xs)
   where

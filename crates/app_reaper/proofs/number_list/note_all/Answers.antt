@@ -1,4 +1,4 @@
-use Rattle.std.proofs.Common.{◌≡◌, ◌<◌, ◌+◌, ◌≤◌, ℕ, sym, ◌∙◌, arith, length}
+use Rattle.std.proofs.Common.{◌<◌, sym, arith, length}
 use Rattle.std.specs.Prelude.{nat_eq}
 use Rattle.std.specs.HashMap.{get}
 use Rattle.app_reaper.proofs.Places.{more_placed}

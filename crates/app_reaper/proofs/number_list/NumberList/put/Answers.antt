@@ -1,13 +1,9 @@
-use Rattle.std.proofs.Common.{◌≡◌, ◌<◌, ◌-◌, ℕ, sym, subst, ◌∙◌, arith, true, false, Bool, length, not, refl}
+use Rattle.std.proofs.Common.{ℕ, ◌<◌, ◌-◌, sym, subst, ◌∙◌, arith}
 use Rattle.std.specs.Prelude.{nat_eq, vec_len}
 use Rattle.std.specs.HashMap.{get, hash_map_len, spare}
 use Rattle.app_reaper.specs.Lists.{Roomy}
 use Rattle.app_reaper.proofs.Places.{put_numbers}
 use Rattle.app_reaper.proofs.number_list.NumberList.put.Goals as goal
-
-is_so : (b : Bool) → not b ≡ false → b ≡ true
-is_so true h = refl
-is_so false h = absurd (cc (h))
 
 pub invariant_of-self-2 : goal.invariant_of-self-2
 invariant_of-self-2 c =
@@ -17,6 +13,6 @@ invariant_of-self-2 c =
     put_numbers c.self.inside.numbers.items _ c.self.inside.is_indexed c.self.inside.room _ _
     (get nat_eq c.self.inside.places) (get nat_eq c.note.new.places) (hash_map_len c.self.inside.places)
     (hash_map_len c.note.new.places) (spare c.self.inside.places) (spare c.note.new.places) c.args.number c.len.result
-    c.self.invariant (is_so c.self.inside.is_indexed c.if-not-self.false) (omega (arith, spare_is, len))
+    c.self.invariant c.if-not-self.false (omega (arith, spare_is, len))
     (c.len.ensures ∙ len) c.push_reserved-2.ensures.items c.push_reserved-2.ensures.capacity c.note.ensures.places
     c.note.ensures.few c.note.ensures.room
