@@ -1,6 +1,6 @@
 -- The delays of a link stay those of its lines.
 use Rattle.std.proofs.Common.{◌≡◌, ◌≤◌, ℕ, Bool, true, false, cond, leb, List, [], ◌∷◌, Some, None, Option, refl, sym}
-use Rattle.std.proofs.Common.{◌∙◌, ap, subst, arith, max}
+use Rattle.std.proofs.Common.{◌∙◌, ap, subst, arith, max, true≢false}
 use Rattle.std.specs.Prelude.{IsNone}
 use Rattle.std.specs.Map.{lookup}
 use Rattle.std.specs.declared.cmp.Ordering.{Ordering}
@@ -52,22 +52,25 @@ longest_more : (lines : List (Target × LinkAct)) (target : Target) (act : LinkA
     → lookup (λ other. is_eq (target_cmp target other)) lines ≡ None
     → longest_of (insert_entry target_cmp lines target act) ≡ max (delay_by (Some act)) (longest_of lines)
 longest_more [] target act none = refl
-longest_more (line ∷ lines) target act none = by_order (target_cmp target line.0) none
+longest_more (line ∷ lines) target act none =
+    by_order (target_cmp target line.0) none (longest_more lines target act)
   where
     by_order : (o : Ordering)
         → cond (is_eq o) (Some line.1) (lookup (λ other. is_eq (target_cmp target other)) lines) ≡ None
+        → (lookup (λ other. is_eq (target_cmp target other)) lines ≡ None
+        → longest_of (insert_entry target_cmp lines target act) ≡ max (delay_by (Some act)) (longest_of lines))
         → longest_of (match_ordering o ((target, act) ∷ line ∷ lines) ((line.0, act) ∷ lines)
         (line ∷ insert_entry target_cmp lines target act))
         ≡ max (delay_by (Some act)) (max (delay_by (Some line.1)) (longest_of lines))
-    by_order Less h = refl
-    by_order Equal h = absurd (cc (h))
-    by_order Greater h =
-        ap (max (delay_by (Some line.1))) (longest_more lines target act h)
+    by_order Less h rest = refl
+    by_order Equal h rest = absurd (cc (h))
+    by_order Greater h rest =
+        ap (max (delay_by (Some line.1))) (rest h)
         ∙ turned (delay_by (Some line.1)) (delay_by (Some act)) (longest_of lines)
 
 none_there : {A : Type 0} (o : Option A) → IsNone o → o ≡ None
 none_there None h = refl
-none_there (Some x) h = absurd h
+none_there (Some x) h = absurd (true≢false h)
 
 -- both
 pub kept_more : {m n : BTreeMap Target LinkAct} {ds es : BTreeSet ℕ} {act : LinkAct} {longest longer : ℕ}
@@ -91,15 +94,17 @@ within : (lines : List (Target × LinkAct)) (target : Target) (act : LinkAct)
     → lookup (λ other. is_eq (target_cmp target other)) lines ≡ Some act
     → delay_by (Some act) ≤ longest_of lines
 within [] target act is = absurd (cc (is))
-within (line ∷ lines) target act is = by_key (is_eq (target_cmp target line.0)) is
+within (line ∷ lines) target act is = by_key (is_eq (target_cmp target line.0)) is (within lines target act)
   where
     by_key : (b : Bool) → cond b (Some line.1) (lookup (λ other. is_eq (target_cmp target other)) lines) ≡ Some act
+        → (lookup (λ other. is_eq (target_cmp target other)) lines ≡ Some act
+        → delay_by (Some act) ≤ longest_of lines)
         → delay_by (Some act) ≤ max (delay_by (Some line.1)) (longest_of lines)
-    by_key true e =
+    by_key true e rest =
         subst (λ o. delay_by o ≤ max (delay_by (Some line.1)) (longest_of lines)) e
         (first_of (delay_by (Some line.1)) (longest_of lines))
-    by_key false e =
-        second_of (delay_by (Some line.1)) (longest_of lines) (delay_by (Some act)) (within lines target act e)
+    by_key false e rest =
+        second_of (delay_by (Some line.1)) (longest_of lines) (delay_by (Some act)) (rest e)
 
 -- what a line does to a frame delays it by no more
 pub no_longer : (id : FrameId) (lines : LinkLines) → delay_by (act_on lines id) ≤ longest_delay lines

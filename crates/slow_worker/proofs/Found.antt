@@ -1,17 +1,17 @@
 -- Flows are found by their four-tuples, while a list of them grows.
 use Rattle.std.proofs.Common.{◌≡◌, ap, sym, ◌∙◌, refl, subst, ℕ, ◌+◌, ◌<◌, ◌≤◌, List, [], ◌∷◌, ◌++◌, cond, Bool, true, false}
-use Rattle.std.proofs.Common.{arith, tests, length, take, suc, absurd, true≢false, get_or, ◌×◌, ◌,◌}
-use Rattle.std.specs.Prelude.{◌==◌, ◌&&◌, Option, Some, None, is_some}
+use Rattle.std.proofs.Common.{arith, tests, length, take, true≢false, get_or}
+use Rattle.std.specs.Prelude.{◌==◌, ◌&&◌, Option, Some, None}
 use Rattle.std.specs.List.{filter, find}
 use Rattle.std.specs.Option.{option_or, option_map}
-use Rattle.std.proofs.lemmas.List.{take_more}
+use Rattle.std.proofs.lemmas.List.{take_more, length-append}
 use Rattle.std.proofs.lemmas.List.Folds.{find-append}
 use Rattle.std.proofs.lemmas.List.Sums.{count_by-le-length, length-filter}
 use Rattle.tas_model.specs.declared.entry.FlowId.{FlowId}
 use Rattle.tas_model.specs.declared.entry.FourTuple.{FourTuple}
 use Rattle.flow_index.specs.Changes.{is_same}
 use Rattle.slow_worker.specs.Workers.{has_tuple, id_of, flow_with}
-use Rattle.slow_worker.specs.Known.{or_flow}
+use Rattle.slow_worker.specs.Known.{or_flow, AreFound}
 use Rattle.slow_worker.specs.declared.known.KnownFlow.{KnownFlow}
 
 -- ----- equal four-tuples are one
@@ -34,36 +34,34 @@ same_is t u h =
     (same_number t.raddr u.raddr three.0) (same_number t.rport u.rport three.1)
 
 -- ----- the map
-or_same : (o x : Option FlowId) → is_some o ≡ true → o ≡ option_or o x
-or_same None x h = absurd (true≢false (sym h))
-or_same (Some k) x h = refl
+or_same : (o x : Option FlowId) (k : FlowId) → o ≡ Some k → o ≡ option_or o x
+or_same None x k h = absurd (cc (h))
+or_same (Some l) x k h = refl
 
 or_none : (o : Option FlowId) → o ≡ option_or o None
 or_none None = refl
 or_none (Some k) = refl
 
-or_new : (o x : Option FlowId) → is_some o ≡ false → x ≡ option_or o x
+or_new : (o x : Option FlowId) → o ≡ None → x ≡ option_or o x
 or_new None x h = refl
-or_new (Some k) x h = absurd (true≢false h)
+or_new (Some k) x h = absurd (cc (h))
 
 -- a four-tuple that it has keeps its flow
-pub noted : (firsts : FourTuple → Option FlowId) (flow : KnownFlow) (t : FourTuple)
-    → is_some (firsts flow.tuple) ≡ true → firsts t ≡ or_flow (firsts t) t flow
-noted firsts flow t has = by_tuple (is_same flow.tuple t) refl where
+pub noted : (firsts : FourTuple → Option FlowId) (flow : KnownFlow) (t : FourTuple) (k : FlowId)
+    → firsts flow.tuple ≡ Some k → firsts t ≡ or_flow (firsts t) t flow
+noted firsts flow t k has = by_tuple (is_same flow.tuple t) refl where
   by_tuple : (b : Bool) → is_same flow.tuple t ≡ b → firsts t ≡ option_or (firsts t) (cond b (Some flow.id) None)
-  by_tuple true h = or_same (firsts t) (Some flow.id)
-      (subst (λ (u : FourTuple). is_some (firsts u) ≡ true) (same_is flow.tuple t h) has)
+  by_tuple true h = or_same (firsts t) (Some flow.id) k
+      (ap firsts (sym (same_is flow.tuple t h)) ∙ has)
   by_tuple false h = or_none (firsts t)
 
 -- and one that it hasn't leads to the flow
-pub placed : (firsts : FourTuple → Option FlowId) (flow : KnownFlow) (t : FourTuple)
-    → is_some (firsts flow.tuple) ≡ false
+pub placed : (firsts : FourTuple → Option FlowId) (flow : KnownFlow) (t : FourTuple) → firsts flow.tuple ≡ None
     → cond (is_same flow.tuple t) (Some flow.id) (firsts t) ≡ or_flow (firsts t) t flow
 placed firsts flow t has = by_tuple (is_same flow.tuple t) refl where
   by_tuple : (b : Bool) → is_same flow.tuple t ≡ b
       → cond b (Some flow.id) (firsts t) ≡ option_or (firsts t) (cond b (Some flow.id) None)
-  by_tuple true h = or_new (firsts t) (Some flow.id)
-      (subst (λ (u : FourTuple). is_some (firsts u) ≡ false) (same_is flow.tuple t h) has)
+  by_tuple true h = or_new (firsts t) (Some flow.id) (ap firsts (sym (same_is flow.tuple t h)) ∙ has)
   by_tuple false h = or_none (firsts t)
 
 -- ----- the list
@@ -111,3 +109,56 @@ all_kept p (x ∷ xs) e = by_first (p x) refl where
       let is = length-filter p xs in
       let one = ap (λ (b : Bool). length (cond b (x ∷ filter p xs) (filter p xs))) h in
       absurd (omega (arith, few, is, one, e))
+
+fewer : {A : Type 0} (p : A → Bool) (xs : List A) → length (filter p xs) ≤ length xs
+fewer p xs = let few = count_by-le-length p xs in let is = length-filter p xs in omega (arith, few, is)
+
+-- ----- what holds of list and map still holds
+-- behind one flow more
+pub put_flows : (flows new : List KnownFlow) (room capacity capacity' : ℕ) (firsts firsts' : FourTuple → Option FlowId)
+    (count count' free free' : ℕ) (flow : KnownFlow) → AreFound flows room capacity firsts count free
+    → length flows < room → new ≡ flows ++ flow ∷ [] → capacity' ≡ capacity
+    → ((t : FourTuple) → firsts' t ≡ or_flow (firsts t) t flow) → count' ≤ count + 1 → count + free ≤ count' + free'
+    → AreFound new room capacity' firsts' count' free'
+put_flows flows new room capacity capacity' firsts firsts' count count' free free' flow are less made same noted few
+    placed =
+    let longer : length new ≡ length flows + 1 = ap length made ∙ length-append flows (flow ∷ []) in
+    record {
+      first = λ t. pushed firsts firsts' flows flow are.first noted t ∙ ap (flow_with t) (sym made);
+      few = omega (arith, longer, few, are.few);
+      within = omega (arith, longer, less);
+      listed = omega (arith, are.listed, same);
+      placed = omega (arith, are.placed, placed);
+    }
+
+-- where all flows are kept
+pub same_flows : (p : KnownFlow → Bool) (flows left : List KnownFlow) (room capacity capacity' : ℕ)
+    (firsts : FourTuple → Option FlowId) (count free : ℕ) → AreFound flows room capacity firsts count free
+    → left ≡ filter p flows → length left ≡ length flows → capacity ≤ capacity'
+    → AreFound left room capacity' firsts count free
+same_flows p flows left room capacity capacity' firsts count free are is many same =
+    let all : left ≡ flows = is ∙ all_kept p flows (sym (ap length is) ∙ many) in
+    record {
+      first = λ t. are.first t ∙ ap (flow_with t) (sym all);
+      few = omega (arith, are.few, many);
+      within = omega (arith, are.within, many);
+      listed = omega (arith, are.listed, same);
+      placed = are.placed;
+    }
+
+-- where those that are left were noted anew
+pub noted_anew : (p : KnownFlow → Bool) (flows left : List KnownFlow) (room capacity capacity' : ℕ)
+    (firsts firsts' : FourTuple → Option FlowId) (count count' free free' : ℕ)
+    → AreFound flows room capacity firsts count free → left ≡ filter p flows → capacity ≤ capacity'
+    → ((t : FourTuple) → firsts' t ≡ flow_with t left) → count' ≤ length left → count + free ≤ count' + free'
+    → AreFound left room capacity' firsts' count' free'
+noted_anew p flows left room capacity capacity' firsts firsts' count count' free free' are is same noted few placed =
+    let less : length left ≤ length flows = subst (λ (l : List KnownFlow). length l ≤ length flows) (sym is)
+    (fewer p flows) in
+    record {
+      first = noted;
+      few = few;
+      within = omega (arith, are.within, less);
+      listed = omega (arith, are.listed, same);
+      placed = omega (arith, are.placed, placed);
+    }
