@@ -42,8 +42,8 @@ position_push p xs x =
     let longer : length (xs ++ x ∷ []) ≡ length xs + 1 = length-append xs (x ∷ []) in
     ap (λ (n : ℕ). cond (nat_lt n (length (xs ++ x ∷ []))) (Some n) None) (position_or_len_push p xs x)
     ∙ (ap (λ (l : ℕ). cond (nat_lt (cond (position_or_len p xs == length xs) (length xs + cond (p x) 0 1)
-        (position_or_len p xs)) l) (Some (cond (position_or_len p xs == length xs) (length xs + cond (p x) 0 1)
-        (position_or_len p xs))) None) longer
+    (position_or_len p xs)) l) (Some (cond (position_or_len p xs == length xs) (length xs + cond (p x) 0 1)
+    (position_or_len p xs))) None) longer
     ∙ push_at (position_or_len p xs) (length xs) (p x) (prefix_len-le-length _ xs))
 
 -- what holds of the list still holds
@@ -79,7 +79,7 @@ more_placed before after list place x near here old new n =
     ∙ (ap (λ (k : ℕ). or_place (position (is_number n) (take place list)) (x == n) k) (sym far)
     ∙ (sym (position_push (is_number n) (take place list) x)
     ∙ ap (position (is_number n)) (ap (λ (y : ℕ). take place list ++ y ∷ []) (sym here)
-        ∙ sym (take_more list place x near)))))
+    ∙ sym (take_more list place x near)))))
 
 -- ----- numbers of other things
 pub position_of : {A : Type 0} (p : ℕ → Bool) (f : A → ℕ) (xs : List A)

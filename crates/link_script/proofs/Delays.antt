@@ -85,7 +85,7 @@ kept_more {m} {n} {ds} {es} {act} {longest} {longer} {lines} drops target same h
   has_delays_more target h.0 t u,
   up ∙ (ap (max (delay_by (Some act))) h.1
       ∙ (sym (longest_more m.entries target act
-          (none_there _ (subst (λ (l : LinkLines). IsNone (line_on l target)) (sym same) fresh)))
+      (none_there _ (subst (λ (l : LinkLines). IsNone (line_on l target)) (sym same) fresh)))
       ∙ ap longest_of (sym entries))),
 )
 

@@ -1,5 +1,6 @@
 -- The frames that are due in a tick: which ones, in which order, and what became of them on their way.
-use Rattle.std.specs.Prelude.{ℕ, Bool, true, false, not, ◌&&◌, ◌||◌, ◌==◌, ◌%◌, ◌-◌, ◌+◌, nat_le, List, [], ◌∷◌, Option, max}
+use Rattle.std.specs.Prelude.{ℕ, Bool, true, false, not, ◌&&◌, ◌||◌, ◌==◌, ◌%◌, ◌-◌, ◌+◌, nat_le, List, [], ◌∷◌}
+use Rattle.std.specs.Prelude.{Option, max}
 use Rattle.std.specs.Prelude.{Some, None, if◌then◌else◌, length, filter, nat_lt, slice_set, slice_index}
 use Rattle.std.specs.List.{flat_map}
 use Rattle.std.specs.declared.cmp.Ordering.{Ordering}

@@ -1,5 +1,6 @@
 -- Flows are found by their four-tuples, while a list of them grows.
-use Rattle.std.proofs.Common.{◌≡◌, ap, sym, ◌∙◌, refl, subst, ℕ, ◌+◌, ◌<◌, ◌≤◌, List, [], ◌∷◌, ◌++◌, cond, Bool, true, false}
+use Rattle.std.proofs.Common.{◌≡◌, ap, sym, ◌∙◌, refl, subst, ℕ, ◌+◌, ◌<◌, ◌≤◌, List, [], ◌∷◌, ◌++◌, cond, Bool, true}
+use Rattle.std.proofs.Common.{false}
 use Rattle.std.proofs.Common.{arith, tests, length, take, true≢false, get_or}
 use Rattle.std.specs.Prelude.{◌==◌, ◌&&◌, Option, Some, None}
 use Rattle.std.specs.List.{filter, find}
@@ -93,7 +94,7 @@ pub more_found : (before after : FourTuple → Option FlowId) (flows : List Know
 more_found before after flows place flow near here old new t =
     pushed before after (take place flows) flow old new t
     ∙ ap (flow_with t) (ap (λ (f : KnownFlow). take place flows ++ f ∷ []) (sym here)
-        ∙ sym (take_more flows place flow near))
+    ∙ sym (take_more flows place flow near))
 
 -- ----- all are kept where as many are
 pub all_kept : {A : Type 0} (p : A → Bool) (xs : List A) → length (filter p xs) ≡ length xs → filter p xs ≡ xs

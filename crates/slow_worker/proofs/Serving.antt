@@ -16,14 +16,16 @@ use Rattle.slow_worker.specs.declared.served.Served.{Served}
 pub joined : {A : Type 0} (a b c d : List A) → a ≡ b → c ≡ d → a ++ c ≡ b ++ d
 joined a b c d e f = ap (λ l. l ++ c) e ∙ ap (λ l. b ++ l) f
 
-pub first_left : (ns : FirstNumbers) (c : Common) (tick : ℕ) (u v n : Worker) (f : PassedFrame) (rest : List PassedFrame) → u ≡ v
+pub first_left : (ns : FirstNumbers) (c : Common) (tick : ℕ) (u v n : Worker) (f : PassedFrame)
+    (rest : List PassedFrame) → u ≡ v
     → waiting u ≡ f ∷ rest → IsUnserved (setting_of ns c tick u) f.frame.packet (sight_of u) (sight_of n)
     → waiting n ≡ waiting u → IsSame u n → IsFirstLeft ns c tick v n
 first_left ns c tick u v n f rest is first unserved still same =
     subst (λ (w : Worker). IsFirstLeft ns c tick w n) is
     (record { stopped = inr (f, rest, first, unserved); still = still; same = same })
 
-pub first_served : (ns : FirstNumbers) (c : Common) (tick : ℕ) (u v n : Worker) (f : PassedFrame) (rest : List PassedFrame) (a : Served)
+pub first_served : (ns : FirstNumbers) (c : Common) (tick : ℕ) (u v n : Worker) (f : PassedFrame)
+    (rest : List PassedFrame) (a : Served)
     → u ≡ v → waiting u ≡ f ∷ rest → IsOneServed (setting_of ns c tick u) f (sight_of u) (sight_of n) a
     → waiting n ≡ rest ++ kept_of f a → length n.exceptions.list ≡ length u.exceptions.list - 1 → IsSame u n
     → IsFirstServed ns c tick v n
@@ -75,7 +77,8 @@ pub record Loop (ns : FirstNumbers) (c : Common) (tick : ℕ) (first now : Worke
   pub stays : IsSound c.table (sight_of now)
   pub own : HasSenders c now
 
-pub loop_first : (ns : FirstNumbers) (c : Common) (tick : ℕ) (w : Worker) → IsSound c.table (sight_of w) → HasSenders c w
+pub loop_first : (ns : FirstNumbers) (c : Common) (tick : ℕ) (w : Worker) → IsSound c.table (sight_of w)
+    → HasSenders c w
     → Loop ns c tick w w 0
 loop_first ns c tick w stays own = record {
   done = [];
@@ -92,7 +95,8 @@ loop_first ns c tick w stays own = record {
 }
 
 -- one is left
-pub loop_waits : (ns : FirstNumbers) (c : Common) (tick : ℕ) (first m : Worker) (count : ℕ) → Loop ns c tick first m count
+pub loop_waits : (ns : FirstNumbers) (c : Common) (tick : ℕ) (first m : Worker) (count : ℕ)
+    → Loop ns c tick first m count
     → count < length (waiting first) → 0 < length (waiting m)
 loop_waits ns c tick first m count l near =
     let e = ap length l.still in
@@ -112,7 +116,8 @@ tail_of : List PassedFrame → List PassedFrame
 tail_of [] = []
 tail_of (f ∷ fs) = fs
 
-pub loop_more : (ns : FirstNumbers) (c : Common) (tick : ℕ) (first m n : Worker) (count : ℕ) → Loop ns c tick first m count
+pub loop_more : (ns : FirstNumbers) (c : Common) (tick : ℕ) (first m n : Worker) (count : ℕ)
+    → Loop ns c tick first m count
     → count < length (waiting first) → IsFirstServed ns c tick m n → IsSound c.table (sight_of n) → HasSenders c n
     → Loop ns c tick first n (count + 1)
 unfolding head_or tail_of
@@ -137,7 +142,8 @@ loop_more ns c tick first m n count l near d stays own = by_left l.left l.number
         kept = l.kept ++ kept_of d.first d.answer;
         number = omega (arith, number);
         all = done;
-        served = served_more (setting_of ns c tick first) l.done d.first (sight_of first) (sight_of m) (sight_of n) l.kept
+        served = served_more (setting_of ns c tick first) l.done d.first (sight_of first) (sight_of m)
+            (sight_of n) l.kept
             d.answer l.served at_one;
         still = d.after ∙ (ap (λ x. x ++ kept_of d.first d.answer) rest
             ∙ append_assoc gs l.kept (kept_of d.first d.answer));
@@ -151,7 +157,8 @@ pub none_of : {A : Type 0} (xs : List A) → length xs ≡ 0 → xs ≡ []
 none_of [] e = refl
 none_of (x ∷ xs) e = absurd (omega (arith, e))
 
-pub loop_ends : (ns : FirstNumbers) (c : Common) (tick : ℕ) (first w : Worker) (count : ℕ) → Loop ns c tick first w count
+pub loop_ends : (ns : FirstNumbers) (c : Common) (tick : ℕ) (first w : Worker) (count : ℕ)
+    → Loop ns c tick first w count
     → length (waiting first) ≤ count → IsAllServed ns c tick first w
 loop_ends ns c tick first w count l past =
     let left : l.left ≡ [] = none_of l.left (omega (arith, l.number, past)) in
@@ -164,7 +171,8 @@ loop_ends ns c tick first w count l past =
     record {
       served = subst (λ fs. AreServed (setting_of ns c tick first) fs (sight_of first) (sight_of w) w.deferred.list)
           (sym done)
-          (subst (λ k. AreServed (setting_of ns c tick first) l.done (sight_of first) (sight_of w) k) (sym kept) l.served);
+          (subst (λ k. AreServed (setting_of ns c tick first) l.done (sight_of first) (sight_of w) k)
+          (sym kept) l.served);
       none = none;
       same = l.same;
     }
@@ -178,7 +186,8 @@ longer_stop at [] more s n some (inr r) = absurd (omega (arith, some))
 longer_stop at (g ∷ gs) more s n some (inr (f, rest, first, un)) =
     inr (g, gs, refl, subst (λ (x : PassedFrame). IsUnserved at x.frame.packet s n) (ap (head_or g) (sym first)) un)
 
-pub loop_stops : (ns : FirstNumbers) (c : Common) (tick : ℕ) (first m w : Worker) (count : ℕ) → Loop ns c tick first m count
+pub loop_stops : (ns : FirstNumbers) (c : Common) (tick : ℕ) (first m w : Worker) (count : ℕ)
+    → Loop ns c tick first m count
     → count < length (waiting first) → IsFirstLeft ns c tick m w → IsPartServed ns c tick first w
 loop_stops ns c tick first m w count l near d =
     let at : setting_of ns c tick m ≡ setting_of ns c tick first = same_setting ns c tick first m l.same in

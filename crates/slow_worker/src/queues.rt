@@ -85,7 +85,14 @@ impl SlowWorker {
         let Some(first) = self.exceptions.take_first() else {
             unreachable!()
         };
-        let served = self.frame(rt, shared, numbers, tick, first.frame.id, &first.frame.packet);
+        let served = self.frame(
+            rt,
+            shared,
+            numbers,
+            tick,
+            first.frame.id,
+            &first.frame.packet,
+        );
         match served {
             Err(e) => {
                 self.exceptions.put_back(first);
@@ -118,7 +125,14 @@ impl SlowWorker {
         let Some(first) = self.deferred.take_first() else {
             unreachable!()
         };
-        let served = self.frame(rt, shared, numbers, tick, first.frame.id, &first.frame.packet);
+        let served = self.frame(
+            rt,
+            shared,
+            numbers,
+            tick,
+            first.frame.id,
+            &first.frame.packet,
+        );
         match served {
             Err(e) => {
                 self.deferred.put_back(first);

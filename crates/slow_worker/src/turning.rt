@@ -38,8 +38,8 @@ impl SlowWorker {
         ensures time { last_tick self.new.time ≡ Some tick }
         ensures turned { OnOk result (IsTurn (is_passed tick self.old) (N.number numbers.now) shared.now tick self.old
             self.new) }
-        ensures stopped { OnErr result (IsTurnStopped (is_passed tick self.old) (N.number numbers.now) shared.now tick self.old
-            self.new) }
+        ensures stopped { OnErr result (IsTurnStopped (is_passed tick self.old) (N.number numbers.now) shared.now
+            tick self.old self.new) }
     {
         let done = self.work(rt, shared, numbers, tick);
         self.post_kicks(rt, shared);
@@ -62,8 +62,8 @@ impl SlowWorker {
         ensures time { last_tick self.new.time ≡ Some tick }
         ensures done { OnOk result (IsWork (is_passed tick self.old) (N.number numbers.now) shared.now tick self.old
             self.new) }
-        ensures stopped { OnErr result (IsWorkStopped (is_passed tick self.old) (N.number numbers.now) shared.now tick self.old
-            self.new) }
+        ensures stopped { OnErr result (IsWorkStopped (is_passed tick self.old) (N.number numbers.now) shared.now
+            tick self.old self.new) }
     {
         if self.time.has_passed(tick) {
             self.serve(rt, shared, numbers, tick)

@@ -237,8 +237,8 @@ impl SlowWorker {
         requires senders { HasSenders shared.now self.old }
         ensures kept { IsSound shared.now.table (sight_of self.new) }
         ensures senders { HasSenders shared.now self.new }
-        ensures served { IfOk result (IsServed (setting_of (N.number numbers.now) shared.now tick self.old) id packet.now
-            (sight_of self.old) (sight_of self.new)) }
+        ensures served { IfOk result (IsServed (setting_of (N.number numbers.now) shared.now tick self.old) id
+            packet.now (sight_of self.old) (sight_of self.new)) }
         ensures unserved { OnErr result (IsUnserved (setting_of (N.number numbers.now) shared.now tick self.old)
             packet.now (sight_of self.old) (sight_of self.new)) }
         ensures rest { self.new ≡ with_sight (sight_of self.new) self.old }

@@ -81,7 +81,8 @@ returns-in-Busy-clause-entered g c ns =
     let path = c.offer.new.path in
     let done = subst (λ (x : Offered). IsOffered c.args.tick c.args.frame c.args.seg.now p u.path path u.pass.view
     pass.view x) c.in-Busy.is c.in_ok-offered.ensures.offered in
-    subst (λ (y : Worker). IsEntered (setting_of ns c.args.shared.now c.args.tick y) c.args.frame c.args.seg.now c.args.id
+    subst (λ (y : Worker). IsEntered
+    (setting_of ns c.args.shared.now c.args.tick y) c.args.frame c.args.seg.now c.args.id
     (sight_of y) (record s { path = path; pass = pass; kicks = c.reserve.new.self.list }) (served.Busy c.in-Busy.word))
     c.self.view_is
     (busy_so (setting_of ns c.args.shared.now c.args.tick u) c.args.frame c.args.seg.now c.args.id p s pass path
@@ -105,9 +106,11 @@ returns-in-Entered-clause-entered g c ns =
     let kicks = c.put_some.new.self.list in
     let done = subst (λ (x : Offered). IsOffered c.args.tick c.args.frame c.args.seg.now p u.path path u.pass.view
     pass.view x) c.in-Entered.is c.in_ok-offered.ensures.offered in
-    subst (λ (y : Worker). IsEntered (setting_of ns c.args.shared.now c.args.tick y) c.args.frame c.args.seg.now c.args.id
+    subst (λ (y : Worker). IsEntered
+    (setting_of ns c.args.shared.now c.args.tick y) c.args.frame c.args.seg.now c.args.id
     (sight_of y) (record s { path = path; pass = pass; senders = senders; kicks = kicks }) (served.Entered c.args.id))
     c.self.view_is
-    (entered_so (setting_of ns c.args.shared.now c.args.tick u) c.args.frame c.args.seg.now c.args.id p s pass path senders
+    (entered_so (setting_of ns c.args.shared.now c.args.tick u) c.args.frame c.args.seg.now c.args.id p s pass path
+    senders
     kicks b named c.offer.ensures.table done c.tell.ensures.told
     (c.put_some.ensures.list ∙ ap (λ l. l ++ one_kick b.kick) c.reserve.ensures.list))
