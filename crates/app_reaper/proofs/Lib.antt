@@ -1,3 +1,4 @@
 pub mod Calls
 pub mod Dooming
+pub mod Places
 pub mod Walking

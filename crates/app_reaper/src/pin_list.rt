@@ -1,25 +1,31 @@
 ghost use Rattle.std.specs.Prelude.{◌≡◌, ℕ, ◌+◌, ◌<◌, ◌++◌, ◌∷◌, [], length, remove, slice_get, Some, OnOk, IsOk};
-ghost use Rattle.std.specs.Prelude.{vec_len, vec_capacity, position};
+ghost use Rattle.std.specs.Prelude.{position};
 ghost use Rattle.app_reaper.specs.Lists.{is_on};
 
+use crate::number_list::NumberList;
 use flow_lock::Pin;
 use std::alloc::{AllocError, Global};
 use std::marker::Model;
 
-/// Pins in the order in which they were put.
+/// Pins in the order in which they were put. The first one on a slot is found by a map, however many there are; but
+/// after one was taken out by a walk, until `index` is called.
 #[derive(Drop)]
 pub struct PinList {
     pins: Vec<Pin>,
+    /// The slots of the pins.
+    slots: NumberList,
 }
 
 impl Model for PinList {
     ghost use Rattle.tas_model.specs.declared.entry.FlowId.{FlowId};
-    ghost use Rattle.std.specs.Prelude.{◌-◌, vec_len, vec_capacity};
-    ghost use Rattle.app_reaper.specs.Lists.{Roomy};
+    ghost use Rattle.std.specs.Prelude.{vec_len, vec_capacity};
+    ghost use Rattle.app_reaper.specs.Lists.{Roomy, HasSlots};
 
     ghost Value = { Roomy FlowId };
 
-    ghost view = { λ l. record { list = l.pins.items; spare = vec_capacity l.pins - vec_len l.pins } };
+    ghost view = { λ l. record { list = l.pins.items; spare = l.slots.spare } };
+
+    ghost invariant = { λ l. HasSlots l.pins.items (vec_capacity l.pins) l.slots };
 }
 
 impl PinList {
@@ -29,6 +35,7 @@ impl PinList {
     {
         PinList {
             pins: Vec::new(alloc),
+            slots: NumberList::new(alloc),
         }
     }
 
@@ -38,7 +45,8 @@ impl PinList {
         ensures list { self.new.list ≡ self.old.list }
         ensures spare { 0 < self.old.spare → IsOk result }
     {
-        self.pins.reserve(1)
+        self.pins.reserve(1)?;
+        self.slots.reserve()
     }
 
     /// Appends a pin.
@@ -46,6 +54,7 @@ impl PinList {
         requires room { 0 < self.old.spare }
         ensures list { self.new.list ≡ self.old.list ++ pin ∷ [] }
     {
+        self.slots.put(pin.id().slot);
         self.pins.push_reserved(pin);
     }
 
@@ -68,7 +77,7 @@ impl PinList {
     pub fn place_of(&self, slot: u32) -> Option<usize>
         ensures { result ≡ position (is_on slot) self.now.list }
     {
-        self.pins.iter().position(|pin| pin.id().slot == slot)
+        self.slots.place_of(slot)
     }
 
     /// Takes the pin at a place out, counted from 0.
@@ -78,6 +87,14 @@ impl PinList {
         ensures rest { self.new.list ≡ remove self.old.list i }
         ensures spare { self.new.spare ≡ self.old.spare + 1 }
     {
+        self.slots.remove(i);
         self.pins.remove(i)
+    }
+
+    /// Pins are found by the map from now on. It looks at each pin once, where one was taken out before.
+    pub fn index(&mut self)
+        ensures { self.new ≡ self.old }
+    {
+        self.slots.index();
     }
 }

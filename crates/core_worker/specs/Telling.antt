@@ -15,6 +15,9 @@ use Rattle.core_worker.specs.declared.shared.AppQueue.{AppQueue}
 use Rattle.core_worker.specs.declared.senders.AppSender.{AppSender}
 
 -- ----- queues and senders
+abbrev pub app_with : AppQueue → ℕ
+app_with q = q.app
+
 abbrev pub is_queue_of : ℕ → AppQueue → Bool
 is_queue_of app q = q.app == app
 
@@ -44,6 +47,9 @@ IsToldAt (Some i) queues notes ss ts =
     × (queue_of s.app queues ≡ Some place)
     × ArePosted place.room notes s.sender t
     × (ts ≡ slice_set ss i (record s { sender = t }))
+
+abbrev pub app_of : AppSender → ℕ
+app_of s = s.app
 
 abbrev pub is_sender_for : ℕ → AppSender → Bool
 is_sender_for app s = s.app == app

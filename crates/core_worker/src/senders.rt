@@ -5,6 +5,7 @@ ghost use Rattle.core_worker.specs.Telling.{AreOwnSenders, IsTold, is_sender_for
 
 use crate::news::News;
 use crate::shared::Shared;
+use app_reaper::NumberList;
 use context_queue::SenderPass;
 use std::alloc::{AllocError, Global};
 use std::marker::Model;
@@ -18,19 +19,25 @@ pub struct AppSender {
     pub sender: SenderPass,
 }
 
-/// A worker's senders, one for each application that it tells of its flows.
+/// A worker's senders, one for each application that it tells of its flows. One is found by its application's number
+/// without a walk over the others.
 #[derive(Drop)]
 pub struct AppSenders {
     senders: Vec<AppSender>,
+    /// The numbers of their applications.
+    apps: NumberList,
 }
 
 impl Model for AppSenders {
-    ghost use Rattle.std.specs.Prelude.{List};
+    ghost use Rattle.std.specs.Prelude.{◌≡◌, List, map};
+    ghost use Rattle.core_worker.specs.Telling.{app_of};
     ghost use Rattle.core_worker.specs.declared.senders.AppSender.{AppSender};
 
     ghost Value = { List AppSender };
 
     ghost view = { λ s. s.senders.items };
+
+    ghost invariant = { λ s. s.apps.list ≡ map app_of s.senders.items };
 }
 
 impl AppSenders {
@@ -40,6 +47,7 @@ impl AppSenders {
     {
         AppSenders {
             senders: Vec::new(alloc),
+            apps: NumberList::new(alloc),
         }
     }
 
@@ -48,7 +56,9 @@ impl AppSenders {
         ensures ok { OnOk result (self.new ≡ self.old ++ record { app = app; sender = sender } ∷ []) }
         ensures err { OnErr result (self.new ≡ self.old) }
     {
+        self.apps.reserve()?;
         self.senders.push(AppSender { app, sender })?;
+        self.apps.put(app);
         Ok(())
     }
 
@@ -81,6 +91,6 @@ impl AppSenders {
     fn place_of(&self, app: u32) -> Option<usize>
         ensures { result ≡ position (is_sender_for app) self.now }
     {
-        self.senders.iter().position(|sender| sender.app == app)
+        self.apps.place_of(app)
     }
 }

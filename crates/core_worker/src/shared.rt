@@ -2,6 +2,7 @@ ghost use Rattle.std.specs.Prelude.{◌≡◌, ◌<◌, ◌++◌, ◌∷◌, [],
 ghost use Rattle.std.specs.Prelude.{IfSome, IfNone, position};
 ghost use Rattle.core_worker.specs.Telling.{queue_of, is_queue_of};
 
+use app_reaper::NumberList;
 use context_queue::ContextQueue;
 use flow_lock::FlowTable;
 use flow_state::FlowRecord;
@@ -25,9 +26,13 @@ pub struct Shared {
     pub steering: Steering,
     kicks: Vec<ContextQueue>,
     queues: Vec<AppQueue>,
+    /// The numbers of the applications of these queues.
+    apps: NumberList,
 }
 
 impl Model for Shared {
+    ghost use Rattle.std.specs.Prelude.{◌≡◌, map};
+    ghost use Rattle.core_worker.specs.Telling.{app_with};
     ghost use Rattle.core_worker.specs.Workers.{Common};
 
     ghost Value = { Common };
@@ -38,6 +43,8 @@ impl Model for Shared {
       kicks = s.kicks.items;
       queues = s.queues.items;
     } };
+
+    ghost invariant = { λ s. s.apps.list ≡ map app_with s.queues.items };
 }
 
 impl Shared {
@@ -56,6 +63,7 @@ impl Shared {
             steering,
             kicks,
             queues: Vec::new(alloc),
+            apps: NumberList::new(alloc),
         }
     }
 
@@ -68,7 +76,9 @@ impl Shared {
         }) }
         ensures err { OnErr result (self.new ≡ self.old) }
     {
+        self.apps.reserve()?;
         self.queues.push(AppQueue { app, queue })?;
+        self.apps.put(app);
         Ok(())
     }
 
@@ -85,7 +95,7 @@ impl Shared {
     fn place_of(&self, app: u32) -> Option<usize>
         ensures { result ≡ position (is_queue_of app) self.now.queues }
     {
-        self.queues.iter().position(|queue| queue.app == app)
+        self.apps.place_of(app)
     }
 
     /// A core's queue of kicks.

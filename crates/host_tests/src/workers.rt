@@ -8,10 +8,11 @@ use crate::flows::WORDS;
 use context_queue::Note;
 use core_worker::{CoreWorker, PassedFrame, Shared};
 use libtas_sockets::{App, Socket};
+use slow_handshake::SpacedNumbers;
 use slow_worker::SlowWorker;
 use std::sync::Wait;
 use tas_model::{Bytes, FlowId, FrameId};
-use tas_num::Gate;
+use tas_num::{Gate, Seq};
 
 /// The tick in which flows are opened.
 pub const TICK: u32 = 1;
@@ -51,12 +52,20 @@ pub fn collect(shared: &Shared, slow: &mut SlowWorker, core: &mut CoreWorker) ->
     slow.collect(core).is_ok()
 }
 
+/// The first numbers of the flows of a scenario's host.
+fn numbers_of(slow: &SlowWorker) -> SpacedNumbers {
+    SpacedNumbers {
+        first: Seq(slow.path.params().iss),
+    }
+}
+
 /// The slow path's turn.
 pub fn serve<R: Wait>(rt: &R, shared: &Shared, slow: &mut SlowWorker) -> bool
     requires { IsSlow shared.now slow.old }
     ensures { IsSlow shared.now slow.new }
 {
-    slow.turn(rt, shared, TICK).is_ok()
+    let numbers = numbers_of(slow);
+    slow.turn(rt, shared, &numbers, TICK).is_ok()
 }
 
 /// The slow path's turn in some tick, which may be the first of that tick.
@@ -64,7 +73,8 @@ pub fn serve_in<R: Wait>(rt: &R, shared: &Shared, slow: &mut SlowWorker, tick: u
     requires { MayTurn shared.now tick slow.old }
     ensures { IfSome result (λ _. MayTurn shared.now (suc tick) slow.new) }
 {
-    let Ok(()) = slow.turn(rt, shared, tick) else {
+    let numbers = numbers_of(slow);
+    let Ok(()) = slow.turn(rt, shared, &numbers, tick) else {
         return None;
     };
     Some(())

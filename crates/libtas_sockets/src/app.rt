@@ -116,6 +116,7 @@ impl App {
     {
         let at = self.place(s);
         let pin = self.sockets.remove(at);
+        self.sockets.index();
         t.unpin(&mut self.pass, pin);
     }
 

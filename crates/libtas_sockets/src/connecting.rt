@@ -83,7 +83,7 @@ impl App {
             raddr,
             rport,
         };
-        let iss = slow.first_number(tuple);
+        let iss = slow.first_number(tuple, sp.opened());
         let connected = self.open(t, slow.params(), sp, pins, id, tuple, iss, tick);
         if opens(&connected) {
             slow.connected();
@@ -118,7 +118,7 @@ impl App {
             (IfSome (next_in sp.old.view.marks) (λ id.
             result ≡ Err (SocketError.SlotInUse (socket_on id)) ↔ IsSocket self.old (socket_on id))) }
         ensures opened { IfNone (begun_for (Target.Of tuple) sp.old self.old)
-            (IsConnectionAs tuple (N.number numbers.now tuple) tick params.now
+            (IsConnectionAs tuple (N.number numbers.now tuple sp.old.view.opened) tick params.now
             (looked_up (Target.Of tuple) sp.old self.old) self.new
             (opener sp.old pins.old.list) (opener sp.new pins.new.list) result) }
     {
@@ -129,7 +129,7 @@ impl App {
         let Some(id) = sp.next_flow() else {
             return Err(SocketError::NoFlowSlot);
         };
-        let iss = numbers.first_number(tuple);
+        let iss = numbers.first_number(tuple, sp.opened());
         self.open(t, params, sp, pins, id, tuple, iss, tick)
     }
 

@@ -1,11 +1,13 @@
 -- The frames that are due in a tick: which ones, in which order, and what became of them on their way.
-use Rattle.std.specs.Prelude.{ℕ, Bool, true, false, not, ◌&&◌, ◌||◌, ◌==◌, ◌%◌, ◌-◌, ◌+◌, nat_le, List, [], ◌∷◌, Option}
+use Rattle.std.specs.Prelude.{ℕ, Bool, true, false, not, ◌&&◌, ◌||◌, ◌==◌, ◌%◌, ◌-◌, ◌+◌, nat_le, List, [], ◌∷◌}
+use Rattle.std.specs.Prelude.{Option, max}
 use Rattle.std.specs.Prelude.{Some, None, if◌then◌else◌, length, filter, nat_lt, slice_set, slice_index}
 use Rattle.std.specs.List.{flat_map}
 use Rattle.std.specs.declared.cmp.Ordering.{Ordering}
 use Rattle.std.specs.Ordering.{ordering_then, nat_cmp, is_lt}
 use Rattle.tas_model.specs.declared.entry.FrameId.{FrameId}
 use Rattle.link_script.specs.LinkLines.{LinkLines, line_on, drop_each_of}
+use Rattle.link_script.specs.declared.script.Target.{Target}
 use Rattle.link_script.specs.declared.script.LinkAct.{LinkAct}
 use Rattle.link_script.specs.declared.script.LinkAct.TheVariants as acts
 use Rattle.link_script.specs.declared.frames.Sent.{Sent}
@@ -34,6 +36,14 @@ is_lost lines id = is_dropped (act_on lines id) || is_kth (drop_each_of lines.dr
 abbrev pub delay_by : Option LinkAct → ℕ
 delay_by (Some (acts.Delay ticks)) = ticks
 delay_by _ = 0
+
+abbrev pub longest_of : List (Target × LinkAct) → ℕ
+longest_of [] = 0
+longest_of (line ∷ lines) = max (delay_by (Some line.1)) (longest_of lines)
+
+-- the longest delay of a line, in ticks; 0 where none delays
+abbrev pub longest_delay : LinkLines → ℕ
+longest_delay lines = longest_of lines.acts
 
 -- a packet with all bits of the byte at this place inverted, where it has one
 abbrev pub inverted : (packet : List ℕ) → (place : ℕ) → List ℕ

@@ -49,11 +49,6 @@ pub record HasDelays (lines : BTreeMap Target LinkAct) (delays : BTreeSet ℕ) :
   pub each : (target : Target) (ticks : ℕ) → get target_cmp lines target ≡ Some (acts.Delay ticks)
       → contains nat_cmp delays ticks ≡ true
 
--- No line delays a frame by more ticks.
-abbrev pub AreWithin : (longest : ℕ) → BTreeMap Target LinkAct → Type 0
-AreWithin longest lines = (target : Target) (ticks : ℕ) → get target_cmp lines target ≡ Some (acts.Delay ticks)
-    → ticks ≤ longest
-
 -- The second set has all that the first one has, and the delay of this act.
 pub record TakesDelay (before after : BTreeSet ℕ) (act : LinkAct) : Type 0 where
   pub kept : (ticks : ℕ) → contains nat_cmp before ticks ≡ true → contains nat_cmp after ticks ≡ true

@@ -1,6 +1,6 @@
-ghost use Rattle.std.specs.Prelude.{◌≡◌, ◌≤◌, Some, IsNone, IfOk, OnOk, OnErr};
+ghost use Rattle.std.specs.Prelude.{◌≡◌, ◌≤◌, max, Some, IsNone, IfOk, OnOk, OnErr};
 ghost use Rattle.tas_model.specs.declared.entry.FrameId as model;
-ghost use Rattle.link_script.specs.DueFrames.{act_on, is_kth, delay_by};
+ghost use Rattle.link_script.specs.DueFrames.{act_on, is_kth, delay_by, longest_delay};
 ghost use Rattle.link_script.specs.LinkLines.{no_lines, line_on, drop_each_of, with_act, with_drop_each, TakesDelay};
 ghost use Rattle.link_script.specs.LinkLines.{AreDelays};
 
@@ -52,13 +52,15 @@ pub struct LinkScript {
 }
 
 impl Model for LinkScript {
-    ghost use Rattle.link_script.specs.LinkLines.{LinkLines, HasDelays, AreWithin};
+    ghost use Rattle.std.specs.Prelude.{◌≡◌};
+    ghost use Rattle.link_script.specs.DueFrames.{longest_of};
+    ghost use Rattle.link_script.specs.LinkLines.{LinkLines, HasDelays};
 
     ghost Value = { LinkLines };
 
     ghost view = { λ s. record { acts = s.acts.entries; drops = s.drops.items } };
 
-    ghost invariant = { λ s. HasDelays s.acts s.delays × AreWithin s.longest s.acts };
+    ghost invariant = { λ s. HasDelays s.acts s.delays × (s.longest ≡ longest_of s.acts.entries) };
 }
 
 impl LinkScript {
@@ -133,7 +135,8 @@ impl LinkScript {
 
     /// The longest delay of a line, in ticks; 0 where none delays.
     pub fn longest_delay(&self) -> u32
-        ensures { (id : model.FrameId) → delay_by (act_on self.now id) ≤ result }
+        ensures longest { result ≡ longest_delay self.now }
+        ensures most { (id : model.FrameId) → delay_by (act_on self.now id) ≤ result }
     {
         self.longest
     }
@@ -172,8 +175,7 @@ impl LinkScript {
 
 /// The longer of a delay and that of a line.
 fn longer(longest: u32, act: LinkAct) -> u32
-    ensures longer { longest ≤ result }
-    ensures delay { delay_by (Some act) ≤ result }
+    ensures { result ≡ max (delay_by (Some act)) longest }
 {
     match act {
         LinkAct::Delay(ticks) => longest.max(ticks),

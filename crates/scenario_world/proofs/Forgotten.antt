@@ -4,13 +4,13 @@ use Rattle.std.proofs.Common.{refl, sym, ap, ◌∙◌, subst, arith}
 use Rattle.std.proofs.lemmas.Bool.Decides.{nat_tests}
 use Rattle.tas_model.specs.declared.entry.FrameId.{FrameId}
 use Rattle.link_script.specs.declared.frames.Sent.{Sent}
-use Rattle.link_script.specs.DueFrames.{act_on, delay_by, is_due}
+use Rattle.link_script.specs.DueFrames.{act_on, delay_by, is_due, longest_delay}
 use Rattle.link_script.specs.LinkLines.{LinkLines}
 use Rattle.scenario_text.specs.declared.scenario.Scenario.{Scenario}
 use Rattle.scenario_runs.specs.Worlds.{World}
 use Rattle.sent_frames.specs.Sending.{of_tick, addresses_of}
 use Rattle.scenario_world.specs.declared.playing.Playing.{Playing}
-use Rattle.scenario_world.specs.Playing.{FramesBefore, AreCounted, AreEarly, AreKept, IsWorld, params_of}
+use Rattle.scenario_world.specs.Playing.{FramesBefore, AreCounted, AreEarly, AreKept, AreRecent, IsWorld, params_of}
 
 -- the frames from a tick on
 abbrev from : (low : ℕ) → List Sent → List Sent
@@ -86,3 +86,18 @@ forgotten s t longest low p q w is all hosts addresses counts sent last =
           (subst (λ n. AreKept s (t + 1) p.hosts.items (from (t - longest) p.sent) n) (sym last)
           (still_kept s t longest p.hosts.items p.sent p.last w.kept all)));
     }
+
+-- What is left is recent.
+pub recent : (lines : LinkLines) (t longest low : ℕ) (fs gs : List Sent) → low ≡ t - longest
+    → longest ≡ longest_delay lines → gs ≡ filter (λ (f : Sent). leb low f.tick) fs → AreRecent lines t gs
+recent lines t longest low fs gs is most left = subst (AreRecent lines t) (sym left) (all fs)
+  where
+    all : (hs : List Sent) → AreRecent lines t (from low hs)
+    all [] = tt
+    all (f ∷ hs) = by_low (leb low f.tick) refl (all hs)
+      where
+        by_low : (b : Bool) → leb low f.tick ≡ b → AreRecent lines t (from low hs)
+            → AreRecent lines t (cond b (f ∷ from low hs) (from low hs))
+        by_low true e rest =
+            let near : t ≤ f.tick + longest_delay lines = grind (arith, nat_tests, e, is, most) in (near, rest)
+        by_low false e rest = rest

@@ -8,7 +8,8 @@ use Rattle.host_rounds.specs.Scripts.{Site}
 use Rattle.host_rounds.specs.Passing.{Went}
 use Rattle.host_rounds.specs.Histories.{HasHistory}
 use Rattle.link_script.specs.declared.frames.Sent.{Sent}
-use Rattle.link_script.specs.DueFrames.{is_due}
+use Rattle.link_script.specs.DueFrames.{is_due, longest_delay}
+use Rattle.link_script.specs.LinkLines.{LinkLines}
 use Rattle.scenario_text.specs.declared.scenario.Scenario.{Scenario}
 use Rattle.scenario_text.specs.declared.scenario.HostLine.{HostLine}
 use Rattle.scenario_runs.specs.Applications.{Script}
@@ -74,6 +75,11 @@ pub record AreKept (s : Scenario) (t : ℕ) (world : World) (kept : List Sent) (
   pub over : (f : Sent) (u : ℕ) → f.tick < low → t ≤ u → is_due s.link u f ≡ false
   pub same : (k : ℕ) → low ≤ k → of_tick k kept ≡ of_tick k (sent_in world)
   pub coming : (n : ℕ) → list_any (is_under_way s.link n) (sent_in world) ≡ nat_lt n last
+
+-- Each frame was sent in the tick, or before it by no more ticks than a line delays a frame. Nothing comes of an older
+-- one after the tick.
+abbrev pub AreRecent : LinkLines → (tick : ℕ) → List Sent → Type 0
+AreRecent lines t frames = Each (λ (f : Sent). t ≤ f.tick + longest_delay lines) frames
 
 -- These hosts are a world of the scenario before a tick, and what is kept is theirs.
 pub record IsWorldOf (s : Scenario) (t : ℕ) (world : World) (p : Playing) : Type 0 where

@@ -11,7 +11,7 @@ ghost use Rattle.scenario_runs.specs.Histories.{AreBelow};
 ghost use Rattle.local_host.specs.declared.host.HostEnd.{HostEnd};
 ghost use Rattle.local_host.specs.Live.{IsLegal};
 ghost use Rattle.scenario_world.specs.Ends.{log_of};
-ghost use Rattle.scenario_world.specs.Playing.{IsWorld, AreEarly};
+ghost use Rattle.scenario_world.specs.Playing.{AreRecent, IsWorld, AreEarly};
 ghost use Rattle.scenario_world.specs.Seats.{AreSeatsOf, HasPlayed, HaveCores, cores_in};
 ghost use denote.Param.Send.{IsSync};
 
@@ -79,6 +79,7 @@ pub fn play_tick_on_cores<'a, R: Threads + Wait + Sync, G: Gate + Sync>(
     ensures below { (cores : ℕ) → HaveCores cores seats.old → AreBelow cores p.old.hosts.items
         → OnOk result (AreBelow cores p.new.hosts.items) }
     ensures world { OnOk result (IsWorld s.now (tick + 1) p.new) }
+    ensures recent { OnOk result (AreRecent s.now.link tick p.new.sent) }
     ensures seats { OnOk result (cores_in seats.new ≡ cores_in seats.old) }
 {
     let due = due(alloc, &s.link, &p.sent, tick)?;

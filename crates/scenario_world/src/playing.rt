@@ -4,7 +4,7 @@ ghost use Rattle.scenario_text.specs.declared.scenario.Scenario.{Scenario};
 ghost use Rattle.scenario_ranges.specs.Ranges.{IsInRange};
 ghost use Rattle.scenario_runs.specs.Worlds.{World, at_start as model_start, sent_in, is_at_rest as model_rest};
 ghost use Rattle.scenario_runs.specs.Runs.{serial_sites, serial_world};
-ghost use Rattle.scenario_world.specs.Playing.{IsWorld, IsPlayed};
+ghost use Rattle.scenario_world.specs.Playing.{IsWorld, IsPlayed, AreRecent};
 
 use crate::arriving::arrivals_at;
 use crate::collecting::collect_all;
@@ -60,6 +60,7 @@ pub fn play_tick(
     requires world { IsWorld s.now tick p.old }
     ensures hosts { OnOk result (p.new.hosts.items ≡ serial_world s.now tick p.old.hosts.items) }
     ensures world { OnOk result (IsWorld s.now (tick + 1) p.new) }
+    ensures recent { OnOk result (AreRecent s.now.link tick p.new.sent) }
 {
     let due = due(alloc, &s.link, &p.sent, tick)?;
     play_hosts(alloc, s, tick, &due, &mut p.hosts)?;
@@ -67,7 +68,8 @@ pub fn play_tick(
     end_tick(alloc, s, tick, p)
 }
 
-/// Ends a tick that the hosts played: what they sent goes to the link. The error is want of memory.
+/// Ends a tick that the hosts played: what they sent goes to the link, and what is too old to come goes from it. The
+/// error is want of memory.
 pub fn end_tick(
     alloc: Global,
     s: &Scenario,
@@ -78,6 +80,7 @@ pub fn end_tick(
     requires played { IsPlayed s.now tick p.old }
     ensures hosts { p.new.hosts.items ≡ p.old.hosts.items }
     ensures world { OnOk result (IsWorld s.now (tick + 1) p.new) }
+    ensures recent { OnOk result (AreRecent s.now.link tick p.new.sent) }
 {
     send_on(alloc, s, tick, p)?;
     forget(s, tick, p);
@@ -108,6 +111,7 @@ fn forget(s: &Scenario, tick: u32, p: &mut Playing<'_>)
     requires { IsWorld s.now (tick + 1) p.old }
     ensures hosts { p.new.hosts.items ≡ p.old.hosts.items }
     ensures world { IsWorld s.now (tick + 1) p.new }
+    ensures recent { AreRecent s.now.link tick p.new.sent }
 {
     p.sent
         .forget_before(tick.saturating_sub(s.link.longest_delay()));

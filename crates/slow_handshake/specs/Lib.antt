@@ -1,3 +1,4 @@
 pub mod Strays
+pub mod Numbers
 pub mod Openings
 pub mod Heard

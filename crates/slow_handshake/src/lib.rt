@@ -9,7 +9,7 @@ mod slow_path;
 mod strays;
 mod syn_sent;
 
-pub use numbers::NumberSource;
+pub use numbers::{NumberSource, SpacedNumbers};
 pub use openings::{ListenRefused, Listener, NoPort, PassiveFlow, SynAnswer};
 pub use rx::SlowRx;
 pub use slow_path::SlowPath;

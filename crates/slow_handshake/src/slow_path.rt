@@ -5,7 +5,7 @@ ghost use Rattle.slow_handshake.specs.Openings.{no_openings, is_taken, is_owned_
 ghost use Rattle.slow_handshake.specs.Openings.{all_ports, readied, is_named, first_ready, waiting_for, backlog_of};
 ghost use Rattle.slow_handshake.specs.Openings.{waits_for, told};
 
-use crate::numbers::NumberSource;
+use crate::numbers::{ISS_STEP, NumberSource};
 use crate::openings::{ListenRefused, Listener, NoPort, PassiveFlow, SynAnswer};
 use segment_fields::Segment;
 use std::alloc::{AllocError, Global};
@@ -18,9 +18,6 @@ const FIRST_PORT: u16 = 49152;
 
 /// How many ports there are for own connections.
 const PORTS: u16 = 16384;
-
-/// How far a first sequence number is past the one before.
-const ISS_STEP: u32 = 64000;
 
 /// What a host keeps of the flows that are being opened, seen as its lists.
 #[derive(Drop)]
@@ -51,9 +48,9 @@ impl Model for SlowPath {
 
 /// The first number is that of the parameters, and then each 64,000 past the one before, modulo 2^32.
 impl NumberSource for SlowPath {
-    ghost number = { λ path tuple. path.next_iss };
+    ghost number = { λ path tuple n. path.next_iss };
 
-    fn first_number(&self, _tuple: FourTuple) -> Seq {
+    fn first_number(&self, _tuple: FourTuple, _n: u32) -> Seq {
         self.next_iss
     }
 }

@@ -8,6 +8,7 @@ use Rattle.crossbeam_queue.specs.Fifo.{Held}
 use Rattle.context_queue.specs.Notes.{Place, Sender, HoldsPosts}
 use Rattle.context_queue.specs.declared.note.Note.{Note}
 use Rattle.core_worker.specs.Kicks.{kick_note}
+use Rattle.slow_handshake.specs.Numbers.{FirstNumbers}
 use Rattle.core_worker.specs.Workers.{Common}
 use Rattle.core_worker.specs.declared.kicks.Kick.{Kick}
 use Rattle.slow_worker.specs.Kicking.{Kicking, AreOn, CanKick, IsPostedOrKept, IsKicked, AreKicked}
@@ -161,15 +162,16 @@ first_kicked c u v k rest kept kicks y is waits kicked after =
       same = refl;
     })
 
-pub turned_so : {A E : Type 0} (later : Bool) (c : Common) (tick : ℕ) (v m w : Worker) (x : Result A E)
-    → OnOk x (IsWork later c tick v m) → AreKicksPosted c m w → OnOk x (IsTurn later c tick v w)
-turned_so later c tick v m w (Ok a) done posted = (m, done, posted)
-turned_so later c tick v m w (Err e) done posted = tt
+pub turned_so : {A E : Type 0} (later : Bool) (ns : FirstNumbers) (c : Common) (tick : ℕ) (v m w : Worker)
+    (x : Result A E) → OnOk x (IsWork later ns c tick v m) → AreKicksPosted c m w → OnOk x (IsTurn later ns c tick v w)
+turned_so later ns c tick v m w (Ok a) done posted = (m, done, posted)
+turned_so later ns c tick v m w (Err e) done posted = tt
 
-pub stopped_so : {A E : Type 0} (later : Bool) (c : Common) (tick : ℕ) (v m w : Worker) (x : Result A E)
-    → OnErr x (IsWorkStopped later c tick v m) → AreKicksPosted c m w → OnErr x (IsTurnStopped later c tick v w)
-stopped_so later c tick v m w (Ok a) done posted = tt
-stopped_so later c tick v m w (Err e) done posted = (m, done, posted)
+pub stopped_so : {A E : Type 0} (later : Bool) (ns : FirstNumbers) (c : Common) (tick : ℕ) (v m w : Worker)
+    (x : Result A E) → OnErr x (IsWorkStopped later ns c tick v m) → AreKicksPosted c m w
+    → OnErr x (IsTurnStopped later ns c tick v w)
+stopped_so later ns c tick v m w (Ok a) done posted = tt
+stopped_so later ns c tick v m w (Err e) done posted = (m, done, posted)
 
 -- the core's sender is there
 pub within : (c : Common) (x : Kicking) (core cores : ℕ) → CanKick c x → cores ≡ c.steering.cores → core < cores

@@ -1,5 +1,6 @@
 pub mod Keeping
 pub mod Entries
+pub mod Found
 pub mod Moves
 pub mod Serving
 pub mod Ticks

@@ -5,6 +5,7 @@ use Rattle.std.specs.Prelude.{Result, Ok, Err, OnErr}
 use Rattle.std.proofs.lemmas.List.{length-append}
 use Rattle.core_worker.specs.Workers.{Common}
 use Rattle.core_worker.specs.declared.frames.PassedFrame.{PassedFrame}
+use Rattle.slow_handshake.specs.Numbers.{FirstNumbers}
 use Rattle.slow_worker.specs.Workers.{Worker, Sight, Setting, setting_of, sight_of, waiting, IsSound, HasSenders}
 use Rattle.slow_worker.specs.Serving.{IsUnserved}
 use Rattle.slow_worker.specs.Queues.{kept_of, IsOneServed, AreServed, IsSame, IsAllServed, IsStopped, IsPartServed}
@@ -15,19 +16,21 @@ use Rattle.slow_worker.specs.declared.served.Served.{Served}
 pub joined : {A : Type 0} (a b c d : List A) → a ≡ b → c ≡ d → a ++ c ≡ b ++ d
 joined a b c d e f = ap (λ l. l ++ c) e ∙ ap (λ l. b ++ l) f
 
-pub first_left : (c : Common) (tick : ℕ) (u v n : Worker) (f : PassedFrame) (rest : List PassedFrame) → u ≡ v
-    → waiting u ≡ f ∷ rest → IsUnserved (setting_of c tick u) f.frame.packet (sight_of u) (sight_of n)
-    → waiting n ≡ waiting u → IsSame u n → IsFirstLeft c tick v n
-first_left c tick u v n f rest is first unserved still same =
-    subst (λ (w : Worker). IsFirstLeft c tick w n) is
+pub first_left : (ns : FirstNumbers) (c : Common) (tick : ℕ) (u v n : Worker) (f : PassedFrame)
+    (rest : List PassedFrame) → u ≡ v
+    → waiting u ≡ f ∷ rest → IsUnserved (setting_of ns c tick u) f.frame.packet (sight_of u) (sight_of n)
+    → waiting n ≡ waiting u → IsSame u n → IsFirstLeft ns c tick v n
+first_left ns c tick u v n f rest is first unserved still same =
+    subst (λ (w : Worker). IsFirstLeft ns c tick w n) is
     (record { stopped = inr (f, rest, first, unserved); still = still; same = same })
 
-pub first_served : (c : Common) (tick : ℕ) (u v n : Worker) (f : PassedFrame) (rest : List PassedFrame) (a : Served)
-    → u ≡ v → waiting u ≡ f ∷ rest → IsOneServed (setting_of c tick u) f (sight_of u) (sight_of n) a
+pub first_served : (ns : FirstNumbers) (c : Common) (tick : ℕ) (u v n : Worker) (f : PassedFrame)
+    (rest : List PassedFrame) (a : Served)
+    → u ≡ v → waiting u ≡ f ∷ rest → IsOneServed (setting_of ns c tick u) f (sight_of u) (sight_of n) a
     → waiting n ≡ rest ++ kept_of f a → length n.exceptions.list ≡ length u.exceptions.list - 1 → IsSame u n
-    → IsFirstServed c tick v n
-first_served c tick u v n f rest a is first served after fewer same =
-    subst (λ (w : Worker). IsFirstServed c tick w n) is (record {
+    → IsFirstServed ns c tick v n
+first_served ns c tick u v n f rest a is first served after fewer same =
+    subst (λ (w : Worker). IsFirstServed ns c tick w n) is (record {
       first = f;
       rest = rest;
       waits = first;
@@ -61,22 +64,23 @@ served_more at (g ∷ gs) f s m n kept a (x, b, more, one, rest, e) d = (
 )
 
 -- those handled, those that are left, and those that are kept
-pub record Loop (c : Common) (tick : ℕ) (first now : Worker) (count : ℕ) : Type 0 where
+pub record Loop (ns : FirstNumbers) (c : Common) (tick : ℕ) (first now : Worker) (count : ℕ) : Type 0 where
   pub done : List PassedFrame
   pub left : List PassedFrame
   pub kept : List PassedFrame
   pub number : length left + count ≡ length (waiting first)
   pub all : waiting first ≡ done ++ left
-  pub served : AreServed (setting_of c tick first) done (sight_of first) (sight_of now) kept
+  pub served : AreServed (setting_of ns c tick first) done (sight_of first) (sight_of now) kept
   pub still : waiting now ≡ left ++ kept
   pub exceptions : length now.exceptions.list ≤ length left
   pub same : IsSame first now
   pub stays : IsSound c.table (sight_of now)
   pub own : HasSenders c now
 
-pub loop_first : (c : Common) (tick : ℕ) (w : Worker) → IsSound c.table (sight_of w) → HasSenders c w
-    → Loop c tick w w 0
-loop_first c tick w stays own = record {
+pub loop_first : (ns : FirstNumbers) (c : Common) (tick : ℕ) (w : Worker) → IsSound c.table (sight_of w)
+    → HasSenders c w
+    → Loop ns c tick w w 0
+loop_first ns c tick w stays own = record {
   done = [];
   left = waiting w;
   kept = [];
@@ -91,17 +95,18 @@ loop_first c tick w stays own = record {
 }
 
 -- one is left
-pub loop_waits : (c : Common) (tick : ℕ) (first m : Worker) (count : ℕ) → Loop c tick first m count
+pub loop_waits : (ns : FirstNumbers) (c : Common) (tick : ℕ) (first m : Worker) (count : ℕ)
+    → Loop ns c tick first m count
     → count < length (waiting first) → 0 < length (waiting m)
-loop_waits c tick first m count l near =
+loop_waits ns c tick first m count l near =
     let e = ap length l.still in
     let a = length-append l.left l.kept in
     omega (arith, e, a, l.number, near)
 
-same_setting : (c : Common) (tick : ℕ) (first m : Worker) → IsSame first m
-    → setting_of c tick m ≡ setting_of c tick first
-same_setting c tick first m e =
-    ap (λ (s : Standing). record { tick = tick; check_sums = s.check_sums; queues = c.queues }) e
+same_setting : (ns : FirstNumbers) (c : Common) (tick : ℕ) (first m : Worker) → IsSame first m
+    → setting_of ns c tick m ≡ setting_of ns c tick first
+same_setting ns c tick first m e =
+    ap (λ (s : Standing). record { tick = tick; check_sums = s.check_sums; queues = c.queues; numbers = ns }) e
 
 head_or : PassedFrame → List PassedFrame → PassedFrame
 head_or d [] = d
@@ -111,18 +116,19 @@ tail_of : List PassedFrame → List PassedFrame
 tail_of [] = []
 tail_of (f ∷ fs) = fs
 
-pub loop_more : (c : Common) (tick : ℕ) (first m n : Worker) (count : ℕ) → Loop c tick first m count
-    → count < length (waiting first) → IsFirstServed c tick m n → IsSound c.table (sight_of n) → HasSenders c n
-    → Loop c tick first n (count + 1)
+pub loop_more : (ns : FirstNumbers) (c : Common) (tick : ℕ) (first m n : Worker) (count : ℕ)
+    → Loop ns c tick first m count
+    → count < length (waiting first) → IsFirstServed ns c tick m n → IsSound c.table (sight_of n) → HasSenders c n
+    → Loop ns c tick first n (count + 1)
 unfolding head_or tail_of
-loop_more c tick first m n count l near d stays own = by_left l.left l.number l.all l.still l.exceptions where
-  at_one : IsOneServed (setting_of c tick first) d.first (sight_of m) (sight_of n) d.answer
+loop_more ns c tick first m n count l near d stays own = by_left l.left l.number l.all l.still l.exceptions where
+  at_one : IsOneServed (setting_of ns c tick first) d.first (sight_of m) (sight_of n) d.answer
   at_one = subst (λ at. IsOneServed at d.first (sight_of m) (sight_of n) d.answer)
-      (same_setting c tick first m l.same) d.served
+      (same_setting ns c tick first m l.same) d.served
 
   by_left : (left : List PassedFrame) → length left + count ≡ length (waiting first)
       → waiting first ≡ l.done ++ left → waiting m ≡ left ++ l.kept → length m.exceptions.list ≤ length left
-      → Loop c tick first n (count + 1)
+      → Loop ns c tick first n (count + 1)
   by_left [] number all still few = absurd (omega (arith, number, near))
   by_left (g ∷ gs) number all still few =
       let both : d.first ∷ d.rest ≡ g ∷ (gs ++ l.kept) = sym d.waits ∙ still in
@@ -136,7 +142,8 @@ loop_more c tick first m n count l near d stays own = by_left l.left l.number l.
         kept = l.kept ++ kept_of d.first d.answer;
         number = omega (arith, number);
         all = done;
-        served = served_more (setting_of c tick first) l.done d.first (sight_of first) (sight_of m) (sight_of n) l.kept
+        served = served_more (setting_of ns c tick first) l.done d.first (sight_of first) (sight_of m)
+            (sight_of n) l.kept
             d.answer l.served at_one;
         still = d.after ∙ (ap (λ x. x ++ kept_of d.first d.answer) rest
             ∙ append_assoc gs l.kept (kept_of d.first d.answer));
@@ -150,9 +157,10 @@ pub none_of : {A : Type 0} (xs : List A) → length xs ≡ 0 → xs ≡ []
 none_of [] e = refl
 none_of (x ∷ xs) e = absurd (omega (arith, e))
 
-pub loop_ends : (c : Common) (tick : ℕ) (first w : Worker) (count : ℕ) → Loop c tick first w count
-    → length (waiting first) ≤ count → IsAllServed c tick first w
-loop_ends c tick first w count l past =
+pub loop_ends : (ns : FirstNumbers) (c : Common) (tick : ℕ) (first w : Worker) (count : ℕ)
+    → Loop ns c tick first w count
+    → length (waiting first) ≤ count → IsAllServed ns c tick first w
+loop_ends ns c tick first w count l past =
     let left : l.left ≡ [] = none_of l.left (omega (arith, l.number, past)) in
     let few : length w.exceptions.list ≡ 0 =
     let z = ap length left in omega (arith, l.exceptions, z) in
@@ -161,9 +169,10 @@ loop_ends c tick first w count l past =
     sym (ap (λ x. x ++ w.deferred.list) none) ∙ (l.still ∙ ap (λ x. x ++ l.kept) left) in
     let done : waiting first ≡ l.done = l.all ∙ (ap (λ x. l.done ++ x) left ∙ append-nil l.done) in
     record {
-      served = subst (λ fs. AreServed (setting_of c tick first) fs (sight_of first) (sight_of w) w.deferred.list)
+      served = subst (λ fs. AreServed (setting_of ns c tick first) fs (sight_of first) (sight_of w) w.deferred.list)
           (sym done)
-          (subst (λ k. AreServed (setting_of c tick first) l.done (sight_of first) (sight_of w) k) (sym kept) l.served);
+          (subst (λ k. AreServed (setting_of ns c tick first) l.done (sight_of first) (sight_of w) k)
+          (sym kept) l.served);
       none = none;
       same = l.same;
     }
@@ -177,13 +186,14 @@ longer_stop at [] more s n some (inr r) = absurd (omega (arith, some))
 longer_stop at (g ∷ gs) more s n some (inr (f, rest, first, un)) =
     inr (g, gs, refl, subst (λ (x : PassedFrame). IsUnserved at x.frame.packet s n) (ap (head_or g) (sym first)) un)
 
-pub loop_stops : (c : Common) (tick : ℕ) (first m w : Worker) (count : ℕ) → Loop c tick first m count
-    → count < length (waiting first) → IsFirstLeft c tick m w → IsPartServed c tick first w
-loop_stops c tick first m w count l near d =
-    let at : setting_of c tick m ≡ setting_of c tick first = same_setting c tick first m l.same in
+pub loop_stops : (ns : FirstNumbers) (c : Common) (tick : ℕ) (first m w : Worker) (count : ℕ)
+    → Loop ns c tick first m count
+    → count < length (waiting first) → IsFirstLeft ns c tick m w → IsPartServed ns c tick first w
+loop_stops ns c tick first m w count l near d =
+    let at : setting_of ns c tick m ≡ setting_of ns c tick first = same_setting ns c tick first m l.same in
     let some : 0 < length l.left = omega (arith, l.number, near) in
-    let by_list : IsStopped (setting_of c tick first) (l.left ++ l.kept) (sight_of m) (sight_of w) =
-    subst (λ fs. IsStopped (setting_of c tick first) fs (sight_of m) (sight_of w)) l.still
+    let by_list : IsStopped (setting_of ns c tick first) (l.left ++ l.kept) (sight_of m) (sight_of w) =
+    subst (λ fs. IsStopped (setting_of ns c tick first) fs (sight_of m) (sight_of w)) l.still
     (subst (λ x. IsStopped x (waiting m) (sight_of m) (sight_of w)) at d.stopped) in
     record {
       done = l.done;
@@ -192,7 +202,7 @@ loop_stops c tick first m w count l near d =
       all = l.all;
       before = sight_of m;
       served = l.served;
-      stopped = longer_stop (setting_of c tick first) l.left l.kept (sight_of m) (sight_of w) some by_list;
+      stopped = longer_stop (setting_of ns c tick first) l.left l.kept (sight_of m) (sight_of w) some by_list;
       still = d.still ∙ l.still;
       same = d.same ∙ l.same;
     }

@@ -1,6 +1,7 @@
 pub mod Clocks
 pub mod Kicking
 pub mod Workers
+pub mod Known
 pub mod Entering
 pub mod Opening
 pub mod Serving

@@ -1,4 +1,5 @@
 -- A flow that a peer's SYN opens.
+use Rattle.tas_num.specs.declared.seq.Seq.{Seq}
 use Rattle.std.specs.Prelude.{◌≡◌, ℕ, false, [], ◌∷◌, ◌++◌, ◌⊎◌}
 use Rattle.segment_fields.specs.declared.segment.Segment.{Segment}
 use Rattle.tas_model.specs.declared.entry.FlowId.{FlowId}
@@ -16,7 +17,7 @@ use Rattle.core_worker.specs.Frames.{tuple_of}
 use Rattle.core_worker.specs.Kicks.{kick_of, one_kick}
 use Rattle.slow_worker.specs.Workers.{Sight}
 
--- a first number was given
+-- a first number was given, and the next one in turn is not given any more
 abbrev pub numbered : Openings → Openings
 numbered o = record o { next_iss = next_after o.next_iss }
 
@@ -25,12 +26,12 @@ abbrev pub with_opened : FlowId → (port : ℕ) → Openings → Openings
 with_opened id port o =
     record (numbered o) { flows = o.flows ++ record { id = id; port = port; ready = false } ∷ [] }
 
--- the history that the SYN begins, with the next first number
-abbrev pub first_history : (tick : ℕ) → FrameId → Segment → Openings → History
-first_history tick frame seg o = record {
+-- the history that the SYN begins, with this first number
+abbrev pub first_history : (tick : ℕ) → (iss : Seq) → FrameId → Segment → Openings → History
+first_history tick iss frame seg o = record {
   tuple = tuple_of seg;
   params = o.params;
-  entries = first_passive tick frame o.next_iss (seg_of seg) ∷ [];
+  entries = first_passive tick frame iss (seg_of seg) ∷ [];
 }
 
 -- the slow path's pass after it opened a flow
@@ -44,19 +45,21 @@ pub record IsIndexed (t : FourTuple) (id : FlowId) (x y : Writing) : Type 0 wher
   pub pending : y.pending ≡ []
   pub left : y.left ≡ x.left
 
--- The next flow was opened for the SYN, and all know of it. It is kicked, where its answer may go.
-pub record IsOpened (tick : ℕ) (frame : FrameId) (seg : Segment) (id : FlowId) (s n : Sight) : Type 0 where
+-- The next flow was opened for the SYN, with this first number, and all know of it. It is kicked, where its answer may
+-- go.
+pub record IsOpened (tick : ℕ) (iss : Seq) (frame : FrameId) (seg : Segment) (id : FlowId) (s n : Sight)
+    : Type 0 where
   pub indexed : IsIndexed (tuple_of seg) id s.index n.index
   pub after : n ≡ record {
     path = with_opened id seg.dport s.path;
-    pass = with_open id (first_history tick frame seg s.path) s.pass;
+    pass = with_open id (first_history tick iss frame seg s.path) s.pass;
     pins = s.pins ++ id ∷ [];
     doomed = s.doomed;
     flows = s.flows ++ record { tuple = tuple_of seg; id = id } ∷ [];
     index = n.index;
     log = s.log;
     senders = s.senders;
-    kicks = s.kicks ++ one_kick (kick_of id (first_history tick frame seg s.path));
+    kicks = s.kicks ++ one_kick (kick_of id (first_history tick iss frame seg s.path));
   }
 
 -- What became of the index where memory was wanting: nothing, or the change is pending, or it is published. The id is

@@ -4,6 +4,7 @@ use Rattle.flow_state.specs.Flow.{Flow}
 use Rattle.core_worker.specs.Workers as cores
 use Rattle.core_worker.specs.declared.frames.PassedFrame.{PassedFrame}
 use Rattle.core_worker.specs.declared.frames.Passed.TheVariants as passed
+use Rattle.slow_handshake.specs.Numbers.{FirstNumbers}
 use Rattle.slow_worker.specs.Kicking.{Kicking}
 use Rattle.slow_worker.specs.Workers.{Worker, Sight, Setting, setting_of, sight_of, waiting}
 use Rattle.slow_worker.specs.Serving.{IsServed, IsUnserved}
@@ -59,8 +60,8 @@ abbrev pub IsSame : Worker → Worker → Type 0
 IsSame v w = standing_of w ≡ standing_of v
 
 -- All frames that waited were handled. Those that wait on are the deferred ones now.
-pub record IsAllServed (c : cores.Common) (tick : ℕ) (v w : Worker) : Type 0 where
-  pub served : AreServed (setting_of c tick v) (waiting v) (sight_of v) (sight_of w) w.deferred.list
+pub record IsAllServed (ns : FirstNumbers) (c : cores.Common) (tick : ℕ) (v w : Worker) : Type 0 where
+  pub served : AreServed (setting_of ns c tick v) (waiting v) (sight_of v) (sight_of w) w.deferred.list
   pub none : w.exceptions.list ≡ []
   pub same : IsSame v w
 
@@ -71,29 +72,29 @@ IsStopped at left s n =
     ⊎ ((f : PassedFrame) × (rest : List PassedFrame) × (left ≡ f ∷ rest) × IsUnserved at f.frame.packet s n)
 
 -- Some frames were handled. All others wait still, and those behind them that were kept.
-pub record IsPartServed (c : cores.Common) (tick : ℕ) (v w : Worker) : Type 0 where
+pub record IsPartServed (ns : FirstNumbers) (c : cores.Common) (tick : ℕ) (v w : Worker) : Type 0 where
   pub done : List PassedFrame
   pub left : List PassedFrame
   pub kept : List PassedFrame
   pub all : waiting v ≡ done ++ left
   pub before : Sight
-  pub served : AreServed (setting_of c tick v) done (sight_of v) before kept
-  pub stopped : IsStopped (setting_of c tick v) left before (sight_of w)
+  pub served : AreServed (setting_of ns c tick v) done (sight_of v) before kept
+  pub stopped : IsStopped (setting_of ns c tick v) left before (sight_of w)
   pub still : waiting w ≡ left ++ kept
   pub same : IsSame v w
 
 -- ----- the first frame
-pub record IsFirstServed (c : cores.Common) (tick : ℕ) (v n : Worker) : Type 0 where
+pub record IsFirstServed (ns : FirstNumbers) (c : cores.Common) (tick : ℕ) (v n : Worker) : Type 0 where
   pub first : PassedFrame
   pub rest : List PassedFrame
   pub waits : waiting v ≡ first ∷ rest
   pub answer : Served
-  pub served : IsOneServed (setting_of c tick v) first (sight_of v) (sight_of n) answer
+  pub served : IsOneServed (setting_of ns c tick v) first (sight_of v) (sight_of n) answer
   pub after : waiting n ≡ rest ++ kept_of first answer
   pub fewer : length n.exceptions.list ≡ length v.exceptions.list - 1
   pub same : IsSame v n
 
-pub record IsFirstLeft (c : cores.Common) (tick : ℕ) (v n : Worker) : Type 0 where
-  pub stopped : IsStopped (setting_of c tick v) (waiting v) (sight_of v) (sight_of n)
+pub record IsFirstLeft (ns : FirstNumbers) (c : cores.Common) (tick : ℕ) (v n : Worker) : Type 0 where
+  pub stopped : IsStopped (setting_of ns c tick v) (waiting v) (sight_of v) (sight_of n)
   pub still : waiting n ≡ waiting v
   pub same : IsSame v n

@@ -11,6 +11,7 @@ use Rattle.host_rounds.specs.Deliveries.{opens}
 use Rattle.host_rounds.specs.declared.log.LogEvent.{LogEvent}
 use Rattle.host_rounds.specs.declared.log.LogEvent.TheVariants as events
 use Rattle.flow_lock.specs.Answers.{next_in}
+use Rattle.slow_handshake.specs.Numbers.{FirstNumbers}
 use Rattle.slow_handshake.specs.Openings.{Openings, is_taken, syn_answer}
 use Rattle.slow_handshake.specs.Strays.{stray_answer}
 use Rattle.slow_handshake.specs.declared.openings.SynAnswer.{SynAnswer}
@@ -40,17 +41,22 @@ stray_event o frame seg =
 abbrev pub asked_of : Openings → Segment → Option SynAnswer
 asked_of o seg = if opens (seg_of seg) then Some (syn_answer o seg.dport) else None
 
--- a SYN that the backlog has room for: the lowest free slot is opened for it, where there is one
-abbrev pub IsOpenedIn : Option FlowId → (tick : ℕ) → FrameId → Segment → Sight → Sight → Served → Type 0
-IsOpenedIn None tick frame seg s n a =
+-- a SYN that the backlog has room for: the lowest free slot is opened for it, where there is one, with the number that
+-- the flow has as the next one of the host
+abbrev pub IsOpenedIn : Option FlowId → FirstNumbers → (tick : ℕ) → FrameId → Segment → Sight → Sight → Served → Type 0
+IsOpenedIn None numbers tick frame seg s n a =
     (a ≡ served.Dropped false) × (n ≡ with_line tick (events.Dropped frame false) s)
-IsOpenedIn (Some id) tick frame seg s n a = (a ≡ served.Opened id) × IsOpened tick frame seg id s n
+IsOpenedIn (Some id) numbers tick frame seg s n a =
+    (a ≡ served.Opened id)
+    × IsOpened tick (numbers (tuple_of seg) s.pass.view.opened) frame seg id s n
 
-abbrev pub IsMet : Option SynAnswer → (tick : ℕ) → FrameId → Segment → Sight → Sight → Served → Type 0
-IsMet (Some syn.Opens) tick frame seg s n a = IsOpenedIn (next_in s.pass.view.marks) tick frame seg s n a
-IsMet (Some (syn.BacklogFull count)) tick frame seg s n a =
+abbrev pub IsMet : Option SynAnswer → FirstNumbers → (tick : ℕ) → FrameId → Segment → Sight → Sight → Served → Type 0
+IsMet (Some syn.Opens) numbers tick frame seg s n a =
+    IsOpenedIn (next_in s.pass.view.marks) numbers tick frame seg s n a
+IsMet (Some (syn.BacklogFull count)) numbers tick frame seg s n a =
     (a ≡ served.Dropped true) × (n ≡ with_line tick (events.Dropped frame true) s)
-IsMet stray tick frame seg s n a = (a ≡ served.Stray) × (n ≡ with_line tick (stray_event s.path frame seg) s)
+IsMet stray numbers tick frame seg s n a =
+    (a ≡ served.Stray) × (n ≡ with_line tick (stray_event s.path frame seg) s)
 
 -- memory was wanting for a line, or for a flow
 abbrev pub IsUnopenedIn : Option FlowId → Segment → Sight → Sight → Type 0
@@ -65,7 +71,7 @@ IsUnmet asked seg s n = n ≡ s
 -- A segment is received by the flow that has its four-tuple, and else meets a listener, or none.
 abbrev pub IsTaken : Option FlowId → Setting → FrameId → Segment → Sight → Sight → Served → Type 0
 IsTaken (Some id) at frame seg s n a = IsEntered at frame seg id s n a
-IsTaken None at frame seg s n a = IsMet (asked_of s.path seg) at.tick frame seg s n a
+IsTaken None at frame seg s n a = IsMet (asked_of s.path seg) at.numbers at.tick frame seg s n a
 
 abbrev pub IsUntaken : Option FlowId → Segment → Sight → Sight → Type 0
 IsUntaken (Some id) seg s n = IsUnentered id s n

@@ -9,6 +9,7 @@ use Rattle.flow_lock.specs.Orders.{same_flow}
 use Rattle.app_reaper.specs.Lists.{is_on}
 use Rattle.flow_clock.specs.Ledgers.{Ledger, ledger}
 use Rattle.flow_clock.specs.Walks.{IsTickDone, IsTickStopped}
+use Rattle.slow_handshake.specs.Numbers.{FirstNumbers}
 use Rattle.core_worker.specs.Workers.{Common}
 use Rattle.core_worker.specs.declared.kicks.Kick.{Kick}
 use Rattle.slow_worker.specs.Clocks.{has_passed_in, served_in}
@@ -105,18 +106,18 @@ pub record IsFirstKicked (c : Common) (v n : Worker) : Type 0 where
 abbrev pub has_passed : (tick : ℕ) → Worker → Bool
 has_passed tick w = has_passed_in tick w.time
 
-abbrev pub IsWork : (later : Bool) → Common → (tick : ℕ) → Worker → Worker → Type 0
-IsWork false c tick v w = IsTimePassed tick v w
-IsWork true c tick v w = IsAllServed c tick v w
+abbrev pub IsWork : (later : Bool) → FirstNumbers → Common → (tick : ℕ) → Worker → Worker → Type 0
+IsWork false ns c tick v w = IsTimePassed tick v w
+IsWork true ns c tick v w = IsAllServed ns c tick v w
 
-abbrev pub IsWorkStopped : (later : Bool) → Common → (tick : ℕ) → Worker → Worker → Type 0
-IsWorkStopped false c tick v w = IsTimeStopped tick v w
-IsWorkStopped true c tick v w = IsPartServed c tick v w
+abbrev pub IsWorkStopped : (later : Bool) → FirstNumbers → Common → (tick : ℕ) → Worker → Worker → Type 0
+IsWorkStopped false ns c tick v w = IsTimeStopped tick v w
+IsWorkStopped true ns c tick v w = IsPartServed ns c tick v w
 
 -- Then the kicks were posted: those that were kept before, and those of flows that were left with something to send.
-abbrev pub IsTurn : (later : Bool) → Common → (tick : ℕ) → Worker → Worker → Type 0
-IsTurn later c tick v w = (m : Worker) × IsWork later c tick v m × AreKicksPosted c m w
+abbrev pub IsTurn : (later : Bool) → FirstNumbers → Common → (tick : ℕ) → Worker → Worker → Type 0
+IsTurn later ns c tick v w = (m : Worker) × IsWork later ns c tick v m × AreKicksPosted c m w
 
 -- Memory was wanting. What was done stands, and the kicks were posted all the same.
-abbrev pub IsTurnStopped : (later : Bool) → Common → (tick : ℕ) → Worker → Worker → Type 0
-IsTurnStopped later c tick v w = (m : Worker) × IsWorkStopped later c tick v m × AreKicksPosted c m w
+abbrev pub IsTurnStopped : (later : Bool) → FirstNumbers → Common → (tick : ℕ) → Worker → Worker → Type 0
+IsTurnStopped later ns c tick v w = (m : Worker) × IsWorkStopped later ns c tick v m × AreKicksPosted c m w

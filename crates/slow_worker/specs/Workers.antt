@@ -12,6 +12,7 @@ use Rattle.flow_index.specs.Changes.{Writing, is_same}
 use Rattle.flow_lock.specs.Passes.{Seen}
 use Rattle.app_reaper.specs.Lists.{Roomy}
 use Rattle.flow_clock.specs.Ledgers as clock
+use Rattle.slow_handshake.specs.Numbers.{FirstNumbers}
 use Rattle.slow_handshake.specs.Openings.{Openings}
 use Rattle.core_worker.specs.Telling.{AreOwnSenders}
 use Rattle.core_worker.specs.Workers.{Common}
@@ -131,11 +132,13 @@ abbrev pub HasSenders : Common → Worker → Type 0
 HasSenders c w = AreOwnSenders c.queues w.senders
 
 -- ----- who handles frames, and when
--- the tick, whether checksums are looked at, and the queues of applications
+-- the tick, whether checksums are looked at, the queues of applications, and the first numbers of flows that are opened
 pub record Setting : Type 0 where
   pub tick : ℕ
   pub check_sums : Bool
   pub queues : List AppQueue
+  pub numbers : FirstNumbers
 
-abbrev pub setting_of : Common → (tick : ℕ) → Worker → Setting
-setting_of c tick w = record { tick = tick; check_sums = w.check_sums; queues = c.queues }
+abbrev pub setting_of : FirstNumbers → Common → (tick : ℕ) → Worker → Setting
+setting_of numbers c tick w =
+    record { tick = tick; check_sums = w.check_sums; queues = c.queues; numbers = numbers }

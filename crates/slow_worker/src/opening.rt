@@ -15,10 +15,11 @@ use flow_index::IndexWriter;
 use flow_lock::{FlowTable, Pin, SlowPass};
 use flow_state::FlowRecord;
 use segment_fields::Segment;
-use slow_handshake::SynAnswer;
+use slow_handshake::{NumberSource, SynAnswer};
 use std::alloc::AllocError;
 use std::sync::Wait;
 use tas_model::{FlowId, FourTuple, FrameId};
+use tas_num::Seq;
 
 /// Shows readers of the index that the four-tuple is the flow's. The error is want of memory, and then the change may
 /// be pending.
@@ -56,17 +57,18 @@ fn open_next(
 
 impl SlowWorker {
     /// A segment that is of no flow meets a listener, or none. The error is want of memory.
-    pub(crate) fn meet<R: Wait>(
+    pub(crate) fn meet<R: Wait, N: NumberSource>(
         &mut self,
         rt: &R,
         table: &FlowTable<FlowRecord>,
+        numbers: &N,
         tick: u32,
         frame: FrameId,
         seg: &Segment<'_>,
     ) -> Result<Served, AllocError>
         requires kept { IsSound table.now (sight_of self.old) }
         ensures kept { IsSound table.now (sight_of self.new) }
-        ensures met { IfOk result (IsMet (asked_of self.old.path seg.now) tick frame seg.now
+        ensures met { IfOk result (IsMet (asked_of self.old.path seg.now) (N.number numbers.now) tick frame seg.now
             (sight_of self.old) (sight_of self.new)) }
         ensures unmet { OnErr result (IsUnmet (asked_of self.old.path seg.now) seg.now
             (sight_of self.old) (sight_of self.new)) }
@@ -79,24 +81,25 @@ impl SlowWorker {
         match self.path.syn(seg) {
             SynAnswer::NoListener => self.answer_stray(tick, frame, seg),
             SynAnswer::BacklogFull(_) => self.drop_frame(tick, frame, true),
-            SynAnswer::Opens => self.open_for(rt, table, tick, frame, seg),
+            SynAnswer::Opens => self.open_for(rt, table, numbers, tick, frame, seg),
         }
     }
 
     /// Opens the lowest free slot for a SYN that a listener takes, or drops it for want of one. After 4,294,967,295
     /// openings no number is left for a further one: that is told as want of memory.
-    fn open_for<R: Wait>(
+    fn open_for<R: Wait, N: NumberSource>(
         &mut self,
         rt: &R,
         table: &FlowTable<FlowRecord>,
+        numbers: &N,
         tick: u32,
         frame: FrameId,
         seg: &Segment<'_>,
     ) -> Result<Served, AllocError>
         requires kept { IsSound table.now (sight_of self.old) }
         ensures kept { IsSound table.now (sight_of self.new) }
-        ensures opened { IfOk result (IsOpenedIn (next_in self.old.pass.view.marks) tick frame seg.now
-            (sight_of self.old) (sight_of self.new)) }
+        ensures opened { IfOk result (IsOpenedIn (next_in self.old.pass.view.marks) (N.number numbers.now) tick frame
+            seg.now (sight_of self.old) (sight_of self.new)) }
         ensures unopened { OnErr result (IsUnopenedIn (next_in self.old.pass.view.marks) seg.now
             (sight_of self.old) (sight_of self.new)) }
         ensures senders { self.new.senders ≡ self.old.senders }
@@ -108,17 +111,19 @@ impl SlowWorker {
         if self.pass.opened() == u32::MAX {
             return Err(AllocError);
         }
-        self.open(rt, table, tick, frame, id, seg)?;
+        let iss = numbers.first_number(tuple_of(seg), self.pass.opened());
+        self.open(rt, table, tick, iss, frame, id, seg)?;
         Ok(Served::Opened(id))
     }
 
-    /// Opens the next flow for a SYN: it has a record, the slow path's pin, and a place in all lists, and it is kicked.
-    /// All that may want memory comes before the table changes.
+    /// Opens the next flow for a SYN, with this first number: it has a record, the slow path's pin, and a place in all
+    /// lists, and it is kicked. All that may want memory comes before the table changes.
     fn open<R: Wait>(
         &mut self,
         rt: &R,
         table: &FlowTable<FlowRecord>,
         tick: u32,
+        iss: Seq,
         frame: FrameId,
         id: FlowId,
         seg: &Segment<'_>,
@@ -128,7 +133,7 @@ impl SlowWorker {
         requires slot { id.slot < table.now.slots }
         requires few { self.old.pass.view.opened < 4294967295 }
         ensures kept { IsSound table.now (sight_of self.new) }
-        ensures opened { OnOk result (IsOpened tick frame seg.now id (sight_of self.old) (sight_of self.new)) }
+        ensures opened { OnOk result (IsOpened tick iss frame seg.now id (sight_of self.old) (sight_of self.new)) }
         ensures unopened { OnErr result (IsUnopened seg.now id (sight_of self.old) (sight_of self.new)) }
         ensures senders { self.new.senders ≡ self.old.senders }
         ensures rest { self.new ≡ with_sight (sight_of self.new) self.old }
@@ -137,7 +142,7 @@ impl SlowWorker {
         self.pins.reserve()?;
         self.flows.reserve()?;
         self.kicks.reserve()?;
-        let iss = self.path.next_iss();
+        self.path.next_iss();
         let params = self.path.params();
         let flow = FlowRecord::passive(self.alloc, id, tuple, params, iss, frame, seg, tick)?;
         let kick = Kick::of(&flow);

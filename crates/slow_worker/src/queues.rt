@@ -6,6 +6,7 @@ ghost use Rattle.slow_worker.specs.Queues.{IsAllServed, IsPartServed, IsFirstSer
 use crate::served::Served;
 use crate::worker::SlowWorker;
 use core_worker::{Passed, PassedFrame, Shared};
+use slow_handshake::NumberSource;
 use std::alloc::AllocError;
 use std::sync::Wait;
 
@@ -13,17 +14,23 @@ impl SlowWorker {
     /// Handles all exceptions in their order, and then all deferred frames in theirs, each by `frame`. One whose
     /// flow's record another pass held is deferred. The error is want of memory; what was done stands, and each frame
     /// that wasn't handled still waits.
-    pub fn serve<R: Wait>(&mut self, rt: &R, shared: &Shared, tick: u32) -> Result<(), AllocError>
+    pub fn serve<R: Wait, N: NumberSource>(
+        &mut self,
+        rt: &R,
+        shared: &Shared,
+        numbers: &N,
+        tick: u32,
+    ) -> Result<(), AllocError>
         requires kept { IsSound shared.now.table (sight_of self.old) }
         requires senders { HasSenders shared.now self.old }
         ensures kept { IsSound shared.now.table (sight_of self.new) }
         ensures senders { HasSenders shared.now self.new }
         ensures time { self.new.time ≡ self.old.time }
-        ensures served { OnOk result (IsAllServed shared.now tick self.old self.new) }
-        ensures part { OnErr result (IsPartServed shared.now tick self.old self.new) }
+        ensures served { OnOk result (IsAllServed (N.number numbers.now) shared.now tick self.old self.new) }
+        ensures part { OnErr result (IsPartServed (N.number numbers.now) shared.now tick self.old self.new) }
     {
         for _ in 0..self.waiting() {
-            self.serve_first(rt, shared, tick)?;
+            self.serve_first(rt, shared, numbers, tick)?;
         }
         Ok(())
     }
@@ -36,27 +43,34 @@ impl SlowWorker {
     }
 
     /// Handles the first frame that waits.
-    fn serve_first<R: Wait>(&mut self, rt: &R, shared: &Shared, tick: u32) -> Result<(), AllocError>
+    fn serve_first<R: Wait, N: NumberSource>(
+        &mut self,
+        rt: &R,
+        shared: &Shared,
+        numbers: &N,
+        tick: u32,
+    ) -> Result<(), AllocError>
         requires kept { IsSound shared.now.table (sight_of self.old) }
         requires senders { HasSenders shared.now self.old }
         requires some { 0 < length (waiting self.old) }
         ensures kept { IsSound shared.now.table (sight_of self.new) }
         ensures senders { HasSenders shared.now self.new }
-        ensures served { OnOk result (IsFirstServed shared.now tick self.old self.new) }
-        ensures left { OnErr result (IsFirstLeft shared.now tick self.old self.new) }
+        ensures served { OnOk result (IsFirstServed (N.number numbers.now) shared.now tick self.old self.new) }
+        ensures left { OnErr result (IsFirstLeft (N.number numbers.now) shared.now tick self.old self.new) }
     {
         if self.exceptions.len() > 0 {
-            self.serve_exception(rt, shared, tick)
+            self.serve_exception(rt, shared, numbers, tick)
         } else {
-            self.serve_deferred(rt, shared, tick)
+            self.serve_deferred(rt, shared, numbers, tick)
         }
     }
 
     /// Handles the first exception.
-    fn serve_exception<R: Wait>(
+    fn serve_exception<R: Wait, N: NumberSource>(
         &mut self,
         rt: &R,
         shared: &Shared,
+        numbers: &N,
         tick: u32,
     ) -> Result<(), AllocError>
         requires kept { IsSound shared.now.table (sight_of self.old) }
@@ -64,14 +78,21 @@ impl SlowWorker {
         requires some { 0 < length self.old.exceptions.list }
         ensures kept { IsSound shared.now.table (sight_of self.new) }
         ensures senders { HasSenders shared.now self.new }
-        ensures served { OnOk result (IsFirstServed shared.now tick self.old self.new) }
-        ensures left { OnErr result (IsFirstLeft shared.now tick self.old self.new) }
+        ensures served { OnOk result (IsFirstServed (N.number numbers.now) shared.now tick self.old self.new) }
+        ensures left { OnErr result (IsFirstLeft (N.number numbers.now) shared.now tick self.old self.new) }
     {
         self.deferred.reserve(1)?;
         let Some(first) = self.exceptions.take_first() else {
             unreachable!()
         };
-        let served = self.frame(rt, shared, tick, first.frame.id, &first.frame.packet);
+        let served = self.frame(
+            rt,
+            shared,
+            numbers,
+            tick,
+            first.frame.id,
+            &first.frame.packet,
+        );
         match served {
             Err(e) => {
                 self.exceptions.put_back(first);
@@ -85,10 +106,11 @@ impl SlowWorker {
     }
 
     /// Handles the first deferred frame.
-    fn serve_deferred<R: Wait>(
+    fn serve_deferred<R: Wait, N: NumberSource>(
         &mut self,
         rt: &R,
         shared: &Shared,
+        numbers: &N,
         tick: u32,
     ) -> Result<(), AllocError>
         requires kept { IsSound shared.now.table (sight_of self.old) }
@@ -97,13 +119,20 @@ impl SlowWorker {
         requires some { 0 < length self.old.deferred.list }
         ensures kept { IsSound shared.now.table (sight_of self.new) }
         ensures senders { HasSenders shared.now self.new }
-        ensures served { OnOk result (IsFirstServed shared.now tick self.old self.new) }
-        ensures left { OnErr result (IsFirstLeft shared.now tick self.old self.new) }
+        ensures served { OnOk result (IsFirstServed (N.number numbers.now) shared.now tick self.old self.new) }
+        ensures left { OnErr result (IsFirstLeft (N.number numbers.now) shared.now tick self.old self.new) }
     {
         let Some(first) = self.deferred.take_first() else {
             unreachable!()
         };
-        let served = self.frame(rt, shared, tick, first.frame.id, &first.frame.packet);
+        let served = self.frame(
+            rt,
+            shared,
+            numbers,
+            tick,
+            first.frame.id,
+            &first.frame.packet,
+        );
         match served {
             Err(e) => {
                 self.deferred.put_back(first);

@@ -10,6 +10,7 @@ use crate::clock::Clock;
 use crate::worker::SlowWorker;
 use core_worker::Shared;
 use flow_clock::tick_all;
+use slow_handshake::NumberSource;
 use std::alloc::AllocError;
 use std::sync::Wait;
 
@@ -20,7 +21,13 @@ impl SlowWorker {
     /// kept, and each flow that the turn's ticks, entries and openings left with something to send, is posted to the
     /// queue of its core, or kept where that is full. The error is want of memory, or all of 4,294,967,295 numbers for
     /// openings were given; what was done stands.
-    pub fn turn<R: Wait>(&mut self, rt: &R, shared: &Shared, tick: u32) -> Result<(), AllocError>
+    pub fn turn<R: Wait, N: NumberSource>(
+        &mut self,
+        rt: &R,
+        shared: &Shared,
+        numbers: &N,
+        tick: u32,
+    ) -> Result<(), AllocError>
         requires sound { IsSound shared.now.table (sight_of self.old) }
         requires risen { HasRisen tick self.old.time }
         requires senders { HasSenders shared.now self.old }
@@ -29,27 +36,37 @@ impl SlowWorker {
         ensures senders { HasSenders shared.now self.new }
         ensures kickers { CanKick shared.now self.new.kickers }
         ensures time { last_tick self.new.time ≡ Some tick }
-        ensures turned { OnOk result (IsTurn (is_passed tick self.old) shared.now tick self.old self.new) }
-        ensures stopped { OnErr result (IsTurnStopped (is_passed tick self.old) shared.now tick self.old self.new) }
+        ensures turned { OnOk result (IsTurn (is_passed tick self.old) (N.number numbers.now) shared.now tick self.old
+            self.new) }
+        ensures stopped { OnErr result (IsTurnStopped (is_passed tick self.old) (N.number numbers.now) shared.now
+            tick self.old self.new) }
     {
-        let done = self.work(rt, shared, tick);
+        let done = self.work(rt, shared, numbers, tick);
         self.post_kicks(rt, shared);
         done
     }
 
     /// What the turn is for.
-    fn work<R: Wait>(&mut self, rt: &R, shared: &Shared, tick: u32) -> Result<(), AllocError>
+    fn work<R: Wait, N: NumberSource>(
+        &mut self,
+        rt: &R,
+        shared: &Shared,
+        numbers: &N,
+        tick: u32,
+    ) -> Result<(), AllocError>
         requires sound { IsSound shared.now.table (sight_of self.old) }
         requires senders { HasSenders shared.now self.old }
         ensures sound { IsSound shared.now.table (sight_of self.new) }
         ensures senders { HasSenders shared.now self.new }
         ensures kickers { self.new.kickers ≡ self.old.kickers }
         ensures time { last_tick self.new.time ≡ Some tick }
-        ensures done { OnOk result (IsWork (is_passed tick self.old) shared.now tick self.old self.new) }
-        ensures stopped { OnErr result (IsWorkStopped (is_passed tick self.old) shared.now tick self.old self.new) }
+        ensures done { OnOk result (IsWork (is_passed tick self.old) (N.number numbers.now) shared.now tick self.old
+            self.new) }
+        ensures stopped { OnErr result (IsWorkStopped (is_passed tick self.old) (N.number numbers.now) shared.now
+            tick self.old self.new) }
     {
         if self.time.has_passed(tick) {
-            self.serve(rt, shared, tick)
+            self.serve(rt, shared, numbers, tick)
         } else {
             self.pass_time(rt, shared, tick)
         }
@@ -79,6 +96,7 @@ impl SlowWorker {
             &mut timed,
             tick,
         );
+        self.pins.index();
         self.flows.keep(&self.pins);
         self.time = Clock::Passing {
             tick,

@@ -16,7 +16,7 @@ use flow_index::{IndexReader, IndexWriter};
 use flow_lock::SlowPass;
 use flow_state::FlowRecord;
 use segment_fields::read;
-use slow_handshake::SlowPath;
+use slow_handshake::{NumberSource, SlowPath};
 use std::alloc::{AllocError, Global};
 use std::collections::VecDeque;
 use std::marker::Model;
@@ -221,12 +221,14 @@ impl SlowWorker {
     }
 
     /// Handles one frame: its packet is read, and the segment is received by the flow that has its four-tuple, whose
-    /// application is told what that brought, or it meets a listener, or is a stray. The error is want of memory, or
-    /// that no number is left for an opening, and then the frame made no entry, no flow, no line and no note.
-    pub fn frame<R: Wait>(
+    /// application is told what that brought, or it meets a listener, or is a stray. A flow that it opens has the first
+    /// number that the source has for it. The error is want of memory, or that no number is left for an opening, and
+    /// then the frame made no entry, no flow, no line and no note.
+    pub fn frame<R: Wait, N: NumberSource>(
         &mut self,
         rt: &R,
         shared: &Shared,
+        numbers: &N,
         tick: u32,
         id: FrameId,
         packet: &Bytes,
@@ -235,10 +237,10 @@ impl SlowWorker {
         requires senders { HasSenders shared.now self.old }
         ensures kept { IsSound shared.now.table (sight_of self.new) }
         ensures senders { HasSenders shared.now self.new }
-        ensures served { IfOk result (IsServed (setting_of shared.now tick self.old) id packet.now
-            (sight_of self.old) (sight_of self.new)) }
-        ensures unserved { OnErr result (IsUnserved (setting_of shared.now tick self.old) packet.now
-            (sight_of self.old) (sight_of self.new)) }
+        ensures served { IfOk result (IsServed (setting_of (N.number numbers.now) shared.now tick self.old) id
+            packet.now (sight_of self.old) (sight_of self.new)) }
+        ensures unserved { OnErr result (IsUnserved (setting_of (N.number numbers.now) shared.now tick self.old)
+            packet.now (sight_of self.old) (sight_of self.new)) }
         ensures rest { self.new ≡ with_sight (sight_of self.new) self.old }
     {
         let seg = match read(packet.as_slice(), self.check_sums) {
@@ -247,7 +249,7 @@ impl SlowWorker {
         };
         match self.flows.find(tuple_of(&seg)) {
             Some(flow) => self.enter(rt, shared, tick, id, flow, &seg),
-            None => self.meet(rt, &shared.table, tick, id, &seg),
+            None => self.meet(rt, &shared.table, numbers, tick, id, &seg),
         }
     }
 

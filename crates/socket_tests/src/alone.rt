@@ -88,7 +88,7 @@ fn next_numbers(path: &SlowPath) -> (Option<u16>, Seq) {
         raddr: 167772161,
         rport: 80,
     };
-    (path.next_port().ok(), path.first_number(tuple))
+    (path.next_port().ok(), path.first_number(tuple, 0))
 }
 
 /// The application ends, and the turns come back. What it leaves.

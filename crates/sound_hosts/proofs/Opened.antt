@@ -27,6 +27,7 @@ use Rattle.flow_clock.specs.Histories.{is_over, is_running}
 use Rattle.slow_handshake.specs.Openings.{Openings, first_port, has_port, is_taken, syn_answer}
 use Rattle.slow_handshake.specs.declared.openings.Listener.{Listener}
 use Rattle.slow_handshake.specs.declared.openings.SynAnswer.TheVariants as syn
+use Rattle.tas_num.specs.declared.seq.Seq.{Seq}
 use Rattle.slow_worker.specs.Opening.{first_history}
 use Rattle.slow_worker.specs.Workers.{flow_with, has_tuple, id_of}
 use Rattle.host_books.specs.Books.{Book, live_in}
@@ -37,15 +38,15 @@ use Rattle.sound_hosts.proofs.Fresh.{other, own}
 use Rattle.sound_hosts.proofs.Led.{alike}
 
 -- ----- the history that a SYN begins
-pub begins_open : (tick : ℕ) (frame : FrameId) (seg : Segment) (o : Openings)
-    → is_over (first_history tick frame seg o) ≡ false
+pub begins_open : (tick : ℕ) (iss : Seq) (frame : FrameId) (seg : Segment) (o : Openings)
+    → is_over (first_history tick iss frame seg o) ≡ false
 unfolding replay
-begins_open tick frame seg o = refl
+begins_open tick iss frame seg o = refl
 
-pub begins_early : (tick : ℕ) (frame : FrameId) (seg : Segment) (o : Openings)
-    → is_running (first_history tick frame seg o) ≡ false
+pub begins_early : (tick : ℕ) (iss : Seq) (frame : FrameId) (seg : Segment) (o : Openings)
+    → is_running (first_history tick iss frame seg o) ≡ false
 unfolding replay
-begins_early tick frame seg o = refl
+begins_early tick iss frame seg o = refl
 
 -- ----- ports
 -- but for a replay, the port of a SYN that opens a flow is a listener's

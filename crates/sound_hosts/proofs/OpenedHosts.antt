@@ -32,6 +32,7 @@ use Rattle.slow_handshake.specs.Openings.{first_port, syn_answer}
 use Rattle.slow_handshake.specs.declared.openings.Listener.{Listener}
 use Rattle.slow_handshake.specs.declared.openings.PassiveFlow.{PassiveFlow}
 use Rattle.slow_handshake.specs.declared.openings.SynAnswer.TheVariants as syn
+use Rattle.tas_num.specs.declared.seq.Seq.{Seq}
 use Rattle.slow_worker.specs.Opening.{IsOpened, first_history}
 use Rattle.slow_worker.specs.Workers.{Worker, Sight, sight_of, with_sight, flow_with, waiting, IsSound}
 use Rattle.slow_worker.specs.declared.known.KnownFlow.{KnownFlow}
@@ -62,17 +63,18 @@ names_same test bs b e =
     (filter_append test bs (b ∷ [])
     ∙ (ap (λ c. filter test bs ++ cond c (b ∷ []) []) e ∙ append-nil (filter test bs)))
 
-module _ (h : CoreHost) (w : Worker) (tick : ℕ) (frame : FrameId) (seg : Segment) (id : FlowId)
+module _ (h : CoreHost) (w : Worker) (tick : ℕ) (iss : Seq) (frame : FrameId) (seg : Segment) (id : FlowId)
     (sound : IsHostSound h) (next : next_in h.slow.pass.view.marks ≡ Some id)
     (apart : flow_with (segment_tuple seg) h.slow.flows ≡ None) (few : length h.books < 4294967295)
     (answer : syn_answer h.slow.path seg.dport ≡ syn.Opens)
-    (opened : IsOpened tick frame seg id (sight_of h.slow) (sight_of w)) (rest : w ≡ with_sight (sight_of w) h.slow)
+    (opened : IsOpened tick iss frame seg id (sight_of h.slow) (sight_of w))
+    (rest : w ≡ with_sight (sight_of w) h.slow)
     (kept : IsSound h.table (sight_of w)) where
   abbrev known : List Held
   known = known_in h
 
   abbrev k : History
-  k = first_history tick frame seg h.slow.path
+  k = first_history tick iss frame seg h.slow.path
 
   abbrev b : Book
   b = new_book id Waiting
@@ -201,8 +203,8 @@ module _ (h : CoreHost) (w : Worker) (tick : ℕ) (frame : FrameId) (seg : Segme
           ∙ (ap (λ (fs : List PassiveFlow). fs ++ record { id = id; port = seg.dport; ready = false } ∷ [])
           sound.opening.flows
           ∙ (ap (λ r. waiting_in known h.books ++ record { id = id; port = seg.dport; ready = r } ∷ [])
-          (sym (begins_early tick frame seg h.slow.path))
-          ∙ (sym (waiting_more known id k Waiting refl (begins_open tick frame seg h.slow.path) h.books others)
+          (sym (begins_early tick iss frame seg h.slow.path))
+          ∙ (sym (waiting_more known id k Waiting refl (begins_open tick iss frame seg h.slow.path) h.books others)
           ∙ ap (λ (l : List Held). waiting_in l (h.books ++ b ∷ [])) (sym base))));
       ports = λ f. ap (λ (s : Sight). s.path.ports) opened.after
           ∙ (sound.opening.ports (unfixed f)

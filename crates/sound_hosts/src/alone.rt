@@ -18,6 +18,7 @@ ghost use Rattle.slow_handshake.specs.Openings.{syn_answer};
 ghost use Rattle.slow_handshake.specs.declared.openings.SynAnswer.TheVariants as syn;
 ghost use Rattle.core_worker.specs.Frames.{tuple_of};
 ghost use Rattle.slow_worker.specs.Entering.{IsEntered};
+ghost use Rattle.tas_num.specs.declared.seq.Seq.{Seq};
 ghost use Rattle.slow_worker.specs.Opening.{IsOpened};
 ghost use Rattle.slow_worker.specs.Workers.{Worker, Setting, IsSound, sight_of, with_sight, flow_with};
 ghost use Rattle.slow_worker.specs.declared.served.Served.TheVariants as served;
@@ -61,9 +62,9 @@ pub fn frames_alone_keep_it()
 ///
 /// [`SlowWorker::frame`]: slow_worker::SlowWorker::frame
 pub fn frames_that_open_keep_it()
-    ensures { (h : CoreHost) (w : Worker) (tick : ℕ) (frame : FrameId) (seg : Segment) (id : FlowId)
+    ensures { (h : CoreHost) (w : Worker) (tick : ℕ) (iss : Seq) (frame : FrameId) (seg : Segment) (id : FlowId)
         → IsHostSound h → next_in h.slow.pass.view.marks ≡ Some id → flow_with (tuple_of seg) h.slow.flows ≡ None
         → length h.books < 4294967295 → syn_answer h.slow.path seg.dport ≡ syn.Opens
-        → IsOpened tick frame seg id (sight_of h.slow) (sight_of w) → w ≡ with_sight (sight_of w) h.slow
+        → IsOpened tick iss frame seg id (sight_of h.slow) (sight_of w) → w ≡ with_sight (sight_of w) h.slow
         → IsSound h.table (sight_of w) → IsHostSound (with_book (new_book id Waiting) w h) }
 {}

@@ -1,7 +1,8 @@
-use Rattle.std.proofs.Common.{◌≡◌, List, sym, subst}
+use Rattle.std.proofs.Common.{◌≡◌, List, ap, sym, ◌∙◌, subst}
+use Rattle.std.proofs.Math.Seq.{map-set_same}
 use Rattle.std.specs.Prelude.{Some, position}
 use Rattle.core_worker.specs.News.{notes_about}
-use Rattle.core_worker.specs.Telling.{AreOwnSenders, is_sender_for}
+use Rattle.core_worker.specs.Telling.{AreOwnSenders, app_of, is_sender_for}
 use Rattle.core_worker.specs.declared.senders.AppSender.{AppSender}
 use Rattle.core_worker.proofs.Told.{sender_at, has_queue, no_sender, one_line, told_by}
 use Rattle.core_worker.proofs.senders.AppSenders.tell.Goals as goal
@@ -37,3 +38,11 @@ returns-clause-told g c =
     let told = told_by _ _ notes ss _ c.index_mut.result.now _ c.post.new.sender own at c.index_mut.ensures.value
     c.in-Some-queue.ensures.some c.post.ensures.posted in
     rw (c.in-Some.is, ← c.self.view_is) told
+
+-- whoever posts keeps its application
+pub invariant_of-self : goal.invariant_of-self
+invariant_of-self g c =
+    c.self.invariant
+    ∙ sym (map-set_same app_of c.self.inside.senders.items c.in-Some-place_of.i
+    (record { app = c.index_mut.result.now.app; sender = c.post.new.sender }) c.index_mut.result.now
+    (ap app_of c.index_mut.ensures.value))

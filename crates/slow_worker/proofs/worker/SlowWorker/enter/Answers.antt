@@ -67,7 +67,7 @@ returns-in-Entered-clause-kept g c =
     c.in_ok-offered.offered c.offer.ensures.table c.in_ok-offered.ensures.offered kept
 
 pub returns-in-Busy-clause-entered : goal.returns-in-Busy-clause-entered
-returns-in-Busy-clause-entered g c =
+returns-in-Busy-clause-entered g c ns =
     let kept = subst (λ (w : Worker). IsSound c.args.shared.now.table (sight_of w)) (sym c.self.view_is) c.requires.kept
     in
     let pinned = subst (λ (w : Worker). HasItsPin w.pins c.args.id) (sym c.self.view_is) c.requires.pinned in
@@ -81,14 +81,15 @@ returns-in-Busy-clause-entered g c =
     let path = c.offer.new.path in
     let done = subst (λ (x : Offered). IsOffered c.args.tick c.args.frame c.args.seg.now p u.path path u.pass.view
     pass.view x) c.in-Busy.is c.in_ok-offered.ensures.offered in
-    subst (λ (y : Worker). IsEntered (setting_of c.args.shared.now c.args.tick y) c.args.frame c.args.seg.now c.args.id
+    subst (λ (y : Worker). IsEntered
+    (setting_of ns c.args.shared.now c.args.tick y) c.args.frame c.args.seg.now c.args.id
     (sight_of y) (record s { path = path; pass = pass; kicks = c.reserve.new.self.list }) (served.Busy c.in-Busy.word))
     c.self.view_is
-    (busy_so (setting_of c.args.shared.now c.args.tick u) c.args.frame c.args.seg.now c.args.id p s pass path
+    (busy_so (setting_of ns c.args.shared.now c.args.tick u) c.args.frame c.args.seg.now c.args.id p s pass path
     c.reserve.new.self.list c.in-Busy.word named c.offer.ensures.table c.reserve.ensures.list done)
 
 pub returns-in-Entered-clause-entered : goal.returns-in-Entered-clause-entered
-returns-in-Entered-clause-entered g c =
+returns-in-Entered-clause-entered g c ns =
     let kept = subst (λ (w : Worker). IsSound c.args.shared.now.table (sight_of w)) (sym c.self.view_is) c.requires.kept
     in
     let pinned = subst (λ (w : Worker). HasItsPin w.pins c.args.id) (sym c.self.view_is) c.requires.pinned in
@@ -105,9 +106,11 @@ returns-in-Entered-clause-entered g c =
     let kicks = c.put_some.new.self.list in
     let done = subst (λ (x : Offered). IsOffered c.args.tick c.args.frame c.args.seg.now p u.path path u.pass.view
     pass.view x) c.in-Entered.is c.in_ok-offered.ensures.offered in
-    subst (λ (y : Worker). IsEntered (setting_of c.args.shared.now c.args.tick y) c.args.frame c.args.seg.now c.args.id
+    subst (λ (y : Worker). IsEntered
+    (setting_of ns c.args.shared.now c.args.tick y) c.args.frame c.args.seg.now c.args.id
     (sight_of y) (record s { path = path; pass = pass; senders = senders; kicks = kicks }) (served.Entered c.args.id))
     c.self.view_is
-    (entered_so (setting_of c.args.shared.now c.args.tick u) c.args.frame c.args.seg.now c.args.id p s pass path senders
+    (entered_so (setting_of ns c.args.shared.now c.args.tick u) c.args.frame c.args.seg.now c.args.id p s pass path
+    senders
     kicks b named c.offer.ensures.table done c.tell.ensures.told
     (c.put_some.ensures.list ∙ ap (λ l. l ++ one_kick b.kick) c.reserve.ensures.list))

@@ -15,7 +15,7 @@ returns-clause-kept g c =
     in
     let named = c.open_next.ensures.pin ∙ c.in_ok-flow.ensures.id in
     let params = ap (λ (o : Openings). o.params) c.in_ok-opened.ensures.ok
-    ∙ ap (λ (o : Openings). o.params) c.next_iss-iss.ensures.next in
+    ∙ ap (λ (o : Openings). o.params) c.next_iss.ensures.next in
     let after = opened_kept c.args.table.now c.args.id c.in_ok-flow.flow.id (history c.in_ok-flow.flow)
     c.self.inside.pass c.open_next.new.pass c.self.inside.doomed.list c.self.inside.pins.list c.put.new.self.list
     c.self.inside.flows.list c.put-2.new.self.list (record { tuple = c.tuple_of-tuple.result; id = c.args.id }) next

@@ -5,4 +5,5 @@ use Rattle.slow_worker.proofs.worker.SlowWorker.serve.Given as goal
 
 abbrev pub invariant-loop : goal.invariant-loop
 invariant-loop g l =
-    Loop l.shared l.tick l.fn.self l.self l.counter × (l.end ≡ length (waiting l.fn.self))
+    Loop (g.N.NumberSource.number l.numbers) l.shared l.tick l.fn.self l.self l.counter × (l.end ≡ length
+    (waiting l.fn.self))

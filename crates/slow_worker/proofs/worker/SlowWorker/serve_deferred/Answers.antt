@@ -20,8 +20,10 @@ returns-in-Err-clause-left g c =
     let deferred : n.deferred.list ≡ u.deferred.list =
     c.put_back.ensures.list
     ∙ (ap (λ (w : Worker). f ∷ w.deferred.list) rest ∙ sym c.in-Some.ensures.first) in
-    first_left c.args.shared.now c.args.tick u c.args.self.now n f _ c.self.view_is first
-    (subst (λ (s : Sight). IsUnserved (setting_of c.args.shared.now c.args.tick u) f.frame.packet (sight_of u) s)
+    first_left (g.N.NumberSource.number c.args.numbers.now) c.args.shared.now c.args.tick u c.args.self.now n f _
+    c.self.view_is first
+    (subst (λ (s : Sight). IsUnserved (setting_of
+    (g.N.NumberSource.number c.args.numbers.now) c.args.shared.now c.args.tick u) f.frame.packet (sight_of u) s)
     (ap sight_of (sym c.self-in-Err.view_is)) c.in-Err.ensures.unserved)
     (joined _ _ _ _ exceptions deferred)
     (ap standing_of rest)

@@ -18,8 +18,10 @@ returns-in-Err-clause-left g c =
     c.put_back.ensures.list ∙ ap (λ (w : Worker). f ∷ w.exceptions.list) rest in
     let deferred : n.deferred.list ≡ u.deferred.list =
     ap (λ (w : Worker). w.deferred.list) rest ∙ c.reserve.ensures.list in
-    first_left c.args.shared.now c.args.tick u c.args.self.now n f _ c.self.view_is first
-    (subst (λ (s : Sight). IsUnserved (setting_of c.args.shared.now c.args.tick u) f.frame.packet (sight_of u) s)
+    first_left (g.N.NumberSource.number c.args.numbers.now) c.args.shared.now c.args.tick u c.args.self.now n f _
+    c.self.view_is first
+    (subst (λ (s : Sight). IsUnserved (setting_of
+    (g.N.NumberSource.number c.args.numbers.now) c.args.shared.now c.args.tick u) f.frame.packet (sight_of u) s)
     (ap sight_of (sym c.self-in-Err.view_is)) c.in-Err.ensures.unserved)
     (joined _ _ _ _ exceptions deferred ∙ sym first)
     (ap standing_of rest)
@@ -41,9 +43,11 @@ returns-in-Ok-clause-served g c =
     let fewer : length n.exceptions.list ≡ length u.exceptions.list - 1 =
     let long = ap length c.in-Some.ensures.first in
     let left = ap length exceptions in omega (arith, long, left) in
-    first_served c.args.shared.now c.args.tick u c.args.self.now n f (c.take_first.new.self.list ++ u.deferred.list)
+    first_served (g.N.NumberSource.number c.args.numbers.now) c.args.shared.now c.args.tick u c.args.self.now n f
+    (c.take_first.new.self.list ++ u.deferred.list)
     c.in-Ok.served c.self.view_is first
-    (subst (λ (s : Sight). IsOneServed (setting_of c.args.shared.now c.args.tick u) f (sight_of u) s c.in-Ok.served)
+    (subst (λ (s : Sight). IsOneServed (setting_of
+    (g.N.NumberSource.number c.args.numbers.now) c.args.shared.now c.args.tick u) f (sight_of u) s c.in-Ok.served)
     (ap sight_of (sym last)) c.in-Ok.ensures.served)
     (joined _ _ _ _ exceptions deferred ∙ sym (append_assoc c.take_first.new.self.list u.deferred.list _)) fewer
     (ap standing_of last ∙ ap standing_of rest)

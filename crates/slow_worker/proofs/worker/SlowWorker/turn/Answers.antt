@@ -11,10 +11,12 @@ post_kicks-requires g c =
 
 pub returns-clause-turned : goal.returns-clause-turned
 returns-clause-turned g c =
-    turned_so _ c.args.shared.now c.args.tick c.args.self.now c.work-done.new.self c.post_kicks.new.self
+    turned_so _ (g.N.NumberSource.number c.args.numbers.now) c.args.shared.now c.args.tick c.args.self.now
+    c.work-done.new.self c.post_kicks.new.self
     c.work-done.result c.work-done.ensures.done c.post_kicks.ensures.posted
 
 pub returns-clause-stopped : goal.returns-clause-stopped
 returns-clause-stopped g c =
-    stopped_so _ c.args.shared.now c.args.tick c.args.self.now c.work-done.new.self c.post_kicks.new.self
+    stopped_so _ (g.N.NumberSource.number c.args.numbers.now) c.args.shared.now c.args.tick c.args.self.now
+    c.work-done.new.self c.post_kicks.new.self
     c.work-done.result c.work-done.ensures.stopped c.post_kicks.ensures.posted
