@@ -1,0 +1,6 @@
+pub mod Numbering
+pub mod Sends
+pub mod Entries
+pub mod NoBytes
+pub mod Steps
+pub mod Judged

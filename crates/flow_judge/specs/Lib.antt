@@ -1,0 +1,4 @@
+pub mod Numbers
+pub mod Trials
+pub mod Making
+pub mod Judging

@@ -1,0 +1,9 @@
+pub mod Lists
+pub mod FirstLines
+pub mod Saying
+pub mod Rightness
+pub mod Coming
+pub mod Judged
+pub mod Reading
+pub mod NamedLines
+pub mod HostNames

@@ -1,0 +1,6 @@
+pub mod TextLines
+pub mod Forms
+pub mod Shown
+pub mod Right
+pub mod Verdicts
+pub mod Watching
