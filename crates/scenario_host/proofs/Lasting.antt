@@ -17,6 +17,7 @@ use Rattle.host_rounds.specs.Deliveries.{Arrival, Packet, Damaged, Segment, Taki
 use Rattle.host_rounds.specs.Deliveries.{met_no_flow, arrived}
 use Rattle.host_rounds.specs.Deliveries.{delivered, delivered_packet}
 use Rattle.host_rounds.specs.SerialOrder.{slow_phase, emit_phase}
+use Rattle.asked_host.proofs.Accepting.{length_at}
 
 -- the later host has the same parameters, and all flows of the earlier one
 pub record Lasts (before after : Host) : Type 0 where
@@ -33,11 +34,6 @@ lasts_both a b c first then = record {
 }
 
 -- ----- changes of flows
-pub length_at : (f : Live → Live) (n : ℕ) (ls : List Live) → length (change_at n f ls) ≡ length ls
-length_at f n [] = refl
-length_at f zero (l ∷ ls) = refl
-length_at f (suc n) (l ∷ ls) = ap suc (length_at f n ls)
-
 length_first : (test : Live → Bool) (f : Live → Live) (ls : List Live) → length (change_first test f ls) ≡ length ls
 length_first test f [] = refl
 length_first test f (l ∷ ls) = by_test (test l) (length_first test f ls) where

@@ -10,7 +10,6 @@ pub mod Answering
 pub mod Offers
 pub mod Sockets
 pub mod Stepping
-pub mod Aborting
 pub mod Playing
 pub mod OneTry
 pub mod TriedTurns

@@ -25,6 +25,7 @@ use Rattle.scenario_host.specs.Answers.{IsBelow, IsWithin, gave, sent_by, receiv
 use Rattle.scenario_host.specs.Sound.{IsPart}
 use Rattle.scenario_host.specs.Tries.{IsTryOn, IsTry, IsAttemptAt, IsAttemptOf, IsAnswerFirst, answered_first}
 use Rattle.scenario_host.specs.Turns.{turn_of}
+use Rattle.asked_host.specs.Asking.{told}
 use Rattle.scenario_host.proofs.Answering.{Asked, asked_as, took_few, sends_by, gave_few, gave_within, receives_by}
 use Rattle.scenario_host.proofs.Offers.{length-filling, rest_offered}
 use Rattle.scenario_host.proofs.Sockets.{on_found}
@@ -57,9 +58,9 @@ asked_from : (app place t : ℕ) (call : Call) (offer : List ℕ) (a : Answer) (
     → a ≡ answer_of (reply_to l.flow.params l.flow.entries t call offer))
     → change_at place (λ (l : Live). with_call l (App app) t call offer) before.flows ≡ after.flows
     → record before { flows = after.flows } ≡ after → Asked app place t call offer before after a
-asked_from app place t call offer a before after below told made others = record {
+asked_from app place t call offer a before after below tells made others = record {
   made = sym others ∙ ap (λ (ls : List Live). record before { flows = ls }) (sym made);
-  answered = answered {E = ℕ} (Ok a) (App app) t call offer place before.flows after below (sym made) told;
+  answered = ap told (answered {E = ℕ} (Ok a) (App app) t call offer place before.flows after below (sym made) tells);
 }
 
 -- ----- send

@@ -1,24 +1,8 @@
 -- How a script goes on by the answer that its call got.
 use Rattle.std.specs.Prelude.{ℕ, ◌+◌, ◌<◌, ◌≤◌, ◌==◌, Option, Some, None, ⊤}
-use Rattle.flow_state.specs.declared.call.CallIn.{CallIn}
-use Rattle.flow_state.specs.declared.call.CallIn.TheVariants as ins
 use Rattle.flow_state.specs.declared.call.Answer.{Answer}
 use Rattle.flow_state.specs.declared.call.Answer.TheVariants as answers
 use Rattle.scenario_runs.specs.Applications.{Script, stepped, done_or}
-
--- the calls without bytes that any phase takes
-abbrev pub IsPlainCall : CallIn → Type 0
-IsPlainCall ins.Ready = ⊤
-IsPlainCall ins.Shut = ⊤
-IsPlainCall ins.Close = ⊤
-IsPlainCall ins.Abort = ⊤
-IsPlainCall _ = ⊥
-
--- those that give the socket up
-abbrev pub IsEndCall : CallIn → Type 0
-IsEndCall ins.Close = ⊤
-IsEndCall ins.Abort = ⊤
-IsEndCall _ = ⊥
 
 -- ----- counts
 -- so much is not all, where that is a number

@@ -1,5 +1,7 @@
 -- How the code's scripts are seen as those of the model.
-use Rattle.std.specs.Prelude.{ℕ, List, map}
+use Rattle.std.specs.Prelude.{ℕ, Bool, ◌&&◌, List, map, bytes_eq}
+use Rattle.scenario_text.specs.declared.scenario.AppLine.{AppLine}
+use Rattle.scenario_text.specs.declared.scenario.KillLine.{KillLine}
 use Rattle.scenario_runs.specs.Applications.{Bound, AListener, ASocket, Script}
 use Rattle.scenario_host.specs.declared.script.Bound as code
 use Rattle.scenario_host.specs.declared.script.Bound.TheVariants as bounds
@@ -24,3 +26,7 @@ script_of s =
       begun = s.begun;
       names = map named s.names.items;
     }
+
+-- a kill of the application that finds it with a record in hand
+abbrev pub is_holding_kill : AppLine → KillLine → Bool
+is_holding_kill app k = k.holding && bytes_eq k.host app.host && bytes_eq k.app app.name

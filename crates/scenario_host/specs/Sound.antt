@@ -21,19 +21,26 @@ abbrev pub IsPartOfFirst : List Step → (done : ℕ) → Type 0
 IsPartOfFirst [] done = ⊤
 IsPartOfFirst (step ∷ rest) done = IsPart step done
 
--- a socket is that of one of so many flows
-abbrev pub IsOneOf : (flows : ℕ) → Bound → Type 0
-IsOneOf flows (AListener port) = ⊤
-IsOneOf flows (ASocket place) = place < flows
+-- a socket is one of those that the application has, by their flows' places
+abbrev pub IsOneOf : (has : ℕ → Type 0) → Bound → Type 0
+IsOneOf has (AListener port) = ⊤
+IsOneOf has (ASocket place) = has place
 
-abbrev pub AreNamesOf : (flows : ℕ) → List (List ℕ × Bound) → Type 0
-AreNamesOf flows names = Each (λ (b : List ℕ × Bound). IsOneOf flows b.1) names
+abbrev pub AreNamesOf : (has : ℕ → Type 0) → List (List ℕ × Bound) → Type 0
+AreNamesOf has names = Each (λ (b : List ℕ × Bound). IsOneOf has b.1) names
 
--- A script of a host that has so many flows.
-pub record IsFit (flows : ℕ) (s : Script) : Type 0 where
+-- A script of an application that has these sockets.
+pub record IsFitFor (has : ℕ → Type 0) (s : Script) : Type 0 where
   pub steps : Each IsStepInRange s.left
   pub part : IsPartOfFirst s.left s.done
-  pub names : AreNamesOf flows s.names
+  pub names : AreNamesOf has s.names
+
+-- one of a host that has so many flows
+abbrev pub IsPlace : (flows place : ℕ) → Type 0
+IsPlace flows place = place < flows
+
+abbrev pub IsFit : (flows : ℕ) → Script → Type 0
+IsFit flows s = IsFitFor (IsPlace flows) s
 
 -- Applications are numbered upward.
 abbrev pub AreRising : List Script → Type 0

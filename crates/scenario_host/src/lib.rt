@@ -1,7 +1,6 @@
 //! The host of a scenario, with the applications that run on it: in a tick each of them makes the call of its step.
 #![tactic(auto)]
 
-mod calls;
 mod filling;
 mod host;
 mod kill;

@@ -36,6 +36,8 @@ pub struct AppScript<'a> {
     number: u32,
     /// The tick in which it is killed.
     kill: Option<u32>,
+    /// Whether it ends with a record in hand then.
+    holding: bool,
     /// The steps that are not over; the first is under way.
     left: &'a [Step],
     /// How much of that one is done: ticks waited, bytes taken or received.
@@ -56,11 +58,12 @@ impl<'a> Model for AppScript<'a> {
 }
 
 impl<'a> AppScript<'a> {
-    /// An application at the start of its script. It takes no memory.
+    /// An application at the start of its script. Where it is killed it ends `holding` a record. It takes no memory.
     pub fn at_start(
         alloc: Global,
         number: u32,
         kill: Option<u32>,
+        holding: bool,
         steps: &'a [Step],
     ) -> AppScript<'a>
         ensures { result ≡ record {
@@ -75,6 +78,7 @@ impl<'a> AppScript<'a> {
         AppScript {
             number,
             kill,
+            holding,
             left: steps,
             done: 0,
             begun: false,
@@ -114,6 +118,11 @@ impl<'a> AppScript<'a> {
         ensures { result ≡ is_some self.now.kill }
     {
         self.kill.is_some()
+    }
+
+    /// Whether it ends with a record in hand where it is killed.
+    pub fn ends_holding(&self) -> bool {
+        self.holding
     }
 
     /// The steps that are not over.

@@ -1,4 +1,6 @@
 ghost use Rattle.std.specs.Prelude.{◌≡◌, ◌≤◌, length, IfOk};
+ghost use Rattle.std.specs.List.{list_any};
+ghost use Rattle.scenario_host.specs.Scripts.{is_holding_kill};
 ghost use Rattle.scenario_runs.specs.Worlds.{scripts_on as model_scripts, kill_tick as model_kill};
 
 use crate::script::AppScript;
@@ -19,7 +21,9 @@ pub(crate) fn scripts_on<'a>(
     for app in s.apps.as_slice() {
         if app.host.as_slice() == host {
             let kill = kill_tick(s.kills.as_slice(), app);
-            scripts.push(AppScript::at_start(alloc, number, kill, app.steps.as_slice()))?;
+            let holding = ends_holding(s.kills.as_slice(), app);
+            let steps = app.steps.as_slice();
+            scripts.push(AppScript::at_start(alloc, number, kill, holding, steps))?;
         }
         number += 1;
     }
@@ -38,4 +42,15 @@ fn kill_tick(kills: &[KillLine], app: &AppLine) -> Option<u32>
         }
     }
     None
+}
+
+/// Whether an application ends with a record in hand where it is killed.
+fn ends_holding(kills: &[KillLine], app: &AppLine) -> bool
+    ensures { result ≡ list_any (is_holding_kill app.now) kills.now }
+{
+    kills.iter().any(|kill| {
+        kill.holding
+            && kill.host.as_slice() == app.host.as_slice()
+            && kill.app.as_slice() == app.name.as_slice()
+    })
 }

@@ -6,37 +6,37 @@ ghost use Rattle.scenario_runs.specs.Applications.{bound_in, port_of, listens, a
 ghost use Rattle.scenario_runs.specs.Applications.{done_or, on_socket, once, ends, waits_for, step_of, turn};
 ghost use Rattle.scenario_runs.specs.Worlds.{numbers_of, address_in};
 ghost use Rattle.tas_model.specs.declared.entry.Call.TheVariants as calls;
-ghost use Rattle.scenario_host.specs.Sound.{IsPart, AreNamesOf, IsFit};
+ghost use Rattle.scenario_host.specs.Sound.{IsPart, AreNamesOf, IsFitFor};
 ghost use Rattle.scenario_host.specs.Turns.{turn_of};
-ghost use Rattle.scenario_host.specs.Answers.{IsEndCall};
+ghost use Rattle.asked_host.specs.Asking.{IsEndCall};
 
-use crate::calls::call_plainly;
 use crate::filling::FillBytes;
 use crate::numbers::HostNumbers;
 use crate::script::{AppScript, Bound};
+use asked_host::AskedHost;
 use flow_state::CallIn;
-use local_host::{Connecting, Holder, LocalHost};
+use local_host::Connecting;
 use scenario_text::{HostLine, Step};
 use std::alloc::AllocError;
 use tas_core::LogEvent;
-use tas_model::Caller;
 
 impl<'a> AppScript<'a> {
     /// What the application asks in a tick: it is killed, or makes the call of its step; one that has ended asks
     /// nothing. The error is want of memory.
     #[inline(always)]
-    pub fn take_turn(
+    pub fn take_turn<H: AskedHost>(
         &mut self,
-        host: &mut LocalHost,
+        host: &mut H,
         tick: u32,
         hosts: &[HostLine],
         numbers: &HostNumbers,
         filling: &FillBytes,
     ) -> Result<(), AllocError>
-        requires listens { host.old.params.fixed ≡ false }
-        requires fit { IsFit (length host.old.flows) self.old }
-        ensures { OnOk result (turn_of host.new self.new
-            ≡ turn (numbers_of numbers.now.params) (address_in hosts.now) tick (turn_of host.old self.old)) }
+        requires listens { (H.seen host.old).params.fixed ≡ false }
+        requires lives { H.has_app host.old self.old.number }
+        requires fit { IsFitFor (H.has_socket host.old self.old.number) self.old }
+        ensures { OnOk result (turn_of (H.seen host.new) self.new
+            ≡ turn (numbers_of numbers.now.params) (address_in hosts.now) tick (turn_of (H.seen host.old) self.old)) }
     {
         if self.is_killed_at(tick) {
             return self.be_killed(host, tick);
@@ -53,21 +53,22 @@ impl<'a> AppScript<'a> {
 
     /// The call of a step. The error is want of memory.
     #[inline(never)]
-    fn take_step(
+    fn take_step<H: AskedHost>(
         &mut self,
-        host: &mut LocalHost,
+        host: &mut H,
         tick: u32,
         step: &'a Step,
         hosts: &[HostLine],
         numbers: &HostNumbers,
         filling: &FillBytes,
     ) -> Result<(), AllocError>
-        requires listens { host.old.params.fixed ≡ false }
+        requires listens { (H.seen host.old).params.fixed ≡ false }
+        requires lives { H.has_app host.old self.old.number }
         requires range { IsStepInRange step.now }
         requires part { IsPart step.now self.old.done }
-        requires names { AreNamesOf (length host.old.flows) self.old.names }
-        ensures { OnOk result (turn_of host.new self.new ≡ step_of (numbers_of numbers.now.params)
-            (address_in hosts.now) tick step.now (turn_of host.old self.old)) }
+        requires names { AreNamesOf (H.has_socket host.old self.old.number) self.old.names }
+        ensures { OnOk result (turn_of (H.seen host.new) self.new ≡ step_of (numbers_of numbers.now.params)
+            (address_in hosts.now) tick step.now (turn_of (H.seen host.old) self.old)) }
     {
         match step {
             Step::Listen(name, port) => self.listen(host, tick, name.as_slice(), *port as u16),
@@ -95,16 +96,17 @@ impl<'a> AppScript<'a> {
     }
 
     /// It listens on the port, which is refused where another listener has it. The error is want of memory.
-    fn listen(
+    fn listen<H: AskedHost>(
         &mut self,
-        host: &mut LocalHost,
+        host: &mut H,
         tick: u32,
         name: &'a [u8],
         port: u16,
     ) -> Result<(), AllocError>
-        requires { port < first_port }
-        ensures { OnOk result (turn_of host.new self.new
-            ≡ listens tick name.now port (turn_of host.old self.old)) }
+        requires lives { H.has_app host.old self.old.number }
+        requires low { port < first_port }
+        ensures { OnOk result (turn_of (H.seen host.new) self.new
+            ≡ listens tick name.now port (turn_of (H.seen host.old) self.old)) }
     {
         let app = self.number();
         if host.is_listened(port) {
@@ -119,6 +121,7 @@ impl<'a> AppScript<'a> {
             self.step_over();
             return Ok(());
         }
+        host.listen(app, port)?;
         host.note(
             tick,
             LogEvent::Listen {
@@ -127,33 +130,31 @@ impl<'a> AppScript<'a> {
                 ok: true,
             },
         )?;
-        host.listen(port, app)?;
         self.bind(name, Bound::Listener(port))?;
         self.step_over();
         Ok(())
     }
 
     /// It accepts the connection of the listener that was opened first. The error is want of memory.
-    fn accept(
+    fn accept<H: AskedHost>(
         &mut self,
-        host: &mut LocalHost,
+        host: &mut H,
         tick: u32,
         socket: &'a [u8],
         listener: &[u8],
     ) -> Result<(), AllocError>
-        ensures { OnOk result (turn_of host.new self.new
-            ≡ accepts (port_of (bound_in self.old.names listener.now)) tick socket.now (turn_of host.old self.old)) }
+        requires { H.has_app host.old self.old.number }
+        ensures { OnOk result (turn_of (H.seen host.new) self.new
+            ≡ accepts (port_of (bound_in self.old.names listener.now)) tick socket.now (turn_of (H.seen host.old) self.old)) }
     {
         let app = self.number();
         let Some(port) = self.port_of(listener) else {
             self.step_over();
             return Ok(());
         };
-        let Some(place) = host.first_ready(port) else {
+        let Some(place) = host.accept(app, tick, port)? else {
             return host.note(tick, LogEvent::AcceptNotYet { app, port });
         };
-        host.ask(place, Caller::App(app), tick, &CallIn::Accept)?;
-        host.hold(place, Holder::Application(app));
         self.bind(socket, Bound::Socket(place))?;
         self.step_over();
         Ok(())
@@ -161,24 +162,25 @@ impl<'a> AppScript<'a> {
 
     /// It connects to the port of the host with this address, and from the next tick on asks whether the connection
     /// stands. The error is want of memory.
-    fn connect(
+    fn connect<H: AskedHost>(
         &mut self,
-        host: &mut LocalHost,
+        host: &mut H,
         tick: u32,
         socket: &'a [u8],
         raddr: u32,
         rport: u16,
         numbers: &HostNumbers,
     ) -> Result<(), AllocError>
-        requires listens { host.old.params.fixed ≡ false }
-        requires names { AreNamesOf (length host.old.flows) self.old.names }
-        ensures { OnOk result (turn_of host.new self.new ≡ connects_on (numbers_of numbers.now.params) self.old.begun
-            tick socket.now raddr rport (turn_of host.old self.old)) }
+        requires listens { (H.seen host.old).params.fixed ≡ false }
+        requires lives { H.has_app host.old self.old.number }
+        requires names { AreNamesOf (H.has_socket host.old self.old.number) self.old.names }
+        ensures { OnOk result (turn_of (H.seen host.new) self.new ≡ connects_on (numbers_of numbers.now.params) self.old.begun
+            tick socket.now raddr rport (turn_of (H.seen host.old) self.old)) }
     {
         if self.has_begun() {
             return self.ask_ready(host, tick, socket);
         }
-        match host.connect_out(tick, self.number(), raddr, rport, numbers)? {
+        match host.connect_out(self.number(), tick, raddr, rport, numbers)? {
             Connecting::Opened(place) => {
                 self.bind(socket, Bound::Socket(place))?;
                 self.begin();
@@ -190,16 +192,16 @@ impl<'a> AppScript<'a> {
     }
 
     /// Its connect is refused for want of a port, or else of a slot. The error is want of memory.
-    fn be_refused(
+    fn be_refused<H: AskedHost>(
         &mut self,
-        host: &mut LocalHost,
+        host: &mut H,
         tick: u32,
         raddr: u32,
         rport: u16,
         no_port: bool,
     ) -> Result<(), AllocError>
-        ensures { OnOk result (turn_of host.new self.new
-            ≡ refused no_port tick raddr rport (turn_of host.old self.old)) }
+        ensures { OnOk result (turn_of (H.seen host.new) self.new
+            ≡ refused no_port tick raddr rport (turn_of (H.seen host.old) self.old)) }
     {
         let app = self.number();
         host.note(
@@ -216,59 +218,63 @@ impl<'a> AppScript<'a> {
     }
 
     /// It asks whether the connection stands. The error is want of memory.
-    fn ask_ready(
+    fn ask_ready<H: AskedHost>(
         &mut self,
-        host: &mut LocalHost,
+        host: &mut H,
         tick: u32,
         socket: &[u8],
     ) -> Result<(), AllocError>
-        requires names { AreNamesOf (length host.old.flows) self.old.names }
-        ensures { OnOk result (turn_of host.new self.new
-            ≡ on_socket socket.now (λ n. waits_for n tick calls.Ready) (turn_of host.old self.old)) }
+        requires names { AreNamesOf (H.has_socket host.old self.old.number) self.old.names }
+        ensures { OnOk result (turn_of (H.seen host.new) self.new
+            ≡ on_socket socket.now (λ n. waits_for n tick calls.Ready) (turn_of (H.seen host.old) self.old)) }
     {
         let Some(place) = self.flow_of(socket) else {
             self.step_over();
             return Ok(());
         };
-        let answer = call_plainly(host, self.number(), place, tick, &CallIn::Ready)?;
+        let answer = host.ask(self.number(), place, tick, &CallIn::Ready)?;
         self.waited(answer);
         Ok(())
     }
 
     /// It ends its stream. The error is want of memory.
-    fn shut(&mut self, host: &mut LocalHost, tick: u32, socket: &[u8]) -> Result<(), AllocError>
-        requires names { AreNamesOf (length host.old.flows) self.old.names }
-        ensures { OnOk result (turn_of host.new self.new
-            ≡ on_socket socket.now (λ n. once n tick calls.Shut) (turn_of host.old self.old)) }
+    fn shut<H: AskedHost>(
+        &mut self,
+        host: &mut H,
+        tick: u32,
+        socket: &[u8],
+    ) -> Result<(), AllocError>
+        requires names { AreNamesOf (H.has_socket host.old self.old.number) self.old.names }
+        ensures { OnOk result (turn_of (H.seen host.new) self.new
+            ≡ on_socket socket.now (λ n. once n tick calls.Shut) (turn_of (H.seen host.old) self.old)) }
     {
         let Some(place) = self.flow_of(socket) else {
             self.step_over();
             return Ok(());
         };
-        call_plainly(host, self.number(), place, tick, &CallIn::Shut)?;
+        host.ask(self.number(), place, tick, &CallIn::Shut)?;
         self.step_over();
         Ok(())
     }
 
     /// It closes or aborts the connection, and gives the socket up. The error is want of memory.
-    fn give_up(
+    fn give_up<H: AskedHost>(
         &mut self,
-        host: &mut LocalHost,
+        host: &mut H,
         tick: u32,
         socket: &[u8],
         call: &CallIn<'_>,
     ) -> Result<(), AllocError>
         requires kind { IsEndCall call.now }
-        requires names { AreNamesOf (length host.old.flows) self.old.names }
-        ensures { OnOk result (turn_of host.new self.new
-            ≡ on_socket socket.now (λ n. ends n tick (call_of call.now) socket.now) (turn_of host.old self.old)) }
+        requires names { AreNamesOf (H.has_socket host.old self.old.number) self.old.names }
+        ensures { OnOk result (turn_of (H.seen host.new) self.new
+            ≡ on_socket socket.now (λ n. ends n tick (call_of call.now) socket.now) (turn_of (H.seen host.old) self.old)) }
     {
         let Some(place) = self.flow_of(socket) else {
             self.step_over();
             return Ok(());
         };
-        call_plainly(host, self.number(), place, tick, call)?;
-        host.hold(place, Holder::GivenUp);
+        host.give_up(self.number(), place, tick, call)?;
         self.unbind(socket);
         self.step_over();
         Ok(())

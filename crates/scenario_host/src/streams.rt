@@ -7,25 +7,24 @@ ghost use Rattle.scenario_host.specs.Answers.{IsBelow};
 
 use crate::filling::{FillBytes, MOST};
 use crate::script::AppScript;
+use asked_host::AskedHost;
 use flow_state::CallIn;
-use local_host::LocalHost;
 use std::alloc::AllocError;
-use tas_model::Caller;
 
 impl AppScript<'_> {
     /// It sends the rest of a text. The error is want of memory.
-    pub(crate) fn send(
+    pub(crate) fn send<H: AskedHost>(
         &mut self,
-        host: &mut LocalHost,
+        host: &mut H,
         tick: u32,
         socket: &[u8],
         text: &[u8],
     ) -> Result<(), AllocError>
         requires few { length text.now ≤ 4096 }
         requires part { self.old.done < length text.now }
-        requires names { AreNamesOf (length host.old.flows) self.old.names }
-        ensures { OnOk result (turn_of host.new self.new
-            ≡ on_socket socket.now (λ n. sends n tick text.now) (turn_of host.old self.old)) }
+        requires names { AreNamesOf (H.has_socket host.old self.old.number) self.old.names }
+        ensures { OnOk result (turn_of (H.seen host.new) self.new
+            ≡ on_socket socket.now (λ n. sends n tick text.now) (turn_of (H.seen host.old) self.old)) }
     {
         let Some(place) = self.flow_of(socket) else {
             self.step_over();
@@ -36,18 +35,18 @@ impl AppScript<'_> {
     }
 
     /// It sends the rest of so many bytes of `fill`. The error is want of memory.
-    pub(crate) fn fill(
+    pub(crate) fn fill<H: AskedHost>(
         &mut self,
-        host: &mut LocalHost,
+        host: &mut H,
         tick: u32,
         socket: &[u8],
         count: u32,
         filling: &FillBytes,
     ) -> Result<(), AllocError>
         requires part { self.old.done < count }
-        requires names { AreNamesOf (length host.old.flows) self.old.names }
-        ensures { OnOk result (turn_of host.new self.new
-            ≡ on_socket socket.now (λ n. sends n tick (model_filling count)) (turn_of host.old self.old)) }
+        requires names { AreNamesOf (H.has_socket host.old self.old.number) self.old.names }
+        ensures { OnOk result (turn_of (H.seen host.new) self.new
+            ≡ on_socket socket.now (λ n. sends n tick (model_filling count)) (turn_of (H.seen host.old) self.old)) }
     {
         let Some(place) = self.flow_of(socket) else {
             self.step_over();
@@ -58,54 +57,44 @@ impl AppScript<'_> {
 
     /// It offers bytes to the flow at a place, and goes on by what was taken of all that it sends. The error is want of
     /// memory.
-    fn offer(
+    fn offer<H: AskedHost>(
         &mut self,
-        host: &mut LocalHost,
+        host: &mut H,
         tick: u32,
         place: usize,
         bytes: &[u8],
         all: u32,
     ) -> Result<(), AllocError>
-        requires place { place < length host.old.flows }
+        requires socket { H.has_socket host.old self.old.number place }
         requires few { length bytes.now ≤ most }
         requires part { self.old.done + length bytes.now ≤ all }
         ensures { (whole : List ℕ) → length whole ≡ all → bytes.now ≡ take most (drop self.old.done whole)
-            → OnOk result (turn_of host.new self.new ≡ sends place tick whole (turn_of host.old self.old)) }
+            → OnOk result (turn_of (H.seen host.new) self.new ≡ sends place tick whole (turn_of (H.seen host.old) self.old)) }
     {
-        let answer = host.ask(
-            place,
-            Caller::App(self.number()),
-            tick,
-            &CallIn::Send { bytes },
-        )?;
+        let answer = host.ask(self.number(), place, tick, &CallIn::Send { bytes })?;
         self.sent(answer, all);
         Ok(())
     }
 
     /// It receives the rest of so many bytes, or all that come. The error is want of memory.
-    pub(crate) fn receive(
+    pub(crate) fn receive<H: AskedHost>(
         &mut self,
-        host: &mut LocalHost,
+        host: &mut H,
         tick: u32,
         socket: &[u8],
         all: Option<u32>,
     ) -> Result<(), AllocError>
         requires part { IsBelow all self.old.done }
-        requires names { AreNamesOf (length host.old.flows) self.old.names }
-        ensures { OnOk result (turn_of host.new self.new
-            ≡ on_socket socket.now (λ n. receives n tick all) (turn_of host.old self.old)) }
+        requires names { AreNamesOf (H.has_socket host.old self.old.number) self.old.names }
+        ensures { OnOk result (turn_of (H.seen host.new) self.new
+            ≡ on_socket socket.now (λ n. receives n tick all) (turn_of (H.seen host.old) self.old)) }
     {
         let Some(place) = self.flow_of(socket) else {
             self.step_over();
             return Ok(());
         };
         let most = asks_for(all, self.done());
-        let answer = host.ask(
-            place,
-            Caller::App(self.number()),
-            tick,
-            &CallIn::Recv { most },
-        )?;
+        let answer = host.ask(self.number(), place, tick, &CallIn::Recv { most })?;
         self.received(answer, all);
         Ok(())
     }

@@ -4,7 +4,7 @@ use Rattle.scenario_runs.specs.Applications.{filling, most}
 use Rattle.scenario_host.specs.Turns.{turn_of}
 use Rattle.local_host.proofs.Places.{ok_by}
 use Rattle.scenario_host.proofs.Offers.{length-filling}
-use Rattle.scenario_host.proofs.Sockets.{socket_below}
+use Rattle.scenario_host.proofs.Sockets.{socket_of}
 use Rattle.scenario_host.proofs.Stepping.{sent_found}
 use Rattle.scenario_host.proofs.script.AppScript.fill.Goals.{After-rest}
 use Rattle.scenario_host.proofs.script.AppScript.fill.Goals as goal
@@ -30,21 +30,21 @@ count c =
       ),
     )
 
-pub offer-requires-clause-place : goal.offer-requires-clause-place
-offer-requires-clause-place c =
-    socket_below (length c.args.host.now.flows) c.args.self.now.names c.args.socket.now c.in-Some.place c.requires.names
-    (sym c.flow_of.ensures ∙ c.in-Some.is)
+pub offer-requires-clause-socket : goal.offer-requires-clause-socket
+offer-requires-clause-socket g c =
+    socket_of (g.H.AskedHost.has_socket c.args.host.now c.args.self.now.number) c.args.self.now.names
+    c.args.socket.now c.in-Some.place c.requires.names (sym c.flow_of.ensures ∙ c.in-Some.is)
 
 pub offer-requires-clause-few : goal.offer-requires-clause-few
-offer-requires-clause-few c = (count c).0
+offer-requires-clause-few g c = (count g c).0
 
 pub offer-requires-clause-part : goal.offer-requires-clause-part
-offer-requires-clause-part c = (count c).1
+offer-requires-clause-part g c = (count g c).1
 
 pub returns : goal.returns
-returns c =
+returns g c =
     ok_by c.offer.result
-    (sent_found c.args.tick c.args.socket.now (filling c.args.count) (turn_of c.args.host.now c.args.self.now)
-    (turn_of c.offer.new.host c.offer.new.self) c.in-Some.place (sym c.flow_of.ensures ∙ c.in-Some.is))
+    (sent_found c.args.tick c.args.socket.now (filling c.args.count) (turn_of (g.H.AskedHost.seen c.args.host.now) c.args.self.now)
+    (turn_of (g.H.AskedHost.seen c.offer.new.host) c.offer.new.self) c.in-Some.place (sym c.flow_of.ensures ∙ c.in-Some.is))
     (c.offer.ensures (filling c.args.count) (length-filling c.args.count)
     (c.rest.ensures ∙ ap (λ (n : ℕ). take most (drop n (filling c.args.count))) c.done.ensures))

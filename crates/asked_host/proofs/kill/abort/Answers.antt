@@ -1,6 +1,6 @@
-use Rattle.scenario_host.proofs.Sockets.{still_below}
-use Rattle.scenario_host.proofs.Aborting.{aborted_held, aborted_free}
-use Rattle.scenario_host.proofs.kill.abort.Goals as goal
+use Rattle.asked_host.proofs.Accepting.{still_below}
+use Rattle.asked_host.proofs.Aborting.{aborted_held, aborted_free}
+use Rattle.asked_host.proofs.kill.abort.Goals as goal
 
 pub hold-requires : goal.hold-requires
 hold-requires c = still_below _ c.args.place c.args.host.now c.ask.new.self c.in_ok-ask.ensures.made c.requires

@@ -1,8 +1,8 @@
 use Rattle.std.proofs.Common.{Bool, ap, ◌∙◌}
 use Rattle.host_rounds.specs.Hosts.{at_flow}
 use Rattle.scenario_runs.specs.Applications.{aborted_where}
-use Rattle.scenario_host.proofs.Aborting.{aborted_not}
-use Rattle.scenario_host.proofs.kill.abort_where.Goals as goal
+use Rattle.asked_host.proofs.Aborting.{aborted_not}
+use Rattle.asked_host.proofs.kill.abort_where.Goals as goal
 
 pub returns-else-is_concerned : goal.returns-else-is_concerned
 returns-else-is_concerned c = λ l here.

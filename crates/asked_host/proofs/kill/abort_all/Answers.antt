@@ -1,6 +1,6 @@
 use Rattle.std.proofs.Common.{◌<◌, ◌≤◌, length, arith}
-use Rattle.scenario_host.proofs.Aborting.{aborts_count, aborts_more, aborts_all}
-use Rattle.scenario_host.proofs.kill.abort_all.Goals as goal
+use Rattle.asked_host.proofs.Aborting.{aborts_count, aborts_more, aborts_all}
+use Rattle.asked_host.proofs.kill.abort_all.Goals as goal
 
 pub abort_where-requires : goal.abort_where-requires
 abort_where-requires c =

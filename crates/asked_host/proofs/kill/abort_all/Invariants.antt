@@ -1,6 +1,6 @@
 use Rattle.std.proofs.Common.{◌≡◌, length}
-use Rattle.scenario_host.proofs.Aborting.{Aborts}
-use Rattle.scenario_host.proofs.kill.abort_all.Given as goal
+use Rattle.asked_host.proofs.Aborting.{Aborts}
+use Rattle.asked_host.proofs.kill.abort_all.Given as goal
 
 -- the flows before the place are as the kill leaves them
 abbrev pub invariant-loop-place : goal.invariant-loop-place
