@@ -36,7 +36,7 @@ use Rattle.sound_turns.proofs.Lists.{names, swept_same}
 use Rattle.sound_turns.proofs.Steps.{timed_passing, again_passing}
 
 -- what then holds of some books
-abbrev Passes : CoreHost → (tried left : List FlowId) → Ledger → Type 0
+abbrev pub Passes : CoreHost → (tried left : List FlowId) → Ledger → Type 0
 Passes h tried left l = (bs : List Book) × IsPassing h bs tried left l
 
 -- ----- one flow after the other
@@ -61,10 +61,10 @@ module _ (h : CoreHost) where
 -- ----- the whole time
 module _ (h : CoreHost) (tick : ℕ) (w : Worker) (sound : IsHostSound h) (passed : IsTimePassed tick h.slow w)
     (kept : IsSound h.table (sight_of w)) where
-  abbrev first : Ledger
+  abbrev pub first : Ledger
   first = record (ledger_of h.slow h.slow.index.pending) { doomed = [] }
 
-  starts : Passes h h.slow.doomed [] first
+  pub starts : Passes h h.slow.doomed [] first
   starts = (
     h.books,
     record {
@@ -93,7 +93,7 @@ module _ (h : CoreHost) (tick : ℕ) (w : Worker) (sound : IsHostSound h) (passe
     },
   )
 
-  turned : (n : Ledger) → Passes h [] [] n
+  pub turned : (n : Ledger) → Passes h [] [] n
       → Passes h [] (drop (served_in tick h.slow.time) n.pins)
       (record n { pins = take (served_in tick h.slow.time) n.pins })
   turned n (bs, p) = (
@@ -142,7 +142,7 @@ module _ (h : CoreHost) (tick : ℕ) (w : Worker) (sound : IsHostSound h) (passe
     pins : w.pins ≡ names is_indexed cs
     pins = sym (append-nil w.pins) ∙ p.pins
 
-    params : w.path.params ≡ h.slow.path.params
+    pub params : w.path.params ≡ h.slow.path.params
     params = ap (λ (o : Openings). o.params) p.path
 
     unfixed : w.path.params.fixed ≡ false → h.slow.path.params.fixed ≡ false

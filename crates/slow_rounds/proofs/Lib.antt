@@ -1,0 +1,3 @@
+pub mod Phased
+pub mod Stepping
+pub mod FirstTurns
