@@ -29,7 +29,8 @@ module _ {X : Type 0} where
       (IsPermutation-append_left c (a ++ b) (b ++ a) (IsPermutation-append_comm a b))
       (by_same ((b ++ a) ++ c) (b ++ (a ++ c)) (append_assoc b a c)))
 
-  four : (a x d y : List X) → IsPermutation ((a ++ x) ++ (d ++ y)) ((a ++ d) ++ (x ++ y))
+  -- the first halves come first
+  pub four : (a x d y : List X) → IsPermutation ((a ++ x) ++ (d ++ y)) ((a ++ d) ++ (x ++ y))
   four a x d y =
       IsPermutation-trans ((a ++ x) ++ (d ++ y)) (a ++ (x ++ (d ++ y))) ((a ++ d) ++ (x ++ y))
       (by_same ((a ++ x) ++ (d ++ y)) (a ++ (x ++ (d ++ y))) (append_assoc a x (d ++ y)))

@@ -133,7 +133,7 @@ line_by check core t f (handled.Passed x) ds p = refl
 line_by check core t f (handled.Refused n) ds p =
     (λ i. lines_by t f (handled.Refused (p.1.2 i))) ∙ ap (λ o. line_for t f.id o ++ []) (sym p.1.1)
 
-lines_joined : (check : Bool) (t : ℕ) (a b : List Frame)
+pub lines_joined : (check : Bool) (t : ℕ) (a b : List Frame)
     → lines_of check t (a ++ b) ≡ lines_of check t a ++ lines_of check t b
 lines_joined check t [] b = refl
 lines_joined check t (f ∷ a) b =

@@ -4,4 +4,5 @@ pub mod LaneTurns
 pub mod Gathering
 pub mod Phases
 pub mod Handing
+pub mod Collecting
 pub mod Ticks

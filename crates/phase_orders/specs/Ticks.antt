@@ -42,7 +42,7 @@ IsSilent o = o ≡ None
 -- * `first`, `second`: what `play_phase` or `play_phases` of `core_phase` ensures;
 -- * `handed`: what `hand_out` of `frame_steering` ensures, and that each core's worker was handed those of its core;
 -- * `left`: the slow path takes, in whatever order, the frames whose packets break a rule of reading, which are a
---   line each, and those that the cores passed on, which it has collected;
+--   line each, and those that the cores passed on, as it has collected them (`left_frames_are_collected`);
 -- * `tried`: that the scripts of this tick are asked in their order, one ask of each beside the others at most;
 -- * `alone`: the slow path's later turns, and the calls of applications, one after the other, each a move of the host;
 --   the books and scripts before them are what the asks that were made leave, by any reply that their answers tell;

@@ -1,5 +1,7 @@
 -- A segment at a flow, step by step.
 use Rattle.std.proofs.Common.{◌≡◌, ap, sym, ◌∙◌, ◌++◌, refl, subst, inr, ℕ, List}
+use Rattle.std.specs.Prelude.{Result, Ok, Err, IfOk, Some, None}
+use Rattle.segment_fields.specs.Text.{IsText, refusal}
 use Rattle.segment_fields.specs.declared.segment.Segment.{Segment}
 use Rattle.tas_model.specs.declared.entry.FlowId.{FlowId}
 use Rattle.tas_model.specs.declared.entry.FrameId.{FrameId}
@@ -20,7 +22,10 @@ use Rattle.core_worker.specs.Telling.{IsTold}
 use Rattle.core_worker.specs.declared.kicks.Kick.{Kick}
 use Rattle.core_worker.specs.declared.senders.AppSender.{AppSender}
 use Rattle.flow_lock.specs.declared.word.Word.{Word}
-use Rattle.slow_worker.specs.Workers.{Sight, Setting, IsSound}
+use Rattle.core_worker.specs.Frames.{tuple_of}
+use Rattle.slow_worker.specs.Workers.{Sight, Setting, IsSound, flow_with}
+use Rattle.slow_worker.specs.Serving.{IsServed, IsServedBy, IsTaken}
+use Rattle.slow_worker.specs.declared.served.Served.{Served}
 use Rattle.slow_worker.specs.Entering.{received, phase_of, told, brought, IsOffered, IsEntered, IsUnentered}
 use Rattle.slow_worker.proofs.Keeping.{kept_used, kept_refused}
 use Rattle.slow_worker.specs.declared.entering.Brought.{Brought}
@@ -136,3 +141,13 @@ unentered_so id p s pass path kicks named table refused untold same =
       after = ap (λ (o : Openings). record s { path = o; pass = pass; kicks = kicks }) untold
           ∙ ap (λ l. record s { pass = pass; kicks = l }) same;
     }
+
+-- ----- a frame of a flow that is known
+pub taken_so : {E : Type 0} (x : Result Served E) (at : Setting) (frame : FrameId) (packet : List ℕ) (seg : Segment)
+    (id : FlowId) (s n : Sight) → refusal at.check_sums packet ≡ None → IsText packet seg
+    → flow_with (tuple_of seg) s.flows ≡ Some id → IfOk x (IsEntered at frame seg id s n)
+    → IfOk x (IsServed at frame packet s n)
+taken_so (Ok a) at frame packet seg id s n read text found entered =
+    subst (λ o. IsServedBy o at frame packet s n a) (sym read)
+    (seg, text, subst (λ o. IsTaken o at frame seg s n a) (sym found) entered)
+taken_so (Err e) at frame packet seg id s n read text found entered = tt

@@ -24,7 +24,7 @@ same_number : (a b : ℕ) → (a == b) ≡ true → a ≡ b
 same_number a b h = grind (arith, tests, h)
 
 of_numbers : (t u : FourTuple) → t.laddr ≡ u.laddr → t.lport ≡ u.lport → t.raddr ≡ u.raddr → t.rport ≡ u.rport → t ≡ u
-of_numbers t u a b c d = cc (a, b, c, d)
+of_numbers t u a b c d = λ i. record { laddr = a i; lport = b i; raddr = c i; rport = d i }
 
 same_is : (t u : FourTuple) → is_same t u ≡ true → t ≡ u
 same_is t u h =
@@ -99,13 +99,13 @@ more_found before after flows place flow near here old new t =
 -- ----- all are kept where as many are
 pub all_kept : {A : Type 0} (p : A → Bool) (xs : List A) → length (filter p xs) ≡ length xs → filter p xs ≡ xs
 all_kept p [] e = refl
-all_kept p (x ∷ xs) e = by_first (p x) refl where
-  by_first : (b : Bool) → p x ≡ b → filter p (x ∷ xs) ≡ x ∷ xs
-  by_first true h =
+all_kept p (x ∷ xs) e = by_first (p x) refl (all_kept p xs) where
+  by_first : (b : Bool) → p x ≡ b → (length (filter p xs) ≡ length xs → filter p xs ≡ xs) → filter p (x ∷ xs) ≡ x ∷ xs
+  by_first true h kept =
       let rest : length (filter p xs) ≡ length xs =
       let one = ap (λ (b : Bool). length (cond b (x ∷ filter p xs) (filter p xs))) h in omega (arith, one, e) in
-      ap (λ (b : Bool). cond b (x ∷ filter p xs) (filter p xs)) h ∙ ap (λ ys. x ∷ ys) (all_kept p xs rest)
-  by_first false h =
+      ap (λ (b : Bool). cond b (x ∷ filter p xs) (filter p xs)) h ∙ ap (λ ys. x ∷ ys) (kept rest)
+  by_first false h kept =
       let few = count_by-le-length p xs in
       let is = length-filter p xs in
       let one = ap (λ (b : Bool). length (cond b (x ∷ filter p xs) (filter p xs))) h in
@@ -162,4 +162,19 @@ noted_anew p flows left room capacity capacity' firsts firsts' count count' free
       within = omega (arith, are.within, less);
       listed = omega (arith, are.listed, same);
       placed = omega (arith, are.placed, placed);
+    }
+
+-- where there is room for one flow more
+pub reserved : (flows same : List KnownFlow) (room room' capacity : ℕ) (firsts firsts' : FourTuple → Option FlowId)
+    (count count' free free' : ℕ) (c : ℕ) → AreFound flows room c firsts count free → same ≡ flows
+    → room' ≡ length flows + 1 → room' ≤ capacity → ((t : FourTuple) → firsts' t ≡ firsts t) → count' ≡ count
+    → room' ≤ count' + free' → AreFound same room' capacity firsts' count' free'
+reserved flows same room room' capacity firsts firsts' count count' free free' c are is more listed noted many placed =
+    let long = ap length is in
+    record {
+      first = λ t. noted t ∙ (are.first t ∙ ap (flow_with t) (sym is));
+      few = omega (arith, are.few, many, long);
+      within = omega (arith, more, long);
+      listed = listed;
+      placed = placed;
     }

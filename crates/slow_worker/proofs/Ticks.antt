@@ -9,7 +9,13 @@ use Rattle.atomic_table.specs.Seated.{TableId}
 use Rattle.flow_lock.specs.Orders.{same_flow}
 use Rattle.flow_lock.specs.Passes.{Seen}
 use Rattle.flow_clock.specs.Ledgers as clock
-use Rattle.app_reaper.specs.Lists.{is_on}
+use Rattle.flow_clock.specs.Ledgers.{Ledger, ledger}
+use Rattle.flow_state.specs.Flow.{Flow}
+use Rattle.flow_lock.specs.declared.view.View.{View}
+use Rattle.flow_index.specs.declared.change.Change.{Change}
+use Rattle.core_worker.specs.declared.kicks.Kick.{Kick}
+use Rattle.slow_handshake.specs.Openings.{Openings}
+use Rattle.app_reaper.specs.Lists.{Roomy, is_on}
 use Rattle.flow_clock.specs.Walks.{IsTickDone, IsTickStopped}
 use Rattle.flow_index.specs.Changes.{Writing, AnswerAlike, Begins}
 use Rattle.slow_worker.specs.Clocks.{served_in}
@@ -76,6 +82,29 @@ time_sound t u pass doomed pins flows flows' is ready owned kept =
       owned = owned;
       known = λ k f q. known_still pins flows k f (sym (ap (λ l. slice_get l k) kept) ∙ q);
     })
+
+-- the same where the pins were then found anew
+pub indexed_sound : (t u : TableId) (pass : Seen) (doomed : List FlowId) (p q : Roomy FlowId)
+    (flows flows' : List KnownFlow) → q ≡ p → u ≡ t → clock.IsReady u pass → clock.AreKept u.slots pass doomed p.list
+    → flows' ≡ still_known q.list flows → AreKept t pass doomed q.list flows'
+indexed_sound t u pass doomed p q flows flows' same is ready owned kept =
+    time_sound t u pass doomed q.list flows flows' is ready
+    (subst (λ (r : Roomy FlowId). clock.AreKept u.slots pass doomed r.list) (sym same) owned) kept
+
+pub indexed_stop : (tick from served : ℕ) (a : Ledger) (v : View) (p q : Roomy FlowId) (doomed : List FlowId)
+    (filed : List Flow) (changes : List Change) (kicks : List Kick) (path : Openings) → q ≡ p
+    → IsTickStopped tick from served a (ledger v p.list doomed filed changes kicks path)
+    → IsTickStopped tick from served a (ledger v q.list doomed filed changes kicks path)
+indexed_stop tick from served a v p q doomed filed changes kicks path same =
+    subst (λ (r : Roomy FlowId). IsTickStopped tick from served a (ledger v r.list doomed filed changes kicks path))
+    (sym same)
+
+pub indexed_done : (tick from : ℕ) (a : Ledger) (v : View) (p q : Roomy FlowId) (doomed : List FlowId)
+    (filed : List Flow) (changes : List Change) (kicks : List Kick) (path : Openings) → q ≡ p
+    → IsTickDone tick from a (ledger v p.list doomed filed changes kicks path)
+    → IsTickDone tick from a (ledger v q.list doomed filed changes kicks path)
+indexed_done tick from a v p q doomed filed changes kicks path same =
+    subst (λ (r : Roomy FlowId). IsTickDone tick from a (ledger v r.list doomed filed changes kicks path)) (sym same)
 
 -- memory was wanting at a flow, and it is kept which flows have had their time
 pub halted : {A E : Type 0} (x : Result A E) (tick from served : ℕ) (u v w : Worker) → u ≡ v

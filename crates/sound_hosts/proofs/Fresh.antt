@@ -38,7 +38,7 @@ module _ (known : List Held) (id : FlowId) (k : History) where
       λ i. cond b.indexed (record { tuple = (other b.id each.0 i).tuple; id = b.id } ∷ flows_fresh bs each.1 i)
       (flows_fresh bs each.1 i)
 
-  waiting_fresh : (bs : List Book) → Each IsOther bs → waiting_in after bs ≡ waiting_in known bs
+  pub waiting_fresh : (bs : List Book) → Each IsOther bs → waiting_in after bs ≡ waiting_in known bs
   waiting_fresh [] each = refl
   waiting_fresh (b ∷ bs) each =
       λ i. cond (is_waiting_by b.holder && not (is_over (other b.id each.0 i)))

@@ -527,6 +527,13 @@ module _ (table : TableId) (generation pins pins' : ℕ → ℕ) (bs : List Book
       }
 
 -- ----- all that are given up
+-- what holds of the books after each, holds after all
+module _ (P : List Book → Type 0)
+    (keeps : (n : ℕ) (id : FlowId) (cs : List Book) → P cs → P (map (reheld (left_by n id)) cs)) where
+  pub left_keeps : (n : ℕ) (ids : List FlowId) (bs : List Book) → P bs → P (books_left n ids bs)
+  left_keeps n [] bs p = p
+  left_keeps n (id ∷ ids) bs p = left_keeps n ids (map (reheld (left_by n id)) bs) (keeps n id bs p)
+
 module _ (table : TableId) (generation : ℕ → ℕ) (front back : List Application) where
   abbrev Right : (ℕ → ℕ) → List Book → Application → Type 0
   Right pins bs a = AreRight table generation pins bs (front ++ a ∷ back)

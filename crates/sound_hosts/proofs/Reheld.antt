@@ -1,7 +1,7 @@
 -- Books with other holders: all that doesn't read who holds a flow is as it was. For the laws of sockets that are given
 -- up, and of flows that are accepted.
 use Rattle.std.proofs.Common.{◌≡◌, ℕ, zero, suc, ◌+◌, ◌&&◌, ◌||◌, not, cond, Bool, true, false, List, [], ◌∷◌, ◌++◌}
-use Rattle.std.proofs.Common.{map, refl, sym, ap, ◌∙◌, subst, inl, inr, arith, count_by, slice_get, Some}
+use Rattle.std.proofs.Common.{map, refl, sym, ap, ◌∙◌, subst, inl, inr, arith, count_by}
 use Rattle.std.specs.Prelude.{◌⊎◌}
 use Rattle.std.specs.List.{filter, list_any}
 use Rattle.tas_model.specs.declared.entry.FlowId.{FlowId}
@@ -20,7 +20,7 @@ use Rattle.flow_clock.specs.Histories.{is_over, is_running}
 use Rattle.slow_handshake.specs.declared.openings.PassiveFlow.{PassiveFlow}
 use Rattle.host_books.specs.Books.{Book, live_in, IsAt}
 use Rattle.host_books.specs.Indexes.{AreIndexed, AreOnce, IsFindable}
-use Rattle.sound_hosts.specs.Hosts.{flows_in, waiting_in, passive_flow, waits, tuple_of, known_flow, id_of}
+use Rattle.sound_hosts.specs.Hosts.{flows_in, waiting_in, passive_flow, tuple_of, known_flow, id_of}
 use Rattle.sound_hosts.specs.Hosts.{is_of_slot, stands_in, is_doomed_in, AreNumbered}
 use Rattle.sound_hosts.specs.Leaving.{reheld}
 use Rattle.sound_hosts.specs.Sound.{AreShown, IsMarked, IsPlain}

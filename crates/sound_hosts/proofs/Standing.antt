@@ -8,7 +8,6 @@ use Rattle.host_rounds.specs.Lists.{Each}
 use Rattle.flow_lock.specs.Answers.{is_open_in}
 use Rattle.flow_lock.specs.Steps.{mark_at}
 use Rattle.flow_lock.specs.Words.{word_at}
-use Rattle.flow_lock.specs.declared.view.Mark.{Mark}
 use Rattle.flow_lock.specs.declared.view.View.{View}
 use Rattle.flow_lock.specs.declared.word.Word.{Word}
 use Rattle.host_books.specs.Books.{Book}

@@ -43,7 +43,7 @@ count_swap p (a ∷ xs) x y cs e =
     count_cons p a (xs ++ y ∷ cs)
     ∙ (ap (λ n. tally (p a) + n) (count_swap p xs x y cs e) ∙ sym (count_cons p a (xs ++ x ∷ cs)))
 
-any_here : {X : Type 0} (p : X → Bool) (xs : List X) (x : X) (cs : List X) → p x ≡ true
+pub any_here : {X : Type 0} (p : X → Bool) (xs : List X) (x : X) (cs : List X) → p x ≡ true
     → list_any p (xs ++ x ∷ cs) ≡ true
 any_here p [] x cs e = ap (λ b. b || list_any p cs) e
 any_here p (a ∷ xs) x cs e = by (p a) (any_here p xs x cs e)
@@ -82,7 +82,7 @@ middle P (a ∷ xs) x cs e = middle P xs x cs e.1
 same_sym : (f g : FlowId) → same_flow f g ≡ same_flow g f
 same_sym f g = grind (arith, nat_tests)
 
-apart_before : (slots : ℕ) (pre xs : List Book) (b : Book) (cs : List Book) → AreNumbered slots pre (xs ++ b ∷ cs)
+pub apart_before : (slots : ℕ) (pre xs : List Book) (b : Book) (cs : List Book) → AreNumbered slots pre (xs ++ b ∷ cs)
     → Each (λ (c : Book). same_flow b.id c.id ≡ false) xs
 apart_before slots pre [] b cs numbered = tt
 apart_before slots pre (c ∷ xs) b cs numbered = (
@@ -91,7 +91,7 @@ apart_before slots pre (c ∷ xs) b cs numbered = (
   apart_before slots (pre ++ c ∷ []) xs b cs numbered.2,
 )
 
-apart_behind : (slots : ℕ) (pre xs : List Book) (b : Book) (cs : List Book) → AreNumbered slots pre (xs ++ b ∷ cs)
+pub apart_behind : (slots : ℕ) (pre xs : List Book) (b : Book) (cs : List Book) → AreNumbered slots pre (xs ++ b ∷ cs)
     → Each (λ (c : Book). same_flow b.id c.id ≡ false) cs
 apart_behind slots pre [] b cs numbered = distinct slots pre b cs numbered
 apart_behind slots pre (c ∷ xs) b cs numbered = apart_behind slots (pre ++ c ∷ []) xs b cs numbered.2
@@ -119,7 +119,7 @@ module _ (v : View) (b : Book) (stands : b.filed ≡ false) (own : IsWorded v b)
           let same : same_flow b.id c.id ≡ true = grind (arith, nat_tests, slot, generation) in
           absurd (true≢false (sym same ∙ apart))
 
-  all_elsewhere : (cs : List Book) → Each (λ (c : Book). same_flow b.id c.id ≡ false) cs → Each (IsWorded v) cs
+  pub all_elsewhere : (cs : List Book) → Each (λ (c : Book). same_flow b.id c.id ≡ false) cs → Each (IsWorded v) cs
       → Each IsElsewhere cs
   all_elsewhere [] apart each = tt
   all_elsewhere (c ∷ cs) apart each = (elsewhere c apart.0 each.0, all_elsewhere cs apart.1 each.1)

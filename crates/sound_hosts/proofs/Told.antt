@@ -75,7 +75,7 @@ tells k id o = by_reason (endpoint_of k).reason (endpoint_of k).peer refl refl
     by_reason None (Some first) r q = by_una first (e.tx.una == 0) r q refl
 
 -- ----- the flows that wait
-named_is : (id f : FlowId) → (f.slot == id.slot && f.generation == id.generation) ≡ same_flow id f
+pub named_is : (id f : FlowId) → (f.slot == id.slot && f.generation == id.generation) ≡ same_flow id f
 named_is id f = grind (arith, nat_tests)
 
 cond_false : {X : Type 0} (x : Bool) (a b : X) → cond (x && false) a b ≡ b

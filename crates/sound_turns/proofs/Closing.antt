@@ -36,7 +36,8 @@ use Rattle.sound_hosts.proofs.OneFlow.{used_leads}
 use Rattle.sound_hosts.proofs.Sweeping.{firsts, lasts, middle}
 use Rattle.sound_hosts.proofs.Told.{left_waiting}
 use Rattle.sound_turns.specs.Passing.{AreTabled, IsPassing, swept_book}
-use Rattle.sound_turns.proofs.Lists.{names, names_with, names_without, IsSplit, split_at, waiting_swap, any_live_swap}
+use Rattle.sound_hosts.proofs.Names.{names, names_with, names_without, IsSplit, split_at}
+use Rattle.sound_turns.proofs.Lists.{waiting_swap, any_live_swap}
 use Rattle.sound_turns.proofs.Steps.{path_without, lists_after, same_led}
 use Rattle.sound_turns.proofs.Sweeps.{base_leads, led_tabled, same_base, swept_tabled}
 

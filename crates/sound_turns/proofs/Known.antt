@@ -24,7 +24,7 @@ use Rattle.sound_hosts.proofs.Leaving.{AreApart, IsNumberedBy, any_names}
 use Rattle.sound_hosts.proofs.OpenSockets.{each_at, to_filtered}
 use Rattle.sound_hosts.proofs.Standing.{any_at, none_at, every_at}
 use Rattle.sound_turns.specs.Passing.{AreSwept, swept_book}
-use Rattle.sound_turns.proofs.Lists.{names}
+use Rattle.sound_hosts.proofs.Names.{names}
 
 -- ----- the pin of a flow
 there : (fs : List FlowId) (k : ℕ) (d : FlowId) → k < length fs → slice_get fs k ≡ Some (get_or fs k d)

@@ -44,7 +44,7 @@ use Rattle.sound_hosts.proofs.Reheld.{StaysWaiting, waiting_same}
 use Rattle.sound_hosts.proofs.Sweeping.{firsts, lasts, middle}
 use Rattle.sound_hosts.proofs.Told.{left_waiting}
 use Rattle.sound_turns.specs.Passing.{AreTabled, IsPassing, swept_book}
-use Rattle.sound_turns.proofs.Lists.{names, names_with, names_without, names_swap, IsSplit, split_at, split_of, one_more}
+use Rattle.sound_hosts.proofs.Names.{names, names_with, names_without, names_swap, IsSplit, split_at, split_of, one_more}
 use Rattle.sound_turns.proofs.Lists.{waiting_swap, any_live_swap}
 use Rattle.sound_turns.proofs.Running.{timed_running}
 use Rattle.sound_turns.proofs.Sweeps.{base_leads, led_tabled, freed, same_base, swept_tabled}

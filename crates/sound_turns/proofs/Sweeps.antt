@@ -37,7 +37,8 @@ use Rattle.sound_hosts.proofs.Numbers.{unlike}
 use Rattle.sound_hosts.proofs.OneFlow.{one_leads, words_same}
 use Rattle.sound_hosts.proofs.Sweeping.{firsts, lasts, middle, freed_if, slots_still, front, back, low_mark}
 use Rattle.sound_turns.specs.Passing.{AreTabled, swept_book}
-use Rattle.sound_turns.proofs.Lists.{names_swap, numbered_swap, indexed_swap, swept_more}
+use Rattle.sound_hosts.proofs.Names.{names_swap}
+use Rattle.sound_turns.proofs.Lists.{numbered_swap, indexed_swap, swept_more}
 
 -- ----- one flow is led on
 pub base_leads : (f : FlowId) (k : History) (v w : View) → LedOn (known_of f v.base) k → IsLed f k v w

@@ -32,7 +32,8 @@ use Rattle.sound_hosts.proofs.Standing.{stand_marked}
 use Rattle.sound_turns.specs.Passing.{AreSwept, IsPassing, with_books}
 use Rattle.sound_turns.proofs.Closing.{closed_passing}
 use Rattle.sound_turns.proofs.Known.{still_flows, count_swept}
-use Rattle.sound_turns.proofs.Lists.{names, swept_same}
+use Rattle.sound_hosts.proofs.Names.{names}
+use Rattle.sound_turns.proofs.Lists.{swept_same}
 use Rattle.sound_turns.proofs.Steps.{timed_passing, again_passing}
 
 -- what then holds of some books

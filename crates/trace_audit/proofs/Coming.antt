@@ -1,6 +1,6 @@
 -- Where lines lead, and what they show there: which line comes, and what is shown of its flow before it.
-use Rattle.std.proofs.Common.{◌≡◌, ℕ, ◌+◌, ◌≤◌, ◌<◌, true, ◌&&◌, eqb, List, [], ◌∷◌, ◌++◌, length, fold}
-use Rattle.std.proofs.Common.{inl, inr, ◌⊎◌, get_or, Option, Some, None, refl, sym, ap, subst, ◌∙◌, arith}
+use Rattle.std.proofs.Common.{◌≡◌, ℕ, ◌+◌, ◌≤◌, ◌<◌, true, ◌&&◌, List, [], ◌∷◌, ◌++◌, length, fold}
+use Rattle.std.proofs.Common.{inl, inr, ◌⊎◌, get_or, Option, Some, None, refl, sym, subst}
 use Rattle.std.specs.Prelude.{slice_get, ◌==◌, IfSome, ⊤}
 use Rattle.std.specs.Option.{option_map}
 use Rattle.std.proofs.lemmas.Bool.{and_parts, eqb-true}

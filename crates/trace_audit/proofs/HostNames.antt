@@ -1,6 +1,6 @@
 -- The names of a scenario's hosts: of letters and digits, and each is found at its own place alone.
-use Rattle.std.proofs.Common.{◌≡◌, ℕ, zero, suc, ◌+◌, ◌≤◌, ◌<◌, Bool, true, false, not, ◌&&◌, cond, ltb, List, [], ◌∷◌}
-use Rattle.std.proofs.Common.{◌++◌, length, map, Option, Some, None, is_some, Result, Ok, Err, IfOk, refl, sym, ◌∙◌}
+use Rattle.std.proofs.Common.{◌≡◌, ℕ, zero, suc, ◌+◌, ◌≤◌, ◌<◌, Bool, true, false, not, cond, ltb, List, [], ◌∷◌}
+use Rattle.std.proofs.Common.{◌++◌, length, Option, Some, None, is_some, Result, Ok, Err, IfOk, refl, sym, ◌∙◌}
 use Rattle.std.proofs.Common.{ap, subst, arith, append_assoc, length-append}
 use Rattle.std.specs.Prelude.{slice_get, bytes_eq, ◌||◌, if◌then◌else◌, ⊤}
 use Rattle.std.proofs.lemmas.List.{append-nil, length-map}
@@ -12,16 +12,15 @@ use Rattle.std.proofs.lemmas.Option.{same_Some}
 use Rattle.std.proofs.lemmas.Result.{IfOk-at_ok}
 use Rattle.std.proofs.lemmas.Slice.Eq.{bytes_eq-Decides}
 use Rattle.host_rounds.specs.Lists.{Each}
-use Rattle.host_rounds.proofs.Lists.{each_append, map_append}
+use Rattle.host_rounds.proofs.Lists.{map_append}
 use Rattle.report_lines.specs.Shown.{AreNames}
-use Rattle.scenario_text.specs.Words.{is_letter, is_digit, is_name, begins_with_letter}
+use Rattle.scenario_text.specs.Words.{is_letter, is_digit, is_name}
 use Rattle.scenario_text.specs.Statements.{reading}
-use Rattle.scenario_text.specs.Drafts.{no_draft, has_host, has_address, is_unknown, repeats, judged, host_with, with_line}
+use Rattle.scenario_text.specs.Drafts.{no_draft, has_host, has_address, repeats, judged, host_with, with_line}
 use Rattle.scenario_text.specs.Reads.{taken_if, taken_by, taken, finished, read_from, reads}
 use Rattle.scenario_text.specs.declared.draft.Draft.{Draft}
 use Rattle.scenario_text.specs.declared.scenario.HostLine.{HostLine}
 use Rattle.scenario_text.specs.declared.scenario.Scenario.{Scenario}
-use Rattle.scenario_text.specs.declared.statement.Given.{Given}
 use Rattle.scenario_text.specs.declared.statement.Statement.{Statement}
 use Rattle.scenario_text.specs.declared.statement.Statement.TheVariants as says
 use Rattle.scenario_text.specs.declared.statement.Reading.{Reading}
@@ -93,9 +92,11 @@ named_more : (before hosts : List HostLine) (h : HostLine) → AreNamed before h
     → has_host (before ++ hosts) h.name ≡ false → AreNamed before (hosts ++ h ∷ [])
 named_more before [] h named is fresh =
     ((is, subst (λ (hs : List HostLine). has_host hs h.name ≡ false) (append-nil before) fresh), tt)
-named_more before (x ∷ xs) h named is fresh =
-    (named.0, named_more (before ++ x ∷ []) xs h named.1 is
-    (subst (λ (hs : List HostLine). has_host hs h.name ≡ false) (sym (append_assoc before (x ∷ []) xs)) fresh))
+named_more before (x ∷ xs) h named is fresh = (
+  named.0,
+  named_more (before ++ x ∷ []) xs h named.1 is
+      (subst (λ (hs : List HostLine). has_host hs h.name ≡ false) (sym (append_assoc before (x ∷ []) xs)) fresh),
+)
 
 all_letters : (name : List ℕ) → is_name name ≡ true → list_all (λ (c : ℕ). is_letter c || is_digit c) name ≡ true
 all_letters name e = (and_parts _ _ e).1
@@ -115,7 +116,7 @@ others [] name each = tt
 others (h ∷ hs) name each = (each.0, others hs name each.1)
 
 same_names : (name : List ℕ) → bytes_eq name name ≡ true
-same_names name = grind (bytes_eq-Decides name name)
+same_names name = (bytes_eq-Decides name name).1 refl
 
 own_at : (before hosts : List HostLine) (i : ℕ) (name : List ℕ) → AreNamed before hosts
     → slice_get (names_of hosts) i ≡ Some name
@@ -129,7 +130,7 @@ own_at before (h ∷ hs) zero name named e =
     (others before h.name (none_at (λ (x : HostLine). bytes_eq x.name h.name) before named.0.1))
     (same_names h.name) ∙ ap (λ (k : ℕ). Some k) (count before))) where
       count : (before : List HostLine) → length (names_of before) ≡ length before + 0
-      count before = let e : length (names_of before) ≡ length before = length-map (λ (x : HostLine). x.name) before in
+      count before = let e : length (names_of before) ≡ length before = length-map before (λ (x : HostLine). x.name) in
           omega (arith, e)
 own_at before (h ∷ hs) (suc i) name named e =
     ap (λ (l : List HostLine). position (λ (n : List ℕ). bytes_eq n name) (names_of l))
@@ -205,7 +206,7 @@ read_named text s e = IfOk-at_ok IsNamed e (all_named 1 no_draft (lines text) tt
 pub names_are : (text : List ℕ) (s : Scenario) → reads text ≡ Ok s → AreNames (names_of s.hosts)
 names_are text s e = record {
   few = (let count = (read_in_range text s e).count in
-      let same : length (names_of s.hosts) ≡ length s.hosts = length-map (λ (x : HostLine). x.name) s.hosts in
+      let same : length (names_of s.hosts) ≡ length s.hosts = length-map s.hosts (λ (x : HostLine). x.name) in
       let most : length s.hosts ≤ 8 = count.1 in omega (arith, same, most));
   plain = λ i name there. plain_at [] s.hosts i name (read_named text s e) there;
   own = λ i name there. own_at [] s.hosts i name (read_named text s e) there

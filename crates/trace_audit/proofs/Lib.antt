@@ -7,3 +7,5 @@ pub mod Judged
 pub mod Reading
 pub mod NamedLines
 pub mod HostNames
+pub mod OneForm
+pub mod Whole

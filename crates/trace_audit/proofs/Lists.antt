@@ -1,6 +1,6 @@
 -- The next item of a list.
-use Rattle.std.proofs.Common.{◌≡◌, ℕ, zero, suc, ◌+◌, ◌≤◌, List, [], ◌∷◌, ◌++◌, length, take, drop, refl, sym, ap, ◌∙◌}
-use Rattle.std.proofs.Common.{Option, Some, None, arith, length-append}
+use Rattle.std.proofs.Common.{◌≡◌, ℕ, zero, suc, ◌≤◌, List, [], ◌∷◌, ◌++◌, length, take, drop, refl, ap}
+use Rattle.std.proofs.Common.{Option, Some, None, arith}
 use Rattle.std.proofs.lemmas.Option.{same_Some}
 
 abbrev head_of : {A : Type 0} → List A → Option A
@@ -59,3 +59,10 @@ cut_next [] zero y ys e = absurd (cc (e))
 cut_next [] (suc i) y ys e = absurd (cc (e))
 cut_next (x ∷ xs) zero y ys e = e
 cut_next (x ∷ xs) (suc i) y ys e = ap (λ l. x ∷ l) (cut_next xs i y ys e)
+
+-- where nothing is left, so many are all
+pub all_read : {A : Type 0} (xs : List A) (i : ℕ) → drop i xs ≡ [] → i ≤ length xs → i ≡ length xs
+all_read [] zero e h = refl
+all_read [] (suc i) e h = absurd (omega (arith, h))
+all_read (x ∷ xs) zero e h = absurd (cc (e))
+all_read (x ∷ xs) (suc i) e h = ap suc (all_read xs i e (omega (arith, h)))

@@ -1,6 +1,6 @@
 -- What is known of a report, at a line that is at fault, and at its end.
 use Rattle.std.proofs.Common.{◌≡◌, ℕ, suc, ◌+◌, ◌≤◌, ◌<◌, List, [], ◌∷◌, ◌++◌, length, take, drop, Option, Some, None}
-use Rattle.std.proofs.Common.{refl, sym, ◌∙◌, ap, subst, inl, inr, ◌⊎◌, arith}
+use Rattle.std.proofs.Common.{refl, sym, ◌∙◌, ap, subst, inl, inr, arith}
 use Rattle.std.proofs.lemmas.Option.{same_Some}
 use Rattle.tas_model.specs.declared.entry.HostParams.{HostParams}
 use Rattle.scenario_text.specs.declared.scenario.HostLine.{HostLine}
@@ -9,20 +9,18 @@ use Rattle.report_lines.specs.Shown.{AreNames}
 use Rattle.report_form.specs.declared.place.Place.{Place}
 use Rattle.report_form.specs.declared.place.Place.TheVariants as places
 use Rattle.report_form.specs.Reports.{IsReport, MayBegin}
-use Rattle.report_form.specs.Places.{led, IsAt}
+use Rattle.report_form.specs.Places.{led}
 use Rattle.report_form.proofs.Left.{left_by}
 use Rattle.report_form.proofs.Led.{report_leads}
 use Rattle.report_form.proofs.Beginnings.{may_begin}
-use Rattle.trace_audit.specs.Forms.{names_of, params_of, addrs_of, IsSaid, AreSaid, BeginReport, AreReport, IsFault}
-use Rattle.trace_audit.specs.Right.{AreRight, IsFirstWrong}
+use Rattle.trace_audit.specs.Forms.{names_of, params_of, addrs_of, IsSaid, AreSaid}
 use Rattle.trace_audit.specs.Watching.{HasRead, HasTaken, HasReadSome, IsJudgedBy, verdict_of, IsVerdictOn}
 use Rattle.trace_audit.specs.Watching.{AreCounted, IsReportVerdict, IsReportFault}
-use Rattle.trace_audit.specs.declared.audit.Verdict.{Verdict}
-use Rattle.trace_audit.specs.declared.audit.AuditFault.TheVariants as faults
+use Rattle.trace_audit.specs.declared.auditing.AuditFault.TheVariants as faults
 use Rattle.trace_audit.specs.declared.auditor.Auditor.{Auditor}
 use Rattle.trace_audit.specs.declared.watch.Watch.{Watch}
 use Rattle.trace_audit.specs.declared.counts.Counts.{Counts}
-use Rattle.trace_audit.proofs.Lists.{take_next, below_next, take_rest}
+use Rattle.trace_audit.proofs.Lists.{take_next, below_next, take_rest, all_read}
 use Rattle.trace_audit.proofs.Saying.{said_more, LastSaid, last_said, said_once}
 
 next_is : (n : ℕ) → suc n ≡ n + 1
@@ -70,13 +68,19 @@ pub fault_at : (hosts : List HostLine) (a : Auditor) (texts : List (List ℕ)) (
 fault_at hosts a texts count before text rest ok some next refused = (
   count,
   record {
-    before = (some.lines, some.said,
-        may_begin (addrs_of (params_of hosts)) some.lines a.place some.read.place);
-    here = inl (within, λ begins. not_begun (names_of hosts) ok (addrs_of (params_of hosts)) (take count texts) text
-        some.lines begins.0 some.said (refused some.lines some.read)
-        (subst (λ (ts : List (List ℕ)). AreSaid (names_of hosts) ts begins.0)
-        (ap (λ (n : ℕ). take n texts) (sym (next_is count)) ∙ take_next texts count text rest next) begins.1)
-        begins.2);
+    before = (
+      some.lines,
+      some.said,
+      may_begin (addrs_of (params_of hosts)) some.lines a.place some.read.place,
+    );
+    here = inl (
+      within,
+      λ begins. not_begun (names_of hosts) ok (addrs_of (params_of hosts)) (take count texts) text
+          some.lines begins.0 some.said (refused some.lines some.read)
+          (subst (λ (ts : List (List ℕ)). AreSaid (names_of hosts) ts begins.0)
+          (ap (λ (n : ℕ). take n texts) (sym (next_is count)) ∙ take_next texts count text rest next) begins.1)
+          begins.2,
+    );
   },
   refl,
 ) where
@@ -92,11 +96,17 @@ pub fault_end : (hosts : List HostLine) (a : Auditor) (texts : List (List ℕ)) 
 fault_end hosts a texts count before ok some none all open_ = (
   count,
   record {
-    before = (some.lines, some.said,
-        may_begin (addrs_of (params_of hosts)) some.lines a.place some.read.place);
-    here = inr (all, λ report. open_ (ended report.0 (said_once (names_of hosts) ok texts report.0 some.lines report.1
-        (subst (λ (ts : List (List ℕ)). AreSaid (names_of hosts) ts some.lines) (take_rest texts count none) some.said))
-        report.2));
+    before = (
+      some.lines,
+      some.said,
+      may_begin (addrs_of (params_of hosts)) some.lines a.place some.read.place,
+    );
+    here = inr (
+      all,
+      λ report. open_ (ended report.0 (said_once (names_of hosts) ok texts report.0 some.lines report.1
+          (subst (λ (ts : List (List ℕ)). AreSaid (names_of hosts) ts some.lines) (take_rest texts count none) some.said))
+          report.2),
+    );
   },
   refl,
 ) where
@@ -123,3 +133,40 @@ verdict_at hosts a texts count before some none end = record {
       (some.read.place ∙ ap (λ (p : Place). Some p) end);
   found = on_lines (params_of hosts) before a.wrong a.watch a.counts some.lines some.read.judged some.read.counts;
 }
+
+-- ----- the same of hosts whose names and parameters are known
+known : (lines : List HostLine) (names : List (List ℕ)) (hosts : List HostParams) (a : Auditor)
+    (texts : List (List ℕ)) (count : ℕ) → names_of lines ≡ names → params_of lines ≡ hosts
+    → HasReadSome names hosts a texts count → HasReadSome (names_of lines) (params_of lines) a texts count
+known lines names hosts a texts count of_names of_params some =
+    subst (λ (ns : List (List ℕ)). HasReadSome ns (params_of lines) a texts count) (sym of_names)
+    (subst (λ (hs : List HostParams). HasReadSome names hs a texts count) (sym of_params) some)
+
+pub fault_on : (lines : List HostLine) (names : List (List ℕ)) (hosts : List HostParams) (a : Auditor)
+    (texts : List (List ℕ)) (count before : ℕ) (text : List ℕ) (rest : List (List ℕ)) → names_of lines ≡ names
+    → params_of lines ≡ hosts → AreNames names → HasReadSome names hosts a texts count → drop count texts ≡ text ∷ rest
+    → ((earlier : List Line) → HasRead hosts a earlier → (said : Line) → IsSaid names text said
+    → MayBegin (addrs_of hosts) (earlier ++ said ∷ []) → ⊥)
+    → IsReportFault lines before texts (faults.Refused (before + count + 1))
+fault_on lines names hosts a texts count before text rest of_names of_params ok some next refused =
+    fault_at lines a texts count before text rest (subst AreNames (sym of_names) ok)
+    (known lines names hosts a texts count of_names of_params some) next
+    (subst (λ (hs : List HostParams). (earlier : List Line) → HasRead hs a earlier → (said : Line)
+    → IsSaid (names_of lines) text said → MayBegin (addrs_of hs) (earlier ++ said ∷ []) → ⊥) (sym of_params)
+    (subst (λ (ns : List (List ℕ)). (earlier : List Line) → HasRead hosts a earlier → (said : Line)
+    → IsSaid ns text said → MayBegin (addrs_of hosts) (earlier ++ said ∷ []) → ⊥) (sym of_names) refused))
+
+pub end_on : (lines : List HostLine) (names : List (List ℕ)) (hosts : List HostParams) (a : Auditor)
+    (texts : List (List ℕ)) (count before : ℕ) → names_of lines ≡ names → params_of lines ≡ hosts → AreNames names
+    → HasReadSome names hosts a texts count → drop count texts ≡ [] → count ≤ length texts
+    → (a.place ≡ places.Ended → ⊥) → IsReportFault lines before texts (faults.Refused (before + count + 1))
+end_on lines names hosts a texts count before of_names of_params ok some none within open_ =
+    fault_end lines a texts count before (subst AreNames (sym of_names) ok)
+    (known lines names hosts a texts count of_names of_params some) none (all_read texts count none within) open_
+
+pub verdict_on : (lines : List HostLine) (names : List (List ℕ)) (hosts : List HostParams) (a : Auditor)
+    (texts : List (List ℕ)) (count before : ℕ) → names_of lines ≡ names → params_of lines ≡ hosts
+    → HasReadSome names hosts a texts count → drop count texts ≡ [] → a.place ≡ places.Ended
+    → IsReportVerdict lines before texts (verdict_of before a.wrong a.counts)
+verdict_on lines names hosts a texts count before of_names of_params some none end =
+    verdict_at lines a texts count before (known lines names hosts a texts count of_names of_params some) none end

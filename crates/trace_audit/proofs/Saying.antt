@@ -1,9 +1,9 @@
 -- What lines of a text say, and that they say one thing alone.
-use Rattle.std.proofs.Common.{◌≡◌, ℕ, ◌+◌, List, [], ◌∷◌, ◌++◌, length, Option, Some, None, refl, sym, ◌∙◌, ap, subst}
+use Rattle.std.proofs.Common.{◌≡◌, ℕ, List, [], ◌∷◌, ◌++◌, refl, sym, ◌∙◌, ap}
 use Rattle.std.proofs.lemmas.List.{append_cancel_right}
 use Rattle.std.proofs.lemmas.Option.{same_Some}
 use Rattle.report_lines.specs.Lines.{Line, line_in}
-use Rattle.report_lines.specs.Shown.{AreNames, IsLine, line_text}
+use Rattle.report_lines.specs.Shown.{AreNames, line_text}
 use Rattle.report_lines.proofs.LineTexts.{line_back}
 use Rattle.trace_audit.specs.Forms.{IsSaid, AreSaid}
 

@@ -1,8 +1,7 @@
 -- Which texts are a scenario, a line `==` and a report of a run of it, and at which line a text is none.
-use Rattle.std.specs.Prelude.{◌≡◌, ◌⊎◌, ℕ, ◌+◌, ◌<◌, List, [], ◌∷◌, ◌++◌, length, map, take, Ok, Err, ⊤}
+use Rattle.std.specs.Prelude.{◌≡◌, ◌⊎◌, ℕ, ◌+◌, ◌<◌, List, [], ◌∷◌, length, map, take, Ok, Err, ⊤}
 use Rattle.std.specs.List.{concat}
 use Rattle.tas_model.specs.declared.entry.HostParams.{HostParams}
-use Rattle.host_rounds.specs.Lists.{Each}
 use Rattle.scenario_text.specs.Reads.{reads}
 use Rattle.scenario_text.specs.declared.scenario.HostLine.{HostLine}
 use Rattle.scenario_text.specs.declared.scenario.Scenario.{Scenario}

@@ -5,10 +5,10 @@ use Rattle.scenario_text.specs.declared.reading.ScenarioFault.TheVariants as sce
 use Rattle.report_lines.specs.Lines.{Line, Begins, Made}
 use Rattle.trace_audit.specs.Forms.{Said, IsForm, IsRefused, params_of}
 use Rattle.trace_audit.specs.Right.{AreRight, IsFirstWrong}
-use Rattle.trace_audit.specs.declared.audit.Verdict.{Verdict}
-use Rattle.trace_audit.specs.declared.audit.Verdict.TheVariants as verdicts
-use Rattle.trace_audit.specs.declared.audit.AuditFault.{AuditFault}
-use Rattle.trace_audit.specs.declared.audit.AuditFault.TheVariants as faults
+use Rattle.trace_audit.specs.declared.auditing.Verdict.{Verdict}
+use Rattle.trace_audit.specs.declared.auditing.Verdict.TheVariants as verdicts
+use Rattle.trace_audit.specs.declared.auditing.AuditFault.{AuditFault}
+use Rattle.trace_audit.specs.declared.auditing.AuditFault.TheVariants as faults
 
 -- ----- counts
 abbrev pub begins_flow : Line → Bool

@@ -6,19 +6,19 @@ use Rattle.tas_model.specs.declared.entry.Entry.{Entry}
 use Rattle.tas_model.specs.declared.entry.HostParams.{HostParams}
 use Rattle.tas_model.specs.Valid.{InRange}
 use Rattle.scenario_text.specs.declared.scenario.HostLine.{HostLine}
-use Rattle.report_lines.specs.Lines.{Line, Title, Host, Logged, Begins, Made, State, Read, End}
+use Rattle.report_lines.specs.Lines.{Line, Begins, Made, State, Read}
 use Rattle.report_form.specs.Places.{IsAt}
 use Rattle.report_form.specs.Reports.{IsReport}
 use Rattle.flow_judge.specs.Judging.{Judge, HasJudged}
 use Rattle.trace_audit.specs.TextLines.{text_lines, AreHalves}
 use Rattle.trace_audit.specs.Forms.{IsSaid, AreSaid, IsFault, names_of, params_of, addrs_of}
 use Rattle.trace_audit.specs.Shown.{ShownFlow, Now, shown, begun}
-use Rattle.trace_audit.specs.Right.{IsRight, IsRightNow, AreRight, IsFirstWrong}
+use Rattle.trace_audit.specs.Right.{IsRight, AreRight, IsFirstWrong}
 use Rattle.trace_audit.specs.Verdicts.{begins_flow, is_entry}
-use Rattle.trace_audit.specs.declared.audit.Verdict.{Verdict}
-use Rattle.trace_audit.specs.declared.audit.Verdict.TheVariants as verdicts
-use Rattle.trace_audit.specs.declared.audit.AuditFault.{AuditFault}
-use Rattle.trace_audit.specs.declared.audit.AuditFault.TheVariants as faults
+use Rattle.trace_audit.specs.declared.auditing.Verdict.{Verdict}
+use Rattle.trace_audit.specs.declared.auditing.Verdict.TheVariants as verdicts
+use Rattle.trace_audit.specs.declared.auditing.AuditFault.{AuditFault}
+use Rattle.trace_audit.specs.declared.auditing.AuditFault.TheVariants as faults
 use Rattle.trace_audit.specs.declared.counts.Counts.{Counts}
 use Rattle.trace_audit.specs.declared.halves.Halves.{Halves}
 use Rattle.trace_audit.specs.declared.watch.Begun.{Begun}
@@ -69,10 +69,10 @@ pub record Watches (hosts : List HostParams) (w : Watch) (n : Now) : Type 0 wher
   pub flow : FlowWatched hosts w.flow n
 
 -- ----- all lines
-pub record AreCounted (c : Counts) (lines : List Line) : Type 0 where
-  pub lines : c.lines ≡ length lines
-  pub flows : c.flows ≡ count_by begins_flow lines
-  pub entries : c.entries ≡ count_by is_entry lines
+pub record AreCounted (c : Counts) (read : List Line) : Type 0 where
+  pub lines : c.lines ≡ length read
+  pub flows : c.flows ≡ count_by begins_flow read
+  pub entries : c.entries ≡ count_by is_entry read
 
 -- up to each line the flow is right, or this is the first up to which it is not
 abbrev pub IsJudgedBy : (hosts : List HostParams) → (wrong : Option ℕ) → Watch → List Line → Type 0

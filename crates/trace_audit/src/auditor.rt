@@ -14,7 +14,7 @@ ghost use Rattle.trace_audit.specs.Shown.{shown};
 ghost use Rattle.trace_audit.specs.Watching.{Comes, HasRead, HasTaken, IsJudgedBy, IsReady, IsBounded};
 ghost use Rattle.trace_audit.specs.Watching.{verdict_of};
 
-use crate::audit::Verdict;
+use crate::auditing::Verdict;
 use crate::counts::{Counts, no_counts, with_line};
 use crate::lines::without_end;
 use crate::watch::Watch;
@@ -146,7 +146,14 @@ impl Auditor {
             return Ok(false);
         };
         let counts = with_line(&self.counts, &line);
-        self.wrong = judged(alloc, hosts, &mut self.watch, self.wrong, counts.lines, &line)?;
+        self.wrong = judged(
+            alloc,
+            hosts,
+            &mut self.watch,
+            self.wrong,
+            counts.lines,
+            &line,
+        )?;
         self.place = place;
         self.counts = counts;
         Ok(true)

@@ -1,6 +1,6 @@
 use Rattle.core_worker.specs.Sending.{IsAllSent, IsPartSent}
 use Rattle.core_worker.specs.Turns.{AreKicksLeft, IsBounded}
-use Rattle.std.proofs.Common.{◌≡◌, ◌+◌, ◌≤◌, ◌<◌, sym, subst, inl, arith}
+use Rattle.std.proofs.Common.{◌≡◌, sym, subst, inl, arith}
 use Rattle.std.specs.Prelude.{Option, Some, IfNone, slice_get}
 use Rattle.context_queue.specs.declared.note.Note.{Note}
 use Rattle.crossbeam_queue.specs.Fifo.{Held}

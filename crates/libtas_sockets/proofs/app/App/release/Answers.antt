@@ -18,7 +18,7 @@ invariant_of-self c =
     c.remove-pin.ensures.pin in
     let rest = left_of o c.args.self.now c.args.s c.place-at.result f c.index.new.self.list c.self.view_is
     c.requires.socket c.self.invariant.pins.once c.remove-pin.ensures.pin same
-    (ap (λ (x : Roomy FlowId). x.list) c.index.ensures ∙ c.remove-pin.ensures.rest) in
+    (ap (λ (r : Roomy FlowId). r.list) c.index.ensures ∙ c.remove-pin.ensures.rest) in
     subst (λ (l : List FlowId). IsSound n i.begun.items l) (sym rest.0)
     (sound_less i.pass n i.begun.items i.sockets.list f.slot (ap (λ (x : Seen). x.table) c.unpin.ensures)
     (ap (λ (x : Seen). x.view.pins) c.unpin.ensures)
@@ -35,6 +35,6 @@ returns c =
     c.remove-pin.ensures.pin in
     let rest = left_of o c.args.self.now c.args.s c.place-at.result f c.index.new.self.list c.self.view_is
     c.requires.socket c.self.invariant.pins.once c.remove-pin.ensures.pin same
-    (ap (λ (x : Roomy FlowId). x.list) c.index.ensures ∙ c.remove-pin.ensures.rest) in
+    (ap (λ (r : Roomy FlowId). r.list) c.index.ensures ∙ c.remove-pin.ensures.rest) in
     released o c.args.s c.unpin.new.pass c.index.new.self.list f same c.unpin.ensures rest.1
     ∙ ap (λ (x : Application). without_socket c.args.s x) c.self.view_is

@@ -1,0 +1,5 @@
+pub mod Alone
+pub mod Releasing
+pub mod Reaping
+pub mod Accepting
+pub mod Acceptances
