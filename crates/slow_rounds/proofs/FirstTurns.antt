@@ -1,6 +1,7 @@
 -- The first turn of a tick is the slow path's phase: for the law first_turns_are_slow_phases.
 use Rattle.std.proofs.Common.{◌≡◌, ℕ, ◌+◌, ◌≤◌, ◌&&◌, ◌||◌, not, cond, Bool, true, false, List, [], ◌∷◌, ◌++◌, map}
 use Rattle.std.proofs.Common.{refl, sym, ap, ◌∙◌, subst, arith, inl, inr, append-nil, take, drop, true≢false}
+use Rattle.std.proofs.Common.{length, suc}
 use Rattle.std.specs.Prelude.{IsPermutation, ◌⊎◌}
 use Rattle.std.specs.List.{filter, list_any}
 use Rattle.std.proofs.lemmas.List.Folds.{list_any-append}
@@ -14,9 +15,11 @@ use Rattle.flow_lock.specs.declared.view.Held.{Held}
 use Rattle.flow_lock.specs.declared.view.History.{History}
 use Rattle.flow_lock.proofs.Sums.{total-append}
 use Rattle.app_reaper.specs.OneCall.{history}
+use Rattle.app_reaper.specs.declared.one_call.CallFault.TheVariants.{Busy}
 use Rattle.flow_clock.specs.Histories.{is_over, timed_by}
 use Rattle.flow_clock.specs.Ledgers.{Ledger}
 use Rattle.flow_clock.specs.Walks.{IsServed, AreServed, WasTimed, WasClosed, WasSweptAgain, AreSweptAgain}
+use Rattle.flow_clock.proofs.Keeping.{after_use, after_sweep, after_refusal}
 use Rattle.slow_handshake.specs.Numbers.{FirstNumbers}
 use Rattle.slow_handshake.specs.Openings.{Openings}
 use Rattle.core_worker.specs.Workers as cores
@@ -25,6 +28,8 @@ use Rattle.slow_worker.specs.Turns.{IsTurn, IsTimePassed, ledger_of}
 use Rattle.slow_worker.specs.Workers.{Worker, IsSound, sight_of, waiting}
 use Rattle.host_books.specs.Books.{Book, live_as, live_in}
 use Rattle.host_books.specs.Indexes.{IsFindable}
+use Rattle.host_books.proofs.Indexing.{is_same_flow}
+use Rattle.host_books.proofs.Orders.{same_self}
 use Rattle.sound_hosts.specs.Hosts.{CoreHost, known_in, id_of, is_indexed, is_doomed, listener_of, host_of}
 use Rattle.sound_hosts.specs.Sound.{IsHostSound, IsPlain}
 use Rattle.sound_hosts.proofs.Leaving.{AreApart, apart_of}
@@ -33,12 +38,14 @@ use Rattle.sound_turns.specs.Passing.{AreSwept, IsPassing, swept_book, with_book
 use Rattle.sound_turns.specs.Serving.{IsLike}
 use Rattle.sound_turns.proofs.Closing.{closed_at}
 use Rattle.sound_turns.proofs.Closing as closing
-use Rattle.sound_turns.proofs.Lists.{names, IsSplit, split_at, split_of}
+use Rattle.sound_hosts.proofs.Names.{IsSplit, split_at, split_of}
+use Rattle.sound_hosts.proofs.Names.{names}
 use Rattle.sound_turns.proofs.Serving.{like_sound}
 use Rattle.sound_turns.proofs.Steps.{timed_passing, again_at}
 use Rattle.sound_turns.proofs.Steps as steps
 use Rattle.sound_turns.proofs.Times.{first, starts, turned, host_sound}
 use Rattle.sound_turns.proofs.Whole.{posted_like}
+use Rattle.slow_rounds.specs.Rests.{IsCounted}
 use Rattle.slow_rounds.specs.SoFar.{phased, is_in, AreSoFar, AreStepped}
 use Rattle.slow_rounds.proofs.Phased.{closed_phased, filed_phased, timed_phased}
 use Rattle.slow_rounds.proofs.Stepping.{Once, once_rest, apart_rest, all_stepped, books_stay, one_changes}
@@ -61,7 +68,8 @@ module _ (h : CoreHost) (tick : ℕ) where
     pub once : Once (tried ++ due)
 
   -- ----- a flow that has its time
-  module _ (f : FlowId) (left : List FlowId) (l n : Ledger) (g : Goes [] (f ∷ left) (f ∷ left) l) (was : WasTimed tick f l n) where
+  module _ (f : FlowId) (left : List FlowId) (l n : Ledger) (g : Goes [] (f ∷ left) (f ∷ left) l)
+      (was : WasTimed tick f l n) where
     abbrev after : History
     after = timed_by tick (history was.flow)
 
@@ -98,7 +106,8 @@ module _ (h : CoreHost) (tick : ℕ) where
   module _ (xs : List Book) (b : Book) (cs : List Book) (left : List FlowId) (l n : Ledger)
       (p : IsPassing h (xs ++ b ∷ cs) [] (b.id ∷ left) l) (is : b.indexed ≡ true)
       (fronts : names is_indexed xs ≡ l.pins) (backs : names is_indexed cs ≡ left) (was : WasClosed b.id l n)
-      (so : AreSoFar (b.id ∷ left) tick (known_in h) l.view.base h.books (xs ++ b ∷ cs)) (once : Once (b.id ∷ left)) where
+      (so : AreSoFar (b.id ∷ left) tick (known_in h) l.view.base h.books (xs ++ b ∷ cs))
+      (once : Once (b.id ∷ left)) where
     abbrev held : Held
     held = record { flow = b.id; history = history was.flow }
 
@@ -289,7 +298,8 @@ module _ (h : CoreHost) (tick : ℕ) (m : Worker) (sound : IsHostSound h) (new :
   }
 
   tried : Goes h tick [] [] h.slow.pins passed.done.0
-  tried = all_again h tick h.slow.doomed h.slow.pins (first h tick m sound passed kept) passed.done.0 goes_on passed.done.1
+  tried = all_again h tick h.slow.doomed h.slow.pins (first h tick m sound passed kept) passed.done.0 goes_on
+      passed.done.1
 
   due : drop (served_in tick h.slow.time) passed.done.0.pins ≡ h.slow.pins
   due = from_first (served_in tick h.slow.time) passed.done.0.pins new
@@ -315,16 +325,50 @@ module _ (h : CoreHost) (tick : ℕ) (m : Worker) (sound : IsHostSound h) (new :
       (ap (λ (x : Worker). x.log) passed.rest)
       (ended tick (known_in h) m.pass.view.base h.books ends.books ends.so_far)
 
+-- ----- how many flows were opened
+served_count : (tick : ℕ) (f : FlowId) (l m : Ledger) → IsServed tick f l m → m.view.opened ≡ l.view.opened
+served_count tick f l m (inl was) =
+    (after_use f was.flow (timed_by tick (history was.flow)) l.view m.view was.grown).opened
+served_count tick f l m (inr (inl was)) =
+    (after_sweep f was.found m.view was.swept.swept was.swept.sweep).opened
+    ∙ (after_use f was.flow (history was.flow) l.view was.found was.kept).opened
+served_count tick f l m (inr (inr was)) = (after_refusal f (Busy was.word) l.view m.view was.busy).opened
+
+all_served_count : (tick : ℕ) (fs : List FlowId) (l m : Ledger) → AreServed tick fs l m
+    → m.view.opened ≡ l.view.opened
+all_served_count tick [] l m e = ap (λ (x : Ledger). x.view.opened) e
+all_served_count tick (f ∷ fs) l m (n, served, rest) =
+    all_served_count tick fs n m rest ∙ served_count tick f l n served
+
+all_again_count : (fs : List FlowId) (l m : Ledger) → AreSweptAgain fs l m → m.view.opened ≡ l.view.opened
+all_again_count [] l m e = ap (λ (x : Ledger). x.view.opened) e
+all_again_count (f ∷ fs) l m (n, was, rest) =
+    all_again_count fs n m rest ∙ (after_sweep f l.view n.view was.swept.swept was.swept.sweep).opened
+
+time_count : (tick : ℕ) (v w : Worker) → IsTimePassed tick v w → w.pass.view.opened ≡ v.pass.view.opened
+time_count tick v w passed =
+    all_served_count tick (drop (served_in tick v.time) passed.done.0.pins)
+    (record (passed.done.0) { pins = take (served_in tick v.time) passed.done.0.pins })
+    (ledger_of w passed.changes) passed.done.2
+    ∙ all_again_count v.doomed (record (ledger_of v v.index.pending) { doomed = [] }) passed.done.0 passed.done.1
+
+swept_count : (bs cs : List Book) → AreSwept bs cs → length cs ≡ length bs
+swept_count [] cs swept = ap (λ (l : List Book). length l) swept
+swept_count (b ∷ bs) [] swept = absurd swept
+swept_count (b ∷ bs) (c ∷ cs) swept = ap (λ n. suc n) (swept_count bs cs swept.1)
+
 -- ----- the whole turn
 pub first_made : (h : CoreHost) (ns : FirstNumbers) (c : cores.Common) (tick : ℕ) (w : Worker) → IsHostSound h
     → served_in tick h.slow.time ≡ 0 → IsTurn false ns c tick h.slow w → IsSound h.table (sight_of w)
     → (books : List Book) × AreSwept h.books books × IsHostSound (with_books books w h)
+    × (IsCounted h → IsCounted (with_books books w h))
     × (host_of (with_books books w h) ≡ slow_phase tick (host_of h))
 first_made h ns c tick w sound new (m, passed, posted) still =
     by (subst (λ (x : Worker). IsSound h.table (sight_of x)) posted.rest still)
   where
     by : IsSound h.table (sight_of m)
         → (books : List Book) × AreSwept h.books books × IsHostSound (with_books books w h)
+        × (IsCounted h → IsCounted (with_books books w h))
         × (host_of (with_books books w h) ≡ slow_phase tick (host_of h))
     by kept =
         let g = ends h tick m sound new passed kept in (
@@ -333,6 +377,9 @@ first_made h ns c tick w sound new (m, passed, posted) still =
           like_sound (with_books g.books m h) m w (host_sound h tick m sound passed kept g.books g.passing)
               (posted_like c m w posted)
               (ap waiting posted.rest ∙ (host_sound h tick m sound passed kept g.books g.passing).waiting),
+          λ counted. ap (λ (x : Worker). x.pass.view.opened) posted.rest
+              ∙ (time_count tick h.slow m passed
+              ∙ (counted ∙ sym (swept_count h.books g.books g.passing.tabled.swept))),
           ap (λ (x : Worker). host_of (with_books g.books x h)) posted.rest
               ∙ time_made h tick m sound new passed kept,
         )

@@ -108,7 +108,8 @@ module _ (h : CoreHost) (v : Worker) (books : List Book) (at : Setting) (frame :
 
   stray : (a ≡ served.Stray) × (m ≡ with_line at.tick (stray_event s.path frame seg) s) → (l : Bool)
       → hosts.is_listening before port ≡ l
-      → after ≡ logged before at.tick (events.Stray frame (tuple_of seg) (seg_of seg) (runs.stray_answer l (seg_of seg)))
+      → after
+      ≡ logged before at.tick (events.Stray frame (tuple_of seg) (seg_of seg) (runs.stray_answer l (seg_of seg)))
   stray (is, line) l e =
       lined (stray_event s.path frame seg) served.Stray is refl line
       ∙ ap (λ o. logged before at.tick (events.Stray frame (tuple_of seg) (seg_of seg) o))
@@ -180,7 +181,8 @@ module _ (h : CoreHost) (v : Worker) (books : List Book) (at : Setting) (frame :
         id = record { slot = id.slot; generation = named i };
         tuple = tuple_of seg;
         params = s.path.params;
-        entries = first_entry Slow at.tick (calls.Passive frame (at.numbers (tuple_of seg) (count i)) (seg_of seg)) ∷ [];
+        entries =
+            first_entry Slow at.tick (calls.Passive frame (at.numbers (tuple_of seg) (count i)) (seg_of seg)) ∷ [];
       };
       indexed = true;
       holder = Waiting;
@@ -280,7 +282,8 @@ module _ (h : CoreHost) (v : Worker) (books : List Book) (at : Setting) (frame :
               ∙ ap (λ c. By c (f || t)) (and_false (f || t)))
           so true true t l eo ef et el got =
               opening got
-              ∙ (sym (ap ByOpening (full ∙ ap (λ c. not c && not (nat_lt (backlog_of s.path port) s.path.params.backlog)) ef))
+              ∙ (sym (ap ByOpening
+              (full ∙ ap (λ c. not c && not (nat_lt (backlog_of s.path port) s.path.params.backlog)) ef))
               ∙ sym (λ i. By (heard true t ef et i && eo i) (heard true t ef et i)))
           so true false false l eo ef et el got =
               stray got false (heard false false ef et)

@@ -17,7 +17,7 @@ use Rattle.host_books.proofs.Orders.{same_self}
 use Rattle.sound_hosts.proofs.Leaving.{AreApart}
 use Rattle.sound_hosts.proofs.Sweeping.{middle}
 use Rattle.sound_turns.specs.Passing.{swept_book}
-use Rattle.sound_turns.proofs.Lists.{names}
+use Rattle.sound_hosts.proofs.Names.{names}
 use Rattle.slow_rounds.specs.SoFar.{phased, is_in, IsSoFar, AreSoFar, IsStepped, AreStepped}
 
 -- ----- each once

@@ -3,4 +3,4 @@
 
 mod turns;
 
-pub use turns::first_turns_are_slow_phases;
+pub use turns::{collected_lines_are_refusals, first_turns_are_slow_phases, later_turns_are_rest_phases};
