@@ -43,7 +43,8 @@ use Rattle.sound_hosts.proofs.Names.{names}
 use Rattle.sound_turns.proofs.Serving.{like_sound}
 use Rattle.sound_turns.proofs.Steps.{timed_passing, again_at}
 use Rattle.sound_turns.proofs.Steps as steps
-use Rattle.sound_turns.proofs.Times.{first, starts, turned, host_sound}
+use Rattle.sound_turns.proofs.Times.{first, from_place, host_sound}
+use Rattle.sound_turns.proofs.Times as times
 use Rattle.sound_turns.proofs.Whole.{posted_like}
 use Rattle.slow_rounds.specs.Rests.{IsCounted}
 use Rattle.slow_rounds.specs.SoFar.{phased, is_in, AreSoFar, AreStepped}
@@ -61,7 +62,7 @@ own now x g e = ap (λ s. cond s x.history (known_of g now)) e
 module _ (h : CoreHost) (tick : ℕ) where
   -- What holds of some books while these flows are still to be tried, and those due are to have their time: these stand
   -- behind the ledger's pins, or are its pins.
-  record Goes (tried left due : List FlowId) (l : Ledger) : Type 0 where
+  pub record Goes (tried left due : List FlowId) (l : Ledger) : Type 0 where
     pub books : List Book
     pub passing : IsPassing h books tried left l
     pub so_far : AreSoFar (tried ++ due) tick (known_in h) l.view.base h.books books
@@ -111,29 +112,29 @@ module _ (h : CoreHost) (tick : ℕ) where
     abbrev held : Held
     held = record { flow = b.id; history = history was.flow }
 
-    base : n.view.base ≡ held ∷ l.view.base
-    base = closing.base h xs b cs [] left l n p is fronts backs was
+    closed_base : n.view.base ≡ held ∷ l.view.base
+    closed_base = closing.base h xs b cs [] left l n p is fronts backs was
         ∙ (used_leads b.id was.flow (history was.flow) l.view was.found p.tabled.alone was.kept).base
 
-    made : live_in (held ∷ l.view.base) (swept_book b) ≡ phased tick (live_in l.view.base b)
-    made =
+    closed_made : live_in (held ∷ l.view.base) (swept_book b) ≡ phased tick (live_in l.view.base b)
+    closed_made =
         ap (live_as (swept_book b)) (own l.view.base held b.id (same_self b.id))
         ∙ (closed_phased tick b (history was.flow) was.over (closing.stands h xs b cs [] left l n p is fronts backs was)
         ∙ ap (λ k. phased tick (live_as b k)) (was.own.known p.tabled.alone))
 
-    stepped : AreStepped b.id tick l.view.base n.view.base (xs ++ b ∷ cs) (xs ++ swept_book b ∷ cs)
-    stepped =
+    closed_stepped : AreStepped b.id tick l.view.base n.view.base (xs ++ b ∷ cs) (xs ++ swept_book b ∷ cs)
+    closed_stepped =
         subst (λ (x : List Held). AreStepped b.id tick l.view.base x (xs ++ b ∷ cs) (xs ++ swept_book b ∷ cs))
-        (sym base)
+        (sym closed_base)
         (one_changes tick l.view.base (held ∷ l.view.base) b.id (others l.view.base held) xs b (swept_book b) cs
-        (apart_of h.table.slots [] (xs ++ b ∷ cs) p.tabled.numbered) refl refl made)
+        (apart_of h.table.slots [] (xs ++ b ∷ cs) p.tabled.numbered) refl refl closed_made)
 
     closed_goes : Goes [] left left n
     closed_goes = record {
       books = xs ++ swept_book b ∷ cs;
       passing = closed_at h xs b cs [] left l n p is fronts backs was;
       so_far = all_stepped tick b.id left (known_in h) l.view.base n.view.base (apart_rest b.id left once) h.books
-          (xs ++ b ∷ cs) (xs ++ swept_book b ∷ cs) so stepped;
+          (xs ++ b ∷ cs) (xs ++ swept_book b ∷ cs) so closed_stepped;
       once = once_rest b.id left once;
     }
 
@@ -292,7 +293,7 @@ module _ (h : CoreHost) (tick : ℕ) (m : Worker) (sound : IsHostSound h) (new :
   goes_on : Goes h tick h.slow.doomed [] h.slow.pins (first h tick m sound passed kept)
   goes_on = record {
     books = h.books;
-    passing = (starts h tick m sound passed kept).1;
+    passing = times.begun h tick m sound passed kept;
     so_far = so_far h tick sound;
     once = once h tick sound;
   }
@@ -311,7 +312,7 @@ module _ (h : CoreHost) (tick : ℕ) (m : Worker) (sound : IsHostSound h) (new :
       (record (passed.done.0) { pins = take (served_in tick h.slow.time) passed.done.0.pins })
       (ledger_of m passed.changes) (record {
         books = tried.books;
-        passing = (turned h tick m sound passed kept passed.done.0 (tried.books, tried.passing)).1;
+        passing = from_place h tick m sound passed kept tried.books passed.done.0 tried.passing;
         so_far = subst (λ fs. AreSoFar fs tick (known_in h) passed.done.0.view.base h.books tried.books) (sym due)
             tried.so_far;
         once = subst Once (sym due) tried.once;

@@ -49,22 +49,23 @@ module _ (known : List Held) (t : FourTuple) where
   pub none_indexed : (bs : List Book) → AreApart bs → flow_with t (flows_in known bs) ≡ None
       → list_any (is_indexed_as t) (map (live_in known) bs) ≡ false
   none_indexed [] apart e = refl
-  none_indexed (b ∷ bs) apart e = by (is_indexed_as t (live_in known b)) refl
+  none_indexed (b ∷ bs) apart e = by (is_indexed_as t (live_in known b)) refl (λ q. none_indexed bs apart.1 q)
     where
       by : (s : Bool) → is_indexed_as t (live_in known b) ≡ s
+          → (flow_with t (flows_in known bs) ≡ None → list_any (is_indexed_as t) (map (live_in known) bs) ≡ false)
           → (is_indexed_as t (live_in known b) || list_any (is_indexed_as t) (map (live_in known) bs)) ≡ false
-      by true s = absurd (not_none b.id (sym (listed known t 0 b.id (b ∷ bs) (refl, apart.0) s) ∙ e))
-      by false s =
+      by true s rest = absurd (not_none b.id (sym (listed known t 0 b.id (b ∷ bs) (refl, apart.0) s) ∙ e))
+      by false s rest =
           ap (λ c. c || list_any (is_indexed_as t) (map (live_in known) bs)) s
-          ∙ none_indexed bs apart.1 (sym (one_more known t b bs s) ∙ e)
+          ∙ rest (sym (one_more known t b bs s) ∙ e)
 
   -- where it leads to a flow, that is the first that the index has
   pub placed : (bs : List Book) → AreApart bs → (id : FlowId) → flow_with t (flows_in known bs) ≡ Some id
       → (n : ℕ) × IsAt n id bs × IsFirstAt (is_indexed_as t) n (map (live_in known) bs)
   placed [] apart id e = absurd (not_none id (sym e))
-  placed (b ∷ bs) apart id e = by (is_indexed_as t (live_in known b)) refl
+  placed (b ∷ bs) apart id e = by (is_indexed_as t (live_in known b)) refl (λ q. placed bs apart.1 id q)
     where
-      abbrev Place : Type 0
+      Place : Type 0
       Place = (n : ℕ) × IsAt n id (b ∷ bs) × IsFirstAt (is_indexed_as t) n (map (live_in known) (b ∷ bs))
 
       here : is_indexed_as t (live_in known b) ≡ true → b.id ≡ id → Place
@@ -76,6 +77,9 @@ module _ (known : List Held) (t : FourTuple) where
           let c = at_place (λ (c : Book). same_flow b.id c.id ≡ false) n id bs apart.0 at in
           (suc n, (flipped b.id id (ap (same_flow b.id) (sym c.1) ∙ c.2), at), (s, first))
 
-      by : (s : Bool) → is_indexed_as t (live_in known b) ≡ s → Place
-      by true s = here s (some_is b.id id (sym (listed known t 0 b.id (b ∷ bs) (refl, apart.0) s) ∙ e))
-      by false s = there s (placed bs apart.1 id (sym (one_more known t b bs s) ∙ e))
+      by : (s : Bool) → is_indexed_as t (live_in known b) ≡ s
+          → (flow_with t (flows_in known bs) ≡ Some id
+          → (n : ℕ) × IsAt n id bs × IsFirstAt (is_indexed_as t) n (map (live_in known) bs))
+          → Place
+      by true s rest = here s (some_is b.id id (sym (listed known t 0 b.id (b ∷ bs) (refl, apart.0) s) ∙ e))
+      by false s rest = there s (rest (sym (one_more known t b bs s) ∙ e))

@@ -21,11 +21,12 @@ use Rattle.host_rounds.specs.declared.log.LogEvent.TheVariants as events
 use Rattle.host_rounds.specs.Deliveries as runs
 use Rattle.host_rounds.specs.Deliveries.{Arrival, Packet, delivered, delivered_packet, arrived}
 use Rattle.host_rounds.specs.Hosts as hosts
-use Rattle.host_rounds.specs.Hosts.{Live, Host, Numbers, is_indexed_as, next_number}
+use Rattle.host_rounds.specs.Hosts.{Live, Host, Numbers, changed, is_indexed_as, next_number}
 use Rattle.host_rounds.specs.Scripts.{Scripts}
 use Rattle.host_rounds.proofs.Lists.{map_append}
 use Rattle.core_rounds.specs.CoreTicks.{rest_phase}
 use Rattle.flow_lock.specs.Answers.{next_in}
+use Rattle.flow_lock.specs.declared.view.History.{History}
 use Rattle.flow_lock.specs.declared.view.View.{View}
 use Rattle.slow_handshake.specs.Numbers.{FirstNumbers}
 use Rattle.slow_handshake.specs.Openings.{Openings}
@@ -45,10 +46,8 @@ use Rattle.slow_worker.specs.Workers.{Worker, Sight, Setting, sight_of, with_sig
 use Rattle.slow_worker.specs.declared.known.KnownFlow.{KnownFlow}
 use Rattle.slow_worker.specs.declared.served.Served.{Served}
 use Rattle.slow_worker.specs.declared.served.Served.TheVariants as served
-use Rattle.host_books.specs.Books as host_books
 use Rattle.host_books.specs.Books.{Book, live_in, IsAt, IsFirstAt}
-use Rattle.host_books.proofs.AloneCalls.{call_moved}
-use Rattle.sound_hosts.specs.Hosts.{CoreHost, host_of, listener_of, setting_of as setting_in, flows_in}
+use Rattle.sound_hosts.specs.Hosts.{CoreHost, host_of, listener_of}
 use Rattle.sound_hosts.specs.Sound.{IsHostSound}
 use Rattle.sound_hosts.proofs.Leaving.{apart_of}
 use Rattle.sound_turns.specs.Serving.{quiet, without_frames, ids_of, syn_book, books_opened, with_opened}
@@ -59,6 +58,7 @@ use Rattle.slow_rounds.specs.Rests.{numbers_by, rest_of, IsCounted}
 use Rattle.slow_rounds.proofs.FirstTurns.{same_host}
 use Rattle.slow_rounds.proofs.Found.{first_changes, first_any, none_indexed, placed}
 use Rattle.slow_rounds.proofs.Meeting.{met_made}
+use Rattle.slow_rounds.proofs.Moves.{flows_moved}
 
 -- what an entry tells the lists of openings changes neither the parameters nor the listeners
 told_rest : (p : Phase) (id : FlowId) (o : Openings)
@@ -88,7 +88,7 @@ module _ (h : CoreHost) (v : Worker) (books : List Book) (at : Setting) (f : Pas
     place = placed s.pass.view.base (tuple_of seg) books (apart_of h.table.slots [] books sound.numbered) id
         (ap (flow_with (tuple_of seg)) (sym sound.kept.flows) ∙ led)
 
-    taking : Live → Live
+    abbrev taking : Live → Live
     taking = runs.received Slow at.tick f.frame.id (seg_of seg)
 
     entered : IsReceived at f.frame.id seg id s m
@@ -96,20 +96,19 @@ module _ (h : CoreHost) (v : Worker) (books : List Book) (at : Setting) (f : Pas
         → After (served.Entered id) ≡ Meets (runs.Segment (tuple_of seg) (seg_of seg))
     entered got rest =
         ap (λ (bs : List Book). host_of (At h v bs m)) (append-nil books)
-        ∙ (same_host (host_of (At h v books m)) (host_books.host_of (setting_in (At h v books s)) m.pass.view.base)
+        ∙ (same_host (host_of (At h v books m)) (changed before (tuple_of seg) taking)
         (ap (λ (o : Openings). o.params) got.path ∙ (told_rest (phase_of k) id s.path).0)
         (ap (λ (o : Openings). map listener_of o.listeners) got.path
         ∙ ap (map listener_of) (told_rest (phase_of k) id s.path).1)
         (ap (λ (x : Sight). x.log) rest)
-        refl
-        ∙ (call_moved (setting_in (At h v books s)) place.0 id Slow at.tick (Rx f.frame.id seg) s.pass.view m.pass.view
-        got.flow sound.alone place.1 got.own got.given
-        ∙ (ap (λ (ls : List Live). record before { flows = ls })
-        (sym (first_changes (is_indexed_as (tuple_of seg)) taking place.0 before.flows place.2))
+        (flows_moved place.0 id Slow at.tick (Rx f.frame.id seg) s.pass.view m.pass.view got.flow books sound.alone
+        place.1 got.own got.given
+        ∙ sym (first_changes (is_indexed_as (tuple_of seg)) taking place.0 before.flows place.2))
         ∙ ap (λ c. arrived c taking (next_number (numbers_by at.numbers) before (tuple_of seg)) at.tick before
         f.frame.id (tuple_of seg) (seg_of seg))
-        (sym (first_any (is_indexed_as (tuple_of seg)) place.0 before.flows place.2)))))
+        (sym (first_any (is_indexed_as (tuple_of seg)) place.0 before.flows place.2)))
       where
+        k : History
         k = received at.tick f.frame.id seg got.flow
 
   -- ----- a segment
@@ -197,8 +196,8 @@ module _ (h : CoreHost) (v : Worker) (books : List Book) (at : Setting) (f : Pas
 
 -- ----- all frames
 module _ (h : CoreHost) (v : Worker) (at : Setting) where
-  abbrev Meets : Host → Arrival → Host
-  Meets = delivered (runs.received Slow) (numbers_by at.numbers) at.tick
+  abbrev Comes : Host → Arrival → Host
+  Comes = delivered (runs.received Slow) (numbers_by at.numbers) at.tick
 
   record AreMade (books : List Book) (s n : Sight) (fs kept : List PassedFrame) : Type 0 where
     pub ids : List FlowId
@@ -206,7 +205,7 @@ module _ (h : CoreHost) (v : Worker) (at : Setting) where
     pub sound : IsHostSound (At h v (books_opened ids books) n)
     pub counted : n.pass.view.opened ≡ length (books_opened ids books)
     pub made : host_of (At h v (books_opened ids books) n)
-        ≡ fold Meets (host_of (At h v books s)) (arrivals_of at.check_sums (map frame_in fs))
+        ≡ fold Comes (host_of (At h v books s)) (arrivals_of at.check_sums (map frame_in fs))
 
   all_made : (fs : List PassedFrame) (books : List Book) (s n : Sight) (kept : List PassedFrame)
       → IsHostSound (At h v books s) → length books + length fs < 4294967295
@@ -248,7 +247,7 @@ module _ (h : CoreHost) (v : Worker) (at : Setting) where
         counted = q.counted ∙ ap (λ (bs : List Book). length bs) all;
         made = ap (λ (bs : List Book). host_of (At h v bs n)) (sym all)
             ∙ (q.made
-            ∙ ap (λ x. fold Meets x (arrivals_of at.check_sums (map frame_in fs)))
+            ∙ ap (λ x. fold Comes x (arrivals_of at.check_sums (map frame_in fs)))
             (one_made h v books at f s m a sound near counted one));
       }
         where

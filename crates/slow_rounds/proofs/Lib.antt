@@ -1,3 +1,4 @@
+pub mod Moves
 pub mod Phased
 pub mod Stepping
 pub mod FirstTurns
@@ -6,3 +7,4 @@ pub mod Slots
 pub mod Meeting
 pub mod LaterTurns
 pub mod Refusals
+pub mod Emissions

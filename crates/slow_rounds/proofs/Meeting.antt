@@ -7,7 +7,7 @@ use Rattle.std.specs.List.{list_any}
 use Rattle.std.specs.Option.{option_map}
 use Rattle.std.proofs.lemmas.List.{length-map}
 use Rattle.std.proofs.lemmas.Bool.Decides.{nat_tests}
-use Rattle.std.proofs.lemmas.List.Folds.{count_by-le-length}
+use Rattle.std.proofs.lemmas.List.Sums.{count_by-le-length}
 use Rattle.tas_num.specs.declared.seq.Seq.{Seq}
 use Rattle.segment_fields.specs.declared.segment.Segment.{Segment}
 use Rattle.tas_model.specs.declared.entry.Call.TheVariants as calls
@@ -128,7 +128,8 @@ module _ (h : CoreHost) (v : Worker) (books : List Book) (at : Setting) (frame :
   lowest =
       ap (λ c. free_where c before.params.slots before.flows) room
       ∙ (ap (λ n. free_from n 0 before.flows) (sym wide)
-      ∙ (free_alike s.pass.view.marks 0 before.flows marked ∙ same (position is_free s.pass.view.marks)))
+      ∙ (free_alike s.pass.view.marks 0 before.flows (λ i x e. marked i x e ∙ from_first i)
+      ∙ same (position is_free s.pass.view.marks)))
     where
       room : nat_lt (length before.flows) most_flows ≡ true
       room =
@@ -138,9 +139,12 @@ module _ (h : CoreHost) (v : Worker) (books : List Book) (at : Setting) (frame :
           below : (n : ℕ) → n < 4294967295 → nat_lt n most_flows ≡ true
           below n lt = grind (arith, nat_tests, lt)
 
+      from_first : (i : ℕ) → list_any (is_in_slot i) before.flows ≡ list_any (is_in_slot (0 + i)) before.flows
+      from_first i = ap (λ n. list_any (is_in_slot n) before.flows) (let none : i ≡ 0 + i = omega arith in none)
+
       same : (o : Option ℕ) → option_map (λ i. 0 + i) o ≡ o
       same None = refl
-      same (Some i) = refl
+      same (Some i) = ap (λ n. Some n) (let none : 0 + i ≡ i = omega arith in none)
 
   -- ----- a flow that is opened
   module _ (id : FlowId) (next : next_in s.pass.view.marks ≡ Some id) (is : a ≡ served.Opened id)
@@ -227,7 +231,7 @@ module _ (h : CoreHost) (v : Worker) (books : List Book) (at : Setting) (frame :
   opening : IsOpenedIn (next_in s.pass.view.marks) at.numbers at.tick frame seg s m a → after ≡ ByOpening false
   opening is = by (position is_free s.pass.view.marks) refl
     where
-      abbrev WithFree : Option ℕ → Host
+      WithFree : Option ℕ → Host
       WithFree o = opened_by_syn false o number at.tick before frame (tuple_of seg) (seg_of seg)
 
       by : (o : Option ℕ) → position is_free s.pass.view.marks ≡ o → after ≡ ByOpening false
@@ -259,10 +263,10 @@ module _ (h : CoreHost) (v : Worker) (books : List Book) (at : Setting) (frame :
   met_made is = by (opens (seg_of seg)) refl s.path.params.fixed refl (is_taken s.path port) refl
       (nat_lt (backlog_of s.path port) s.path.params.backlog) refl
     where
-      abbrev Met : Option SynAnswer → Type 0
+      Met : Option SynAnswer → Type 0
       Met o = IsMet o at.numbers at.tick frame seg s m a
 
-      abbrev Goal : Type 0
+      Goal : Type 0
       Goal = after ≡ By (hosts.is_listening before port && opens (seg_of seg)) (hosts.is_listening before port)
 
       -- what is listened to, by what was found

@@ -14,7 +14,7 @@ use Rattle.sound_turns.specs.Passing.{swept_book}
 use Rattle.slow_rounds.specs.SoFar.{phased}
 
 -- ----- a flow that is closed
-swept_if : Bool → Live → Live
+abbrev swept_if : Bool → Live → Live
 swept_if over l = cond over (record l { indexed = false; filed = l.filed || not (is_held l) }) l
 
 pub phased_over : (t : ℕ) (l : Live) → hosts.is_over l ≡ true
@@ -66,5 +66,4 @@ timed_phased t b h open_ =
     ∙ ap (timed Slow t) (sym unswept)))
   where
     unswept : swept (live_as b h) ≡ live_as b h
-    unswept = ap (λ o. cond o (record (live_as b h) { indexed = false; filed = b.filed || not (is_held (live_as b h)) })
-    (live_as b h)) open_
+    unswept = ap (λ o. swept_if o (live_as b h)) open_

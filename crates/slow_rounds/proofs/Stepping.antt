@@ -31,12 +31,20 @@ once_rest f fs once i =
 
 none_there : (f : FlowId) (fs : List FlowId) → total (at_slot f.slot) fs ≡ 0 → is_in fs f ≡ false
 none_there f [] none = refl
-none_there f (g ∷ gs) none = by (g.slot == f.slot) refl none
+none_there f (g ∷ gs) none =
+    by (g.slot == f.slot) refl none (λ n. none_there f gs n)
   where
-    by : (s : Bool) → (g.slot == f.slot) ≡ s → cond s 1 0 + total (at_slot f.slot) gs ≡ 0
+    by : (s : Bool) → (g.slot == f.slot) ≡ s → cond (g.slot == f.slot) 1 0 + total (at_slot f.slot) gs ≡ 0
+        → (total (at_slot f.slot) gs ≡ 0 → is_in gs f ≡ false)
         → (((g.slot == f.slot) && (g.generation == f.generation)) || is_in gs f) ≡ false
-    by true e n = absurd (omega (arith, n))
-    by false e n = ap (λ s. (s && (g.generation == f.generation)) || is_in gs f) e ∙ none_there f gs n
+    by true e n rest =
+        let one : 1 + total (at_slot f.slot) gs ≡ 0 =
+        subst (λ s. cond s 1 0 + total (at_slot f.slot) gs ≡ 0) e n in
+        absurd (omega (arith, one))
+    by false e n rest =
+        ap (λ s. (s && (g.generation == f.generation)) || is_in gs f) e
+        ∙ rest (let none_ : 0 + total (at_slot f.slot) gs ≡ 0 =
+        subst (λ s. cond s 1 0 + total (at_slot f.slot) gs ≡ 0) e n in omega (arith, none_))
 
 own_slot : (f : FlowId) → at_slot f.slot f ≡ 1
 own_slot f = grind (arith, nat_tests)

@@ -1,2 +1,3 @@
 pub mod SoFar
 pub mod Rests
+pub mod Sending

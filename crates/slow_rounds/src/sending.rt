@@ -1,0 +1,21 @@
+//! What is sent alone.
+ghost use Rattle.std.specs.Prelude.{◌≡◌, ℕ, List};
+ghost use Rattle.tas_model.specs.declared.entry.FlowId.{FlowId};
+ghost use Rattle.host_rounds.specs.Lists.{Each};
+ghost use Rattle.host_rounds.specs.SerialOrder.{emit_phase};
+ghost use Rattle.flow_lock.specs.Steps.{IsAlone};
+ghost use Rattle.flow_lock.specs.declared.view.View.{View};
+ghost use Rattle.host_books.specs.Books.{Setting, host_of};
+ghost use Rattle.host_books.specs.Indexes.{AreIndexed};
+ghost use Rattle.slow_rounds.specs.Sending.{AreSent, IsSilent};
+
+/// Segments that are sent alone, one after the other and in whatever order, until no flow that isn't closed has one
+/// more to send, are a run's emissions of that tick. Each is one call on a flow's record, as [`make_call`] says of one
+/// that was made, where a segment may go.
+///
+/// [`make_call`]: app_reaper::make_call
+pub fn emissions_alone_are_emit_phases()
+    ensures { (s : Setting) (tick : ℕ) (ids : List FlowId) (v w : View) → IsAlone v → AreIndexed s.books v.base
+        → AreSent tick ids v w → Each (IsSilent w.base) s.books
+        → IsAlone w × AreIndexed s.books w.base × (host_of s w.base ≡ emit_phase tick (host_of s v.base)) }
+{}
