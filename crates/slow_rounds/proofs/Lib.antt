@@ -8,3 +8,4 @@ pub mod Meeting
 pub mod LaterTurns
 pub mod Refusals
 pub mod Emissions
+pub mod Collecting

@@ -42,11 +42,13 @@ waits_count known port (b ∷ bs) =
     by true e true false ih =
         (λ i. tally (e i && true && true) + ih i)
         ∙ (one_more (length (filter (is_at port) rest))
-        ∙ ap (λ c. length (cond c (passive_flow known b ∷ filter (is_at port) rest) (filter (is_at port) rest))) (sym e))
+        ∙ ap (λ c. length (cond c (passive_flow known b ∷ filter (is_at port) rest) (filter (is_at port) rest)))
+        (sym e))
     by false e true false ih =
         (λ i. tally (e i && true && true) + ih i)
         ∙ (none_more (length (filter (is_at port) rest))
-        ∙ ap (λ c. length (cond c (passive_flow known b ∷ filter (is_at port) rest) (filter (is_at port) rest))) (sym e))
+        ∙ ap (λ c. length (cond c (passive_flow known b ∷ filter (is_at port) rest) (filter (is_at port) rest)))
+        (sym e))
     by true e true true ih =
         (λ i. tally (e i && true && false) + ih i) ∙ none_more (length (filter (is_at port) rest))
     by false e true true ih =

@@ -1,3 +1,4 @@
 pub mod SoFar
 pub mod Rests
 pub mod Sending
+pub mod Collecting

@@ -1,8 +1,12 @@
 //! What the slow path does alone on a host of shared flows is what a run makes of that host.
 #![tactic(auto)]
 
+mod left;
 mod sending;
 mod turns;
 
+pub use left::left_frames_are_rest_phases;
 pub use sending::emissions_alone_are_emit_phases;
-pub use turns::{collected_lines_are_refusals, first_turns_are_slow_phases, later_turns_are_rest_phases};
+pub use turns::{
+    collected_lines_are_refusals, first_turns_are_slow_phases, later_turns_are_rest_phases,
+};
