@@ -1,5 +1,5 @@
 //! The trait of the hosts that applications ask.
-ghost use Rattle.std.specs.Prelude.{◌≡◌, ℕ, ◌<◌, false, [], OnOk, IfOk};
+ghost use Rattle.std.specs.Prelude.{◌≡◌, ℕ, ◌<◌, false, OnOk, IfOk};
 ghost use Rattle.flow_state.specs.Calls.{call_of, offer_of};
 ghost use Rattle.flow_state.specs.Calls as calls_of;
 ghost use Rattle.host_rounds.specs.Hosts.{is_listened, first_port, logged, answer_of};

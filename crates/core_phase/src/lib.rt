@@ -13,5 +13,5 @@ pub use attempt::{Answered, Attempt};
 pub use hosts::{HostPart, play_phases};
 pub use lane::{AppLane, CoreLane, Lane};
 pub use laws::{busy_attempts_do_nothing, deeds_are_words, deeds_leave_the_column};
-pub use phase::play_phase;
+pub use phase::{collect_all, lanes_failed, lend_all, play_phase};
 pub use run::with_lanes;

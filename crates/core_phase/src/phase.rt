@@ -30,7 +30,7 @@ fn lend(shared: &Shared, slow: &mut SlowPass<FlowRecord>, lane: &mut Lane)
 }
 
 /// Each lane is given a turn.
-pub(crate) fn lend_all(shared: &Shared, slow: &mut SlowPass<FlowRecord>, lanes: &mut [Lane])
+pub fn lend_all(shared: &Shared, slow: &mut SlowPass<FlowRecord>, lanes: &mut [Lane])
     requires slow { (slow.old.table ≡ shared.now.table) × (slow.old.view.baton ≡ true) }
     requires idle { All (IsIdle shared.now) lanes.old }
     ensures slow { slow.new ≡ record slow.old {
@@ -59,7 +59,7 @@ fn collect(shared: &Shared, slow: &mut SlowPass<FlowRecord>, lane: &mut Lane)
 }
 
 /// All turns are given back.
-pub(crate) fn collect_all(shared: &Shared, slow: &mut SlowPass<FlowRecord>, lanes: &mut [Lane])
+pub fn collect_all(shared: &Shared, slow: &mut SlowPass<FlowRecord>, lanes: &mut [Lane])
     requires slow { slow.old.table ≡ shared.now.table }
     requires ready { All (IsReady shared.now) lanes.old }
     ensures slow { slow.new ≡ record slow.old {
@@ -119,7 +119,7 @@ fn collect_lanes(shared: &Shared, slow: &mut SlowPass<FlowRecord>, lanes: &mut V
 }
 
 /// Whether memory was wanting in a turn.
-pub(crate) fn lanes_failed(lanes: &Vec<Lane>) -> bool
+pub fn lanes_failed(lanes: &Vec<Lane>) -> bool
     ensures { result ≡ false → All Works lanes.now.items }
 {
     have_failed(lanes.as_slice())

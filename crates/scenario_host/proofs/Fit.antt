@@ -16,22 +16,22 @@ use Rattle.scenario_ranges.specs.Ranges.{IsStepInRange}
 use Rattle.scenario_runs.specs.Applications.{Bound, AListener, ASocket, Script, bind, unbind, stepped, done_or}
 use Rattle.scenario_runs.specs.Applications.{sent_on, received_on}
 use Rattle.scenario_host.specs.Answers.{IsWithin}
-use Rattle.scenario_host.specs.Sound.{IsPart, IsPartOfFirst, IsOneOf, IsPlace, IsFit}
+use Rattle.scenario_host.specs.Sound.{IsPart, IsPartOfFirst, IsOneOf, AreNamesOf, IsPlace, IsFit}
 
 -- ----- names
 one_more : (n m : ℕ) → n ≤ m → (b : Bound) → IsOneOf (IsPlace n) b → IsOneOf (IsPlace m) b
 one_more n m more (AListener port) one = tt
 one_more n m more (ASocket place) one = omega (arith, one)
 
-names_more : (n m : ℕ) → n ≤ m → (bs : List (List ℕ × Bound)) → Each (λ (b : List ℕ × Bound). IsOneOf (IsPlace n) b.1) bs
-    → Each (λ (b : List ℕ × Bound). IsOneOf (IsPlace m) b.1) bs
+names_more : (n m : ℕ) → n ≤ m → (bs : List (List ℕ × Bound)) → AreNamesOf (IsPlace n) bs → AreNamesOf (IsPlace m) bs
 names_more n m more [] each = tt
 names_more n m more (b ∷ bs) each = (one_more n m more b.1 each.0, names_more n m more bs each.1)
 
 pub fit_more : (n m : ℕ) (s : Script) → n ≤ m → IsFit n s → IsFit m s
 fit_more n m s more fit = record { steps = fit.steps; part = fit.part; names = names_more n m more s.names fit.names }
 
-pub fit_bound : (n : ℕ) (name : List ℕ) (b : Bound) (s : Script) → IsOneOf (IsPlace n) b → IsFit n s → IsFit n (bind name b s)
+pub fit_bound : (n : ℕ) (name : List ℕ) (b : Bound) (s : Script) → IsOneOf (IsPlace n) b → IsFit n s
+    → IsFit n (bind name b s)
 fit_bound n name b s one fit = record {
   steps = fit.steps;
   part = fit.part;
@@ -49,8 +49,8 @@ pub fit_unbound : (n : ℕ) (name : List ℕ) (s : Script) → IsFit n s → IsF
 fit_unbound n name s fit = record {
   steps = fit.steps;
   part = fit.part;
-  names = each_kept (λ (b : List ℕ × Bound). IsOneOf (IsPlace n) b.1) (λ (b : List ℕ × Bound). not (bytes_eq b.0 name)) s.names
-      fit.names;
+  names = each_kept (λ (b : List ℕ × Bound). IsOneOf (IsPlace n) b.1)
+      (λ (b : List ℕ × Bound). not (bytes_eq b.0 name)) s.names fit.names;
 }
 
 -- ----- steps

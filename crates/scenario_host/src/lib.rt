@@ -13,4 +13,8 @@ mod steps;
 mod streams;
 mod trying;
 
+pub use filling::FillBytes;
 pub use host::ScenarioHost;
+pub use numbers::HostNumbers;
+pub use script::AppScript;
+pub use start::scripts_on;

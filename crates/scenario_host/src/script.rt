@@ -121,7 +121,7 @@ impl<'a> AppScript<'a> {
     }
 
     /// Whether it ends with a record in hand where it is killed.
-    pub fn ends_holding(&self) -> bool {
+    pub(crate) fn ends_holding(&self) -> bool {
         self.holding
     }
 

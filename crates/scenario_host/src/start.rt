@@ -8,7 +8,7 @@ use scenario_text::{AppLine, KillLine, Scenario};
 use std::alloc::{AllocError, Global};
 
 /// The applications on the host of this name, at their first steps. The error is want of memory.
-pub(crate) fn scripts_on<'a>(
+pub fn scripts_on<'a>(
     alloc: Global,
     s: &'a Scenario,
     host: &[u8],

@@ -1,4 +1,4 @@
-ghost use Rattle.std.specs.Prelude.{◌≡◌, ◌<◌, ◌≤◌, ◌+◌, ◌==◌, false, [], length, OnOk};
+ghost use Rattle.std.specs.Prelude.{◌≡◌, ◌<◌, ◌+◌, ◌==◌, false, [], OnOk};
 ghost use Rattle.flow_state.specs.Calls.{call_of};
 ghost use Rattle.host_rounds.specs.Hosts.{first_port};
 ghost use Rattle.scenario_ranges.specs.Ranges.{IsStepInRange};
@@ -145,7 +145,8 @@ impl<'a> AppScript<'a> {
     ) -> Result<(), AllocError>
         requires { H.has_app host.old self.old.number }
         ensures { OnOk result (turn_of (H.seen host.new) self.new
-            ≡ accepts (port_of (bound_in self.old.names listener.now)) tick socket.now (turn_of (H.seen host.old) self.old)) }
+            ≡ accepts (port_of (bound_in self.old.names listener.now)) tick socket.now
+            (turn_of (H.seen host.old) self.old)) }
     {
         let app = self.number();
         let Some(port) = self.port_of(listener) else {
@@ -174,8 +175,9 @@ impl<'a> AppScript<'a> {
         requires listens { (H.seen host.old).params.fixed ≡ false }
         requires lives { H.has_app host.old self.old.number }
         requires names { AreNamesOf (H.has_socket host.old self.old.number) self.old.names }
-        ensures { OnOk result (turn_of (H.seen host.new) self.new ≡ connects_on (numbers_of numbers.now.params) self.old.begun
-            tick socket.now raddr rport (turn_of (H.seen host.old) self.old)) }
+        ensures { OnOk result (turn_of (H.seen host.new) self.new
+            ≡ connects_on (numbers_of numbers.now.params) self.old.begun tick socket.now raddr rport
+            (turn_of (H.seen host.old) self.old)) }
     {
         if self.has_begun() {
             return self.ask_ready(host, tick, socket);
@@ -268,7 +270,8 @@ impl<'a> AppScript<'a> {
         requires kind { IsEndCall call.now }
         requires names { AreNamesOf (H.has_socket host.old self.old.number) self.old.names }
         ensures { OnOk result (turn_of (H.seen host.new) self.new
-            ≡ on_socket socket.now (λ n. ends n tick (call_of call.now) socket.now) (turn_of (H.seen host.old) self.old)) }
+            ≡ on_socket socket.now (λ n. ends n tick (call_of call.now) socket.now)
+            (turn_of (H.seen host.old) self.old)) }
     {
         let Some(place) = self.flow_of(socket) else {
             self.step_over();

@@ -69,7 +69,8 @@ impl AppScript<'_> {
         requires few { length bytes.now ≤ most }
         requires part { self.old.done + length bytes.now ≤ all }
         ensures { (whole : List ℕ) → length whole ≡ all → bytes.now ≡ take most (drop self.old.done whole)
-            → OnOk result (turn_of (H.seen host.new) self.new ≡ sends place tick whole (turn_of (H.seen host.old) self.old)) }
+            → OnOk result (turn_of (H.seen host.new) self.new
+            ≡ sends place tick whole (turn_of (H.seen host.old) self.old)) }
     {
         let answer = host.ask(self.number(), place, tick, &CallIn::Send { bytes })?;
         self.sent(answer, all);

@@ -15,7 +15,7 @@ use scenario_text::Step;
 impl<'a> AppScript<'a> {
     /// What the application tries while cores take frames: the call of its step, where that is one on a socket. One
     /// that is killed in the tick, and one that has ended, tries nothing.
-    pub(crate) fn attempt(&self, tick: u32, filling: &'a FillBytes) -> Option<Attempt<'a>>
+    pub fn attempt(&self, tick: u32, filling: &'a FillBytes) -> Option<Attempt<'a>>
         requires { IsAtStep self.now }
         ensures { IfSome result (λ x. IsAttemptOf tick self.now x) }
     {
@@ -74,7 +74,7 @@ impl<'a> AppScript<'a> {
     }
 
     /// It goes on by the answer to the call that it tried.
-    pub(crate) fn go_on_by(&mut self, answer: Answer)
+    pub fn go_on_by(&mut self, answer: Answer)
         requires { IsAnswerWithin answer self.old }
         ensures { self.new ≡ answered_by answer self.old }
     {

@@ -1,5 +1,5 @@
 -- What the lanes of a phase left is collected and served: for the law left_frames_are_rest_phases.
-use Rattle.std.proofs.Common.{◌≡◌, ℕ, ◌+◌, ◌<◌, Bool, true, List, [], ◌∷◌, ◌++◌, map, length, fold, refl, sym, ap, ◌∙◌}
+use Rattle.std.proofs.Common.{◌≡◌, ℕ, ◌+◌, ◌<◌, ◌≤◌, Bool, true, List, [], ◌∷◌, ◌++◌, map, length, fold, refl, sym, ap, ◌∙◌}
 use Rattle.std.proofs.Common.{subst, append-nil, append_assoc}
 use Rattle.tas_model.specs.declared.entry.Caller.TheVariants.{Slow}
 use Rattle.tas_model.specs.declared.entry.FlowId.{FlowId}
@@ -117,7 +117,8 @@ module _ {S A : Type 0} (scripts : Scripts S A) (h : CoreHost) (tick : ℕ) (bef
 
   pub left_made : (ns : FirstNumbers) (c : cores.Common) (w : Worker) → scripts.numbers ≡ numbers_by ns → IsCounted h
       → length h.books + length (all_passed after) < 4294967295 → IsTurn true ns c tick u w
-      → (ids : List FlowId) × IsHostSound (with_opened ids w h) × IsCounted (with_opened ids w h)
+      → (ids : List FlowId) × (length ids ≤ length (all_passed after))
+      × IsHostSound (with_opened ids w h) × IsCounted (with_opened ids w h)
       × (host_of (with_opened ids w h) ≡ rest_phase scripts tick (host_of h) (collected h.slow.check_sums before after))
   left_made ns c w given counted few turn =
       let r = later_made scripts (with_slow u h) ns c tick w given
@@ -125,9 +126,10 @@ module _ {S A : Type 0} (scripts : Scripts S A) (h : CoreHost) (tick : ℕ) (bef
       (ap (λ (x : Worker). x.pass.view.opened) more.rest ∙ counted)
       (subst (λ (fs : List PassedFrame). length h.books + length fs < 4294967295) (sym passed) few) turn in (
         r.0,
-        r.1,
+        subst (λ (fs : List PassedFrame). length r.0 ≤ length fs) passed r.1,
         r.2,
-        r.3
+        r.3,
+        r.4
             ∙ ((λ i. rest_phase scripts tick (with_lines i) (rest i))
             ∙ sym (fold_append (delivered (received Slow) scripts.numbers tick) (host_of h)
             (arrivals_of h.slow.check_sums (all_broken h.slow.check_sums before))

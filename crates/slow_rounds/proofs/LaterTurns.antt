@@ -201,6 +201,7 @@ module _ (h : CoreHost) (v : Worker) (at : Setting) where
 
   record AreMade (books : List Book) (s n : Sight) (fs kept : List PassedFrame) : Type 0 where
     pub ids : List FlowId
+    pub few : length ids ≤ length fs
     pub none : kept ≡ []
     pub sound : IsHostSound (At h v (books_opened ids books) n)
     pub counted : n.pass.view.opened ≡ length (books_opened ids books)
@@ -212,6 +213,7 @@ module _ (h : CoreHost) (v : Worker) (at : Setting) where
       → s.pass.view.opened ≡ length books → AreServed at fs s n kept → AreMade books s n fs kept
   all_made [] books s n kept sound few counted (same, none) = record {
     ids = [];
+    few = omega arith;
     none = none;
     sound = subst (λ (x : Sight). IsHostSound (At h v (books ++ []) x)) (sym same)
         (subst (λ (bs : List Book). IsHostSound (At h v bs s)) (sym (append-nil books)) sound);
@@ -230,18 +232,26 @@ module _ (h : CoreHost) (v : Worker) (at : Setting) where
       first : IsServedSound h v books m a f
       first = one_served h v books at f s m a sound near one
 
+      one_at_most : length (ids_of a) ≤ 1
+      one_at_most = subst (λ (ids : List FlowId). length ids ≤ 1) first.named first.few
+
       fewer : length (books_opened (ids_of a) books) + length fs < 4294967295
       fewer =
           let l : length books + suc (length fs) < 4294967295 = few in
           let x : length (books ++ map syn_book (ids_of a)) ≡ length books + length (map syn_book (ids_of a)) =
           length-append books (map syn_book (ids_of a)) in
           let y : length (map syn_book (ids_of a)) ≡ length (ids_of a) = length-map (ids_of a) syn_book in
-          let z : length (ids_of a) ≤ 1 = subst (λ (ids : List FlowId). length ids ≤ 1) first.named first.few in
+          let z : length (ids_of a) ≤ 1 = one_at_most in
           omega (arith, l, x, y, z)
 
       joined : AreMade (books_opened (ids_of a) books) m n fs more → AreMade books s n (f ∷ fs) kept
       joined q = record {
         ids = ids_of a ++ q.ids;
+        few =
+            let x : length (ids_of a ++ q.ids) ≡ length (ids_of a) + length q.ids = length-append (ids_of a) q.ids in
+            let y : length (ids_of a) ≤ 1 = one_at_most in
+            let z : length q.ids ≤ length fs = q.few in
+            omega (arith, x, y, z);
         none = e ∙ (λ i. first.kept i ++ q.none i);
         sound = subst (λ (bs : List Book). IsHostSound (At h v bs n)) all q.sound;
         counted = q.counted ∙ ap (λ (bs : List Book). length bs) all;
@@ -259,10 +269,12 @@ module _ (h : CoreHost) (v : Worker) (at : Setting) where
 pub later_made : {S A : Type 0} (scripts : Scripts S A) (h : CoreHost) (ns : FirstNumbers) (c : cores.Common) (tick : ℕ)
     (w : Worker) → scripts.numbers ≡ numbers_by ns → IsHostSound (without_frames h) → IsCounted h
     → length h.books + length (waiting h.slow) < 4294967295 → IsTurn true ns c tick h.slow w
-    → (ids : List FlowId) × IsHostSound (with_opened ids w h) × IsCounted (with_opened ids w h)
+    → (ids : List FlowId) × (length ids ≤ length (waiting h.slow))
+    × IsHostSound (with_opened ids w h) × IsCounted (with_opened ids w h)
     × (host_of (with_opened ids w h) ≡ rest_phase scripts tick (host_of h) (rest_of h.slow))
 later_made scripts h ns c tick w given sound counted few (m, all, posted) = (
   q.ids,
+  q.few,
   like_sound (with_opened q.ids m h) m w served_sound (posted_like c m w posted)
       (ap waiting posted.rest ∙ served_sound.waiting),
   ap (λ (x : Worker). x.pass.view.opened) posted.rest ∙ q.counted,

@@ -1,5 +1,5 @@
 //! What the lanes of a phase left.
-ghost use Rattle.std.specs.Prelude.{◌≡◌, ◌+◌, ◌<◌, ℕ, List, true, length};
+ghost use Rattle.std.specs.Prelude.{◌≡◌, ◌+◌, ◌<◌, ◌≤◌, ℕ, List, true, length};
 ghost use Rattle.tas_model.specs.declared.entry.FlowId.{FlowId};
 ghost use Rattle.host_rounds.specs.Scripts.{Scripts};
 ghost use Rattle.core_rounds.specs.CoreTicks.{rest_phase};
@@ -31,7 +31,8 @@ pub fn left_frames_are_rest_phases<S, A>()
         → AreCollected after h.slow u
         → joined log_of after ≡ lines_of h.slow.check_sums tick (all_broken h.slow.check_sums before)
         → length h.books + length (all_passed after) < 4294967295 → IsTurn true ns c tick u w
-        → (ids : List FlowId) × IsHostSound (with_opened ids w h) × IsCounted (with_opened ids w h)
+        → (ids : List FlowId) × (length ids ≤ length (all_passed after))
+        × IsHostSound (with_opened ids w h) × IsCounted (with_opened ids w h)
         × (host_of (with_opened ids w h)
         ≡ rest_phase scripts tick (host_of h) (collected h.slow.check_sums before after)) }
 {}

@@ -1,5 +1,5 @@
 //! Turns of the slow path's worker, in the words of a run.
-ghost use Rattle.std.specs.Prelude.{◌≡◌, ◌+◌, ◌<◌, ℕ, Bool, List, false, true, length};
+ghost use Rattle.std.specs.Prelude.{◌≡◌, ◌+◌, ◌<◌, ◌≤◌, ℕ, Bool, List, false, true, length};
 ghost use Rattle.tas_model.specs.declared.entry.FlowId.{FlowId};
 ghost use Rattle.host_rounds.specs.Scripts.{Scripts};
 ghost use Rattle.host_rounds.specs.SerialOrder.{slow_phase};
@@ -44,7 +44,8 @@ pub fn later_turns_are_rest_phases<S, A>()
     ensures { (scripts : Scripts S A) (h : CoreHost) (ns : FirstNumbers) (c : cores.Common) (tick : ℕ) (w : Worker)
         → scripts.numbers ≡ numbers_by ns → IsHostSound (without_frames h) → IsCounted h
         → length h.books + length (waiting h.slow) < 4294967295 → IsTurn true ns c tick h.slow w
-        → (ids : List FlowId) × IsHostSound (with_opened ids w h) × IsCounted (with_opened ids w h)
+        → (ids : List FlowId) × (length ids ≤ length (waiting h.slow))
+        × IsHostSound (with_opened ids w h) × IsCounted (with_opened ids w h)
         × (host_of (with_opened ids w h) ≡ rest_phase scripts tick (host_of h) (rest_of h.slow)) }
 {}
 

@@ -1,12 +1,11 @@
 -- What holds of the slow path's pass, pins and flows between two calls stays so.
-use Rattle.std.proofs.Common.{◌≡◌, ◌≢◌, ℕ, zero, suc, ◌+◌, ◌<◌, ◌≤◌, Bool, true, false, List, [], ◌∷◌, ◌++◌}
-use Rattle.std.proofs.Common.{length, set}
+use Rattle.std.proofs.Common.{◌≡◌, ◌≢◌, ℕ, zero, suc, ◌<◌, ◌≤◌, Bool, true, false, List, [], ◌∷◌, ◌++◌}
+use Rattle.std.proofs.Common.{length}
 use Rattle.std.proofs.Common.{ap, sym, ◌∙◌, refl, subst, arith, ⊎_elim, inl, inr, ◌⊎◌, eqb, eq-eqb, cond, tests}
 use Rattle.std.specs.Prelude.{Option, Some, None, slice_get, slice_index_or, position, not, nat_lt}
 use Rattle.std.specs.List.{find, position_or_len}
 use Rattle.std.specs.Option.{option_map}
 use Rattle.std.proofs.lemmas.Bool.{eqb-true}
-use Rattle.std.proofs.lemmas.List.{length-set}
 use Rattle.std.proofs.lemmas.List.Sums.{fails_before_first}
 use Rattle.std.proofs.lemmas.List.Quantifiers.{position-Some}
 use Rattle.std.proofs.lemmas.Option.{slice_get_within, get_or_from_slice_get}
@@ -21,7 +20,6 @@ use Rattle.flow_lock.specs.Callers.{IsOwner}
 use Rattle.flow_lock.specs.Claims.{HasPin}
 use Rattle.flow_lock.specs.Passes.{Seen}
 use Rattle.flow_lock.specs.Steps.{MayAct, noted, mark, mark_at}
-use Rattle.flow_lock.specs.Words.{flag}
 use Rattle.flow_lock.specs.declared.view.Deed.{Deed}
 use Rattle.flow_lock.specs.declared.view.History.{History}
 use Rattle.flow_lock.specs.declared.view.Mark.{Mark}
@@ -30,7 +28,7 @@ use Rattle.flow_clock.specs.Ledgers as clock
 use Rattle.flow_clock.proofs.Keeping.{each_at, ready_still, after_use, after_refusal, kept_after_use}
 use Rattle.flow_clock.proofs.Keeping.{kept_after_refusal, kept_after_opening}
 use Rattle.flow_lock.proofs.Calling.{still_turn}
-use Rattle.flow_lock.proofs.Sums.{at_get, total-set, term_le}
+use Rattle.flow_lock.proofs.Sums.{at_get}
 use Rattle.app_reaper.specs.Lists.{is_on}
 use Rattle.app_reaper.specs.OneCall.{IsUse, IsCallRefused}
 use Rattle.app_reaper.specs.declared.one_call.CallFault.{CallFault}

@@ -1,14 +1,15 @@
 -- The answers of an accept that is made alone: for the law accepts_alone_keep_it.
-use Rattle.std.proofs.Common.{◌≡◌, ◌≢◌, ℕ, zero, suc, ◌+◌, ◌-◌, ◌<◌, ◌==◌, ◌&&◌, not, Bool, true, false, cond, List, []}
-use Rattle.std.proofs.Common.{◌∷◌, ◌++◌, map, length, refl, sym, ap, ◌∙◌, subst, arith, inl, inr, slice_get, Some, length-set}
+use Rattle.std.proofs.Common.{◌≡◌, ◌≢◌, ℕ, zero, suc, ◌+◌, ◌-◌, ◌<◌, ◌==◌, not, Bool, true, false, cond, List, []}
+use Rattle.std.proofs.Common.{◌∷◌, ◌++◌, length, refl, sym, ap, ◌∙◌, subst, arith, inl, inr, slice_get, Some}
+use Rattle.std.proofs.Common.{length-set}
 use Rattle.std.proofs.Common.{true≢false}
-use Rattle.std.specs.Prelude.{Option, None, Result, Ok, Err, ◌⊎◌, is_some}
+use Rattle.std.specs.Prelude.{Option, None, Result, Ok, Err, is_some}
 use Rattle.std.specs.List.{filter}
 use Rattle.std.proofs.lemmas.Bool.Decides.{nat_tests}
 use Rattle.tas_model.specs.declared.entry.Caller.TheVariants.{App}
 use Rattle.tas_model.specs.declared.entry.FlowId.{FlowId}
 use Rattle.tas_model.specs.declared.entry.Reason.{Reason}
-use Rattle.tas_model.specs.ApplicationCalls.{Column, Opening, Over, Running, column, column_by}
+use Rattle.tas_model.specs.ApplicationCalls.{Opening, Over, Running, column, column_by}
 use Rattle.tas_model.specs.LegalHistory.{replay}
 use Rattle.flow_state.specs.Calls.{call_of, offer_of}
 use Rattle.flow_state.specs.declared.call.CallIn.TheVariants as ins
@@ -19,7 +20,7 @@ use Rattle.host_rounds.specs.Lists.{Each}
 use Rattle.flow_lock.specs.Answers.{IsPinned}
 use Rattle.flow_lock.specs.Orders.{known_of, pins_at, same_flow}
 use Rattle.flow_lock.specs.Passes.{with_baton, without_baton}
-use Rattle.flow_lock.specs.Steps.{IsAlone, alone_or, counted, known_words, noted, pin_less, pin_more, pinned, unpinned}
+use Rattle.flow_lock.specs.Steps.{IsAlone, alone_or, noted, pin_less, pin_more, unpinned}
 use Rattle.flow_lock.specs.Words.{put_word, word_at}
 use Rattle.flow_lock.specs.declared.view.Held.{Held}
 use Rattle.flow_lock.specs.declared.view.History.{History}
@@ -30,7 +31,7 @@ use Rattle.flow_clock.specs.Histories.{is_over, is_running, endpoint_of}
 use Rattle.app_reaper.specs.OneCall.{history, history_with, IsOwn, IsUse}
 use Rattle.slow_handshake.specs.Openings.{Openings, first_ready, is_named, is_ready_at}
 use Rattle.slow_handshake.specs.declared.openings.PassiveFlow.{PassiveFlow}
-use Rattle.libtas_sockets.specs.Accepting.{IsAcceptance, IsTried, IsAnsweredBy, IsAcceptedOn, after_accept, plain}
+use Rattle.libtas_sockets.specs.Accepting.{IsAcceptance}
 use Rattle.libtas_sockets.specs.Apps.{Application, with_socket, with_view}
 use Rattle.libtas_sockets.specs.declared.socket.Socket.{Socket}
 use Rattle.libtas_sockets.specs.declared.socket_error.SocketError.{SocketError}
@@ -39,21 +40,19 @@ use Rattle.host_books.specs.Books.{Book}
 use Rattle.host_books.specs.Indexes.{IsFindable}
 use Rattle.host_books.proofs.Indexing.{is_same_flow}
 use Rattle.host_books.proofs.Orders.{same_self}
-use Rattle.sound_hosts.specs.Hosts.{CoreHost, is_held_of, waiting_in, waits}
+use Rattle.sound_hosts.specs.Hosts.{CoreHost, is_held_of, waiting_in}
 use Rattle.sound_hosts.specs.Leading.{LedOn, Leads}
-use Rattle.sound_hosts.specs.Leaving.{HasLeft}
 use Rattle.sound_hosts.specs.Moving.{IsLed}
-use Rattle.sound_hosts.specs.Sound.{IsHostSound, IsApp, IsPlain, IsWorded}
+use Rattle.sound_hosts.specs.Sound.{IsHostSound, IsPlain}
 use Rattle.sound_hosts.proofs.Calls.{call_leads}
 use Rattle.sound_hosts.proofs.Distinct.{IsWaiting, is_waiting}
 use Rattle.sound_hosts.proofs.Leaving.{same_right}
-use Rattle.sound_hosts.proofs.Moved.{IsMovedOn, all_right, generation_in, moved_sound}
+use Rattle.sound_hosts.proofs.Moved.{all_right, generation_in, moved_sound}
 use Rattle.sound_hosts.proofs.Numbers.{word_else, word_own}
 use Rattle.sound_hosts.proofs.OneFlow.{one_leads, used_leads, words_same}
 use Rattle.sound_hosts.proofs.OpenSockets.{and_both, each_at, not_held, not_true}
 use Rattle.sound_hosts.proofs.Reheld.{StaysWaiting, waiting_same}
 use Rattle.sound_hosts.proofs.Standing.{within}
-use Rattle.sound_hosts.proofs.Sweeping.{middle}
 use Rattle.sound_hosts.proofs.Told.{left_waiting}
 use Rattle.sound_calls.specs.Handing.{given_back, after_accepting}
 use Rattle.sound_calls.proofs.Accepting.{IsPinnedOn, accepted_sound}
@@ -155,10 +154,12 @@ module _ (h : CoreHost) (front back : List Application) (a b : Application) (por
 
   waits_ : (is_waiting_by book.book.holder ≡ true)
       × (not (is_over (known_of book.book.id a.pass.view.base)) ≡ true)
-  waits_ = and_both (is_waiting_by book.book.holder) (not (is_over (known_of book.book.id a.pass.view.base))) book.waiting
+  waits_ = and_both (is_waiting_by book.book.holder) (not (is_over (known_of book.book.id a.pass.view.base)))
+      book.waiting
 
   stands : book.book.filed ≡ false
-  stands = not_filed book.book.indexed book.book.filed (each_at IsPlain h.books book.place book.book sound.plain book.at)
+  stands = not_filed book.book.indexed book.book.filed
+      (each_at IsPlain h.books book.place book.book sound.plain book.at)
       (λ i. true≢false (sym (each_at (IsFindable a.pass.view.base) h.books book.place book.book sound.indexed.running
       book.at i)
       ∙ not_true (is_over (known_of book.book.id a.pass.view.base)) waits_.1))
@@ -205,7 +206,8 @@ module _ (h : CoreHost) (front back : List Application) (a b : Application) (por
         path (front ++ with_view (without_baton w) a ∷ back) h.books (no_lift h.books) same_path waits_on
         (words_same (with_baton h.slow.pass.view a.pass.view) (with_baton h.slow.pass.view w) words h.books
         sound.table.words)
-        (same_right h.table (generation_in (with_baton h.slow.pass.view a.pass.view)) (pins_at a.pass.view.words) h.books
+        (same_right h.table (generation_in (with_baton h.slow.pass.view a.pass.view)) (pins_at a.pass.view.words)
+        h.books
         front (with_view (without_baton a.pass.view) a) (with_view (without_baton w) a) back
         (record { number = refl; own = refl; turns = again.1; begun = refl; sockets = refl; had = tt })
         (all_right host sound)).taken

@@ -1,9 +1,9 @@
 -- An application that has the baton accepts a flow: for the law accepts_alone_keep_it.
-use Rattle.std.proofs.Common.{◌≡◌, ◌≢◌, ℕ, zero, suc, ◌+◌, ◌-◌, ◌<◌, ◌≤◌, ◌==◌, ◌&&◌, ◌||◌, not, Bool, true, false, cond}
-use Rattle.std.proofs.Common.{List, [], ◌∷◌, ◌++◌, map, length, refl, sym, ap, ◌∙◌, subst, arith, inl, inr, count_by}
-use Rattle.std.proofs.Common.{slice_get, Some, length-set, true≢false}
-use Rattle.std.specs.Prelude.{IsPermutation, Option, None, Result, Ok, Err, ◌⊎◌}
-use Rattle.std.specs.List.{filter, list_any}
+use Rattle.std.proofs.Common.{◌≡◌, ◌≢◌, ℕ, ◌+◌, ◌≤◌, ◌==◌, ◌&&◌, not, Bool, true, false}
+use Rattle.std.proofs.Common.{cond}
+use Rattle.std.proofs.Common.{List, [], ◌∷◌, ◌++◌, map, refl, sym, ap, ◌∙◌, subst, arith, count_by}
+use Rattle.std.specs.Prelude.{IsPermutation}
+use Rattle.std.specs.List.{filter}
 use Rattle.std.proofs.lemmas.Bool.Decides.{nat_tests}
 use Rattle.tas_model.specs.declared.entry.FlowId.{FlowId}
 use Rattle.host_rounds.specs.Hosts as hosts
@@ -11,21 +11,18 @@ use Rattle.host_rounds.specs.Hosts.{Holder, Waiting, GivenUp, is_held_by, is_wai
 use Rattle.host_rounds.specs.Lists.{Each}
 use Rattle.host_rounds.proofs.Lists.{each_append, map_append}
 use Rattle.core_rounds.proofs.Filters.{tally, count_cons}
-use Rattle.flow_lock.specs.Orders.{known_of, same_flow}
+use Rattle.flow_lock.specs.Orders.{same_flow}
 use Rattle.flow_lock.specs.Words.{flag, word_at}
 use Rattle.flow_lock.specs.declared.view.Held.{Held}
 use Rattle.flow_lock.specs.declared.view.History.{History}
 use Rattle.flow_lock.specs.declared.view.View.{View}
-use Rattle.flow_lock.specs.declared.word.Word.{Word}
 use Rattle.flow_lock.specs.Steps.{pin_more}
-use Rattle.flow_clock.specs.Histories.{is_over}
-use Rattle.slow_handshake.specs.Openings.{Openings, is_named}
+use Rattle.slow_handshake.specs.Openings.{is_named}
 use Rattle.slow_handshake.specs.declared.openings.PassiveFlow.{PassiveFlow}
-use Rattle.libtas_sockets.specs.Apps.{Application, with_view}
+use Rattle.libtas_sockets.specs.Apps.{Application}
 use Rattle.host_books.specs.Books.{Book}
-use Rattle.sound_hosts.specs.Hosts.{CoreHost, id_of, is_held_of, is_holder, passive_flow, waiting_in, waits, word_of}
+use Rattle.sound_hosts.specs.Hosts.{CoreHost, is_held_of, is_holder, passive_flow, waiting_in, waits, word_of}
 use Rattle.sound_hosts.specs.Hosts.{AreNumbered}
-use Rattle.sound_hosts.specs.Leading.{LedOn, Leads}
 use Rattle.sound_hosts.specs.Leaving.{reheld}
 use Rattle.sound_hosts.specs.Sound.{IsHostSound, IsApp, HasHolder, IsWorded}
 use Rattle.sound_hosts.proofs.Counts.{count_middle}
@@ -305,7 +302,8 @@ module _ (h : CoreHost) (front : List Application) (a : Application) (back : Lis
   still_held [] x = tt
   still_held (z ∷ zs) x = (
     λ e. (
-      any_swap (λ (y : Application). is_held_of y.number z) front a b' back (ap (λ n. is_held_of n z) number) ∙ (x.0 e).0,
+      any_swap (λ (y : Application). is_held_of y.number z) front a b' back (ap (λ n. is_held_of n z) number)
+          ∙ (x.0 e).0,
       (x.0 e).1,
     ),
     still_held zs x.1,
@@ -325,7 +323,8 @@ module _ (h : CoreHost) (front : List Application) (a : Application) (back : Lis
         (own_after, others_after back others.1 (lasts (IsApp h.table (xs ++ b ∷ ys)) front a back all_apps));
     numbers = λ n.
         let few : count_by (λ (x : Application). x.number == n) (front ++ a ∷ back) ≤ 1 =
-        subst (λ (zs : List Application). count_by (λ (x : Application). x.number == n) zs ≤ 1) apps (sound.numbers n) in
+        subst (λ (zs : List Application). count_by (λ (x : Application). x.number == n) zs ≤ 1)
+        apps (sound.numbers n) in
         let same : count_by (λ (x : Application). x.number == n) (front ++ b' ∷ back)
         ≡ count_by (λ (x : Application). x.number == n) (front ++ a ∷ back) =
         count_swap (λ (x : Application). x.number == n) front a b' back (ap (λ m. m == n) number) in

@@ -1,5 +1,6 @@
 -- A call of an application that has the baton: for the laws handed_over_keeps_it and calls_alone_keep_it.
-use Rattle.std.proofs.Common.{◌≡◌, ℕ, Bool, true, false, cond, List, [], ◌∷◌, ◌++◌, map, length, refl, sym, ap, ◌∙◌, subst}
+use Rattle.std.proofs.Common.{◌≡◌, ℕ, Bool, true, false, cond, List, [], ◌∷◌, ◌++◌, refl, sym, ap, ◌∙◌}
+use Rattle.std.proofs.Common.{subst}
 use Rattle.std.proofs.Common.{slice_get, Some, inl}
 use Rattle.std.specs.Prelude.{Option, None}
 use Rattle.std.specs.List.{list_any}
@@ -27,9 +28,9 @@ use Rattle.host_books.specs.Books.{Book}
 use Rattle.host_books.proofs.Indexing.{is_same_flow}
 use Rattle.sound_hosts.specs.Hosts.{CoreHost, waiting_in}
 use Rattle.sound_hosts.specs.Leading.{LedOn, Leads}
-use Rattle.sound_hosts.specs.Leaving.{reheld, has_flow, HasLeft}
+use Rattle.sound_hosts.specs.Leaving.{has_flow, HasLeft}
 use Rattle.sound_hosts.specs.Moving.{IsLed, with_slow}
-use Rattle.sound_hosts.specs.Sound.{IsHostSound, IsApp, IsWorded}
+use Rattle.sound_hosts.specs.Sound.{IsHostSound, IsApp}
 use Rattle.sound_hosts.proofs.Calls.{call_leads}
 use Rattle.sound_hosts.proofs.Leaving.{AreRight, AreApart, apart_of, flow_had, same_right, socket_had}
 use Rattle.sound_hosts.proofs.Moved.{IsMovedOn, Lifts, all_right, generation_in, moved_sound, not_had}
@@ -174,7 +175,8 @@ pub call_alone : (h : CoreHost) (front back : List Application) (a b : Applicati
     → IsSocket a s → HasMade a b s tick call fault → IsHostSound (given_back front b back h) × IsAlone b.pass.view
 call_alone h front back a b s tick call fault sound alone socket (called, same) = by fault called
   where
-    used : (r : Flow) (k : History) → IsOwn (flow_of a s) a.pass.view r → IsUse (flow_of a s) r k a.pass.view b.pass.view
+    used : (r : Flow) (k : History) → IsOwn (flow_of a s) a.pass.view r
+        → IsUse (flow_of a s) r k a.pass.view b.pass.view
         → LedOn (history r) k → IsHostSound (given_back front b back h) × IsAlone b.pass.view
     used r k own given led =
         let by_use : IsLed (flow_of a s) k a.pass.view b.pass.view =

@@ -3,3 +3,6 @@ pub mod Releasing
 pub mod Reaping
 pub mod Accepting
 pub mod Acceptances
+pub mod Listening
+pub mod Places
+pub mod Closing

@@ -1,20 +1,19 @@
 -- The flows of an application that ended are reaped: for the law kills_keep_it.
-use Rattle.std.proofs.Common.{◌≡◌, ℕ, ◌+◌, ◌≤◌, ◌==◌, ◌||◌, Bool, true, false, cond, List, [], ◌∷◌, ◌++◌, map, length, refl}
-use Rattle.std.proofs.Common.{sym, ap, ◌∙◌, subst, arith, count_by, true≢false, eq-eqb}
-use Rattle.std.specs.Prelude.{IsPermutation, Option, Some, None}
+use Rattle.std.proofs.Common.{◌≡◌, ℕ, ◌+◌, ◌≤◌, ◌==◌, ◌||◌, Bool, true, false, cond, List, [], ◌∷◌, ◌++◌, map, length}
+use Rattle.std.proofs.Common.{refl}
+use Rattle.std.proofs.Common.{sym, ap, ◌∙◌, subst, arith, count_by, eq-eqb}
+use Rattle.std.specs.Prelude.{None}
 use Rattle.std.specs.List.{filter, list_any}
-use Rattle.std.proofs.lemmas.Bool.Decides.{nat_tests}
 use Rattle.std.proofs.lemmas.List.Sorted.{length_permutation}
 use Rattle.tas_model.specs.declared.entry.Caller.TheVariants.{Slow}
 use Rattle.tas_model.specs.declared.entry.FlowId.{FlowId}
 use Rattle.flow_state.specs.Calls.{call_of, offer_of}
 use Rattle.flow_state.specs.declared.call.CallIn.TheVariants.{Abort}
 use Rattle.flow_state.specs.Flow.{Flow}
-use Rattle.host_rounds.specs.Hosts.{is_held_by}
 use Rattle.host_rounds.specs.Lists.{Each}
 use Rattle.host_rounds.proofs.Lists.{each_append}
 use Rattle.core_rounds.proofs.Filters.{tally}
-use Rattle.flow_lock.specs.Orders.{known_of, pins_at, total, at_slot}
+use Rattle.flow_lock.specs.Orders.{known_of, total, at_slot}
 use Rattle.flow_lock.specs.Passes.{Seen, both, with_baton, without_baton}
 use Rattle.flow_lock.specs.Steps.{IsAlone, noted, unpinned, without}
 use Rattle.flow_lock.specs.declared.view.History.{History}
@@ -23,7 +22,7 @@ use Rattle.flow_lock.specs.declared.view.View.{View}
 use Rattle.app_reaper.specs.OneCall.{history, history_with}
 use Rattle.app_reaper.specs.Reaping.{AreReaped, IsAtRest, IsReapedAlone, returned}
 use Rattle.app_reaper.specs.declared.ended.Ended.{Ended}
-use Rattle.libtas_sockets.specs.Apps.{Application, IsSocket, flow_of, flow_on, socket_on, with_view, without_socket}
+use Rattle.libtas_sockets.specs.Apps.{Application, IsSocket, flow_on, socket_on, with_view, without_socket}
 use Rattle.host_books.specs.Books.{Book}
 use Rattle.sound_hosts.specs.Hosts.{CoreHost, id_of, is_held_of}
 use Rattle.sound_hosts.specs.Leading.{LedOn}
@@ -36,7 +35,7 @@ use Rattle.sound_hosts.proofs.Leaving.{AreTaken}
 use Rattle.sound_hosts.proofs.Moved.{moved_sound}
 use Rattle.sound_hosts.proofs.OneFlow.{used_leads, words_same}
 use Rattle.sound_hosts.proofs.Sweeping.{firsts, lasts, middle}
-use Rattle.sound_calls.specs.Handing.{given_back, handed, handing, with_books, after_kill}
+use Rattle.sound_calls.specs.Handing.{given_back, handing, with_books, after_kill}
 use Rattle.sound_calls.proofs.Alone.{same_led, no_lift, handed_sound, led_alone}
 use Rattle.sound_calls.proofs.Releasing.{released_alone}
 
@@ -75,7 +74,8 @@ abbrev with_left : Application → View → List FlowId → Application
 with_left a u fs = record (with_view u a) { sockets = fs }
 
 -- what is left to reap, and what was reaped
-record IsReaping (h : CoreHost) (front : List Application) (a : Application) (back : List Application) (fs : List FlowId)
+record IsReaping (h : CoreHost) (front : List Application) (a : Application) (back : List Application)
+    (fs : List FlowId)
     (bs : List Book) (u : View) : Type 0 where
   pub sound : IsHostSound (given_back front (with_left a u fs) back (with_books bs h))
   pub alone : IsAlone u

@@ -1,10 +1,10 @@
 -- An application that has the baton gives up a socket: for the law releases_alone_keep_it.
 use Rattle.std.proofs.Common.{◌≡◌, ℕ, zero, suc, ◌+◌, ◌-◌, ◌<◌, ◌≤◌, ◌==◌, ◌&&◌, not, Bool, true, false, cond, List, []}
-use Rattle.std.proofs.Common.{◌∷◌, ◌++◌, map, length, refl, sym, ap, ◌∙◌, subst, arith, inl, length-set, true≢false}
+use Rattle.std.proofs.Common.{◌∷◌, ◌++◌, length, refl, sym, ap, ◌∙◌, subst, arith, length-set, true≢false}
 use Rattle.std.specs.List.{list_any}
 use Rattle.std.proofs.lemmas.Bool.Decides.{nat_tests}
 use Rattle.tas_model.specs.declared.entry.FlowId.{FlowId}
-use Rattle.host_rounds.specs.Hosts.{Holder, is_held_by, is_waiting_by}
+use Rattle.host_rounds.specs.Hosts.{is_held_by, is_waiting_by}
 use Rattle.host_rounds.specs.Lists.{Each}
 use Rattle.flow_lock.specs.Orders.{known_of, pins_at, total, at_slot, same_flow}
 use Rattle.flow_lock.specs.Passes.{with_baton, without_baton}
@@ -17,8 +17,8 @@ use Rattle.libtas_sockets.specs.Apps.{Application, IsSocket, flow_of, with_view,
 use Rattle.libtas_sockets.specs.declared.socket.Socket.{Socket}
 use Rattle.host_books.specs.Books.{Book}
 use Rattle.host_books.proofs.Indexing.{is_same_flow}
-use Rattle.sound_hosts.specs.Hosts.{CoreHost, is_held_of, waiting_in, word_of}
-use Rattle.sound_hosts.specs.Leaving.{reheld, has_flow, left_by, books_left, HasLeft}
+use Rattle.sound_hosts.specs.Hosts.{CoreHost, is_held_of, word_of}
+use Rattle.sound_hosts.specs.Leaving.{has_flow, left_by, books_left}
 use Rattle.sound_hosts.specs.Sound.{IsHostSound, IsApp, IsWorded, HasHolder}
 use Rattle.sound_hosts.proofs.Led.{both_each}
 use Rattle.sound_hosts.proofs.Leaving.{AreRight, IsPinnedBy, any_each, flow_had, held_by, left_right, socket_had}

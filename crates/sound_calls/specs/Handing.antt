@@ -1,5 +1,5 @@
 -- An application that acts alone: it has the baton, with all that the slow path knew.
-use Rattle.std.specs.Prelude.{ℕ, cond, List, ◌∷◌, ◌++◌, map, Option, Result, Ok, Err, ⊤}
+use Rattle.std.specs.Prelude.{ℕ, cond, List, [], ◌∷◌, ◌++◌, map, Option, Result, Ok, Err, ⊤}
 use Rattle.tas_model.specs.declared.entry.FlowId.{FlowId}
 use Rattle.tas_model.specs.declared.entry.Reply.{Reply}
 use Rattle.flow_state.specs.declared.call.CallIn.{CallIn}
@@ -44,7 +44,8 @@ HasMade a b s tick call fault = HasCalled a b s tick call fault (λ (reply : Rep
 
 -- The host without the application that stood between those, whose sockets are given up, and with this pass of its slow
 -- path.
-abbrev pub after_kill : (front : List Application) → Application → (back : List Application) → Seen → CoreHost → CoreHost
+abbrev pub after_kill : (front : List Application) → Application → (back : List Application) → Seen
+    → CoreHost → CoreHost
 after_kill front a back pass h = record h {
   slow = record (h.slow) { pass = pass };
   apps = front ++ back;
@@ -66,4 +67,13 @@ abbrev pub after_accepting : (app : ℕ) → FlowId → Result Socket SocketErro
 after_accepting app id result h = record h {
   slow = record (h.slow) { path = after_accept id result h.slow.path };
   books = books_accepted app id result h.books;
+}
+
+-- ----- listeners
+-- the host with a listener more
+abbrev pub listening : (app port : ℕ) → CoreHost → CoreHost
+listening app port h = record h {
+  slow = record (h.slow) {
+    path = record (h.slow.path) { listeners = h.slow.path.listeners ++ record { port = port; app = app } ∷ [] };
+  };
 }

@@ -9,7 +9,8 @@ ghost use Rattle.sound_hosts.specs.Sound.{IsHostSound};
 ghost use Rattle.sound_calls.specs.Handing.{after_kill};
 
 /// A host is sound still where one of its applications ended, and what it left was reaped alone: with what
-/// [`reap_alone`] says, of what [`App::end`] leaves of an application that holds no record. Its flows are nobody's then.
+/// [`reap_alone`] says, of what [`App::end`] leaves of an application that holds no record. Its flows are nobody's
+/// then.
 ///
 /// [`reap_alone`]: app_reaper::reap_alone
 /// [`App::end`]: libtas_sockets::App::end

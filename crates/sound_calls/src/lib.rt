@@ -2,9 +2,14 @@
 #![tactic(auto)]
 
 mod calls;
+mod changing;
 mod kills;
+mod listeners;
 
 pub use calls::{
-    accepts_alone_keep_it, calls_alone_keep_it, handed_over_keeps_it, releases_alone_keep_it,
+    accepts_alone_keep_it, calls_alone_keep_it, closes_alone_keep_it, handed_over_keeps_it,
+    releases_alone_keep_it,
 };
+pub use changing::holders_change_at_a_place;
 pub use kills::kills_keep_it;
+pub use listeners::listens_keep_it;

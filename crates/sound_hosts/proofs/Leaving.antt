@@ -60,7 +60,8 @@ own_app n m true e false =
 own_app n m false e s =
     (λ i. is_holder n (cond (e i && s) GivenUp (hosts.Application m))) ∙ (e ∙ sym (λ i. e i && not s))
 
-own_left : (n : ℕ) (x : Holder) (s : Bool) → is_holder n (cond (is_holder n x && s) GivenUp x) ≡ (is_holder n x && not s)
+own_left : (n : ℕ) (x : Holder) (s : Bool) → is_holder n (cond (is_holder n x && s) GivenUp x)
+    ≡ (is_holder n x && not s)
 own_left n Waiting s = refl
 own_left n GivenUp s = refl
 own_left n (hosts.Application m) s = own_app n m (m == n) refl s
@@ -173,7 +174,8 @@ without_filter i (f ∷ fs) = by (f.slot == i) (without_filter i fs)
   where
     by : (t : Bool) → without i fs ≡ filter (λ (g : FlowId). not (g.slot == i)) fs
         → cond t (without i fs) (f ∷ without i fs)
-        ≡ cond (not t) (f ∷ filter (λ (g : FlowId). not (g.slot == i)) fs) (filter (λ (g : FlowId). not (g.slot == i)) fs)
+        ≡ cond (not t) (f ∷ filter (λ (g : FlowId). not (g.slot == i)) fs)
+        (filter (λ (g : FlowId). not (g.slot == i)) fs)
     by true rest = rest
     by false rest = ap (λ l. f ∷ l) rest
 
@@ -189,7 +191,8 @@ socket_had slot (f ∷ fs) any = by (f.slot == slot) any (socket_had slot fs)
         → (same_flow f (cond t f (flow_on fs slot))
         || list_any (λ (g : FlowId). same_flow g (cond t f (flow_on fs slot))) fs) ≡ true
     by true any rest = ap (λ t. t || list_any (λ (g : FlowId). same_flow g f) fs) (same_self f)
-    by false any rest = ap (λ t. same_flow f (flow_on fs slot) || t) (rest any) ∙ or_true (same_flow f (flow_on fs slot))
+    by false any rest = ap (λ t. same_flow f (flow_on fs slot) || t) (rest any)
+        ∙ or_true (same_flow f (flow_on fs slot))
 
 pub socket_slot : (slot : ℕ) (fs : List FlowId) → (flow_on fs slot).slot ≡ slot
 socket_slot slot [] = refl
@@ -246,7 +249,8 @@ module _ (table : TableId) (generation pins : ℕ → ℕ) (bs : List Book) (fro
                   own = left.own ∙ own.own;
                   turns = left.turns;
                   begun = left.begun ∙ own.begun;
-                  sockets = subst (λ n. IsPermutation b.sockets (map id_of (filter (is_held_of n) bs))) (sym left.number)
+                  sockets = subst (λ n. IsPermutation b.sockets (map id_of (filter (is_held_of n) bs)))
+                      (sym left.number)
                       (subst (λ l. IsPermutation l (map id_of (filter (is_held_of a.number) bs))) (sym left.sockets)
                       own.sockets);
                 },
@@ -506,7 +510,8 @@ module _ (table : TableId) (generation pins pins' : ℕ → ℕ) (bs : List Book
       let ne = fronts front back others in
       record {
         numbered = numbered_reheld (left_by a.number id) table.slots [] bs right.numbered;
-        generations = each_reheld (left_by a.number id) (IsNumberedBy generation) (IsNumberedBy generation) (λ c x. x) bs
+        generations = each_reheld (left_by a.number id) (IsNumberedBy generation) (IsNumberedBy generation)
+            (λ c x. x) bs
             right.generations;
         pinned = each_reheld (left_by a.number id) IsBoth (IsPinnedBy pins') pinned bs (both bs right.pinned slots);
         taken = record {
@@ -521,7 +526,8 @@ module _ (table : TableId) (generation pins pins' : ℕ → ℕ) (bs : List Book
               ≡ count_by (λ (x : Application). x.number == k) (front ++ a ∷ back) =
               count_swap (λ (x : Application). x.number == k) front a b back refl in
               omega (arith, few, same);
-          holders = each_reheld (left_by a.number id) (HasHolder (front ++ a ∷ back)) (HasHolder (front ++ b ∷ back)) had
+          holders = each_reheld (left_by a.number id) (HasHolder (front ++ a ∷ back)) (HasHolder (front ++ b ∷ back))
+              had
               bs right.taken.holders;
         };
       }

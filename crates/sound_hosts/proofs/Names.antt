@@ -1,5 +1,5 @@
--- The names of the books that pass a test, and where one of them stands: for the laws of flows that are accepted, and of
--- the time of a tick.
+-- The names of the books that pass a test, and where one of them stands: for the laws of flows that are accepted, and
+-- of the time of a tick.
 use Rattle.std.proofs.Common.{◌≡◌, ◌+◌, cond, Bool, true, false, List, [], ◌∷◌, ◌++◌, map, refl, sym, ap, ◌∙◌, arith}
 use Rattle.std.proofs.Common.{count_by}
 use Rattle.std.specs.Prelude.{IsPermutation}

@@ -100,7 +100,8 @@ module _ (holder : Book → Holder) where
     IsLed changes b = b.indexed ≡ true → found_after (tuple_of known b) changes ≡ found.Flow b.id
 
     any_led : (t : FourTuple) (bs : List Book)
-        → list_any (is_indexed_as t) (map (live_in known) (all bs)) ≡ list_any (is_indexed_as t) (map (live_in known) bs)
+        → list_any (is_indexed_as t) (map (live_in known) (all bs))
+        ≡ list_any (is_indexed_as t) (map (live_in known) bs)
     any_led t [] = refl
     any_led t (b ∷ bs) = λ i. is_indexed_as t (live_in known b) || any_led t bs i
 
@@ -115,7 +116,8 @@ module _ (holder : Book → Holder) where
     once_reheld [] once = tt
     once_reheld (b ∷ bs) once = (
       λ is. each_reheld (λ (c : Book). is_indexed_as (live_in known b).flow.tuple (live_in known c) ≡ false)
-          (λ (c : Book). is_indexed_as (live_in known b).flow.tuple (live_in known c) ≡ false) (λ c e. e) bs (once.0 is),
+          (λ (c : Book). is_indexed_as (live_in known b).flow.tuple (live_in known c) ≡ false)
+          (λ c e. e) bs (once.0 is),
       once_reheld bs once.1,
     )
 

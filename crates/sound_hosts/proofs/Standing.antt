@@ -39,7 +39,8 @@ pub none_at : {X : Type 0} (p : X → Bool) (xs : List X) → Each (λ (x : X). 
 none_at p [] each = refl
 none_at p (x ∷ xs) each = λ i. each.0 i || none_at p xs each.1 i
 
-pub within : (slots : ℕ) (before bs : List Book) → AreNumbered slots before bs → Each (λ (b : Book). b.id.slot < slots) bs
+pub within : (slots : ℕ) (before bs : List Book) → AreNumbered slots before bs
+    → Each (λ (b : Book). b.id.slot < slots) bs
 within slots before [] numbered = tt
 within slots before (b ∷ bs) numbered = (numbered.0, within slots (before ++ b ∷ []) bs numbered.2)
 

@@ -148,8 +148,8 @@ free_if : (x : Bool) → 1 + flag x ≡ 1 → false ≡ x
 free_if true e = absurd (omega (arith, e))
 free_if false e = refl
 
--- What the table has of books: the marks and words of all slots, which are as many as the table has, and of the one that
--- is swept its mark says that it stands.
+-- What the table has of books: the marks and words of all slots, which are as many as the table has, and of the one
+-- that is swept its mark says that it stands.
 module _ (slots : ℕ) (v : View) (xs : List Book) (b : Book) (cs : List Book) (stands : b.filed ≡ false)
     (alone : IsAlone v) (wide : (length v.marks ≡ slots) × (length v.words ≡ slots))
     (numbered : AreNumbered slots [] (xs ++ b ∷ cs)) (table : AreSlots (xs ++ b ∷ cs) v)

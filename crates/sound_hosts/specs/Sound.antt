@@ -1,6 +1,7 @@
 -- What holds of a host between ticks: its books agree with what the slow path, the applications, the index and the
 -- slots of the table have of each flow.
-use Rattle.std.specs.Prelude.{◌≡◌, ℕ, ◌<◌, ◌≤◌, ◌==◌, not, true, false, List, [], map, count_by, length, slice_get, Some}
+use Rattle.std.specs.Prelude.{◌≡◌, ℕ, ◌<◌, ◌≤◌, ◌==◌, not, true, false, List, [], map, count_by, length, slice_get}
+use Rattle.std.specs.Prelude.{Some}
 use Rattle.std.specs.Prelude.{IsPermutation}
 use Rattle.std.specs.List.{list_any, filter}
 use Rattle.atomic_table.specs.Seated.{TableId}

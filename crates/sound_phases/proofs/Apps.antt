@@ -1,24 +1,22 @@
 -- Applications after a phase, lane by lane: for the law phases_keep_it.
-use Rattle.std.proofs.Common.{◌≡◌, ℕ, suc, ◌+◌, Bool, true, false, List, [], ◌∷◌, ◌++◌, refl, sym, ap, ◌∙◌, subst}
-use Rattle.std.proofs.Common.{arith, append_assoc, length}
-use Rattle.std.specs.Prelude.{Option, Some, None, Result, Ok, Err}
-use Rattle.std.specs.List.{list_any}
+use Rattle.std.proofs.Common.{◌≡◌, ℕ, suc, ◌+◌, List, [], ◌∷◌, ◌++◌, refl, sym, ap, ◌∙◌, subst}
+use Rattle.std.proofs.Common.{arith, append_assoc}
+use Rattle.std.specs.Prelude.{Result, Ok, Err}
 use Rattle.atomic_table.specs.Seated.{TableId}
 use Rattle.tas_model.specs.declared.entry.FlowId.{FlowId}
 use Rattle.host_rounds.specs.Lists.{Each}
-use Rattle.flow_lock.specs.Orders.{Order, total, at_slot, same_flow}
+use Rattle.flow_lock.specs.Orders.{Order, total, at_slot}
 use Rattle.flow_lock.specs.Passes.{new_turn}
 use Rattle.flow_lock.specs.Steps.{without}
-use Rattle.flow_lock.specs.declared.view.Turn.{Turn}
 use Rattle.flow_lock.specs.declared.view.View.{View}
-use Rattle.libtas_sockets.specs.Apps.{Application, IsSocket, flow_of, flow_on, with_view, without_socket}
-use Rattle.libtas_sockets.specs.Calling.{HasCalled, after_close, after_abort}
+use Rattle.libtas_sockets.specs.Apps.{Application, IsSocket, flow_of, with_view, without_socket}
+use Rattle.libtas_sockets.specs.Calling.{after_close, after_abort}
 use Rattle.libtas_sockets.specs.declared.socket.Socket.{Socket}
 use Rattle.libtas_sockets.specs.declared.socket_error.SocketError.{SocketError}
 use Rattle.libtas_sockets.specs.declared.socket_error.SocketError.TheVariants as errors
 use Rattle.app_deeds.specs.Deeds.{left_by_close, left_by_abort}
 use Rattle.core_phase.specs.Attempts.{HasTried, MayTry, pin_left}
-use Rattle.core_phase.specs.Lanes.{HasPlayed, MayPlay, IsOf, pins_left, with_turns_of, pass_of}
+use Rattle.core_phase.specs.Lanes.{HasPlayed, MayPlay, pins_left, with_turns_of}
 use Rattle.core_phase.specs.Phases.{IsPart, AreParts, left_on}
 use Rattle.core_phase.specs.declared.attempt.Attempt.{Attempt}
 use Rattle.core_phase.specs.declared.attempt.Attempt.TheVariants as attempts
@@ -27,10 +25,10 @@ use Rattle.core_phase.specs.declared.lane.AppLane.{AppLane}
 use Rattle.core_phase.specs.declared.lane.Lane.{Lane}
 use Rattle.core_phase.specs.declared.lane.Lane.TheVariants as lanes
 use Rattle.host_books.specs.Books.{Book}
-use Rattle.sound_hosts.specs.Leaving.{HasLeft, AreSockets, sockets_left, books_left, has_flow}
+use Rattle.sound_hosts.specs.Leaving.{HasLeft, books_left}
 use Rattle.sound_hosts.specs.Sound.{IsApp}
 use Rattle.sound_hosts.proofs.Leaving.{AreRight, left_right, socket_had, socket_slot, flow_had}
-use Rattle.sound_phases.specs.Phased.{apps_in, books_by, books_after}
+use Rattle.sound_phases.specs.Phased.{apps_in, books_after}
 use Rattle.sound_phases.proofs.Deeds.{TriesHad, LaneHas}
 
 -- ----- what a try leaves of its application
@@ -117,7 +115,8 @@ app_left order p v w may part = by part.after part.did part.back
         let is : w ≡ record m { app = with_view u m.app } = lane_is w (record m { app = with_view u m.app }) back in
         subst (λ (x : AppLane). HasLeft (pin_left (flow_of v.app v.socket) v.attempt x.answer) v.app x.app) (sym is)
         (of_ready m.app m.answer u refl (try_left v.socket u refl v.tick (with_view
-        (record (v.app.pass.view) { turns = new_turn p ∷ [] }) v.app) m.app v.attempt m.attempt m.answer may.0 did.tried))
+        (record (v.app.pass.view) { turns = new_turn p ∷ [] }) v.app) m.app v.attempt m.attempt m.answer
+        may.0 did.tried))
       where
         -- the turn that it was lent is no part of it
         of_ready : (b : Application) (answer : Answered) (u : View) → u.turns ≡ []

@@ -1,8 +1,7 @@
 -- What cores and applications do in their turns leads flows on: for the law phases_keep_it.
-use Rattle.std.proofs.Common.{◌≡◌, ℕ, suc, ◌+◌, ◌≤◌, ◌==◌, Bool, true, false, List, [], ◌∷◌, ◌++◌, refl, sym, ap, ◌∙◌}
+use Rattle.std.proofs.Common.{◌≡◌, ℕ, suc, ◌+◌, ◌≤◌, ◌==◌, Bool, true, false, List, [], ◌∷◌, refl, sym}
 use Rattle.std.proofs.Common.{subst, inl, inr, arith, length}
-use Rattle.std.specs.Prelude.{◌⊎◌, Option, Some, None, Result}
-use Rattle.std.specs.List.{list_any}
+use Rattle.std.specs.Prelude.{◌⊎◌, Option, Some, None}
 use Rattle.std.proofs.lemmas.Bool.Decides.{nat_tests}
 use Rattle.tas_model.specs.declared.entry.Call.{Call}
 use Rattle.tas_model.specs.declared.entry.Caller.{Caller}
@@ -14,10 +13,8 @@ use Rattle.flow_state.specs.declared.call.CallIn.TheVariants as ins
 use Rattle.flow_state.specs.Calls.{call_of, offer_of}
 use Rattle.host_rounds.specs.Lists.{Each}
 use Rattle.host_rounds.proofs.Lists.{each_append}
-use Rattle.flow_lock.specs.Histories.{longer}
 use Rattle.flow_lock.specs.Orders.{Order, of}
 use Rattle.flow_lock.specs.declared.view.Deed.{Deed}
-use Rattle.flow_lock.specs.declared.view.History.{History}
 use Rattle.app_reaper.specs.declared.one_call.CallFault.{CallFault}
 use Rattle.libtas_sockets.specs.Answers.{fault_in, IsReceived}
 use Rattle.app_deeds.specs.Deeds.{AreOfCall, tells_sent, tells_done}
@@ -27,7 +24,7 @@ use Rattle.core_worker.specs.declared.frames.Handled.TheVariants as handled
 use Rattle.core_phase.specs.Attempts.{AreOfTry, room_of}
 use Rattle.core_phase.specs.Deeds.{IsRx, IsSend, IsPutIn, ArePutIn, KeepsColumn}
 use Rattle.core_phase.specs.Lanes.{IsOf}
-use Rattle.core_phase.specs.Phases.{IsPart, AreParts}
+use Rattle.core_phase.specs.Phases.{AreParts}
 use Rattle.core_phase.specs.declared.attempt.Attempt.{Attempt}
 use Rattle.core_phase.specs.declared.attempt.Attempt.TheVariants as attempts
 use Rattle.core_phase.specs.declared.attempt.Answered.{Answered}
@@ -138,7 +135,8 @@ module _ (bs : List Book) (rx_column : FramesKeep) (send_column : SendsKeep) whe
         → (p : ℕ) → k ≤ p → Each (IsLeading bs) (of p order)
     turns_lead k [] ws parts had others p le = none_leads (of p order) (others p (omega (arith, le)))
     turns_lead k (v ∷ vs) [] parts had others p le = absurd parts
-    turns_lead k (v ∷ vs) (w ∷ ws) parts had others p le = by (p == k) refl (turns_lead (suc k) vs ws parts.1 had.1 more)
+    turns_lead k (v ∷ vs) (w ∷ ws) parts had others p le =
+        by (p == k) refl (turns_lead (suc k) vs ws parts.1 had.1 more)
       where
         more : (q : ℕ) → suc k + length vs ≤ q → of q order ≡ []
         more q l = others q (omega (arith, l))

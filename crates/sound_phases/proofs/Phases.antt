@@ -1,5 +1,5 @@
 -- The whole host after a phase: for the law phases_keep_it.
-use Rattle.std.proofs.Common.{◌≡◌, ℕ, ◌+◌, ◌<◌, ◌≤◌, ◌==◌, Bool, true, false, cond, List, [], ◌∷◌, map, length}
+use Rattle.std.proofs.Common.{◌≡◌, ℕ, ◌<◌, ◌==◌, Bool, true, false, cond, List, [], ◌∷◌, map, length}
 use Rattle.std.proofs.Common.{refl, sym, ap, ◌∙◌, subst, arith, slice_get, Some, All}
 use Rattle.std.specs.Prelude.{Option, None, is_some}
 use Rattle.tas_model.specs.declared.entry.FlowId.{FlowId}
@@ -120,7 +120,8 @@ module _ (rx_column : FramesKeep) (send_column : SendsKeep) (h : CoreHost) (vs w
   right : AreRight h.table (generation_in h.slow.pass.view) (pins_at w.words) bs (apps_in ws)
   right = lanes_right h.table (generation_in h.slow.pass.view) phase.order 0 vs ws [] (pins_at h.slow.pass.view.words)
       (pins_at w.words) h.books phase.parts may_each phase.pins
-      (subst (AreRight h.table (generation_in h.slow.pass.view) (pins_at h.slow.pass.view.words) h.books) (sym same_apps)
+      (subst (AreRight h.table (generation_in h.slow.pass.view) (pins_at h.slow.pass.view.words) h.books)
+      (sym same_apps)
       (all_right h sound))
 
   lift : (P : List Book → Type 0) → Lifts h.books bs P

@@ -10,9 +10,9 @@ ghost use Rattle.sound_phases.specs.Phased.{apps_in, after_phase};
 
 use core_phase::deeds_leave_the_column;
 
-/// A host is sound still after a phase of its lanes, in which each of its applications has its lane, in their order: with
-/// what [`play_phase`] asks of the lanes and says of the phase. The view that the slow path has then knows of as many
-/// words as before.
+/// A host is sound still after a phase of its lanes, in which each of its applications has its lane, in their order:
+/// with what [`play_phase`] asks of the lanes and says of the phase. The view that the slow path has then knows of as
+/// many words as before.
 ///
 /// [`play_phase`]: core_phase::play_phase
 pub fn phases_keep_it()

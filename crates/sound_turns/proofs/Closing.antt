@@ -1,5 +1,5 @@
 -- A flow that is found closed: for the law time_keeps_it.
-use Rattle.std.proofs.Common.{◌≡◌, ℕ, ◌&&◌, not, Bool, true, false, List, [], ◌∷◌, ◌++◌, map, refl, sym, ap, ◌∙◌, subst}
+use Rattle.std.proofs.Common.{◌≡◌, ◌&&◌, not, Bool, true, false, List, [], ◌∷◌, ◌++◌, map, refl, sym, ap, ◌∙◌, subst}
 use Rattle.std.proofs.Common.{arith, true≢false, if◌then◌else◌, cond, append_assoc}
 use Rattle.std.specs.Prelude.{IsPermutation}
 use Rattle.std.specs.List.{filter, list_any}
@@ -17,7 +17,6 @@ use Rattle.host_rounds.proofs.Lists.{each_append, fold_append}
 use Rattle.flow_lock.specs.Orders.{known_of}
 use Rattle.flow_lock.specs.declared.view.Held.{Held}
 use Rattle.flow_lock.specs.declared.view.History.{History}
-use Rattle.flow_lock.specs.declared.view.View.{View}
 use Rattle.app_reaper.specs.OneCall.{history}
 use Rattle.flow_clock.specs.Histories.{is_over}
 use Rattle.flow_clock.specs.Ledgers.{Ledger}
@@ -36,7 +35,7 @@ use Rattle.sound_hosts.proofs.OneFlow.{used_leads}
 use Rattle.sound_hosts.proofs.Sweeping.{firsts, lasts, middle}
 use Rattle.sound_hosts.proofs.Told.{left_waiting}
 use Rattle.sound_turns.specs.Passing.{AreTabled, IsPassing, swept_book}
-use Rattle.sound_hosts.proofs.Names.{names, names_with, names_without, IsSplit, split_at}
+use Rattle.sound_hosts.proofs.Names.{names, names_without, IsSplit, split_at}
 use Rattle.sound_turns.proofs.Lists.{waiting_swap, any_live_swap}
 use Rattle.sound_turns.proofs.Steps.{path_without, lists_after, same_led}
 use Rattle.sound_turns.proofs.Sweeps.{base_leads, led_tabled, same_base, swept_tabled}
@@ -55,7 +54,8 @@ module _ (known : List Held) (b : Book) where
   away_front is [] cs once = tt
   away_front is (x ∷ xs) cs once = (
     λ e. both b.indexed (same_tuple (tuple_of known x) (tuple_of known b)) is
-        (middle (λ (c : Book). is_indexed_as (live_in known x).flow.tuple (live_in known c) ≡ false) xs b cs (once.0 e)),
+        (middle (λ (c : Book). is_indexed_as (live_in known x).flow.tuple (live_in known c) ≡ false) xs b cs
+        (once.0 e)),
     away_front is xs cs once.1,
   )
 

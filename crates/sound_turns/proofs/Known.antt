@@ -1,5 +1,5 @@
 -- The slow path's list of flows by their four-tuples after the time of a tick: for the law time_keeps_it.
-use Rattle.std.proofs.Common.{◌≡◌, ℕ, zero, suc, ◌+◌, ◌<◌, ◌==◌, ◌&&◌, ◌||◌, cond, Bool, true, false, List, [], ◌∷◌, map}
+use Rattle.std.proofs.Common.{◌≡◌, ℕ, zero, suc, ◌+◌, ◌<◌, ◌==◌, ◌&&◌, ◌||◌, cond, Bool, true, false, List, [], ◌∷◌}
 use Rattle.std.proofs.Common.{refl, sym, ap, ◌∙◌, subst, arith, inl, inr, length, get_or, slice_get, Some, None, Option}
 use Rattle.std.proofs.Common.{true≢false, count_by}
 use Rattle.std.specs.Prelude.{◌⊎◌, position}
@@ -7,7 +7,6 @@ use Rattle.std.specs.List.{filter, list_any}
 use Rattle.std.proofs.lemmas.Bool.Decides.{nat_tests}
 use Rattle.std.proofs.lemmas.List.Quantifiers.{position-Some}
 use Rattle.tas_model.specs.declared.entry.FlowId.{FlowId}
-use Rattle.tas_model.specs.declared.entry.FourTuple.{FourTuple}
 use Rattle.host_rounds.specs.Lists.{Each}
 use Rattle.core_rounds.proofs.Filters.{tally, count_cons}
 use Rattle.flow_lock.specs.Orders.{known_of, same_flow}
@@ -18,7 +17,7 @@ use Rattle.slow_worker.specs.Turns.{pin_at, is_its, is_pinned, still_known}
 use Rattle.slow_worker.specs.declared.known.KnownFlow.{KnownFlow}
 use Rattle.host_books.specs.Books.{Book}
 use Rattle.host_books.proofs.Orders.{same_self}
-use Rattle.sound_hosts.specs.Hosts.{id_of, is_indexed, flows_in, known_flow, tuple_of}
+use Rattle.sound_hosts.specs.Hosts.{id_of, is_indexed, flows_in, known_flow}
 use Rattle.sound_hosts.specs.Sound.{IsPlain}
 use Rattle.sound_hosts.proofs.Leaving.{AreApart, IsNumberedBy, any_names}
 use Rattle.sound_hosts.proofs.OpenSockets.{each_at, to_filtered}
@@ -111,7 +110,8 @@ own_any : (cs : List Book) → AreApart cs → (n : ℕ) (c : Book) → slice_ge
     → list_any (λ (d : Book). is_indexed d && same_flow d.id c.id) cs ≡ c.indexed
 own_any [] apart n c at = absurd (cc (at))
 own_any (d ∷ ds) apart zero c at =
-    subst (λ (x : Book). list_any (λ (y : Book). is_indexed y && same_flow y.id x.id) (d ∷ ds) ≡ x.indexed) (same d c at)
+    subst (λ (x : Book). list_any (λ (y : Book). is_indexed y && same_flow y.id x.id) (d ∷ ds) ≡ x.indexed)
+    (same d c at)
     ((λ i. (d.indexed && same_self d.id i) || none_at (λ (y : Book). is_indexed y && same_flow y.id d.id) ds
     (off ds apart.0) i)
     ∙ last d.indexed)

@@ -1,23 +1,19 @@
 -- Lists of books of which one is another: for the law time_keeps_it.
-use Rattle.std.proofs.Common.{◌≡◌, ℕ, zero, suc, ◌+◌, ◌≤◌, ◌<◌, ◌==◌, ◌&&◌, ◌||◌, not, cond, Bool, true, false, List, [], ◌∷◌, ◌++◌}
-use Rattle.std.proofs.Common.{map, refl, sym, ap, ◌∙◌, subst, arith, count_by, inl, inr, true≢false, append_assoc}
-use Rattle.std.specs.Prelude.{IsPermutation, ◌⊎◌}
-use Rattle.std.specs.List.{filter, list_any}
-use Rattle.std.proofs.lemmas.List.Sorted.{IsPermutation-sym, IsPermutation-push_more, IsPermutation-middle}
+use Rattle.std.proofs.Common.{◌≡◌, ℕ, zero, suc, ◌+◌, ◌<◌, ◌==◌, ◌&&◌, ◌||◌, cond, Bool, false, List}
+use Rattle.std.proofs.Common.{[], ◌∷◌, ◌++◌}
+use Rattle.std.proofs.Common.{map, refl, sym, ap, ◌∙◌, subst, arith, count_by, inl, inr, true≢false}
+use Rattle.std.specs.Prelude.{◌⊎◌}
+use Rattle.std.specs.List.{list_any}
 use Rattle.tas_model.specs.declared.entry.FlowId.{FlowId}
 use Rattle.tas_model.specs.declared.entry.FourTuple.{FourTuple}
 use Rattle.host_rounds.specs.Hosts.{is_indexed_as, same_tuple}
-use Rattle.host_rounds.specs.Lists.{Each}
-use Rattle.host_rounds.proofs.Lists.{map_append, filter_append, each_append}
-use Rattle.core_rounds.proofs.Filters.{tally, count_cons}
+use Rattle.host_rounds.proofs.Lists.{each_append}
+use Rattle.core_rounds.proofs.Filters.{tally}
 use Rattle.flow_lock.specs.Orders.{known_of, same_flow}
 use Rattle.flow_lock.specs.declared.view.Held.{Held}
 use Rattle.host_books.specs.Books.{Book, live_in, IsAt}
 use Rattle.host_books.specs.Indexes.{AreIndexed, AreOnce, IsFindable}
-use Rattle.host_books.proofs.Indexing.{is_same_flow}
-use Rattle.host_books.proofs.Orders.{same_self}
-use Rattle.sound_hosts.specs.Hosts.{id_of, is_of_slot, waiting_in, passive_flow, waits, AreNumbered}
-use Rattle.sound_hosts.proofs.Counts.{count_middle, count_same, found, by_counts, IsFound}
+use Rattle.sound_hosts.specs.Hosts.{is_of_slot, waiting_in, passive_flow, waits, AreNumbered}
 use Rattle.sound_hosts.proofs.Distinct.{count_push}
 use Rattle.sound_hosts.proofs.Sweeping.{firsts, lasts, middle, any_swap}
 use Rattle.sound_turns.specs.Passing.{AreSwept, swept_book}

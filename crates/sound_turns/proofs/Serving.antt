@@ -1,5 +1,6 @@
 -- The frames that wait at the slow path are served, one after the other: for the laws frames_keep_it and turns_keep_it.
-use Rattle.std.proofs.Common.{◌≡◌, ℕ, suc, ◌+◌, ◌<◌, ◌≤◌, Bool, true, false, List, [], ◌∷◌, ◌++◌, map, length, refl, sym}
+use Rattle.std.proofs.Common.{◌≡◌, ℕ, suc, ◌+◌, ◌<◌, ◌≤◌, Bool, true, false, List, [], ◌∷◌, ◌++◌, map, length, refl}
+use Rattle.std.proofs.Common.{sym}
 use Rattle.std.proofs.Common.{ap, ◌∙◌, subst, arith, append-nil, append_assoc, length-append, if◌then◌else◌}
 use Rattle.std.proofs.lemmas.List.{length-map}
 use Rattle.std.specs.Prelude.{Option, Some, None}
@@ -9,10 +10,8 @@ use Rattle.segment_fields.specs.declared.segment.Refused.{Refused}
 use Rattle.segment_fields.specs.Refusals.{number_of}
 use Rattle.segment_fields.specs.Text.{refusal}
 use Rattle.tas_model.specs.declared.entry.FlowId.{FlowId}
-use Rattle.tas_model.specs.declared.entry.FrameId.{FrameId}
 use Rattle.tas_model.specs.Valid.{InRange}
 use Rattle.flow_state.specs.Calls.{seg_of}
-use Rattle.flow_state.specs.Flow.{Flow}
 use Rattle.host_rounds.specs.Deliveries.{opens}
 use Rattle.host_rounds.specs.declared.log.LogLine.{LogLine}
 use Rattle.host_rounds.proofs.Lists.{map_append}
@@ -28,7 +27,8 @@ use Rattle.slow_worker.specs.Entering.{IsEntered, received}
 use Rattle.slow_worker.specs.Opening.{first_history}
 use Rattle.slow_worker.specs.Queues.{AreServed, IsOneServed, IsAllServed, IsCollected, kept_of, Standing}
 use Rattle.slow_worker.specs.Serving.{IsServedBy, IsTaken, IsMet, IsOpenedIn, asked_of}
-use Rattle.slow_worker.specs.Workers.{AreKept, Worker, Sight, Setting, IsSound, sight_of, with_sight, waiting, flow_with, setting_of}
+use Rattle.slow_worker.specs.Workers.{AreKept, Worker, Sight, Setting, IsSound, sight_of, with_sight, waiting}
+use Rattle.slow_worker.specs.Workers.{flow_with, setting_of}
 use Rattle.slow_worker.specs.declared.served.Served.{Served}
 use Rattle.slow_worker.specs.declared.served.Served.TheVariants as served
 use Rattle.slow_worker.proofs.Keeping.{kept_used, opened_kept}
@@ -150,7 +150,8 @@ module _ (h : CoreHost) (v : Worker) (books : List Book) (at : Setting) (f : Pas
                 near
                 refl refl (ap (λ (x : Sight). x.pass) opened.after)
                 (ap (λ (x : Sight). x.pins) opened.after) (ap (λ (x : Sight). x.flows) opened.after)
-                (subst (λ ds. AreKept h.table s.pass ds s.pins s.flows) (sym (ap (λ (x : Sight). x.doomed) opened.after))
+                (subst (λ ds. AreKept h.table s.pass ds s.pins s.flows)
+                (sym (ap (λ (x : Sight). x.doomed) opened.after))
                 sound.sound.0),
             subst InRange (sym (ap (λ (x : Sight). x.path.params) opened.after)) sound.sound.1,
           )
@@ -249,7 +250,8 @@ pub record AreFramesServed (h : CoreHost) (w : Worker) : Type 0 where
   pub sound : IsHostSound (with_opened ids w h)
 
 pub frames_sound : (h : CoreHost) (ns : FirstNumbers) (c : cores.Common) (tick : ℕ) (w : Worker)
-    → IsHostSound (without_frames h) → length h.books + length (waiting h.slow) < 4294967295 → IsAllServed ns c tick h.slow w → AreFramesServed h w
+    → IsHostSound (without_frames h) → length h.books + length (waiting h.slow) < 4294967295
+    → IsAllServed ns c tick h.slow w → AreFramesServed h w
 frames_sound h ns c tick w sound few all =
     let r = all_served h (quiet h.slow) (setting_of ns c tick h.slow) (waiting h.slow) h.books (sight_of h.slow)
     (sight_of w) w.deferred.list sound few all.served in

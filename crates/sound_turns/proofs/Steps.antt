@@ -1,22 +1,17 @@
 -- One flow has its time, or is swept: for the law time_keeps_it.
 use Rattle.std.proofs.Common.{◌≡◌, ℕ, ◌&&◌, not, Bool, true, false, List, [], ◌∷◌, ◌++◌, map, refl, sym, ap, ◌∙◌, subst}
-use Rattle.std.proofs.Common.{inl, inr, arith, append_assoc, true≢false, if◌then◌else◌, cond}
-use Rattle.std.specs.Prelude.{IsPermutation, ◌⊎◌}
-use Rattle.std.specs.List.{filter, list_any}
-use Rattle.std.proofs.lemmas.Bool.Decides.{nat_tests}
-use Rattle.std.proofs.lemmas.List.Sorted.{IsPermutation-refl}
+use Rattle.std.proofs.Common.{inl, append_assoc, true≢false, cond}
+use Rattle.std.specs.Prelude.{IsPermutation}
+use Rattle.std.specs.List.{filter}
 use Rattle.tas_model.specs.declared.entry.FlowId.{FlowId}
-use Rattle.tas_model.specs.declared.entry.FourTuple.{FourTuple}
 use Rattle.flow_state.specs.Flow.{Flow}
-use Rattle.flow_index.specs.Changes.{after_change, found_after, is_same}
+use Rattle.flow_index.specs.Changes.{found_after}
 use Rattle.flow_index.specs.declared.change.Change.{Change}
-use Rattle.flow_index.specs.declared.change.Change.TheVariants.{Remove}
 use Rattle.flow_index.specs.declared.change.Found.TheVariants as found
-use Rattle.host_rounds.specs.Hosts.{is_held_by, is_indexed_as, is_waiting_by, same_tuple}
+use Rattle.host_rounds.specs.Hosts.{is_held_by, same_tuple}
 use Rattle.host_rounds.specs.Lists.{Each}
-use Rattle.host_rounds.proofs.Lists.{each_append, fold_append, map_append}
+use Rattle.host_rounds.proofs.Lists.{each_append, map_append}
 use Rattle.flow_lock.specs.Orders.{known_of, same_flow}
-use Rattle.flow_lock.specs.Steps.{IsAlone}
 use Rattle.flow_lock.specs.declared.view.Held.{Held}
 use Rattle.flow_lock.specs.declared.view.History.{History}
 use Rattle.flow_lock.specs.declared.view.View.{View}
@@ -26,25 +21,25 @@ use Rattle.app_reaper.specs.declared.sweeping.Swept.{Swept}
 use Rattle.app_reaper.specs.declared.sweeping.Swept.TheVariants.{Freed, Pinned}
 use Rattle.flow_clock.specs.Histories.{is_over, is_running, timed_by}
 use Rattle.flow_clock.specs.Ledgers.{Ledger, without, without_closed}
-use Rattle.flow_clock.specs.Walks.{WasTimed, WasClosed, WasSweptAgain, IsSwept, doomed_with}
+use Rattle.flow_clock.specs.Walks.{WasTimed, WasSweptAgain, IsSwept, doomed_with}
 use Rattle.slow_handshake.specs.Openings.{Openings, is_named}
 use Rattle.slow_handshake.specs.declared.openings.PassiveFlow.{PassiveFlow}
-use Rattle.host_books.specs.Books.{Book, live_in}
-use Rattle.host_books.specs.Indexes.{AreOnce, IsFindable}
+use Rattle.host_books.specs.Books.{Book}
+use Rattle.host_books.specs.Indexes.{IsFindable}
 use Rattle.host_books.proofs.Indexing.{is_same_flow}
-use Rattle.sound_hosts.specs.Hosts.{CoreHost, id_of, is_indexed, is_doomed, is_filed, tuple_of, waiting_in}
+use Rattle.sound_hosts.specs.Hosts.{CoreHost, is_indexed, is_doomed, is_filed, tuple_of, waiting_in}
 use Rattle.sound_hosts.specs.Leading.{LedOn, Leads}
 use Rattle.sound_hosts.specs.Moving.{IsLed}
 use Rattle.sound_hosts.specs.Sound.{AreShown}
 use Rattle.sound_hosts.proofs.Calls.{timed_leads}
 use Rattle.sound_hosts.proofs.Kept.{shown_same}
-use Rattle.sound_hosts.proofs.Led.{alike}
 use Rattle.sound_hosts.proofs.OneFlow.{used_leads}
 use Rattle.sound_hosts.proofs.Reheld.{StaysWaiting, waiting_same}
 use Rattle.sound_hosts.proofs.Sweeping.{firsts, lasts, middle}
 use Rattle.sound_hosts.proofs.Told.{left_waiting}
 use Rattle.sound_turns.specs.Passing.{AreTabled, IsPassing, swept_book}
-use Rattle.sound_hosts.proofs.Names.{names, names_with, names_without, names_swap, IsSplit, split_at, split_of, one_more}
+use Rattle.sound_hosts.proofs.Names.{names, names_with, names_without, names_swap, IsSplit, split_of}
+use Rattle.sound_hosts.proofs.Names.{one_more}
 use Rattle.sound_turns.proofs.Lists.{waiting_swap, any_live_swap}
 use Rattle.sound_turns.proofs.Running.{timed_running}
 use Rattle.sound_turns.proofs.Sweeps.{base_leads, led_tabled, freed, same_base, swept_tabled}
@@ -143,7 +138,8 @@ doomed_after b e = ap (λ x. true && not (not x)) e
 undoomed_after : (b : Book) → is_held_by b.holder ≡ false → is_doomed (swept_book b) ≡ false
 undoomed_after b e = ap (λ x. true && not (not x)) e
 
-module _ (h : CoreHost) (xs : List Book) (b : Book) (cs : List Book) (v w : View) (tabled : AreTabled h (xs ++ b ∷ cs) v)
+module _ (h : CoreHost) (xs : List Book) (b : Book) (cs : List Book) (v w : View)
+    (tabled : AreTabled h (xs ++ b ∷ cs) v)
     (stands : b.filed ≡ false) (over : is_over (known_of b.id v.base) ≡ true) where
   -- the doomed flows, without it
   module _ (filed filed' : List Flow) (doomed doomed' : List FlowId) (rest : List FlowId)
@@ -254,7 +250,8 @@ module _ (h : CoreHost) (xs : List Book) (b : Book) (cs : List Book) (tried left
         ∙ (p.path ∙ ap (λ (x : Ledger). record (h.slow.path) { flows = x.path.flows }) (sym was.rest));
     shown = subst (λ (x : Ledger). AreShown (xs ++ swept_book b ∷ cs) m.view.base
         (h.slow.index.published ++ x.changes)) (sym was.rest)
-        (subst (λ (x : List Held). AreShown (xs ++ swept_book b ∷ cs) x (h.slow.index.published ++ l.changes)) (sym base)
+        (subst (λ (x : List Held). AreShown (xs ++ swept_book b ∷ cs) x (h.slow.index.published ++ l.changes))
+        (sym base)
         shown);
   }
 

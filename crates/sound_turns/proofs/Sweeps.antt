@@ -1,10 +1,9 @@
 -- What the table, the histories and the applications have of the books, while the slow path goes from flow to flow: for
 -- the law time_keeps_it.
-use Rattle.std.proofs.Common.{◌≡◌, ◌≢◌, ℕ, zero, suc, ◌+◌, ◌<◌, ◌==◌, ◌&&◌, not, cond, Bool, true, false, List, [], ◌∷◌}
-use Rattle.std.proofs.Common.{◌++◌, map, length, refl, sym, ap, ◌∙◌, subst, arith, inl, inr, set, slice_get, Some}
+use Rattle.std.proofs.Common.{◌≡◌, ◌≢◌, ℕ, zero, suc, ◌<◌, ◌==◌, ◌&&◌, not, true, false, List, [], ◌∷◌}
+use Rattle.std.proofs.Common.{◌++◌, length, refl, sym, ap, ◌∙◌, subst, arith, inl, inr, set, slice_get}
 use Rattle.std.proofs.Common.{true≢false, eq-eqb, length-set}
 use Rattle.std.specs.Prelude.{IsPermutation, ◌⊎◌}
-use Rattle.std.specs.List.{list_any, filter}
 use Rattle.tas_model.specs.declared.entry.FlowId.{FlowId}
 use Rattle.host_rounds.specs.Hosts.{is_held_by}
 use Rattle.host_rounds.specs.Lists.{Each}
@@ -12,7 +11,7 @@ use Rattle.host_rounds.proofs.Lists.{each_append}
 use Rattle.flow_lock.specs.Answers.{is_open_in}
 use Rattle.flow_lock.specs.Orders.{known_of}
 use Rattle.flow_lock.specs.Steps.{alone_or, condemned, counted, known_words, mark, mark_at}
-use Rattle.flow_lock.specs.Words.{word_at, put_word, dead_word, sole_word}
+use Rattle.flow_lock.specs.Words.{word_at, put_word, dead_word}
 use Rattle.flow_lock.specs.declared.view.Held.{Held}
 use Rattle.flow_lock.specs.declared.view.History.{History}
 use Rattle.flow_lock.specs.declared.view.Mark.{Mark}
@@ -26,7 +25,7 @@ use Rattle.flow_clock.specs.Histories.{is_over}
 use Rattle.flow_clock.proofs.Keeping.{after_sweep}
 use Rattle.libtas_sockets.specs.Apps.{Application}
 use Rattle.host_books.specs.Books.{Book}
-use Rattle.host_books.specs.Indexes.{AreIndexed, IsFindable}
+use Rattle.host_books.specs.Indexes.{AreIndexed}
 use Rattle.sound_hosts.specs.Ending.{is_freed, swept_as}
 use Rattle.sound_hosts.specs.Hosts.{CoreHost, is_held_of}
 use Rattle.sound_hosts.specs.Leading.{LedOn, Leads}

@@ -1,11 +1,10 @@
 -- The time of a tick as a whole: for the law time_keeps_it.
-use Rattle.std.proofs.Common.{◌≡◌, ℕ, ◌<◌, List, [], ◌∷◌, ◌++◌, map, false, true, refl, sym, ap, ◌∙◌, subst, inl, inr}
+use Rattle.std.proofs.Common.{◌≡◌, ℕ, ◌<◌, List, [], ◌∷◌, ◌++◌, false, true, refl, sym, ap, ◌∙◌, subst, inl, inr}
 use Rattle.std.proofs.Common.{append-nil, take, drop, leb}
-use Rattle.std.specs.Prelude.{IsPermutation, ◌⊎◌}
+use Rattle.std.specs.Prelude.{IsPermutation}
 use Rattle.std.proofs.lemmas.List.{take-append-drop}
 use Rattle.tas_model.specs.declared.entry.FlowId.{FlowId}
 use Rattle.tas_model.specs.declared.entry.HostParams.{HostParams}
-use Rattle.flow_state.specs.Flow.{Flow}
 use Rattle.flow_index.specs.Changes.{AnswerAlike, found_after}
 use Rattle.flow_index.specs.declared.change.Change.{Change}
 use Rattle.flow_index.specs.declared.change.Found.TheVariants as found
@@ -13,16 +12,14 @@ use Rattle.host_rounds.specs.Lists.{Each}
 use Rattle.flow_lock.specs.Orders.{known_of}
 use Rattle.flow_lock.specs.Words.{word_at}
 use Rattle.flow_lock.specs.declared.view.Held.{Held}
-use Rattle.flow_lock.specs.declared.view.View.{View}
 use Rattle.flow_lock.specs.declared.word.Word.{Word}
 use Rattle.flow_clock.specs.Ledgers.{Ledger}
-use Rattle.flow_clock.specs.Walks.{IsServed, AreServed, WasTimed, WasClosed, WasBusy, AreSweptAgain, IsTickDone}
+use Rattle.flow_clock.specs.Walks.{IsServed, AreServed, AreSweptAgain}
 use Rattle.slow_handshake.specs.Openings.{Openings, first_port}
 use Rattle.slow_handshake.specs.declared.openings.Listener.{Listener}
 use Rattle.slow_worker.specs.Clocks.{served_in}
-use Rattle.slow_worker.specs.Turns.{IsTimePassed, ledger_of, still_known, with_time}
+use Rattle.slow_worker.specs.Turns.{IsTimePassed, ledger_of, still_known}
 use Rattle.slow_worker.specs.Workers.{Worker, IsSound, sight_of, waiting}
-use Rattle.slow_worker.specs.declared.known.KnownFlow.{KnownFlow}
 use Rattle.host_books.specs.Books.{Book}
 use Rattle.sound_hosts.specs.Hosts.{CoreHost, known_in, is_indexed, is_doomed, flows_in, tuple_of}
 use Rattle.sound_hosts.specs.Sound.{IsHostSound, AreShown, IsWorded}
@@ -82,7 +79,8 @@ module _ (h : CoreHost) (tick : ℕ) (w : Worker) (sound : IsHostSound h) (passe
       holders = sound.holders;
     };
     pins = append-nil h.slow.pins ∙ sound.kept.pins;
-    doomed = subst (λ l. IsPermutation l (names is_doomed h.books)) (sym (append-nil h.slow.doomed)) sound.kept.doomed;
+    doomed = subst (λ l. IsPermutation l (names is_doomed h.books)) (sym (append-nil h.slow.doomed))
+        sound.kept.doomed;
     filed = sound.kept.filed;
     waiting = sound.opening.flows;
     path = refl;
@@ -184,7 +182,8 @@ module _ (h : CoreHost) (tick : ℕ) (w : Worker) (sound : IsHostSound h) (passe
       };
       shown = record {
         pending = passed.pending;
-        shown = shown_after cs w.pass.view.base (h.slow.index.published ++ passed.changes) w.index.published passed.shown
+        shown = shown_after cs w.pass.view.base (h.slow.index.published ++ passed.changes) w.index.published
+            passed.shown
             p.shown;
       };
       apps = p.tabled.apps;

@@ -1,5 +1,5 @@
 -- Whole turns of the slow path's worker: for the laws first_turns_keep_it and later_turns_keep_it.
-use Rattle.std.proofs.Common.{◌≡◌, ℕ, ◌+◌, ◌<◌, List, [], length, true, false, sym, ap, ◌∙◌, subst}
+use Rattle.std.proofs.Common.{ℕ, ◌+◌, ◌<◌, ◌≤◌, List, length, true, false, sym, ap, ◌∙◌, subst}
 use Rattle.tas_model.specs.declared.entry.FlowId.{FlowId}
 use Rattle.core_worker.specs.Workers as cores
 use Rattle.slow_handshake.specs.Numbers.{FirstNumbers}
@@ -41,11 +41,13 @@ first_sound h ns c tick w sound (m, passed, posted) kept =
     )
 
 pub later_sound : (h : CoreHost) (ns : FirstNumbers) (c : cores.Common) (tick : ℕ) (w : Worker)
-    → IsHostSound (without_frames h) → length h.books + length (waiting h.slow) < 4294967295 → IsTurn true ns c tick h.slow w
-    → (ids : List FlowId) × IsHostSound (with_opened ids w h)
+    → IsHostSound (without_frames h) → length h.books + length (waiting h.slow) < 4294967295
+    → IsTurn true ns c tick h.slow w
+    → (ids : List FlowId) × (length ids ≤ length (waiting h.slow)) × IsHostSound (with_opened ids w h)
 later_sound h ns c tick w sound few (m, all, posted) =
     let r : AreFramesServed h m = frames_sound h ns c tick m sound few all in (
       r.ids,
+      r.few,
       like_sound (with_opened r.ids m h) m w r.sound (posted_like c m w posted)
           (ap waiting posted.rest ∙ r.sound.waiting),
     )

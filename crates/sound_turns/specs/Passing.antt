@@ -1,6 +1,6 @@
 -- The time of a tick on a host: what becomes of its books, and what holds of them while some flows have had their time
 -- and others not.
-use Rattle.std.specs.Prelude.{◌≡◌, ◌++◌, not, true, false, List, [], ◌∷◌, map, length, IsPermutation, ◌⊎◌, ⊤}
+use Rattle.std.specs.Prelude.{◌≡◌, ◌++◌, not, true, false, List, [], ◌∷◌, map, length, IsPermutation, ◌⊎◌}
 use Rattle.std.specs.List.{filter}
 use Rattle.tas_model.specs.declared.entry.FlowId.{FlowId}
 use Rattle.flow_state.specs.Flow.{Flow}

@@ -2,7 +2,7 @@
 use Rattle.std.specs.Prelude.{◌≡◌, List, [], ◌∷◌, ◌++◌, map}
 use Rattle.tas_model.specs.declared.entry.FlowId.{FlowId}
 use Rattle.host_rounds.specs.Hosts.{Waiting}
-use Rattle.slow_worker.specs.Workers.{Worker, Sight, with_sight}
+use Rattle.slow_worker.specs.Workers.{Worker}
 use Rattle.slow_worker.specs.declared.served.Served.{Served}
 use Rattle.slow_worker.specs.declared.served.Served.TheVariants as served
 use Rattle.host_books.specs.Books.{Book}

@@ -7,9 +7,10 @@ ghost use Rattle.sound_hosts.specs.Hosts.{CoreHost};
 ghost use Rattle.sound_hosts.specs.Sound.{IsHostSound};
 ghost use Rattle.sound_turns.specs.Passing.{AreSwept, with_books};
 
-/// A host is sound still after its slow path let the time of a tick pass alone, in its first turn of the tick: with what
-/// [`SlowWorker::turn`] says of that time, and keeps of its worker. Of its books each is as it was, or its flow was found
-/// closed and was swept.
+/// A host is sound still after its slow path let the time of a tick pass alone, in its first turn of the tick: with
+/// what
+/// [`SlowWorker::turn`] says of that time, and keeps of its worker. Of its books each is as it was, or its flow was
+/// found closed and was swept.
 ///
 /// [`SlowWorker::turn`]: slow_worker::SlowWorker::turn
 pub fn time_keeps_it()

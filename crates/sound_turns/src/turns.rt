@@ -1,5 +1,5 @@
 //! Turns of the slow path's worker.
-ghost use Rattle.std.specs.Prelude.{◌≡◌, ℕ, ◌+◌, ◌<◌, List, length, true, false};
+ghost use Rattle.std.specs.Prelude.{◌≡◌, ℕ, ◌+◌, ◌<◌, ◌≤◌, List, length, true, false};
 ghost use Rattle.tas_model.specs.declared.entry.FlowId.{FlowId};
 ghost use Rattle.core_worker.specs.Workers as cores;
 ghost use Rattle.slow_handshake.specs.Numbers.{FirstNumbers};
@@ -14,7 +14,8 @@ ghost use Rattle.sound_turns.specs.Passing.{AreSwept, with_books};
 ghost use Rattle.sound_turns.specs.Serving.{without_frames, with_opened};
 
 /// A host is sound still after the first turn of a tick of its slow path's worker, made alone: with what
-/// [`SlowWorker::turn`] says of such a turn. Of its books each is as it was, or its flow was found closed and was swept.
+/// [`SlowWorker::turn`] says of such a turn. Of its books each is as it was, or its flow was found closed and was
+/// swept.
 ///
 /// [`SlowWorker::turn`]: slow_worker::SlowWorker::turn
 pub fn first_turns_keep_it()
@@ -33,14 +34,14 @@ pub fn collected_frames_keep_it()
         → IsHostSound (without_frames h) → IsHostSound (without_frames (with_slow w h)) }
 {}
 
-/// A host that is sound but for the frames that wait is sound after a later turn, made alone, in which these were served:
-/// with what [`SlowWorker::turn`] says of such a turn. The flows that SYNs opened stand behind its books, where fewer
-/// than 4,294,967,295 were opened before and frames wait.
+/// A host that is sound but for the frames that wait is sound after a later turn, made alone, in which these were
+/// served: with what [`SlowWorker::turn`] says of such a turn. The flows that SYNs opened stand behind its books, where
+/// those that were opened before and the frames that wait are together fewer than 4,294,967,295.
 ///
 /// [`SlowWorker::turn`]: slow_worker::SlowWorker::turn
 pub fn later_turns_keep_it()
     ensures { (h : CoreHost) (ns : FirstNumbers) (c : cores.Common) (tick : ℕ) (w : Worker)
         → IsHostSound (without_frames h) → length h.books + length (waiting h.slow) < 4294967295
         → IsTurn true ns c tick h.slow w
-        → (ids : List FlowId) × IsHostSound (with_opened ids w h) }
+        → (ids : List FlowId) × (length ids ≤ length (waiting h.slow)) × IsHostSound (with_opened ids w h) }
 {}

@@ -6,19 +6,21 @@ use Rattle.local_host.proofs.Places.{ok_by}
 use Rattle.scenario_host.proofs.Offers.{length-filling}
 use Rattle.scenario_host.proofs.Sockets.{socket_of}
 use Rattle.scenario_host.proofs.Stepping.{sent_found}
+use Rattle.scenario_host.proofs.script.AppScript.fill.Given.{Over}
 use Rattle.scenario_host.proofs.script.AppScript.fill.Goals.{After-rest}
 use Rattle.scenario_host.proofs.script.AppScript.fill.Goals as goal
 
 -- what is offered
-offered : (c : After-rest) → c.rest.result.now ≡ take most (drop c.args.self.now.done (filling c.args.count))
-offered c = c.rest.ensures ∙ ap (λ (n : ℕ). take most (drop n (filling c.args.count))) c.done.ensures
+offered : (g : Over) (c : After-rest g) → c.rest.result.now ≡ take most (drop c.args.self.now.done (filling
+    c.args.count))
+offered g c = c.rest.ensures ∙ ap (λ (n : ℕ). take most (drop n (filling c.args.count))) c.done.ensures
 
 -- and how much that is
-count : (c : After-rest)
+count : (g : Over) (c : After-rest g)
     → (length c.rest.result.now ≤ most) × (c.args.self.now.done + length c.rest.result.now ≤ c.args.count)
-count c =
+count g c =
     let rest = drop c.args.self.now.done (filling c.args.count) in
-    let len = ap length (offered c) in (
+    let len = ap length (offered g c) in (
       omega (arith, len, length-take most rest),
       omega (
         arith,
@@ -44,7 +46,9 @@ offer-requires-clause-part g c = (count g c).1
 pub returns : goal.returns
 returns g c =
     ok_by c.offer.result
-    (sent_found c.args.tick c.args.socket.now (filling c.args.count) (turn_of (g.H.AskedHost.seen c.args.host.now) c.args.self.now)
-    (turn_of (g.H.AskedHost.seen c.offer.new.host) c.offer.new.self) c.in-Some.place (sym c.flow_of.ensures ∙ c.in-Some.is))
+    (sent_found c.args.tick c.args.socket.now (filling c.args.count) (turn_of (g.H.AskedHost.seen c.args.host.now)
+    c.args.self.now)
+    (turn_of (g.H.AskedHost.seen c.offer.new.host) c.offer.new.self) c.in-Some.place (sym c.flow_of.ensures ∙
+    c.in-Some.is))
     (c.offer.ensures (filling c.args.count) (length-filling c.args.count)
     (c.rest.ensures ∙ ap (λ (n : ℕ). take most (drop n (filling c.args.count))) c.done.ensures))

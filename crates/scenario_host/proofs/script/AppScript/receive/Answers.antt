@@ -1,4 +1,4 @@
-use Rattle.std.proofs.Common.{◌≡◌, ◌≤◌, ℕ, [], length, sym, ap, subst, ◌∙◌}
+use Rattle.std.proofs.Common.{◌≡◌, ◌≤◌, ℕ, [], sym, ap, subst, ◌∙◌}
 use Rattle.tas_model.specs.declared.entry.Call.TheVariants as calls
 use Rattle.scenario_runs.specs.Applications.{receives, asks_for}
 use Rattle.scenario_host.specs.Answers.{gave}
@@ -25,7 +25,8 @@ received-requires g c =
     c.asks_for-most.ensures ∙ ap (asks_for c.args.all) c.done.ensures in
     gave_within c.args.all c.args.self.now.done (gave c.in_ok-answer.answer) c.requires.part
     (subst (λ (n : ℕ). gave c.in_ok-answer.answer ≤ n) asks
-    (gave_few c.number.result c.in-Some.place c.args.tick c.asks_for-most.result (g.H.AskedHost.seen c.args.host.now) (g.H.AskedHost.seen c.ask.new.self)
+    (gave_few c.number.result c.in-Some.place c.args.tick c.asks_for-most.result (g.H.AskedHost.seen c.args.host.now)
+    (g.H.AskedHost.seen c.ask.new.self)
     c.in_ok-answer.answer
     (record {
       made = c.in_ok-answer.ensures.made;
@@ -34,7 +35,8 @@ received-requires g c =
 
 pub returns : goal.returns
 returns g c =
-    receives_by c.in-Some.place c.args.tick c.args.all (g.H.AskedHost.seen c.args.host.now) (g.H.AskedHost.seen c.ask.new.self) c.args.self.now
+    receives_by c.in-Some.place c.args.tick c.args.all (g.H.AskedHost.seen c.args.host.now)
+    (g.H.AskedHost.seen c.ask.new.self) c.args.self.now
     c.received.new.self c.asks_for-most.result c.in_ok-answer.answer
     (asked_as c.number.result c.args.self.now.number c.in-Some.place c.args.tick (calls.Recv c.asks_for-most.result) []
     (g.H.AskedHost.seen c.args.host.now) (g.H.AskedHost.seen c.ask.new.self) c.in_ok-answer.answer c.number.ensures

@@ -1,4 +1,4 @@
-use Rattle.std.proofs.Common.{ℕ, length, take, drop, refl, sym, ap, ◌∙◌}
+use Rattle.std.proofs.Common.{ℕ, take, drop, refl, sym, ap, ◌∙◌}
 use Rattle.scenario_runs.specs.Applications.{most}
 use Rattle.scenario_host.specs.Turns.{turn_of}
 use Rattle.local_host.proofs.Places.{ok_by}
@@ -15,8 +15,10 @@ offer-requires-clause-socket g c =
 pub returns : goal.returns
 returns g c =
     ok_by c.offer.result
-    (sent_found c.args.tick c.args.socket.now c.args.text.now (turn_of (g.H.AskedHost.seen c.args.host.now) c.args.self.now)
-    (turn_of (g.H.AskedHost.seen c.offer.new.host) c.offer.new.self) c.in-Some.place (sym c.flow_of.ensures ∙ c.in-Some.is))
+    (sent_found c.args.tick c.args.socket.now c.args.text.now (turn_of (g.H.AskedHost.seen c.args.host.now)
+    c.args.self.now)
+    (turn_of (g.H.AskedHost.seen c.offer.new.host) c.offer.new.self) c.in-Some.place (sym c.flow_of.ensures ∙
+    c.in-Some.is))
     (c.offer.ensures c.args.text.now refl
     (rest_offered c.args.text.now c.done.result c.requires.few
     ∙ ap (λ (n : ℕ). take most (drop n c.args.text.now)) c.done.ensures))

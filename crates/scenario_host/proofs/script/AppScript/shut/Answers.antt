@@ -10,7 +10,7 @@ pub ask-requires-clause-socket : goal.ask-requires-clause-socket
 ask-requires-clause-socket g c =
     subst (λ (app : ℕ). g.H.AskedHost.has_socket c.args.host.now app c.in-Some.place) (sym c.number.ensures)
     (socket_of (g.H.AskedHost.has_socket c.args.host.now c.args.self.now.number) c.args.self.now.names
-    c.args.socket.now c.in-Some.place c.requires (sym c.flow_of.ensures ∙ c.in-Some.is))
+    c.args.socket.now c.in-Some.place c.requires.names (sym c.flow_of.ensures ∙ c.in-Some.is))
 
 pub returns : goal.returns
 returns g c =

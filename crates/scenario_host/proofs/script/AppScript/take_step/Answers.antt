@@ -9,7 +9,8 @@ returns-in-Send g c =
     ok_by c.send.result
     (send_step (numbers_of c.args.numbers.now.params) (address_in c.args.hosts.now) c.args.tick c.args.step.now
     c.in-Send.socket c.in-Send.text c.as_slice-in-Send.result.now c.as_slice-in-Send-2.result.now
-    (turn_of (g.H.AskedHost.seen c.args.host.now) c.args.self.now) (turn_of (g.H.AskedHost.seen c.send.new.host) c.send.new.self) c.in-Send.is
+    (turn_of (g.H.AskedHost.seen c.args.host.now) c.args.self.now) (turn_of (g.H.AskedHost.seen c.send.new.host)
+    c.send.new.self) c.in-Send.is
     c.as_slice-in-Send.ensures c.as_slice-in-Send-2.ensures)
     c.send.ensures
 
@@ -17,6 +18,7 @@ pub returns-in-Fill : goal.returns-in-Fill
 returns-in-Fill g c =
     ok_by c.fill.result
     (fill_step (numbers_of c.args.numbers.now.params) (address_in c.args.hosts.now) c.args.tick c.args.step.now
-    c.in-Fill.socket c.as_slice-in-Fill.result.now c.in-Fill.count (turn_of (g.H.AskedHost.seen c.args.host.now) c.args.self.now)
+    c.in-Fill.socket c.as_slice-in-Fill.result.now c.in-Fill.count (turn_of (g.H.AskedHost.seen c.args.host.now)
+    c.args.self.now)
     (turn_of (g.H.AskedHost.seen c.fill.new.host) c.fill.new.self) c.in-Fill.is c.as_slice-in-Fill.ensures)
     c.fill.ensures

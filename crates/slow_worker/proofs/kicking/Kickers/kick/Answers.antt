@@ -1,4 +1,4 @@
-use Rattle.std.proofs.Common.{◌≡◌, ◌<◌, ◌∙◌, sym, subst, ap, length, arith, set, [], ◌∷◌, ◌++◌}
+use Rattle.std.proofs.Common.{◌≡◌, ◌∙◌, sym, subst, ap, arith, set, [], ◌∷◌, ◌++◌}
 use Rattle.std.specs.Prelude.{OnOk, OnErr}
 use Rattle.context_queue.specs.Notes.{Sender}
 use Rattle.context_queue.specs.declared.note.Note.{Note}

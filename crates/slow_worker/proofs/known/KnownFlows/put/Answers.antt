@@ -1,4 +1,4 @@
-use Rattle.std.proofs.Common.{ℕ, ◌<◌, ◌-◌, sym, subst, arith}
+use Rattle.std.proofs.Common.{◌<◌, ◌-◌, sym, subst, arith}
 use Rattle.std.specs.Prelude.{vec_len}
 use Rattle.std.specs.HashMap.{get, hash_map_len, spare}
 use Rattle.app_reaper.specs.Lists.{Roomy}

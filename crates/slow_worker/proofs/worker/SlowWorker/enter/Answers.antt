@@ -5,7 +5,6 @@ use Rattle.slow_worker.specs.Workers.{Worker, Sight, sight_of, setting_of, HasIt
 use Rattle.slow_worker.specs.contracts.worker.SlowWorker.{the_view}
 use Rattle.slow_worker.specs.Entering.{IsEntered, IsUnentered}
 use Rattle.slow_worker.specs.declared.entering.Offered.{Offered}
-use Rattle.slow_worker.specs.declared.entering.Offered.TheVariants as offered
 use Rattle.slow_worker.specs.declared.served.Served.TheVariants as served
 use Rattle.tas_model.specs.declared.entry.FlowId.{FlowId}
 use Rattle.slow_worker.proofs.Keeping.{has_place, place_of_pin}
