@@ -1,5 +1,5 @@
 -- What the lanes of a phase left is collected and served: for the law left_frames_are_rest_phases.
-use Rattle.std.proofs.Common.{◌≡◌, ℕ, ◌+◌, ◌<◌, ◌≤◌, Bool, true, List, [], ◌∷◌, ◌++◌, map, length, fold, refl, sym, ap, ◌∙◌}
+use Rattle.std.proofs.Common.{◌≡◌, ℕ, ◌+◌, ◌<◌, ◌≤◌, true, List, [], ◌∷◌, ◌++◌, map, length, refl, sym, ap, ◌∙◌}
 use Rattle.std.proofs.Common.{subst, append-nil, append_assoc}
 use Rattle.tas_model.specs.declared.entry.Caller.TheVariants.{Slow}
 use Rattle.tas_model.specs.declared.entry.FlowId.{FlowId}

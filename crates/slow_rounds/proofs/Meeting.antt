@@ -4,18 +4,14 @@ use Rattle.std.proofs.Common.{◌++◌, map, length, count_by, refl, sym, ap, �
 use Rattle.std.proofs.Common.{if◌then◌else◌, append-nil, true≢false}
 use Rattle.std.specs.Prelude.{Option, Some, None, nat_lt, position, min}
 use Rattle.std.specs.List.{list_any}
-use Rattle.std.specs.Option.{option_map}
 use Rattle.std.proofs.lemmas.List.{length-map}
-use Rattle.std.proofs.lemmas.Bool.Decides.{nat_tests}
-use Rattle.std.proofs.lemmas.List.Sums.{count_by-le-length}
-use Rattle.tas_num.specs.declared.seq.Seq.{Seq}
 use Rattle.segment_fields.specs.declared.segment.Segment.{Segment}
 use Rattle.tas_model.specs.declared.entry.Call.TheVariants as calls
 use Rattle.tas_model.specs.declared.entry.Caller.TheVariants.{Slow}
+use Rattle.tas_model.specs.declared.entry.Entry.{Entry}
 use Rattle.tas_model.specs.declared.entry.FlowId.{FlowId}
 use Rattle.tas_model.specs.declared.entry.FourTuple.{FourTuple}
 use Rattle.tas_model.specs.declared.entry.FrameId.{FrameId}
-use Rattle.tas_model.specs.declared.entry.Head.{Head}
 use Rattle.tas_model.specs.declared.entry.Seg.{Seg}
 use Rattle.tas_model.specs.declared.entry.Reply.{Reply}
 use Rattle.tas_model.specs.declared.entry.Reply.TheVariants as replies
@@ -29,8 +25,6 @@ use Rattle.host_rounds.specs.Hosts.{Live, Host, Waiting, logged, waits_at, is_fu
 use Rattle.host_rounds.specs.Hosts.{is_in_slot, next_number, opened_in, first_entry, most_flows}
 use Rattle.host_rounds.specs.Deliveries as runs
 use Rattle.host_rounds.specs.Deliveries.{opens, met_no_flow, opened_by_syn, answer_in}
-use Rattle.host_rounds.specs.Lists.{Each}
-use Rattle.host_rounds.proofs.Lists.{map_append}
 use Rattle.flow_lock.specs.Answers.{next_in, next_of, is_free}
 use Rattle.flow_lock.specs.Orders.{known_of, same_flow}
 use Rattle.flow_lock.specs.Steps.{alone_or, mark_at}
@@ -47,21 +41,18 @@ use Rattle.slow_handshake.specs.declared.openings.SynAnswer.TheVariants as syn
 use Rattle.core_worker.specs.Frames.{tuple_of}
 use Rattle.slow_worker.specs.Opening.{IsOpened, first_history}
 use Rattle.slow_worker.specs.Serving.{IsMet, IsOpenedIn, asked_of, is_listening, stray_event, with_line}
-use Rattle.slow_worker.specs.Workers.{Worker, Sight, Setting}
+use Rattle.slow_worker.specs.Workers.{Worker, Sight, Setting, with_sight}
 use Rattle.slow_worker.specs.declared.served.Served.{Served}
 use Rattle.slow_worker.specs.declared.served.Served.TheVariants as served
 use Rattle.host_books.specs.Books.{Book, live_as, live_in}
-use Rattle.host_books.proofs.Orders.{others, same_self}
 use Rattle.sound_hosts.specs.Hosts.{CoreHost, host_of, listener_of, is_of_slot, stands_in, waiting_in}
 use Rattle.sound_hosts.specs.Sound.{IsHostSound, IsMarked}
-use Rattle.sound_hosts.proofs.Counts.{count_map}
-use Rattle.sound_hosts.proofs.Numbers.{IsNextSlot, next_slot, fresh, all_older, mark_there}
 use Rattle.sound_turns.specs.Serving.{ids_of, books_opened, syn_book}
 use Rattle.sound_turns.proofs.Lists.{any_map}
 use Rattle.sound_turns.proofs.Serving.{At}
 use Rattle.slow_rounds.specs.Rests.{numbers_by}
-use Rattle.slow_rounds.proofs.FirstTurns.{same_host}
-use Rattle.slow_rounds.proofs.Slots.{waits_count, free_alike}
+use Rattle.slow_rounds.proofs.Opens as openings
+use Rattle.slow_rounds.proofs.Slots.{waits_count}
 
 -- ----- what is answered to a stray
 heads_alike : (r : Reply) → strays.sent_head r ≡ answer_in r
@@ -115,56 +106,12 @@ module _ (h : CoreHost) (v : Worker) (books : List Book) (at : Setting) (frame :
       ∙ ap (λ o. logged before at.tick (events.Stray frame (tuple_of seg) (seg_of seg) o))
       (ap (strays.stray_answer (seg_of seg)) (sym listening ∙ e) ∙ answers_alike l (seg_of seg))
 
-  -- ----- the lowest free slot
-  wide : length s.pass.view.marks ≡ before.params.slots
-  wide = sound.wide.0 ∙ sym sound.slots
-
-  marked : (i : ℕ) (x : Mark) → slice_get s.pass.view.marks i ≡ Some x
-      → x.live ≡ list_any (is_in_slot i) before.flows
-  marked i x e =
-      (sound.table.marks i x e).live ∙ sym (any_map (live_in s.pass.view.base) (is_in_slot i) books)
-
   lowest : lowest_free before ≡ position is_free s.pass.view.marks
-  lowest =
-      ap (λ c. free_where c before.params.slots before.flows) room
-      ∙ (ap (λ n. free_from n 0 before.flows) (sym wide)
-      ∙ (free_alike s.pass.view.marks 0 before.flows (λ i x e. marked i x e ∙ from_first i)
-      ∙ same (position is_free s.pass.view.marks)))
-    where
-      room : nat_lt (length before.flows) most_flows ≡ true
-      room =
-          let long : length before.flows ≡ length books = length-map books (live_in s.pass.view.base) in
-          ap (λ n. nat_lt n most_flows) long ∙ below (length books) few
-        where
-          below : (n : ℕ) → n < 4294967295 → nat_lt n most_flows ≡ true
-          below n lt = grind (arith, nat_tests, lt)
-
-      from_first : (i : ℕ) → list_any (is_in_slot i) before.flows ≡ list_any (is_in_slot (0 + i)) before.flows
-      from_first i = ap (λ n. list_any (is_in_slot n) before.flows) (let none : i ≡ 0 + i = omega arith in none)
-
-      same : (o : Option ℕ) → option_map (λ i. 0 + i) o ≡ o
-      same None = refl
-      same (Some i) = ap (λ n. Some n) (let none : 0 + i ≡ i = omega arith in none)
+  lowest = openings.lowest (At h v books s) sound few
 
   -- ----- a flow that is opened
   module _ (id : FlowId) (next : next_in s.pass.view.marks ≡ Some id) (is : a ≡ served.Opened id)
       (opened : IsOpened at.tick (at.numbers (tuple_of seg) s.pass.view.opened) frame seg id s m) where
-    slot : IsNextSlot s.pass.view.marks id
-    slot = next_slot s.pass.view.marks id next
-
-    generation : id.generation ≡ 1 + count_by (is_of_slot id.slot) books
-    generation =
-        let most : count_by (is_of_slot id.slot) books ≤ length books =
-        count_by-le-length (is_of_slot id.slot) books in
-        let said : id.generation ≡ min ((mark_at s.pass.view.marks id.slot).generation + 1) 4294967295 = slot.number in
-        let same : (mark_at s.pass.view.marks id.slot).generation ≡ count_by (is_of_slot id.slot) books =
-        (sound.table.marks id.slot (mark_at s.pass.view.marks id.slot)
-        (mark_there s.pass.view.marks id.slot slot.within)).generation in
-        omega (arith, most, said, same, few)
-
-    apart : Each (λ (c : Book). same_flow id c.id ≡ false) books
-    apart = fresh id books books (all_older h.table.slots books sound.numbered) generation
-
     abbrev history : History
     history = first_history at.tick (at.numbers (tuple_of seg) s.pass.view.opened) frame seg s.path
 
@@ -173,54 +120,23 @@ module _ (h : CoreHost) (v : Worker) (books : List Book) (at : Setting) (frame :
         ∙ ap (λ (ts : List Turn). alone_or ts (record { flow = id; history = history } ∷ s.pass.view.base)
         s.pass.view.base) sound.alone.1
 
-    own : known_of id (record { flow = id; history = history } ∷ s.pass.view.base) ≡ history
-    own = ap (λ c. cond c history (known_of id s.pass.view.base)) (same_self id)
+    count : s.pass.view.opened ≡ length before.flows
+    count = counted ∙ sym (length-map books (live_in s.pass.view.base))
 
-    -- the new one, with its number and its generation
-    new_one : live_as (syn_book id) history
-        ≡ hosts.new_flow before id.slot (tuple_of seg) Waiting
-        (first_entry Slow at.tick (calls.Passive frame (record { 0 = number }) (seg_of seg)))
-    new_one = λ i. record {
-      flow = record {
-        id = record { slot = id.slot; generation = named i };
-        tuple = tuple_of seg;
-        params = s.path.params;
-        entries =
-            first_entry Slow at.tick (calls.Passive frame (at.numbers (tuple_of seg) (count i)) (seg_of seg)) ∷ [];
-      };
-      indexed = true;
-      holder = Waiting;
-      filed = false;
-    }
-      where
-        named : id.generation ≡ hosts.next_generation id.slot before.flows
-        named = generation
-            ∙ ap (λ n. 1 + n)
-            (sym (count_map (live_in s.pass.view.base) (λ (l : Live). l.flow.id.slot == id.slot) books))
+    abbrev begins : ℕ → Entry
+    begins n = first_entry Slow at.tick (calls.Passive frame (at.numbers (tuple_of seg) n) (seg_of seg))
 
-        count : s.pass.view.opened ≡ length before.flows
-        count = counted ∙ sym (length-map books (live_in s.pass.view.base))
-
-    flows : after.flows
-        ≡ before.flows
-        ++ hosts.new_flow before id.slot (tuple_of seg) Waiting
-        (first_entry Slow at.tick (calls.Passive frame (record { 0 = number }) (seg_of seg))) ∷ []
-    flows =
-        (λ i. map (live_in (base i)) (books_opened (ap ids_of is i) books))
-        ∙ (map_append (live_in (record { flow = id; history = history } ∷ s.pass.view.base)) books (syn_book id ∷ [])
-        ∙ (λ i. others s.pass.view.base (record { flow = id; history = history }) books apart i
-        ++ (ap (live_as (syn_book id)) own ∙ new_one) i ∷ []))
-
-    pub opened_made : after
+    opened_made : after
         ≡ opened_in before id.slot (tuple_of seg) Waiting
         (first_entry Slow at.tick (calls.Passive frame (record { 0 = number }) (seg_of seg)))
-    opened_made = same_host after
-        (opened_in before id.slot (tuple_of seg) Waiting
-        (first_entry Slow at.tick (calls.Passive frame (record { 0 = number }) (seg_of seg))))
+    opened_made =
+        (λ i. host_of (At h v (books_opened (ap ids_of is i) books) m))
+        ∙ (openings.opened_made (At h v books s) sound few id next Waiting history (begins s.pass.view.opened)
+        (with_sight m v) base refl refl
         (ap (λ (x : Sight). x.path.params) opened.after)
-        (ap (λ (x : Sight). map listener_of x.path.listeners) opened.after)
+        (ap (λ (x : Sight). x.path.listeners) opened.after)
         (ap (λ (x : Sight). x.log) opened.after)
-        flows
+        ∙ ap (λ n. opened_in before id.slot (tuple_of seg) Waiting (begins n)) count)
 
   abbrev By : Bool → Bool → Host
   By opening l = met_no_flow opening l number at.tick before frame (tuple_of seg) (seg_of seg)

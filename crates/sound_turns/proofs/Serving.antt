@@ -157,7 +157,8 @@ module _ (h : CoreHost) (v : Worker) (books : List Book) (at : Setting) (f : Pas
           )
   met seg apart (Some (syn.BacklogFull n)) asked (is, line) =
       none_more (answered (served.Dropped true) is (refl, refl)) (lined _ line)
-  met seg apart (Some syn.NoListener) asked (is, line) = none_more (answered served.Stray is (refl, refl)) (lined _ line)
+  met seg apart (Some syn.NoListener) asked (is, line) =
+      none_more (answered served.Stray is (refl, refl)) (lined _ line)
   met seg apart None asked (is, line) = none_more (answered served.Stray is (refl, refl)) (lined _ line)
 
   entered : (seg : Segment) (id : FlowId) (b : Served) → a ≡ b → IsEntered at f.frame.id seg id s m b → Done

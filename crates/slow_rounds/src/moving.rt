@@ -1,0 +1,55 @@
+//! What applications do alone, and what is done for one that ended, as moves of the host.
+ghost use Rattle.std.specs.Prelude.{◌≡◌, ◌+◌, ◌<◌, ◌≤◌, ℕ, List, length, map};
+ghost use Rattle.tas_num.specs.declared.seq.Seq.{Seq};
+ghost use Rattle.tas_model.specs.declared.entry.FlowId.{FlowId};
+ghost use Rattle.tas_model.specs.declared.entry.FourTuple.{FourTuple};
+ghost use Rattle.host_rounds.specs.Hosts.{Numbers, Holder, Application, next_number};
+ghost use Rattle.host_rounds.specs.Moves.{Opens, Holds, MayMove, moved};
+ghost use Rattle.flow_lock.specs.Orders.{total, at_slot};
+ghost use Rattle.flow_lock.specs.Steps.{IsAlone};
+ghost use Rattle.flow_lock.specs.declared.view.Held.{Held};
+ghost use Rattle.flow_lock.specs.declared.view.View.{View};
+ghost use Rattle.app_reaper.specs.Reaping.{AreReaped};
+ghost use Rattle.slow_worker.specs.Workers.{Worker};
+ghost use Rattle.host_books.specs.Books as host_books;
+ghost use Rattle.host_books.specs.Books.{Setting, IsAt};
+ghost use Rattle.sound_hosts.specs.Hosts.{CoreHost, host_of};
+ghost use Rattle.sound_hosts.specs.Leaving.{reheld};
+ghost use Rattle.sound_hosts.specs.Opening.{new_book, with_book};
+ghost use Rattle.sound_hosts.specs.Sound.{IsHostSound};
+ghost use Rattle.slow_rounds.specs.Aborting.{aborted_in};
+ghost use Rattle.slow_rounds.specs.Opening.{IsOpening, reheld_as};
+
+/// A flow that an application opened alone, with what [`App::connect`] says of one that it opened, is one that a run's
+/// connect opens, where its first number is the run's.
+///
+/// [`App::connect`]: libtas_sockets::App::connect
+pub fn opened_flows_are_moves()
+    ensures { (numbers : Numbers) (h : CoreHost) (tick app : ℕ) (tuple : FourTuple) (iss : Seq) (id : FlowId)
+        (w : Worker) → IsHostSound h → length h.books < 4294967295 → IsOpening tuple iss tick app id h.slow w
+        → iss.0 ≡ next_number numbers (host_of h) tuple
+        → MayMove (host_of h) (Opens id.slot tuple app)
+        × (host_of (with_book (new_book id (Application app)) w h)
+        ≡ moved numbers tick (host_of h) (Opens id.slot tuple app)) }
+{}
+
+/// Where the socket of a flow changes hands in the books, it does so in a run.
+pub fn holders_are_moves()
+    ensures { (numbers : Numbers) (s : Setting) (known : List Held) (tick n : ℕ) (id : FlowId) (x : Holder)
+        → IsAt n id s.books
+        → host_books.host_of (record s { books = map (reheld (reheld_as id x)) s.books }) known
+        ≡ moved numbers tick (host_books.host_of s known) (Holds n x) }
+{}
+
+/// The flows of an application that ended, no two in one slot, that were reaped alone have each an Abort by the slow
+/// path more, and all else stays: with what [`reap_alone`] says of them. Who has their sockets is told by the books.
+///
+/// [`reap_alone`]: app_reaper::reap_alone
+pub fn reaped_flows_are_aborted()
+    ensures { (s : Setting) (tick : ℕ) (ids : List FlowId) (v w : View) → IsAlone v
+        → ((i : ℕ) → total (at_slot i) ids ≤ 1) → AreReaped tick ids v w
+        → host_books.host_of s w.base
+        ≡ record (host_books.host_of s v.base) {
+          flows = map (aborted_in ids tick) (host_books.host_of s v.base).flows;
+        } }
+{}
