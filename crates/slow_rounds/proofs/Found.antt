@@ -38,7 +38,7 @@ some_is f g e = cc e
 not_none : (f : FlowId) → ◌≡◌ {A = Option FlowId} (Some f) None → ⊥
 not_none f e = absurd (cc e)
 
-flipped : (f g : FlowId) → same_flow f g ≡ false → same_flow g f ≡ false
+pub flipped : (f g : FlowId) → same_flow f g ≡ false → same_flow g f ≡ false
 flipped f g e = mirror ∙ e
   where
     mirror : same_flow g f ≡ same_flow f g

@@ -12,3 +12,5 @@ pub mod Emissions
 pub mod Collecting
 pub mod Aborts
 pub mod Openings
+pub mod Ready
+pub mod Sent

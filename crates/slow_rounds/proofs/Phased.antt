@@ -49,7 +49,7 @@ controlled_alike : (due : Bool) (t : ℕ) (b : Book) (h : History)
 controlled_alike true t b h = refl
 controlled_alike false t b h = refl
 
-running_alike : (l : Live) → shared.is_running (shared.history_in l) ≡ is_running l
+pub running_alike : (l : Live) → shared.is_running (shared.history_in l) ≡ is_running l
 running_alike l = by_column (column (endpoint l)) where
   by_column : (c : Column) → ◌≡◌ {A = Bool} (shared.is_running_in c) (elim c [ Running ↦ true | _ ↦ false ])
   by_column Opening = refl

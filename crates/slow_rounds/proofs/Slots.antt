@@ -59,7 +59,7 @@ waits_count known port (b ∷ bs) =
         (λ i. tally (e i && false && not z) + ih i) ∙ none_more (length (filter (is_at port) rest))
 
 -- ----- the lowest free slot
-position_here : {X : Type 0} (p : X → Bool) (x : X) (xs : List X) → p x ≡ true → position p (x ∷ xs) ≡ Some 0
+pub position_here : {X : Type 0} (p : X → Bool) (x : X) (xs : List X) → p x ≡ true → position p (x ∷ xs) ≡ Some 0
 position_here p x xs e =
     ap (λ c. cond (nat_lt (cond (not c) (1 + position_or_len p xs) 0) (suc (length xs)))
     (Some (cond (not c) (1 + position_or_len p xs) 0)) None) e
@@ -68,7 +68,7 @@ position_here p x xs e =
     some_left : (n : ℕ) → nat_lt 0 (suc n) ≡ true
     some_left n = grind (arith, nat_tests)
 
-position_past : {X : Type 0} (p : X → Bool) (x : X) (xs : List X) → p x ≡ false
+pub position_past : {X : Type 0} (p : X → Bool) (x : X) (xs : List X) → p x ≡ false
     → position p (x ∷ xs) ≡ option_map (λ i. 1 + i) (position p xs)
 position_past p x xs e =
     ap (λ c. cond (nat_lt (cond (not c) (1 + position_or_len p xs) 0) (suc (length xs)))

@@ -11,6 +11,7 @@ use Rattle.flow_lock.specs.declared.view.View.{View}
 use Rattle.app_reaper.specs.OneCall.{history, history_with, IsOwn, IsUse}
 use Rattle.flow_clock.specs.Histories.{endpoint_of, is_over}
 use Rattle.host_books.specs.Books.{Book}
+use Rattle.sound_hosts.specs.Hosts.{CoreHost}
 
 -- The flow's own record was taken, of which a segment may go, and it was given back with that Emit of core 0.
 pub record IsSent (tick : ℕ) (id : FlowId) (v w : View) : Type 0 where
@@ -28,3 +29,7 @@ AreSent tick (id ∷ ids) v w = (u : View) × IsSent tick id v u × AreSent tick
 -- it is closed, or nothing may go
 abbrev pub IsSilent : List Held → Book → Type 0
 IsSilent known b = is_over (known_of b.id known) ≡ false → going (endpoint_of (known_of b.id known)) ≡ None
+
+-- the host, where this is the view of its slow path
+abbrev pub with_view : View → CoreHost → CoreHost
+with_view w h = record h { slow = record (h.slow) { pass = record (h.slow.pass) { view = w } } }

@@ -1,15 +1,16 @@
 //! What applications do alone, and what is done for one that ended, as moves of the host.
-ghost use Rattle.std.specs.Prelude.{◌≡◌, ◌+◌, ◌<◌, ◌≤◌, ℕ, List, length, map};
+ghost use Rattle.std.specs.Prelude.{◌≡◌, ◌+◌, ◌<◌, ◌≤◌, ℕ, List, None, Some, length, map, position};
 ghost use Rattle.tas_num.specs.declared.seq.Seq.{Seq};
 ghost use Rattle.tas_model.specs.declared.entry.FlowId.{FlowId};
 ghost use Rattle.tas_model.specs.declared.entry.FourTuple.{FourTuple};
-ghost use Rattle.host_rounds.specs.Hosts.{Numbers, Holder, Application, next_number};
+ghost use Rattle.host_rounds.specs.Hosts.{Numbers, Holder, Application, is_ready, next_number};
 ghost use Rattle.host_rounds.specs.Moves.{Opens, Holds, MayMove, moved};
 ghost use Rattle.flow_lock.specs.Orders.{total, at_slot};
 ghost use Rattle.flow_lock.specs.Steps.{IsAlone};
 ghost use Rattle.flow_lock.specs.declared.view.Held.{Held};
 ghost use Rattle.flow_lock.specs.declared.view.View.{View};
 ghost use Rattle.app_reaper.specs.Reaping.{AreReaped};
+ghost use Rattle.slow_handshake.specs.Openings.{first_ready};
 ghost use Rattle.slow_worker.specs.Workers.{Worker};
 ghost use Rattle.host_books.specs.Books as host_books;
 ghost use Rattle.host_books.specs.Books.{Setting, IsAt};
@@ -39,6 +40,16 @@ pub fn holders_are_moves()
         → IsAt n id s.books
         → host_books.host_of (record s { books = map (reheld (reheld_as id x)) s.books }) known
         ≡ moved numbers tick (host_books.host_of s known) (Holds n x) }
+{}
+
+/// The flow that an accept finds at a port of a sound host is the first of a run's host that is ready there, and it
+/// finds none where none is.
+pub fn ready_flows_are_first()
+    ensures some { (h : CoreHost) (port : ℕ) (id : FlowId) → IsHostSound h
+        → first_ready h.slow.path port ≡ Some id
+        → (n : ℕ) × IsAt n id h.books × (position (is_ready port) (host_of h).flows ≡ Some n) }
+    ensures none { (h : CoreHost) (port : ℕ) → IsHostSound h → first_ready h.slow.path port ≡ None
+        → position (is_ready port) (host_of h).flows ≡ None }
 {}
 
 /// The flows of an application that ended, no two in one slot, that were reaped alone have each an Abort by the slow

@@ -7,7 +7,11 @@ ghost use Rattle.flow_lock.specs.Steps.{IsAlone};
 ghost use Rattle.flow_lock.specs.declared.view.View.{View};
 ghost use Rattle.host_books.specs.Books.{Setting, host_of};
 ghost use Rattle.host_books.specs.Indexes.{AreIndexed};
-ghost use Rattle.slow_rounds.specs.Sending.{AreSent, IsSilent};
+ghost use Rattle.sound_hosts.specs.Hosts.{CoreHost};
+ghost use Rattle.sound_hosts.specs.Sound.{IsHostSound};
+ghost use Rattle.slow_rounds.specs.Sending.{AreSent, IsSilent, with_view};
+
+use core_phase::deeds_leave_the_column;
 
 /// Segments that are sent alone, one after the other and in whatever order, until no flow that isn't closed has one
 /// more to send, are a run's emissions of that tick. Each is one call on a flow's record, as [`make_call`] says of one
@@ -19,3 +23,11 @@ pub fn emissions_alone_are_emit_phases()
         → AreSent tick ids v w → Each (IsSilent w.base) s.books
         → IsAlone w × AreIndexed s.books w.base × (host_of s w.base ≡ emit_phase tick (host_of s v.base)) }
 {}
+
+/// A host is sound still after segments were sent so: each leaves its flow opening or running as it was.
+pub fn emissions_alone_keep_it()
+    ensures { (h : CoreHost) (tick : ℕ) (ids : List FlowId) (w : View) → IsHostSound h
+        → AreSent tick ids h.slow.pass.view w → IsHostSound (with_view w h) }
+{
+    deeds_leave_the_column();
+}
