@@ -1,17 +1,17 @@
 -- Flows that the slow path aborts alone: for the law reaped_flows_are_aborted.
-use Rattle.std.proofs.Common.{◌≡◌, ℕ, ◌||◌, cond, Bool, true, false, List, [], ◌∷◌, map, refl, sym, ap, ◌∙◌, subst}
+use Rattle.std.proofs.Common.{◌≡◌, ℕ, ◌||◌, cond, Bool, true, false, List, [], ◌∷◌, map, refl, sym, ap, ◌∙◌}
 use Rattle.std.proofs.Common.{true≢false}
 use Rattle.tas_model.specs.declared.entry.Call.TheVariants as calls
 use Rattle.tas_model.specs.declared.entry.Caller.TheVariants.{Slow}
 use Rattle.tas_model.specs.declared.entry.FlowId.{FlowId}
 use Rattle.flow_state.specs.declared.call.CallIn.TheVariants.{Abort}
-use Rattle.host_rounds.specs.Hosts.{Live, Host, with_call}
+use Rattle.host_rounds.specs.Hosts.{Live, with_call}
 use Rattle.flow_lock.specs.Orders.{known_of, same_flow}
 use Rattle.flow_lock.specs.Steps.{IsAlone, unpinned, noted}
 use Rattle.flow_lock.specs.declared.view.Held.{Held}
 use Rattle.flow_lock.specs.declared.view.History.{History}
 use Rattle.flow_lock.specs.declared.view.View.{View}
-use Rattle.app_reaper.specs.OneCall.{history, history_with}
+use Rattle.app_reaper.specs.OneCall.{history_with}
 use Rattle.app_reaper.specs.Reaping.{IsAborted, AreReaped}
 use Rattle.host_books.specs.Books.{Book, Setting, live_as, live_in, host_of}
 use Rattle.host_books.proofs.Indexing.{is_same_flow}

@@ -3,8 +3,7 @@ use Rattle.std.proofs.Common.{◌≡◌, ℕ, ◌+◌, ◌<◌, ◌≤◌, true,
 use Rattle.std.proofs.Common.{subst, append-nil, append_assoc}
 use Rattle.tas_model.specs.declared.entry.Caller.TheVariants.{Slow}
 use Rattle.tas_model.specs.declared.entry.FlowId.{FlowId}
-use Rattle.host_rounds.specs.Deliveries.{Arrival, delivered, received}
-use Rattle.host_rounds.specs.Hosts.{Host}
+use Rattle.host_rounds.specs.Deliveries.{delivered, received}
 use Rattle.host_rounds.specs.Scripts.{Scripts}
 use Rattle.host_rounds.specs.declared.log.LogLine.{LogLine}
 use Rattle.host_rounds.proofs.Lists.{fold_append}

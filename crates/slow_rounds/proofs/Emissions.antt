@@ -1,14 +1,14 @@
 -- What is sent alone is a run's emissions: for the law emissions_alone_are_emit_phases.
 use Rattle.std.proofs.Common.{◌≡◌, ℕ, zero, suc, Bool, true, false, List, [], ◌∷◌, map, refl, sym, ap, ◌∙◌, subst}
 use Rattle.std.proofs.Common.{inl, inr}
-use Rattle.std.specs.Prelude.{None, Some, ◌⊎◌}
+use Rattle.std.specs.Prelude.{None, ◌⊎◌}
 use Rattle.tas_model.specs.declared.entry.Caller.TheVariants.{Core}
 use Rattle.tas_model.specs.declared.entry.Call.TheVariants as calls
 use Rattle.tas_model.specs.declared.entry.FlowId.{FlowId}
 use Rattle.tas_model.specs.LegalHistory.{Legal}
-use Rattle.tas_model.specs.NextSegment.{Going, going}
+use Rattle.tas_model.specs.NextSegment.{going}
 use Rattle.flow_state.specs.declared.call.CallIn.TheVariants.{Emit}
-use Rattle.host_rounds.specs.Hosts.{Live, Host, with_call, endpoint}
+use Rattle.host_rounds.specs.Hosts.{Live, with_call, endpoint}
 use Rattle.host_rounds.specs.Lists.{Each, change_at}
 use Rattle.host_rounds.specs.SerialOrder.{emit_phase}
 use Rattle.host_rounds.specs.Upkeep.{quieted}
@@ -20,7 +20,7 @@ use Rattle.flow_lock.specs.declared.view.Held.{Held}
 use Rattle.flow_lock.specs.declared.view.History.{History}
 use Rattle.flow_lock.specs.declared.view.View.{View}
 use Rattle.app_reaper.specs.OneCall.{history, history_with}
-use Rattle.flow_clock.specs.Histories.{endpoint_of, is_over}
+use Rattle.flow_clock.specs.Histories.{is_over}
 use Rattle.host_books.specs.Books.{Book, Setting, live_as, live_in, host_of, IsAt}
 use Rattle.host_books.specs.Indexes.{AreIndexed}
 use Rattle.sound_hosts.specs.Leading.{LedOn}

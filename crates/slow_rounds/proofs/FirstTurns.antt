@@ -1,13 +1,12 @@
 -- The first turn of a tick is the slow path's phase: for the law first_turns_are_slow_phases.
 use Rattle.std.proofs.Common.{◌≡◌, ℕ, ◌+◌, ◌≤◌, ◌&&◌, ◌||◌, not, cond, Bool, true, false, List, [], ◌∷◌, ◌++◌, map}
-use Rattle.std.proofs.Common.{refl, sym, ap, ◌∙◌, subst, arith, inl, inr, append-nil, take, drop, true≢false}
+use Rattle.std.proofs.Common.{refl, sym, ap, ◌∙◌, subst, arith, inl, inr, take, drop, true≢false}
 use Rattle.std.proofs.Common.{length, suc}
-use Rattle.std.specs.Prelude.{IsPermutation, ◌⊎◌}
-use Rattle.std.specs.List.{filter, list_any}
+use Rattle.std.specs.Prelude.{IsPermutation}
 use Rattle.std.proofs.lemmas.List.Folds.{list_any-append}
 use Rattle.std.proofs.lemmas.List.Sorted.{list_any-IsPermutation}
 use Rattle.tas_model.specs.declared.entry.FlowId.{FlowId}
-use Rattle.host_rounds.specs.Hosts.{Live, Host}
+use Rattle.host_rounds.specs.Hosts.{Host}
 use Rattle.host_rounds.specs.Lists.{Each}
 use Rattle.host_rounds.specs.SerialOrder.{slow_phase}
 use Rattle.flow_lock.specs.Orders.{known_of, same_flow, total, at_slot}
@@ -16,7 +15,7 @@ use Rattle.flow_lock.specs.declared.view.History.{History}
 use Rattle.flow_lock.proofs.Sums.{total-append}
 use Rattle.app_reaper.specs.OneCall.{history}
 use Rattle.app_reaper.specs.declared.one_call.CallFault.TheVariants.{Busy}
-use Rattle.flow_clock.specs.Histories.{is_over, timed_by}
+use Rattle.flow_clock.specs.Histories.{timed_by}
 use Rattle.flow_clock.specs.Ledgers.{Ledger}
 use Rattle.flow_clock.specs.Walks.{IsServed, AreServed, WasTimed, WasClosed, WasSweptAgain, AreSweptAgain}
 use Rattle.flow_clock.proofs.Keeping.{after_use, after_sweep, after_refusal}
@@ -30,12 +29,11 @@ use Rattle.host_books.specs.Books.{Book, live_as, live_in}
 use Rattle.host_books.specs.Indexes.{IsFindable}
 use Rattle.host_books.proofs.Indexing.{is_same_flow}
 use Rattle.host_books.proofs.Orders.{same_self}
-use Rattle.sound_hosts.specs.Hosts.{CoreHost, known_in, id_of, is_indexed, is_doomed, listener_of, host_of}
+use Rattle.sound_hosts.specs.Hosts.{CoreHost, known_in, is_indexed, is_doomed, listener_of, host_of}
 use Rattle.sound_hosts.specs.Sound.{IsHostSound, IsPlain}
-use Rattle.sound_hosts.proofs.Leaving.{AreApart, apart_of}
+use Rattle.sound_hosts.proofs.Leaving.{apart_of}
 use Rattle.sound_hosts.proofs.OneFlow.{used_leads}
 use Rattle.sound_turns.specs.Passing.{AreSwept, IsPassing, swept_book, with_books}
-use Rattle.sound_turns.specs.Serving.{IsLike}
 use Rattle.sound_turns.proofs.Closing.{closed_at}
 use Rattle.sound_turns.proofs.Closing as closing
 use Rattle.sound_hosts.proofs.Names.{IsSplit, split_at, split_of}

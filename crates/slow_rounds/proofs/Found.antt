@@ -1,12 +1,12 @@
 -- Flows that the slow path's list leads to, and the flows of a run: for the law later_turns_are_rest_phases.
-use Rattle.std.proofs.Common.{◌≡◌, ℕ, zero, suc, ◌==◌, ◌&&◌, ◌||◌, cond, Bool, true, false, List, [], ◌∷◌, map}
-use Rattle.std.proofs.Common.{refl, sym, ap, ◌∙◌, subst, arith, true≢false}
+use Rattle.std.proofs.Common.{◌≡◌, ℕ, zero, suc, ◌||◌, Bool, true, false, List, [], ◌∷◌, map}
+use Rattle.std.proofs.Common.{refl, sym, ap, ◌∙◌, subst, arith}
 use Rattle.std.specs.Prelude.{Option, Some, None}
 use Rattle.std.specs.List.{list_any}
 use Rattle.std.proofs.lemmas.Bool.Decides.{nat_tests}
 use Rattle.tas_model.specs.declared.entry.FlowId.{FlowId}
 use Rattle.tas_model.specs.declared.entry.FourTuple.{FourTuple}
-use Rattle.host_rounds.specs.Hosts.{Live, is_indexed_as}
+use Rattle.host_rounds.specs.Hosts.{is_indexed_as}
 use Rattle.host_rounds.specs.Lists.{Each, change_first, change_at}
 use Rattle.flow_lock.specs.Orders.{same_flow}
 use Rattle.flow_lock.specs.declared.view.Held.{Held}

@@ -1,17 +1,15 @@
 -- A later turn of a tick makes of the host what the frames that waited make of it: for the law
 -- later_turns_are_rest_phases.
-use Rattle.std.proofs.Common.{◌≡◌, ℕ, suc, ◌+◌, ◌<◌, ◌≤◌, Bool, true, false, List, [], ◌∷◌, ◌++◌, map, length, fold}
+use Rattle.std.proofs.Common.{◌≡◌, ℕ, suc, ◌+◌, ◌<◌, ◌≤◌, true, false, List, [], ◌∷◌, ◌++◌, map, length, fold}
 use Rattle.std.proofs.Common.{refl, sym, ap, ◌∙◌, subst, arith, append-nil, append_assoc, length-append}
 use Rattle.std.proofs.lemmas.List.{length-map}
 use Rattle.std.specs.Prelude.{Option, Some, None}
-use Rattle.std.specs.List.{filter}
 use Rattle.segment_fields.specs.declared.segment.Segment.{Segment}
 use Rattle.segment_fields.specs.declared.segment.Refused.{Refused}
 use Rattle.segment_fields.specs.Refusals.{number_of}
 use Rattle.segment_fields.specs.Text.{refusal}
 use Rattle.tas_model.specs.declared.entry.Caller.TheVariants.{Slow}
 use Rattle.tas_model.specs.declared.entry.FlowId.{FlowId}
-use Rattle.tas_model.specs.declared.entry.FrameId.{FrameId}
 use Rattle.tas_model.specs.declared.entry.Phase.{Phase}
 use Rattle.tas_model.specs.declared.entry.Phase.TheVariants as phases
 use Rattle.flow_state.specs.declared.call.CallIn.TheVariants.{Rx}
@@ -20,7 +18,6 @@ use Rattle.host_rounds.specs.declared.log.LogLine.{LogLine}
 use Rattle.host_rounds.specs.declared.log.LogEvent.TheVariants as events
 use Rattle.host_rounds.specs.Deliveries as runs
 use Rattle.host_rounds.specs.Deliveries.{Arrival, Packet, delivered, delivered_packet, arrived}
-use Rattle.host_rounds.specs.Hosts as hosts
 use Rattle.host_rounds.specs.Hosts.{Live, Host, Numbers, changed, is_indexed_as, next_number}
 use Rattle.host_rounds.specs.Scripts.{Scripts}
 use Rattle.host_rounds.proofs.Lists.{map_append}
@@ -30,7 +27,6 @@ use Rattle.flow_lock.specs.declared.view.History.{History}
 use Rattle.flow_lock.specs.declared.view.View.{View}
 use Rattle.slow_handshake.specs.Numbers.{FirstNumbers}
 use Rattle.slow_handshake.specs.Openings.{Openings}
-use Rattle.slow_handshake.specs.declared.openings.Listener.{Listener}
 use Rattle.slow_handshake.specs.declared.openings.SynAnswer.{SynAnswer}
 use Rattle.slow_handshake.specs.declared.openings.SynAnswer.TheVariants as syn
 use Rattle.core_worker.specs.Frames.{tuple_of}
@@ -38,12 +34,11 @@ use Rattle.core_worker.specs.Workers as cores
 use Rattle.core_worker.specs.declared.frames.PassedFrame.{PassedFrame}
 use Rattle.core_phase.specs.Words.{arrival_of, packet_by}
 use Rattle.core_phase.proofs.Wording.{carries}
-use Rattle.slow_worker.specs.Entering.{IsEntered, IsReceived, received, told, phase_of}
-use Rattle.slow_worker.specs.Queues.{AreServed, IsOneServed, IsAllServed, kept_of, Standing}
+use Rattle.slow_worker.specs.Entering.{IsReceived, received, told, phase_of}
+use Rattle.slow_worker.specs.Queues.{AreServed, IsOneServed, Standing}
 use Rattle.slow_worker.specs.Serving.{IsServedBy, IsTaken, IsMet, IsOpenedIn, asked_of}
 use Rattle.slow_worker.specs.Turns.{IsTurn}
 use Rattle.slow_worker.specs.Workers.{Worker, Sight, Setting, sight_of, with_sight, waiting, flow_with, setting_of}
-use Rattle.slow_worker.specs.declared.known.KnownFlow.{KnownFlow}
 use Rattle.slow_worker.specs.declared.served.Served.{Served}
 use Rattle.slow_worker.specs.declared.served.Served.TheVariants as served
 use Rattle.host_books.specs.Books.{Book, live_in, IsAt, IsFirstAt}

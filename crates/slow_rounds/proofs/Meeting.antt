@@ -1,23 +1,20 @@
 -- A segment that comes to no flow, at the slow path and in a run: for the law later_turns_are_rest_phases.
-use Rattle.std.proofs.Common.{◌≡◌, ℕ, suc, ◌+◌, ◌<◌, ◌≤◌, ◌==◌, ◌&&◌, ◌||◌, not, cond, Bool, true, false, List, [], ◌∷◌}
-use Rattle.std.proofs.Common.{◌++◌, map, length, count_by, refl, sym, ap, ◌∙◌, subst, arith, slice_get, filter}
-use Rattle.std.proofs.Common.{if◌then◌else◌, append-nil, true≢false}
+use Rattle.std.proofs.Common.{◌≡◌, ℕ, ◌+◌, ◌<◌, ◌==◌, ◌&&◌, ◌||◌, not, Bool, true, false, List, [], ◌∷◌}
+use Rattle.std.proofs.Common.{length, refl, sym, ap, ◌∙◌, subst, filter}
+use Rattle.std.proofs.Common.{if◌then◌else◌, append-nil}
 use Rattle.std.specs.Prelude.{Option, Some, None, nat_lt, position, min}
-use Rattle.std.specs.List.{list_any}
 use Rattle.std.proofs.lemmas.List.{length-map}
 use Rattle.segment_fields.specs.declared.segment.Segment.{Segment}
 use Rattle.tas_model.specs.declared.entry.Call.TheVariants as calls
 use Rattle.tas_model.specs.declared.entry.Caller.TheVariants.{Slow}
 use Rattle.tas_model.specs.declared.entry.Entry.{Entry}
 use Rattle.tas_model.specs.declared.entry.FlowId.{FlowId}
-use Rattle.tas_model.specs.declared.entry.FourTuple.{FourTuple}
 use Rattle.tas_model.specs.declared.entry.FrameId.{FrameId}
 use Rattle.tas_model.specs.declared.entry.Seg.{Seg}
 use Rattle.tas_model.specs.declared.entry.Reply.{Reply}
 use Rattle.tas_model.specs.declared.entry.Reply.TheVariants as replies
-use Rattle.tas_model.specs.Segments.{is_rst, is_ack, stray_reply}
+use Rattle.tas_model.specs.Segments.{stray_reply}
 use Rattle.flow_state.specs.Calls.{seg_of}
-use Rattle.host_rounds.specs.declared.log.LogLine.{LogLine}
 use Rattle.host_rounds.specs.declared.log.LogEvent.{LogEvent}
 use Rattle.host_rounds.specs.declared.log.LogEvent.TheVariants as events
 use Rattle.host_rounds.specs.Hosts as hosts
@@ -26,15 +23,11 @@ use Rattle.host_rounds.specs.Hosts.{is_in_slot, next_number, opened_in, first_en
 use Rattle.host_rounds.specs.Deliveries as runs
 use Rattle.host_rounds.specs.Deliveries.{opens, met_no_flow, opened_by_syn, answer_in}
 use Rattle.flow_lock.specs.Answers.{next_in, next_of, is_free}
-use Rattle.flow_lock.specs.Orders.{known_of, same_flow}
 use Rattle.flow_lock.specs.Steps.{alone_or, mark_at}
-use Rattle.flow_lock.specs.declared.view.Held.{Held}
 use Rattle.flow_lock.specs.declared.view.History.{History}
-use Rattle.flow_lock.specs.declared.view.Mark.{Mark}
 use Rattle.flow_lock.specs.declared.view.Turn.{Turn}
-use Rattle.slow_handshake.specs.Openings.{Openings, is_taken, has_port, syn_answer, backlog_of, is_at, told}
+use Rattle.slow_handshake.specs.Openings.{is_taken, backlog_of, is_at, told}
 use Rattle.slow_handshake.specs.Strays as strays
-use Rattle.slow_handshake.specs.declared.openings.Listener.{Listener}
 use Rattle.slow_handshake.specs.declared.openings.PassiveFlow.{PassiveFlow}
 use Rattle.slow_handshake.specs.declared.openings.SynAnswer.{SynAnswer}
 use Rattle.slow_handshake.specs.declared.openings.SynAnswer.TheVariants as syn
@@ -44,10 +37,10 @@ use Rattle.slow_worker.specs.Serving.{IsMet, IsOpenedIn, asked_of, is_listening,
 use Rattle.slow_worker.specs.Workers.{Worker, Sight, Setting, with_sight}
 use Rattle.slow_worker.specs.declared.served.Served.{Served}
 use Rattle.slow_worker.specs.declared.served.Served.TheVariants as served
-use Rattle.host_books.specs.Books.{Book, live_as, live_in}
-use Rattle.sound_hosts.specs.Hosts.{CoreHost, host_of, listener_of, is_of_slot, stands_in, waiting_in}
-use Rattle.sound_hosts.specs.Sound.{IsHostSound, IsMarked}
-use Rattle.sound_turns.specs.Serving.{ids_of, books_opened, syn_book}
+use Rattle.host_books.specs.Books.{Book, live_in}
+use Rattle.sound_hosts.specs.Hosts.{CoreHost, host_of, listener_of}
+use Rattle.sound_hosts.specs.Sound.{IsHostSound}
+use Rattle.sound_turns.specs.Serving.{ids_of, books_opened}
 use Rattle.sound_turns.proofs.Lists.{any_map}
 use Rattle.sound_turns.proofs.Serving.{At}
 use Rattle.slow_rounds.specs.Rests.{numbers_by}

@@ -1,7 +1,6 @@
 -- Flows that applications open alone, and sockets that change hands: for the laws opened_flows_are_moves and
 -- holders_are_moves.
 use Rattle.std.proofs.Common.{◌≡◌, ℕ, zero, suc, ◌<◌, cond, List, [], ◌∷◌, map, length, refl, sym, ap, ◌∙◌}
-use Rattle.std.specs.Prelude.{Some}
 use Rattle.std.proofs.lemmas.Bool.Decides.{nat_tests}
 use Rattle.std.proofs.Common.{arith, true, false}
 use Rattle.tas_num.specs.declared.seq.Seq.{Seq}
@@ -13,13 +12,12 @@ use Rattle.host_rounds.specs.Hosts.{Live, Numbers, Holder, Application, next_num
 use Rattle.host_rounds.specs.Lists.{Each, change_at}
 use Rattle.host_rounds.specs.Moves.{Opens, Holds, MayMove, moved}
 use Rattle.flow_lock.specs.Orders.{same_flow}
-use Rattle.flow_lock.specs.Passes.{Seen}
 use Rattle.flow_lock.specs.Steps.{alone_or}
 use Rattle.flow_lock.specs.declared.view.Held.{Held}
 use Rattle.flow_lock.specs.declared.view.History.{History}
 use Rattle.flow_lock.specs.declared.view.Turn.{Turn}
 use Rattle.slow_handshake.specs.Openings.{Openings}
-use Rattle.libtas_sockets.specs.Connecting.{IsOpened, Opener, first_history, opener}
+use Rattle.libtas_sockets.specs.Connecting.{Opener, first_history}
 use Rattle.slow_worker.specs.Workers.{Worker}
 use Rattle.host_books.specs.Books as host_books
 use Rattle.host_books.specs.Books.{Book, Setting, live_in, IsAt}

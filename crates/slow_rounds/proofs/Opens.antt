@@ -1,7 +1,7 @@
 -- A flow that is opened alone, in a run: for the laws later_turns_are_rest_phases and opened_flows_are_moves.
-use Rattle.std.proofs.Common.{◌≡◌, ℕ, ◌+◌, ◌<◌, ◌≤◌, ◌==◌, cond, Bool, true, false, List, [], ◌∷◌, ◌++◌, map}
+use Rattle.std.proofs.Common.{◌≡◌, ℕ, ◌+◌, ◌<◌, ◌≤◌, ◌==◌, cond, true, false, List, [], ◌∷◌, ◌++◌, map}
 use Rattle.std.proofs.Common.{length, count_by}
-use Rattle.std.proofs.Common.{refl, sym, ap, ◌∙◌, subst, arith, slice_get}
+use Rattle.std.proofs.Common.{refl, sym, ap, ◌∙◌, arith, slice_get}
 use Rattle.std.specs.Prelude.{Option, Some, None, nat_lt, position, min}
 use Rattle.std.specs.List.{list_any}
 use Rattle.std.specs.Option.{option_map}
@@ -10,8 +10,7 @@ use Rattle.std.proofs.lemmas.List.Sums.{count_by-le-length}
 use Rattle.std.proofs.lemmas.Bool.Decides.{nat_tests}
 use Rattle.tas_model.specs.declared.entry.Entry.{Entry}
 use Rattle.tas_model.specs.declared.entry.FlowId.{FlowId}
-use Rattle.tas_model.specs.declared.entry.HostParams.{HostParams}
-use Rattle.host_rounds.specs.Hosts.{Live, Host, Holder, lowest_free, free_where, free_from, is_in_slot, most_flows}
+use Rattle.host_rounds.specs.Hosts.{Live, Holder, lowest_free, free_where, free_from, is_in_slot, most_flows}
 use Rattle.host_rounds.specs.Hosts.{opened_in, new_flow, next_generation}
 use Rattle.host_rounds.specs.Lists.{Each}
 use Rattle.host_rounds.proofs.Lists.{map_append}
@@ -21,7 +20,6 @@ use Rattle.flow_lock.specs.Steps.{mark_at}
 use Rattle.flow_lock.specs.declared.view.Held.{Held}
 use Rattle.flow_lock.specs.declared.view.History.{History}
 use Rattle.flow_lock.specs.declared.view.Mark.{Mark}
-use Rattle.slow_handshake.specs.declared.openings.Listener.{Listener}
 use Rattle.slow_worker.specs.Workers.{Worker}
 use Rattle.host_books.specs.Books.{Book, live_as, live_in}
 use Rattle.host_books.proofs.Orders.{others, same_self}

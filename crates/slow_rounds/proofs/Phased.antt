@@ -1,11 +1,10 @@
 -- What the slow path's phase of a tick makes of one flow: for the law first_turns_are_slow_phases.
-use Rattle.std.proofs.Common.{◌≡◌, ℕ, ◌&&◌, ◌||◌, not, cond, Bool, true, false, List, [], refl, sym, ap, ◌∙◌}
+use Rattle.std.proofs.Common.{◌≡◌, ℕ, ◌&&◌, ◌||◌, not, cond, Bool, true, false, refl, sym, ap, ◌∙◌}
 use Rattle.tas_model.specs.declared.entry.Caller.TheVariants.{Slow}
-use Rattle.tas_model.specs.declared.entry.Call.TheVariants as calls
 use Rattle.tas_model.specs.ApplicationCalls.{Column, Opening, Over, Running, column}
 use Rattle.host_rounds.specs.Hosts.{Live, is_held, endpoint, is_running}
 use Rattle.host_rounds.specs.Hosts as hosts
-use Rattle.host_rounds.specs.Upkeep.{swept, timed, timed_unless, controlled, controlled_where, is_control_tick}
+use Rattle.host_rounds.specs.Upkeep.{swept, timed, timed_unless, controlled_where, is_control_tick}
 use Rattle.flow_lock.specs.declared.view.History.{History}
 use Rattle.flow_clock.specs.Histories as shared
 use Rattle.flow_clock.specs.Histories.{is_over, with_tick, timed_by, is_control_due}

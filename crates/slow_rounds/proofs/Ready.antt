@@ -4,12 +4,10 @@ use Rattle.std.proofs.Common.{refl, sym, ap, ◌∙◌, subst, arith, true≢fal
 use Rattle.std.specs.Prelude.{Option, Some, None, position}
 use Rattle.std.specs.List.{find}
 use Rattle.std.specs.Option.{option_map}
-use Rattle.std.proofs.lemmas.Bool.Decides.{nat_tests}
 use Rattle.tas_model.specs.declared.entry.FlowId.{FlowId}
 use Rattle.tas_model.specs.declared.entry.Reason.{Reason}
 use Rattle.tas_model.specs.ApplicationCalls.{column_by}
 use Rattle.host_rounds.specs.Hosts.{Live, is_ready, is_waiting_by}
-use Rattle.host_rounds.specs.Hosts as hosts
 use Rattle.host_rounds.specs.Lists.{Each}
 use Rattle.flow_lock.specs.Orders.{known_of, same_flow}
 use Rattle.flow_lock.specs.declared.view.Held.{Held}

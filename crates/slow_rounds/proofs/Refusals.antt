@@ -1,6 +1,5 @@
 -- Lines of frames that break a rule of reading: for the law collected_lines_are_refusals.
-use Rattle.std.proofs.Common.{◌≡◌, ℕ, Bool, List, ◌++◌, refl, sym, ap, ◌∙◌}
-use Rattle.host_rounds.specs.Hosts.{Host}
+use Rattle.std.proofs.Common.{◌≡◌, ℕ, Bool, List, ◌++◌, sym, ap, ◌∙◌}
 use Rattle.host_rounds.specs.Scripts.{Scripts}
 use Rattle.core_rounds.specs.CoreTicks.{rest_phase}
 use Rattle.core_worker.specs.Workers as cores

@@ -1,6 +1,6 @@
 -- Backlogs and free slots, as the slow path and a run count them: for the law later_turns_are_rest_phases.
-use Rattle.std.proofs.Common.{◌≡◌, ℕ, zero, suc, ◌+◌, ◌==◌, ◌&&◌, not, cond, Bool, true, false, List, [], ◌∷◌, map}
-use Rattle.std.proofs.Common.{length, count_by, refl, sym, ap, ◌∙◌, subst, arith, slice_get, filter}
+use Rattle.std.proofs.Common.{◌≡◌, ℕ, suc, ◌+◌, ◌==◌, ◌&&◌, not, cond, Bool, true, false, List, [], ◌∷◌, map}
+use Rattle.std.proofs.Common.{length, count_by, refl, sym, ap, ◌∙◌, arith, slice_get, filter}
 use Rattle.std.specs.Prelude.{Option, Some, None, position, nat_lt}
 use Rattle.std.specs.List.{list_any, position_or_len}
 use Rattle.std.specs.Option.{option_map}

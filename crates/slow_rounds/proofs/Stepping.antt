@@ -1,22 +1,19 @@
 -- Flows are served one after the other, each once: for the law first_turns_are_slow_phases.
 use Rattle.std.proofs.Common.{◌≡◌, ℕ, ◌+◌, ◌≤◌, ◌==◌, ◌&&◌, ◌||◌, cond, Bool, true, false, List, [], ◌∷◌, ◌++◌, map}
 use Rattle.std.proofs.Common.{refl, sym, ap, ◌∙◌, subst, arith, true≢false}
-use Rattle.std.specs.List.{filter, list_any}
+use Rattle.std.specs.List.{filter}
 use Rattle.std.proofs.lemmas.Bool.Decides.{nat_tests}
 use Rattle.tas_model.specs.declared.entry.Caller.TheVariants.{Slow}
 use Rattle.tas_model.specs.declared.entry.FlowId.{FlowId}
-use Rattle.host_rounds.specs.Hosts.{Live}
 use Rattle.host_rounds.specs.Lists.{Each}
 use Rattle.host_rounds.specs.Upkeep.{swept, timed}
 use Rattle.flow_lock.specs.Orders.{known_of, same_flow, total, at_slot}
 use Rattle.flow_lock.specs.declared.view.Held.{Held}
-use Rattle.flow_lock.specs.declared.view.History.{History}
 use Rattle.host_books.specs.Books.{Book, live_as, live_in}
 use Rattle.host_books.proofs.Indexing.{is_same_flow}
 use Rattle.host_books.proofs.Orders.{same_self}
 use Rattle.sound_hosts.proofs.Leaving.{AreApart}
 use Rattle.sound_hosts.proofs.Sweeping.{middle}
-use Rattle.sound_turns.specs.Passing.{swept_book}
 use Rattle.sound_hosts.proofs.Names.{names}
 use Rattle.slow_rounds.specs.SoFar.{phased, is_in, IsSoFar, AreSoFar, IsStepped, AreStepped}
 

@@ -1,5 +1,5 @@
 -- The frames that wait at the slow path, in the words of a run.
-use Rattle.std.specs.Prelude.{◌≡◌, ℕ, List, length, map}
+use Rattle.std.specs.Prelude.{◌≡◌, List, length, map}
 use Rattle.host_rounds.specs.Deliveries.{Arrival}
 use Rattle.host_rounds.specs.Hosts.{Numbers}
 use Rattle.slow_handshake.specs.Numbers.{FirstNumbers}
