@@ -71,7 +71,7 @@ both tick id ids l apart = by (same_flow id l.flow.id) refl (is_in ids l.flow.id
         ap (λ c. aborted_in ids tick (cond c (aborted tick l) l)) e
         ∙ (λ i. cond (sym e i || is_in ids l.flow.id) (aborted tick l) l)
 
-one_reaped : (tick : ℕ) (ids : List FlowId) (v w : View) → IsAlone v → Once ids → AreReaped tick ids v w
+pub one_reaped : (tick : ℕ) (ids : List FlowId) (v w : View) → IsAlone v → Once ids → AreReaped tick ids v w
     → (b : Book) → live_in w.base b ≡ aborted_in ids tick (live_in v.base b)
 one_reaped tick [] v w alone once same b = ap (λ (x : View). live_in x.base b) same
 one_reaped tick (id ∷ ids) v w alone once (u, was, rest) b =

@@ -14,3 +14,4 @@ pub mod Aborts
 pub mod Openings
 pub mod Ready
 pub mod Sent
+pub mod GivenUp

@@ -9,6 +9,7 @@ mod turns;
 pub use left::left_frames_are_rest_phases;
 pub use moving::{
     holders_are_moves, opened_flows_are_moves, ready_flows_are_first, reaped_flows_are_aborted,
+    reaped_flows_are_given_up,
 };
 pub use sending::{emissions_alone_are_emit_phases, emissions_alone_keep_it};
 pub use turns::{

@@ -1,5 +1,5 @@
 //! What applications do alone, and what is done for one that ended, as moves of the host.
-ghost use Rattle.std.specs.Prelude.{◌≡◌, ◌+◌, ◌<◌, ◌≤◌, ℕ, List, None, Some, length, map, position};
+ghost use Rattle.std.specs.Prelude.{◌≡◌, ◌∷◌, ◌++◌, ◌<◌, ◌≤◌, ℕ, List, None, Some, length, map, position};
 ghost use Rattle.tas_num.specs.declared.seq.Seq.{Seq};
 ghost use Rattle.tas_model.specs.declared.entry.FlowId.{FlowId};
 ghost use Rattle.tas_model.specs.declared.entry.FourTuple.{FourTuple};
@@ -9,7 +9,10 @@ ghost use Rattle.flow_lock.specs.Orders.{total, at_slot};
 ghost use Rattle.flow_lock.specs.Steps.{IsAlone};
 ghost use Rattle.flow_lock.specs.declared.view.Held.{Held};
 ghost use Rattle.flow_lock.specs.declared.view.View.{View};
-ghost use Rattle.app_reaper.specs.Reaping.{AreReaped};
+ghost use Rattle.flow_lock.specs.Passes.{Seen};
+ghost use Rattle.app_reaper.specs.Reaping.{AreReaped, IsAtRest, IsReapedAlone};
+ghost use Rattle.app_reaper.specs.declared.ended.Ended.{Ended};
+ghost use Rattle.libtas_sockets.specs.Apps as libtas;
 ghost use Rattle.slow_handshake.specs.Openings.{first_ready};
 ghost use Rattle.slow_worker.specs.Workers.{Worker};
 ghost use Rattle.host_books.specs.Books as host_books;
@@ -18,7 +21,7 @@ ghost use Rattle.sound_hosts.specs.Hosts.{CoreHost, host_of};
 ghost use Rattle.sound_hosts.specs.Leaving.{reheld};
 ghost use Rattle.sound_hosts.specs.Opening.{new_book, with_book};
 ghost use Rattle.sound_hosts.specs.Sound.{IsHostSound};
-ghost use Rattle.slow_rounds.specs.Aborting.{aborted_in};
+ghost use Rattle.slow_rounds.specs.Aborting.{aborted_in, given_up_by, left_alone};
 ghost use Rattle.slow_rounds.specs.Opening.{IsOpening, reheld_as};
 
 /// A flow that an application opened alone, with what [`App::connect`] says of one that it opened, is one that a run's
@@ -63,4 +66,18 @@ pub fn reaped_flows_are_aborted()
         ≡ record (host_books.host_of s v.base) {
           flows = map (aborted_in ids tick) (host_books.host_of s v.base).flows;
         } }
+{}
+
+/// Where an application of a sound host ended, and what it left was reaped alone, each flow that it had has an Abort by
+/// the slow path more and is nobody's then, and all else stays: with what [`reap_alone`] says, of what [`App::end`]
+/// leaves of an application that holds no record. The flows that wait at its listeners are none of these.
+///
+/// [`reap_alone`]: app_reaper::reap_alone
+/// [`App::end`]: libtas_sockets::App::end
+pub fn reaped_flows_are_given_up()
+    ensures { (h : CoreHost) (front back : List libtas.Application) (a : libtas.Application) (ended : Ended) (tick : ℕ)
+        (n : Seen) → IsHostSound h → h.apps ≡ front ++ a ∷ back → IsAtRest h.table ended
+        → ended.pins.list ≡ a.sockets → ended.held ≡ None → IsReapedAlone tick ended h.slow.pass n
+        → host_of (left_alone a n h)
+        ≡ record (host_of h) { flows = map (given_up_by a.number tick) (host_of h).flows } }
 {}
