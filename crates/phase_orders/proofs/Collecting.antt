@@ -28,8 +28,8 @@ use Rattle.core_phase.specs.declared.lane.Lane.TheVariants as lanes
 use Rattle.lane_orders.proofs.Handing.{by_same, four}
 use Rattle.phase_orders.specs.CoreTurns.{arrivals_of, frame_in, is_broken, broken_in, line_for, lines_of}
 use Rattle.phase_orders.specs.Lanes.{IsCoreAt, AreSetOut, left_in, all_left, LanePhase}
-use Rattle.phase_orders.specs.Collecting.{frames_of, exceptions_of, deferred_of, log_of, IsTold, all_broken, all_passed}
-use Rattle.phase_orders.specs.Collecting.{collected}
+use Rattle.phase_orders.specs.Collecting.{frames_of, exceptions_of, deferred_of, log_of, HasNoLines, all_broken}
+use Rattle.phase_orders.specs.Collecting.{all_passed, collected}
 use Rattle.phase_orders.proofs.CoreTurns.{core_turn, lines_joined}
 
 -- ----- frames
@@ -115,7 +115,7 @@ module _ (check : Bool) where
 
       lanes_lines : {S A : Type 0} (p : ℕ) (os : List (Option (Try S A))) (vs ws : List Lane)
           → AreSetOut check cores t os vs
-          → AreParts order p vs ws → Each IsTold vs → joined log_of ws ≡ lines_of check t (all_broken check vs)
+          → AreParts order p vs ws → Each HasNoLines vs → joined log_of ws ≡ lines_of check t (all_broken check vs)
       lanes_lines p [] [] ws set parts told = ap (joined log_of) parts
       lanes_lines p [] (v ∷ vs) ws set parts told = absurd set
       lanes_lines p (o ∷ os) [] ws set parts told = absurd set
@@ -156,7 +156,7 @@ left_collected scripts check cores t l =
     (parts_left check l.phase.order 0 l.before l.after l.phase.parts)))
 
 pub lines_collected : {S A : Type 0} (scripts : Scripts S A) (check : Bool) (cores t : ℕ)
-    (l : LanePhase scripts check cores t) → Each IsTold l.before
+    (l : LanePhase scripts check cores t) → Each HasNoLines l.before
     → joined log_of l.after ≡ lines_of check t (all_broken check l.before)
 lines_collected scripts check cores t l told =
     lanes_lines check l.phase.order cores t 0 l.asks l.before l.after l.set_out l.phase.parts told

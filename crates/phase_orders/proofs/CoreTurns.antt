@@ -18,7 +18,7 @@ use Rattle.core_worker.specs.declared.frames.Handled.TheVariants as handled
 use Rattle.core_worker.specs.declared.frames.Passed.TheVariants as passed
 use Rattle.core_worker.specs.declared.frames.PassedFrame.{PassedFrame}
 use Rattle.host_books.specs.Books.{Book}
-use Rattle.host_books.specs.Tries.{Word, IsWord, deed_of}
+use Rattle.host_books.specs.Tries.{Word, IsFrameWord, IsSendWord, IsWord, deed_of}
 use Rattle.host_books.specs.Words.{joined}
 use Rattle.core_phase.specs.Deeds.{IsSend, IsPutIn, ArePutIn, gathered, lines_by, IsTurnOf}
 use Rattle.core_phase.specs.Words.{arrival_of, frame_word, send_word}
@@ -155,56 +155,73 @@ joined_both k (z ∷ u) w = ap (λ l. k z ++ l) (joined_both k u w) ∙ sym (app
 
 -- ----- deeds and their words
 module _ (S A : Type 0) (check : Bool) (core t : ℕ) (books : List Book) where
-  -- the words of these deeds, which take these frames
-  record Words (ds : List Deed) (fs : List Frame) : Type 0 where
+  -- the words of these deeds, which take these frames, and of which each is such a word
+  record Words (P : Word S A → Type 0) (ds : List Deed) (fs : List Frame) : Type 0 where
     words : List (Word S A)
     are : map deed_of words ≡ ds
-    each : Each (IsWord t books) words
+    each : Each P words
     frames : joined frame_by words ≡ arrivals_of check fs
     of_core : Each (IsOfCore core) words
 
-  no_words : (ds : List Deed) → ds ≡ [] → Words ds []
-  no_words ds none = record { words = []; are = sym none; each = tt; frames = refl; of_core = tt }
+  no_words : (P : Word S A → Type 0) (ds : List Deed) → ds ≡ [] → Words P ds []
+  no_words P ds none = record { words = []; are = sym none; each = tt; frames = refl; of_core = tt }
 
-  both : (ds es : List Deed) (fs gs : List Frame) → Words ds fs → Words es gs → Words (ds ++ es) (fs ++ gs)
-  both ds es fs gs x y = record {
+  both : (P : Word S A → Type 0) (ds es : List Deed) (fs gs : List Frame) → Words P ds fs → Words P es gs
+      → Words P (ds ++ es) (fs ++ gs)
+  both P ds es fs gs x y = record {
     words = x.words ++ y.words;
     are = map_append deed_of x.words y.words ∙ (λ i. x.are i ++ y.are i);
-    each = each_append (IsWord t books) x.words y.words x.each y.each;
+    each = each_append P x.words y.words x.each y.each;
     frames = joined_both frame_by x.words y.words
         ∙ ((λ i. x.frames i ++ y.frames i) ∙ sym (map_append (arrival_of check) fs gs));
     of_core = each_append (IsOfCore core) x.words y.words x.of_core y.of_core;
   }
 
-  one_rx : (f : Frame) (h : Handled) (ds : List Deed) → IsPutIn check core t f h ds → Words ds (entered_by f h)
+  -- as words of whatever kind
+  as_words : (P : Word S A → Type 0) → ((w : Word S A) → P w → IsWord t books w) → (ds : List Deed) (fs : List Frame)
+      → Words P ds fs → Words (IsWord t books) ds fs
+  as_words P f ds fs x = record {
+    words = x.words;
+    are = x.are;
+    each = all x.words x.each;
+    frames = x.frames;
+    of_core = x.of_core;
+  }
+    where
+      all : (ws : List (Word S A)) → Each P ws → Each (IsWord t books) ws
+      all [] each = tt
+      all (w ∷ ws) each = (f w each.0, all ws each.1)
+
+  one_rx : (f : Frame) (h : Handled) (ds : List Deed) → IsPutIn check core t f h ds
+      → Words (IsFrameWord t) ds (entered_by f h)
   one_rx f (handled.Entered id) ds (d, is, same, rx) = record {
     words = frame_word check core f d ∷ [];
     are = sym is;
-    each = (inl (frame_is {S = S} {A = A} check core t f d rx), tt);
+    each = (frame_is {S = S} {A = A} check core t f d rx, tt);
     frames = refl;
     of_core = ((refl, refl, refl), tt);
   }
-  one_rx f (handled.Refused n) ds p = no_words ds p.0
-  one_rx f (handled.Passed x) ds p = no_words ds p.0
+  one_rx f (handled.Refused n) ds p = no_words (IsFrameWord t) ds p.0
+  one_rx f (handled.Passed x) ds p = no_words (IsFrameWord t) ds p.0
 
   rxs : (fs : List Frame) (hs : List Handled) (ds : List Deed) → ArePutIn check core t fs hs ds
-      → Words ds (gathered entered_by fs hs)
-  rxs [] [] ds are = no_words ds are
+      → Words (IsFrameWord t) ds (gathered entered_by fs hs)
+  rxs [] [] ds are = no_words (IsFrameWord t) ds are
   rxs [] (h ∷ hs) ds are = absurd are
   rxs (f ∷ fs) [] ds are = absurd are
   rxs (f ∷ fs) (h ∷ hs) ds (a, b, is, one, more) =
-      subst (λ l. Words l (entered_by f h ++ gathered entered_by fs hs)) (sym is)
-      (both a b (entered_by f h) (gathered entered_by fs hs) (one_rx f h a one) (rxs fs hs b more))
+      subst (λ l. Words (IsFrameWord t) l (entered_by f h ++ gathered entered_by fs hs)) (sym is)
+      (both (IsFrameWord t) a b (entered_by f h) (gathered entered_by fs hs) (one_rx f h a one) (rxs fs hs b more))
 
   -- the words of what was sent
-  sends : (ds : List Deed) → Each (IsSend core t) ds → Words ds []
-  sends [] each = no_words [] refl
+  sends : (ds : List Deed) → Each (IsSend core t) ds → Words (IsSendWord t books) ds []
+  sends [] each = no_words (IsSendWord t books) [] refl
   sends (d ∷ ds) each =
       let r = sends ds each.1 in
       record {
         words = send_word books core d ∷ r.words;
         are = λ i. d ∷ r.are i;
-        each = (inr (inl (send_is {S = S} {A = A} core t books d each.0)), r.each);
+        each = (send_is {S = S} {A = A} core t books d each.0, r.each);
         frames = r.frames;
         of_core = ((refl, refl, refl), r.of_core);
       }
@@ -212,15 +229,18 @@ module _ (S A : Type 0) (check : Bool) (core t : ℕ) (books : List Book) where
 -- ----- a turn
 pub core_turn : {S A : Type 0} (tick : ℕ) (books : List Book) (v w : Worker) (ds : List Deed) → v.exceptions ≡ []
     → v.deferred ≡ [] → IsTurnOf tick v w ds → (d : Did S A) × IsCoreTurn tick books v w ds d
+unfolding both as_words
 core_turn {S} {A} tick books v w ds no_exceptions no_deferred turn =
     let check = v.check_sums in
     let fs = v.frames in
     let hs = turn.answers in
     let e = gathered entered_by fs hs in
     let r = gathered refused_by fs hs in
-    let x = both S A check v.core tick books turn.entered turn.sent e []
-    (rxs S A check v.core tick books fs hs turn.entered turn.put)
-    (sends S A check v.core tick books turn.sent turn.sends) in
+    let taken = rxs S A check v.core tick books fs hs turn.entered turn.put in
+    let sent = sends S A check v.core tick books turn.sent turn.sends in
+    let x = both S A check v.core tick books (IsWord tick books) turn.entered turn.sent e []
+    (as_words S A check v.core tick books (IsFrameWord tick) (λ w f. inl f) turn.entered e taken)
+    (as_words S A check v.core tick books (IsSendWord tick books) (λ w s. inr (inl s)) turn.sent [] sent) in
     let broken : r ≡ broken_in check fs = refused_are check v.core tick fs hs turn.entered turn.put in
     let excepted : w.exceptions ≡ gathered exceptions_by fs hs =
     turn.left.1 ∙ ap (λ l. l ++ gathered exceptions_by fs hs) no_exceptions in
@@ -235,6 +255,11 @@ core_turn {S} {A} tick books v w ds no_exceptions no_deferred turn =
       record { words = x.words; frames = arrivals_of check fs; left = left_by v w },
       record {
         deeds = x.are ∙ sym turn.all;
+        taken = taken.words;
+        sent = sent.words;
+        words = refl;
+        each_taken = taken.each;
+        each_sent = sent.each;
         of_core = x.of_core;
         frames = refl;
         left = refl;

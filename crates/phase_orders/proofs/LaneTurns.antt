@@ -9,7 +9,7 @@ use Rattle.host_rounds.specs.Scripts.{Scripts}
 use Rattle.flow_lock.specs.declared.view.Deed.{Deed}
 use Rattle.host_books.specs.Books.{Book}
 use Rattle.host_books.specs.Leavings.{Leaving, leavings_in, leaving_on, AreAlike, LeaveAlike}
-use Rattle.host_books.specs.Tries.{Try, Word, MayPrecede, LetsPass, deed_of, reply_on}
+use Rattle.host_books.specs.Tries.{Try, Word, MayPrecede, LetsPass, deed_of}
 use Rattle.host_books.specs.Words.{ArePairs, joined}
 use Rattle.libtas_sockets.specs.Apps.{flow_of}
 use Rattle.core_phase.specs.Attempts.{AreOfTry}
@@ -89,7 +89,7 @@ module _ {S A : Type 0} (scripts : Scripts S A) (check : Bool) (cores t : ℕ) (
     pub frames : did.frames ≡ handed_to v
     pub left : did.left ≡ left_in v w
     pub asked : joined ask_by did.words ≡ asked_in o w
-    pub leave : IsLeavingIn o v w (joined (leavings_in t) did.words)
+    pub leave : IsLeavingIn t o v w (joined (leavings_in t) did.words)
 
   of_core : (o : Option (Try S A)) (v w : CoreLane) (ds : List Deed) → IsCoreAt check cores t v
       → IsTurnOf v.tick v.worker w.worker ds → One o (lanes.Core v) (lanes.Core w) ds
@@ -114,10 +114,10 @@ module _ {S A : Type 0} (scripts : Scripts S A) (check : Bool) (cores t : ℕ) (
 
   -- an application that made no call
   of_none : (o : Option (Try S A)) (v w : AppLane) (ds : List Deed) → ds ≡ [] → asked_by o w.answer ≡ []
-      → IsLeavingIn o (lanes.App v) (lanes.App w) [] → One o (lanes.App v) (lanes.App w) ds
+      → IsLeavingIn t o (lanes.App v) (lanes.App w) [] → One o (lanes.App v) (lanes.App w) ds
   of_none o v w ds none asks leave = subst (One o (lanes.App v) (lanes.App w)) (sym none) (by o asks leave)
     where
-      by : (q : Option (Try S A)) → asked_by q w.answer ≡ [] → IsLeavingIn q (lanes.App v) (lanes.App w) []
+      by : (q : Option (Try S A)) → asked_by q w.answer ≡ [] → IsLeavingIn t q (lanes.App v) (lanes.App w) []
           → One q (lanes.App v) (lanes.App w) []
       by None asks leave = record {
         did = app_did None [];
@@ -152,7 +152,7 @@ module _ {S A : Type 0} (scripts : Scripts S A) (check : Bool) (cores t : ℕ) (
       → IsMadeAs b t x (IsTold v.attempt w.attempt w.answer) ds → One (Some x) (lanes.App v) (lanes.App w) ds
   of_made x v w ds false e none =
       of_none (Some x) v w ds none (ap (λ (b : Bool). cond b (x.ask ∷ []) []) e)
-      (subst (λ (b : Bool). IsLeftIf b x v.attempt w.attempt w.answer []) (sym e) refl)
+      (subst (λ (b : Bool). IsLeftIf b t x v.attempt w.attempt w.answer []) (sym e) refl)
   of_made x v w ds true e (d, is, word, told) =
       subst (One (Some x) (lanes.App v) (lanes.App w)) (sym is)
       (record {
@@ -167,8 +167,9 @@ module _ {S A : Type 0} (scripts : Scripts S A) (check : Bool) (cores t : ℕ) (
         frames = refl;
         left = refl;
         asked = ap (λ (b : Bool). cond b (x.ask ∷ []) []) (sym e);
-        leave = subst (λ (b : Bool). IsLeftIf b x v.attempt w.attempt w.answer (leaving_on t d.before x ∷ [])) (sym e)
-            (reply_on t x d.before, told, refl);
+        leave = subst
+            (λ (b : Bool). IsLeftIf b t x v.attempt w.attempt w.answer (leaving_on t d.before x ∷ [])) (sym e)
+            (d.before, word.adds.legal, told, refl);
       })
 
   of_app : (o : Option (Try S A)) (v w : AppLane) (ds : List Deed) → IsTryBy o v

@@ -171,7 +171,7 @@ module _ {S A : Type 0} (scripts : Scripts S A) (t : ℕ) where
       frames : joined (λ (d : Did S A). d.frames) dids ≡ all_handed vs
       left : joined (λ (d : Did S A). d.left) dids ≡ all_left vs ws
       asked : joined (λ (d : Did S A). joined ask_by d.words) dids ≡ all_asked os ws
-      leave : AreLeavings os vs ws (joined (λ (d : Did S A). joined (leavings_in t) d.words) dids)
+      leave : AreLeavings t os vs ws (joined (λ (d : Did S A). joined (leavings_in t) d.words) dids)
 
     all_lanes : (p : ℕ) (os : List (Option (Try S A))) (vs ws : List Lane) → AreSetOut check cores t os vs
         → AreParts order p vs ws → ((q : ℕ) → p + length vs ≤ q → of q order ≡ []) → All p os vs ws
@@ -273,7 +273,7 @@ module _ {S A : Type 0} (scripts : Scripts S A) (t : ℕ) where
           handed = ap (λ n. handed_below n did) (sym all.long) ∙ (handed_in_list all.dids ∙ all.frames);
           left = ap (λ n. left_below n did) (sym all.long) ∙ (left_in_list all.dids ∙ all.left);
           asked = ap (λ n. asked_below n did) (sym all.long) ∙ (joined_in_list ask_by all.dids ∙ all.asked);
-          leave = subst (AreLeavings l.asks l.before l.after)
+          leave = subst (AreLeavings t l.asks l.before l.after)
               (sym (ap (λ n. leavings_below t n did) (sym all.long) ∙ joined_in_list (leavings_in t) all.dids))
               all.leave;
           alike = alike;

@@ -20,13 +20,13 @@ use Rattle.lane_orders.proofs.Ticks.{tick_of_turns}
 use Rattle.phase_orders.specs.AppTurns.{asked_by, IsLeftBy}
 use Rattle.phase_orders.specs.Lanes.{LanePhase, asked_in, all_asked, IsLeavingIn, AreLeavings, did_at, AreFramesOf}
 use Rattle.phase_orders.specs.Lanes.{IsOfLanes}
-use Rattle.phase_orders.specs.Ticks.{IsIdle, IsSilent, site_at, site_with, IsTickOfLanes}
+use Rattle.phase_orders.specs.Ticks.{HasNoFrames, IsSilent, site_at, site_with, IsTickOfLanes}
 use Rattle.phase_orders.proofs.Handing.{hand_out_of}
 use Rattle.phase_orders.proofs.Phases.{phase_of_turns}
 
 -- ----- where nothing was handed out and nothing was asked
 module _ {S A : Type 0} where
-  idle_at : (vs : List Lane) (ds : List (Did S A)) → Each IsIdle vs → AreFramesOf vs ds → (n : ℕ)
+  idle_at : (vs : List Lane) (ds : List (Did S A)) → Each HasNoFrames vs → AreFramesOf vs ds → (n : ℕ)
       → (did_at ds n).frames ≡ []
   idle_at [] [] idle are n = refl
   idle_at [] (d ∷ ds) idle are n = absurd are
@@ -44,21 +44,21 @@ module _ {S A : Type 0} where
   silent_asked (o ∷ os) (w ∷ ws) each =
       λ i. none_asked o w each.0 i ++ silent_asked os ws each.1 i
 
-  none_left : (o : Option (Try S A)) (v w : Lane) (ls : List (Leaving S)) → IsSilent o → IsLeavingIn o v w ls
-      → ls ≡ []
-  none_left o (lanes.Core v) (lanes.Core w) ls silent it = it
-  none_left o (lanes.Core v) (lanes.App w) ls silent it = it
-  none_left o (lanes.App v) (lanes.Core w) ls silent it = it
-  none_left o (lanes.App v) (lanes.App w) ls silent it =
-      subst (λ (q : Option (Try S A)). IsLeftBy q v.attempt w.attempt w.answer ls) silent it
+  none_left : (t : ℕ) (o : Option (Try S A)) (v w : Lane) (ls : List (Leaving S)) → IsSilent o
+      → IsLeavingIn t o v w ls → ls ≡ []
+  none_left t o (lanes.Core v) (lanes.Core w) ls silent it = it
+  none_left t o (lanes.Core v) (lanes.App w) ls silent it = it
+  none_left t o (lanes.App v) (lanes.Core w) ls silent it = it
+  none_left t o (lanes.App v) (lanes.App w) ls silent it =
+      subst (λ (q : Option (Try S A)). IsLeftBy t q v.attempt w.attempt w.answer ls) silent it
 
-  silent_left : (os : List (Option (Try S A))) (vs ws : List Lane) (ls : List (Leaving S)) → Each IsSilent os
-      → AreLeavings os vs ws ls → ls ≡ []
-  silent_left [] vs ws ls each are = are
-  silent_left (o ∷ os) [] ws ls each are = absurd are
-  silent_left (o ∷ os) (v ∷ vs) [] ls each are = absurd are
-  silent_left (o ∷ os) (v ∷ vs) (w ∷ ws) ls each (a, b, is, one, more) =
-      is ∙ (λ i. none_left o v w a each.0 one i ++ silent_left os vs ws b each.1 more i)
+  silent_left : (t : ℕ) (os : List (Option (Try S A))) (vs ws : List Lane) (ls : List (Leaving S)) → Each IsSilent os
+      → AreLeavings t os vs ws ls → ls ≡ []
+  silent_left t [] vs ws ls each are = are
+  silent_left t (o ∷ os) [] ws ls each are = absurd are
+  silent_left t (o ∷ os) (v ∷ vs) [] ls each are = absurd are
+  silent_left t (o ∷ os) (v ∷ vs) (w ∷ ws) ls each (a, b, is, one, more) =
+      is ∙ (λ i. none_left t o v w a each.0 one i ++ silent_left t os vs ws b each.1 more i)
 
 module _ {S A : Type 0} (scripts : Scripts S A) (check : Bool) (cores t : ℕ) where
   -- ----- hosts and scripts
@@ -86,7 +86,7 @@ module _ {S A : Type 0} (scripts : Scripts S A) (check : Bool) (cores t : ℕ) w
           → IsTickOfTurns scripts cores t due before after
       by (p, of) (q, own) =
           let ls : List (Leaving S) = leavings_below t q.turns q.did in
-          let nothing : ls ≡ [] = silent_left k.second.asks k.second.before k.second.after ls k.silent own.leave in
+          let nothing : ls ≡ [] = silent_left t k.second.asks k.second.before k.second.after ls k.silent own.leave in
           record {
             some = k.some;
             first = p;

@@ -2,9 +2,11 @@
 use Rattle.std.specs.Prelude.{◌≡◌, ℕ, Bool, true, false, not, cond, List, [], ◌∷◌, map, Option, Some, None, is_some}
 use Rattle.std.specs.Prelude.{Result}
 use Rattle.tas_model.specs.declared.entry.Reply.{Reply}
+use Rattle.tas_model.specs.LegalHistory.{Legal}
 use Rattle.flow_lock.specs.declared.view.Deed.{Deed}
-use Rattle.host_books.specs.Leavings.{Leaving, leaving_by}
-use Rattle.host_books.specs.Tries.{Try, Word}
+use Rattle.flow_lock.specs.declared.view.History.{History}
+use Rattle.host_books.specs.Leavings.{Leaving, leaving_on}
+use Rattle.host_books.specs.Tries.{Try, Word, reply_on}
 use Rattle.libtas_sockets.specs.Answers.{fault_in, IsReceived}
 use Rattle.libtas_sockets.specs.declared.received.Received.{Received}
 use Rattle.libtas_sockets.specs.declared.socket_error.SocketError.{SocketError}
@@ -49,18 +51,20 @@ IsTold attempts.Close after answer reply =
 IsTold attempts.Abort after answer reply =
     (result : Result (Unit {0}) SocketError) × (answer ≡ answers.Done result) × tells_done result reply
 
--- What a call leaves of the books and its script that was made, or wasn't, as a list of one, or none.
-abbrev pub IsLeftIf : {S A : Type 0} → (made : Bool) → Try S A → (before after : Attempt) → Answered
+-- What a call leaves of the books and its script that was made, or wasn't, as a list of one, or none: it was made on
+-- some legal history, whose reply the answer is by.
+abbrev pub IsLeftIf : {S A : Type 0} → (made : Bool) → (t : ℕ) → Try S A → (before after : Attempt) → Answered
     → List (Leaving S) → Type 0
-IsLeftIf false x before after answer ls = ls ≡ []
-IsLeftIf true x before after answer ls =
-    (reply : Reply) × IsTold before after answer reply × (ls ≡ leaving_by x reply ∷ [])
+IsLeftIf false t x before after answer ls = ls ≡ []
+IsLeftIf true t x before after answer ls =
+    (h : History) × Legal h.params h.entries × IsTold before after answer (reply_on t x h)
+    × (ls ≡ leaving_on t h x ∷ [])
 
 -- so it is with what a script asks, where it asks something
-abbrev pub IsLeftBy : {S A : Type 0} → Option (Try S A) → (before after : Attempt) → Answered → List (Leaving S)
-    → Type 0
-IsLeftBy None before after answer ls = ls ≡ []
-IsLeftBy (Some x) before after answer ls = IsLeftIf (is_made answer) x before after answer ls
+abbrev pub IsLeftBy : {S A : Type 0} → (t : ℕ) → Option (Try S A) → (before after : Attempt) → Answered
+    → List (Leaving S) → Type 0
+IsLeftBy t None before after answer ls = ls ≡ []
+IsLeftBy t (Some x) before after answer ls = IsLeftIf (is_made answer) t x before after answer ls
 
 -- ----- a turn
 -- the words of these deeds: each is what the script asks

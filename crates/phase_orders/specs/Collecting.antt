@@ -28,8 +28,8 @@ log_of (lanes.Core l) = l.worker.log
 log_of (lanes.App l) = []
 
 -- its lines were collected
-abbrev pub IsTold : Lane → Type 0
-IsTold v = log_of v ≡ []
+abbrev pub HasNoLines : Lane → Type 0
+HasNoLines v = log_of v ≡ []
 
 -- ----- all lanes
 -- of the frames that were handed to them, those whose packets break a rule of reading

@@ -14,7 +14,7 @@ use Rattle.core_worker.specs.Workers.{Worker}
 use Rattle.core_worker.specs.declared.frames.Frame.{Frame}
 use Rattle.core_worker.specs.declared.frames.PassedFrame.{PassedFrame}
 use Rattle.host_books.specs.Books.{Book}
-use Rattle.host_books.specs.Tries.{Word, deed_of}
+use Rattle.host_books.specs.Tries.{Word, IsFrameWord, IsSendWord, deed_of}
 use Rattle.host_books.specs.Words.{joined}
 use Rattle.core_phase.specs.Words.{arrival_of}
 use Rattle.lane_orders.specs.Turns.{Did, IsDone, ask_by}
@@ -57,11 +57,17 @@ lines_of check tick fs = joined (λ (f : Frame). line_for tick f.id (refusal che
 abbrev pub IsOfCore : {S A : Type 0} → (core : ℕ) → Word S A → Type 0
 IsOfCore core w = (w.told.by ≡ Core core) × (ask_by w ≡ []) × (w.tries ≡ [])
 
--- The turn's words are those of its deeds, and the core's. Its frames are those that were handed to it, each taken or
--- left once. Lines of those that break a rule of reading stand in the worker's log.
+-- The turn's words are those of its deeds, and the core's: the frames that it took, and then the segments that it sent.
+-- Its frames are those that were handed to it, each taken or left once. Lines of those that break a rule of reading
+-- stand in the worker's log.
 pub record IsCoreTurn {S A : Type 0} (tick : ℕ) (books : List Book) (v w : Worker) (ds : List Deed) (d : Did S A)
     : Type 0 where
   pub deeds : map deed_of d.words ≡ ds
+  pub taken : List (Word S A)
+  pub sent : List (Word S A)
+  pub words : d.words ≡ taken ++ sent
+  pub each_taken : Each (IsFrameWord tick) taken
+  pub each_sent : Each (IsSendWord tick books) sent
   pub of_core : Each (IsOfCore v.core) d.words
   pub frames : d.frames ≡ arrivals_of v.check_sums v.frames
   pub left : d.left ≡ left_by v w

@@ -108,9 +108,9 @@ asked_in o (lanes.Core l) = []
 asked_in o (lanes.App l) = asked_by o l.answer
 
 -- what that leaves of the books and the scripts
-abbrev pub IsLeavingIn : {S A : Type 0} → Option (Try S A) → Lane → Lane → List (Leaving S) → Type 0
-IsLeavingIn o (lanes.App v) (lanes.App w) ls = IsLeftBy o v.attempt w.attempt w.answer ls
-IsLeavingIn o v w ls = ls ≡ []
+abbrev pub IsLeavingIn : {S A : Type 0} → (t : ℕ) → Option (Try S A) → Lane → Lane → List (Leaving S) → Type 0
+IsLeavingIn t o (lanes.App v) (lanes.App w) ls = IsLeftBy t o v.attempt w.attempt w.answer ls
+IsLeavingIn t o v w ls = ls ≡ []
 
 -- those of all lanes, one lane after the other
 abbrev pub all_handed : List Lane → List Arrival
@@ -127,12 +127,13 @@ all_asked [] ws = []
 all_asked (o ∷ os) [] = []
 all_asked (o ∷ os) (w ∷ ws) = asked_in o w ++ all_asked os ws
 
-abbrev pub AreLeavings : {S A : Type 0} → List (Option (Try S A)) → List Lane → List Lane → List (Leaving S) → Type 0
-AreLeavings [] vs ws ls = ls ≡ []
-AreLeavings (o ∷ os) [] ws ls = ⊥
-AreLeavings (o ∷ os) (v ∷ vs) [] ls = ⊥
-AreLeavings {S} (o ∷ os) (v ∷ vs) (w ∷ ws) ls =
-    (a b : List (Leaving S)) × (ls ≡ a ++ b) × IsLeavingIn o v w a × AreLeavings os vs ws b
+abbrev pub AreLeavings : {S A : Type 0} → (t : ℕ) → List (Option (Try S A)) → List Lane → List Lane
+    → List (Leaving S) → Type 0
+AreLeavings t [] vs ws ls = ls ≡ []
+AreLeavings t (o ∷ os) [] ws ls = ⊥
+AreLeavings t (o ∷ os) (v ∷ vs) [] ls = ⊥
+AreLeavings {S} t (o ∷ os) (v ∷ vs) (w ∷ ws) ls =
+    (a b : List (Leaving S)) × (ls ≡ a ++ b) × IsLeavingIn t o v w a × AreLeavings t os vs ws b
 
 -- its turn, in the words of a run
 abbrev pub IsLaneTurn : {S A : Type 0} → (t : ℕ) → List Book → Option (Try S A) → Lane → Lane → List Deed → Did S A
@@ -183,5 +184,5 @@ pub record IsOfLanes {S A : Type 0} {scripts : Scripts S A} {check : Bool} {core
   pub handed : handed_below p.turns p.did ≡ all_handed l.before
   pub left : left_below p.turns p.did ≡ all_left l.before l.after
   pub asked : asked_below p.turns p.did ≡ all_asked l.asks l.after
-  pub leave : AreLeavings l.asks l.before l.after (leavings_below t p.turns p.did)
+  pub leave : AreLeavings t l.asks l.before l.after (leavings_below t p.turns p.did)
   pub alike : AreAllPairs (LeaveAlike t) (words_in p.did)

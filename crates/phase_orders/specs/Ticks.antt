@@ -29,23 +29,26 @@ abbrev pub site_with : {S A : Type 0} → {scripts : Scripts S A} → {check : B
 site_with l ls =
     site_of (record (l.setting) { books = books_after ls l.setting.books }) l.next.base (scripts_after ls l.state)
 
--- no frame is handed to the lane, and its script asks nothing
-abbrev pub IsIdle : Lane → Type 0
-IsIdle v = handed_to v ≡ []
+-- no frame is handed to the lane
+abbrev pub HasNoFrames : Lane → Type 0
+HasNoFrames v = handed_to v ≡ []
 
+-- no script asks anything of it
 abbrev pub IsSilent : {S A : Type 0} → Option (Try S A) → Type 0
 IsSilent o = o ≡ None
 
 -- The frames and asks that are due in a tick, and what is done with them. Who plays the tick shows of each part:
 -- * `slow`: the slow path's first turn of the tick, whose time passes once for each flow (`IsTimePassed` of
 --   `slow_worker`), each of its calls a move of the host (`calls_alone_are_moves` of `host_books`);
--- * `first`, `second`: what `play_phase` or `play_phases` of `core_phase` ensures;
+-- * `first`, `second`: what `play_phase` or `play_phases` of `core_phase` ensures, on lanes that were set out with what
+--   the scripts ask of the host as it is before;
 -- * `handed`: what `hand_out` of `frame_steering` ensures, and that each core's worker was handed those of its core;
 -- * `left`: the slow path takes, in whatever order, the frames whose packets break a rule of reading, which are a
 --   line each, and those that the cores passed on, as it has collected them (`left_frames_are_collected`);
 -- * `tried`: that the scripts of this tick are asked in their order, one ask of each beside the others at most;
 -- * `alone`: the slow path's later turns, and the calls of applications, one after the other, each a move of the host;
---   the books and scripts before them are what the asks that were made leave, by any reply that their answers tell;
+--   the books and scripts before them are what the asks that were made leave, each by the reply of some legal history
+--   that its answer is by;
 -- * `idle`, `silent`: the cores were handed nothing for the second phase, and no application tries anything in it;
 -- * `made`: the segments that the slow path sends alone.
 pub record IsTickOfLanes {S A : Type 0} (scripts : Scripts S A) (check : Bool) (cores t : ℕ) (due : Due A)
@@ -65,8 +68,8 @@ pub record IsTickOfLanes {S A : Type 0} (scripts : Scripts S A) (check : Bool) (
   pub later : List A
   pub tried : AreTried scripts due.asks (all_asked first.asks first.after) later
   pub second : LanePhase scripts check cores t
-  pub alone : (ls : List (Leaving S)) → AreLeavings first.asks first.before first.after ls
+  pub alone : (ls : List (Leaving S)) → AreLeavings t first.asks first.before first.after ls
       → alone_phase scripts t (site_with first ls) rest later ≡ site_at second
-  pub idle : Each IsIdle second.before
+  pub idle : Each HasNoFrames second.before
   pub silent : Each IsSilent second.asks
   pub made : on_host (emit_phase t) (site_with second []) ≡ after

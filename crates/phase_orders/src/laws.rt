@@ -17,7 +17,7 @@ ghost use Rattle.core_phase.specs.Deeds.{IsTurnOf};
 ghost use Rattle.lane_orders.specs.Turns.{Did};
 ghost use Rattle.lane_orders.specs.Ticks.{Phase, IsHandOut};
 ghost use Rattle.phase_orders.specs.CoreTurns.{IsCoreTurn, arrivals_of, broken_in, lines_of};
-ghost use Rattle.phase_orders.specs.Collecting.{log_of, IsTold, all_broken, collected};
+ghost use Rattle.phase_orders.specs.Collecting.{log_of, HasNoLines, all_broken, collected};
 ghost use Rattle.phase_orders.specs.Lanes.{LanePhase, IsOfLanes, all_left};
 ghost use Rattle.phase_orders.specs.Handing.{AreHandedOver};
 ghost use Rattle.phase_orders.specs.Ticks.{IsTickOfLanes};
@@ -52,7 +52,7 @@ pub fn left_frames_are_collected<S, A>()
     ensures frames { (scripts : Scripts S A) (check : Bool) (cores t : ℕ) (l : LanePhase scripts check cores t)
         → IsPermutation (all_left l.before l.after) (collected check l.before l.after) }
     ensures lines { (scripts : Scripts S A) (check : Bool) (cores t : ℕ) (l : LanePhase scripts check cores t)
-        → Each IsTold l.before → joined log_of l.after ≡ lines_of check t (all_broken check l.before) }
+        → Each HasNoLines l.before → joined log_of l.after ≡ lines_of check t (all_broken check l.before) }
 {}
 
 /// Frames whose packets break a rule of reading are, where the slow path takes them, their lines of the log.

@@ -1,8 +1,8 @@
 -- Passes with a turn each, and what they are once the turns are back.
-use Rattle.std.proofs.Common.{◌≡◌, ℕ, zero, suc, ◌+◌, ◌==◌, cond, true, false, List, [], ◌∷◌, ◌++◌, map, arith}
+use Rattle.std.proofs.Common.{◌≡◌, ℕ, zero, suc, ◌+◌, ◌==◌, cond, true, List, [], ◌∷◌, ◌++◌, map, arith}
 use Rattle.std.proofs.Common.{tests}
 use Rattle.std.proofs.Common.{ap, sym, ◌∙◌, refl, subst}
-use Rattle.std.specs.Prelude.{Result, Ok, Err, IfOk, IfNone, None, Some, Bool, slice_get}
+use Rattle.std.specs.Prelude.{Result, Ok, Err, IfOk, IfNone, Some, Bool, slice_get}
 use Rattle.std.specs.List.{list_any, find, filter}
 use Rattle.std.proofs.lemmas.Bool.Decides.{nat_tests}
 use Rattle.std.proofs.lemmas.List.{map-append}
@@ -24,9 +24,8 @@ use Rattle.app_reaper.specs.Lists.{is_on}
 use Rattle.app_reaper.specs.OneCall.{IsUse, IsCallRefused, history}
 use Rattle.app_reaper.specs.declared.one_call.CallFault.{CallFault}
 use Rattle.app_reaper.specs.declared.one_call.CallFault.TheVariants.{Busy, OutOfMemory}
-use Rattle.flow_lock.specs.Answers.{IsTaken}
 use Rattle.app_reaper.proofs.Walking.{use_keeps, alone_still}
-use Rattle.libtas_sockets.specs.Apps.{Application, IsSocket, with_view}
+use Rattle.libtas_sockets.specs.Apps.{Application, with_view}
 use Rattle.libtas_sockets.specs.Connecting.{Opener, IsConnection, first_history, next_tuple}
 use Rattle.libtas_sockets.specs.declared.socket.Socket.{Socket}
 use Rattle.libtas_sockets.specs.declared.socket_error.SocketError.{SocketError}
@@ -173,15 +172,6 @@ pub rested_refused : (t : TableId) (id : FlowId) (e : CallFault) (s n : Seen) �
     → IsCallRefused id s.view n.view e → n.table ≡ s.table → IsRested t id n
 rested_refused t id (Busy x) s n h r same = absurd (r.1 h.alone)
 rested_refused t id OutOfMemory s n h r same = rested_use t id r.0 (history r.0) s n h r.2 same
-
--- the record was taken
-pub alone_taken : (id : FlowId) (h : History) (v w : View) → IsAlone v → IsTaken id h v w → IsAlone w
-alone_taken id h v w alone took =
-    let e = took.3 in (
-      ap (λ (x : View). x.baton) e ∙ alone.0,
-      ap (λ (x : View). x.turns) e ∙ alone.1,
-      ap (λ (x : View). x.made) e ∙ alone.2,
-    )
 
 -- a pass that was split off alone, and whose turn came back
 pub off : (t : TableId) (v : View) (s n : Seen) → s.table ≡ t → s.view ≡ right v

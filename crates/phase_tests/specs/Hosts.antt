@@ -1,10 +1,12 @@
 -- A host of one core and one application.
-use Rattle.std.specs.Prelude.{◌≡◌, ◌<◌, Some, slice_get, All, ⊤, List}
+use Rattle.std.specs.Prelude.{◌≡◌, ◌<◌, Some, slice_get, ⊤, List}
 use Rattle.std.specs.Arc.{arc_value}
 use Rattle.context_queue.specs.Notes.{Place, Receiver}
+use Rattle.flow_lock.specs.Passes.{Seen}
 use Rattle.flow_lock.specs.Steps.{IsAlone}
 use Rattle.libtas_sockets.specs.Apps.{IsSocket}
 use Rattle.core_worker.specs.Workers.{Common}
+use Rattle.host_rounds.specs.Lists.{Each}
 use Rattle.core_phase.specs.Lanes as phase
 use Rattle.core_phase.specs.declared.attempt.Attempt.{Attempt}
 use Rattle.core_phase.specs.declared.attempt.Attempt.TheVariants as attempts
@@ -52,38 +54,48 @@ IsCoreOf c l = phase.IsIdle c (lanes.Core l)
 abbrev pub IsAppOf : Common → AppLane → Type 0
 IsAppOf c l = phase.IsIdle c (lanes.App l) × IsTalking (lanes.App l)
 
+-- a lane of this host is idle, and tries what it may
+abbrev pub IsReadyLane : Common → Lane → Type 0
+IsReadyLane c l = phase.IsIdle c l × IsTalking l
+
+-- or it has its socket, whatever it tried
+abbrev pub IsBetween : Common → Lane → Type 0
+IsBetween c l = phase.IsIdle c l × HasSocket l
+
+-- all lanes are so
+pub record AreReady (c : Common) (ls : List Lane) : Type 0 where
+  pub each : Each (IsReadyLane c) ls
+
+pub record AreBetween (c : Common) (ls : List Lane) : Type 0 where
+  pub each : Each (IsBetween c) ls
+
 -- ----- the host
 -- its lanes may play
 pub record MayPlay (h : Host) : Type 0 where
   pub table : h.slow.table ≡ (arc_value h.shared).table
   pub alone : IsAlone h.slow.view
-  pub idle : All (phase.IsIdle (arc_value h.shared)) h.lanes.items
-  pub talk : All IsTalking h.lanes.items
+  pub lanes : AreReady (arc_value h.shared) h.lanes.items
 
 -- and the slow path holds nothing
 pub record IsReadyHost (h : Host) : Type 0 where
   pub rested : IsRested (arc_value h.shared).table h.pin h.slow
   pub slot : h.pin.slot < (arc_value h.shared).table.slots
-  pub idle : All (phase.IsIdle (arc_value h.shared)) h.lanes.items
-  pub talk : All IsTalking h.lanes.items
+  pub lanes : AreReady (arc_value h.shared) h.lanes.items
 
--- Its lanes played: they are idle again, and the application has its socket still. The slow path has what it had.
+-- the slow path has what it had, but for what it knows of histories and words
+pub record IsPlayedBy (s n : Seen) : Type 0 where
+  pub table : n.table ≡ s.table
+  pub view : n.view ≡ record (s.view) { base = n.view.base; words = n.view.words }
+
+-- its lanes played: they are idle again, and the application has its socket still
 pub record HasPlayed (h n : Host) : Type 0 where
   pub shared : n.shared ≡ h.shared
   pub pin : n.pin ≡ h.pin
-  pub table : n.slow.table ≡ h.slow.table
-  pub view : n.slow.view ≡ record (h.slow.view) { base = n.slow.view.base; words = n.slow.view.words }
-  pub idle : All (phase.IsIdle (arc_value n.shared)) n.lanes.items
-  pub sockets : All HasSocket n.lanes.items
+  pub slow : IsPlayedBy h.slow n.slow
+  pub lanes : AreBetween (arc_value n.shared) n.lanes.items
 
 -- nothing is tried, and the slow path holds nothing
 pub record IsPlayedHost (h : Host) : Type 0 where
   pub rested : IsRested (arc_value h.shared).table h.pin h.slow
   pub slot : h.pin.slot < (arc_value h.shared).table.slots
-  pub idle : All (phase.IsIdle (arc_value h.shared)) h.lanes.items
-  pub sockets : All HasSocket h.lanes.items
-
--- so it is with these lanes of what it shares
-pub record AreBetween (c : Common) (ls : List Lane) : Type 0 where
-  pub idle : All (phase.IsIdle c) ls
-  pub sockets : All HasSocket ls
+  pub lanes : AreBetween (arc_value h.shared) h.lanes.items

@@ -1,7 +1,8 @@
 //! A phase while the slow path holds the record, and one more once it has given it back.
-ghost use Rattle.std.specs.Prelude.{⊤, ◌≡◌, ◌<◌, All, IfSome, IsTrue, length};
-ghost use Rattle.core_phase.specs.Lanes.{IsIdle};
-ghost use Rattle.phase_tests.specs.Hosts.{AreBetween, HasSocket, IsCoreOf, IsPlayedHost, IsReadyHost, IsTalking};
+ghost use Rattle.std.specs.Prelude.{⊤, ◌≡◌, ◌<◌, IfSome, IsTrue, length};
+ghost use Rattle.host_rounds.specs.Lists.{Each};
+ghost use Rattle.phase_tests.specs.Hosts.{AreBetween, AreReady, IsBetween, IsCoreOf, IsPlayedHost, IsReadyHost};
+ghost use Rattle.phase_tests.specs.Hosts.{IsReadyLane};
 
 use crate::host::{WORD, built};
 use crate::hosts::Host;
@@ -102,7 +103,9 @@ fn held<R: Wait, G: Gate>(
     ensures played { IfSome result (λ _. IsPlayedHost host.new) }
     ensures crew { crew.new ≡ crew.old }
 {
-    let flow = host.shared.table.slow_take(&mut host.slow, &host.pin).ok()?;
+    let Ok(flow) = host.shared.table.slow_take(&mut host.slow, &host.pin) else {
+        return None;
+    };
     let before = flow.entries();
     let seen = played(rt, gate, crew, host)?;
     let after = flow.entries();
@@ -123,28 +126,32 @@ fn try_again(alloc: Global, host: &mut Host) -> bool
     requires { IsPlayedHost host.old }
     ensures { IsTrue result → IsReadyHost host.new }
 {
-    are_tried_again(alloc, &*host.shared, host.lanes.as_mut_slice())
+    have_all(alloc, &*host.shared, &mut host.lanes)
 }
 
+fn have_all(alloc: Global, common: &Shared, lanes: &mut Vec<Lane>) -> bool
+    requires { AreBetween common.now lanes.old.items }
+    ensures { IsTrue result → AreReady common.now lanes.new.items }
+{
+    are_tried_again(alloc, common, lanes.as_mut_slice())
+}
+
+/// What all these lanes try again. Whether there was memory.
 fn are_tried_again(alloc: Global, common: &Shared, lanes: &mut [Lane]) -> bool
-    requires { AreBetween common.now lanes.old }
-    ensures idle { All (IsIdle common.now) lanes.new }
-    ensures talk { IsTrue result → All IsTalking lanes.new }
+    requires { Each (IsBetween common.now) lanes.old }
+    ensures ready { IsTrue result → Each (IsReadyLane common.now) lanes.new }
     ensures len { length lanes.new ≡ length lanes.old }
 {
-    for i in 0..lanes.len() {
-        if !is_tried_again(alloc, common, &mut lanes[i]) {
-            return false;
-        }
-    }
-    true
+    let Some((lane, rest)) = lanes.split_first_mut() else {
+        return true;
+    };
+    is_tried_again(alloc, common, lane) && are_tried_again(alloc, common, rest)
 }
 
 /// What the lane tries again. Whether there was memory.
 fn is_tried_again(alloc: Global, common: &Shared, lane: &mut Lane) -> bool
-    requires { IsIdle common.now lane.old × HasSocket lane.old }
-    ensures idle { IsIdle common.now lane.new }
-    ensures talk { IsTrue result → IsTalking lane.new }
+    requires { IsBetween common.now lane.old }
+    ensures { IsTrue result → IsReadyLane common.now lane.new }
 {
     match lane {
         Lane::Core(core) => is_handed_again(common, core),

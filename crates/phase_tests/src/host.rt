@@ -2,7 +2,7 @@
 ghost use Rattle.std.specs.Prelude.{◌≡◌, ◌<◌, ◌∷◌, [], IfOk, IfSome};
 ghost use Rattle.std.specs.Arc.{arc_value};
 ghost use Rattle.core_phase.specs.Lanes.{IsIdle};
-ghost use Rattle.phase_tests.specs.Hosts.{IsStarted, IsQueueOf, IsCoreOf, IsAppOf, IsReadyHost};
+ghost use Rattle.phase_tests.specs.Hosts.{AreReady, IsStarted, IsQueueOf, IsCoreOf, IsAppOf, IsReadyHost};
 ghost use Rattle.phase_tests.specs.Resting.{IsOff, IsSettled};
 
 use crate::hosts::{Host, Start};
@@ -45,18 +45,19 @@ fn common(
     Ok((shared, kicks))
 }
 
-/// The core's lane, to which a frame with the peer's words was handed.
+/// The core's lane, to which a frame with the peer's words was handed. `None` where memory is wanting.
 fn core_lane(
     alloc: Global,
-    shared: Arc<Shared, Global>,
+    shared: &Arc<Shared, Global>,
     pass: Pass<FlowRecord>,
     reader: IndexReader,
     kicks: ReceiverPass,
 ) -> Option<CoreLane>
-    requires pass { IsOff (arc_value shared).table pass }
-    requires queue { IsQueueOf (arc_value shared) kicks }
-    ensures { IfSome result (λ l. IsCoreOf (arc_value shared) l) }
+    requires pass { IsOff (arc_value shared.now).table pass }
+    requires queue { IsQueueOf (arc_value shared.now) kicks }
+    ensures { IfSome result (λ l. IsCoreOf (arc_value shared.now) l) }
 {
+    let shared = Arc::try_clone(shared).ok()?;
     let mut worker = CoreWorker::new(alloc, PLACE, 0, pass, reader, kicks);
     worker.hand(frame(2), hello(alloc)?).ok()?;
     Some(CoreLane {
@@ -67,25 +68,38 @@ fn core_lane(
     })
 }
 
-/// The application's lane, which tries to write a word.
+/// The application's lane, which tries to write a word. `None` where memory is wanting.
 fn app_lane(
     alloc: Global,
-    shared: Arc<Shared, Global>,
+    shared: &Arc<Shared, Global>,
     app: App,
     socket: Socket,
-) -> Result<AppLane, AllocError>
-    requires { IsSettled (arc_value shared).table socket app }
-    ensures { IfOk result (λ l. IsAppOf (arc_value shared) l) }
+) -> Option<AppLane>
+    requires { IsSettled (arc_value shared.now).table socket app }
+    ensures { IfSome result (λ l. IsAppOf (arc_value shared.now) l) }
 {
-    Ok(AppLane {
-        shared,
+    Some(AppLane {
+        shared: Arc::try_clone(shared).ok()?,
         app,
         host: PLACE,
         tick: TICK,
         socket,
-        attempt: Attempt::Send(Vec::from_array(alloc, *WORD)?),
+        attempt: Attempt::Send(Vec::from_array(alloc, *WORD).ok()?),
         answer: Answered::Nothing,
     })
+}
+
+/// The lanes of both. `None` where memory is wanting.
+fn lanes_of(
+    alloc: Global,
+    shared: &Arc<Shared, Global>,
+    app: AppLane,
+    core: CoreLane,
+) -> Option<Vec<Lane>>
+    requires { IsAppOf (arc_value shared.now) app × IsCoreOf (arc_value shared.now) core }
+    ensures { IfSome result (λ lanes. AreReady (arc_value shared.now) lanes.items) }
+{
+    Vec::from_array(alloc, [Lane::App(app), Lane::Core(core)]).ok()
 }
 
 /// Has readers find the flow. Whether there was memory for it.
@@ -124,14 +138,18 @@ fn assembled(alloc: Global, start: Start, reader: IndexReader) -> Option<Host>
         app,
         socket,
     } = start;
-    let (shared, kicks) = common(alloc, table).ok()?;
-    let theirs = Arc::try_clone(&shared).ok()?;
-    let others = Arc::try_clone(&shared).ok()?;
-    let core = core_lane(alloc, theirs, core, reader, kicks)?;
-    let app = app_lane(alloc, others, app, socket).ok()?;
-    let mut lanes = Vec::with_capacity(alloc, 2).ok()?;
-    lanes.push_reserved(Lane::App(app));
-    lanes.push_reserved(Lane::Core(core));
+    let Ok((shared, kicks)) = common(alloc, table) else {
+        return None;
+    };
+    let Some(core) = core_lane(alloc, &shared, core, reader, kicks) else {
+        return None;
+    };
+    let Some(app) = app_lane(alloc, &shared, app, socket) else {
+        return None;
+    };
+    let Some(lanes) = lanes_of(alloc, &shared, app, core) else {
+        return None;
+    };
     Some(Host {
         shared,
         slow,

@@ -1,5 +1,5 @@
 //! The segments of the peer.
-ghost use Rattle.std.specs.Prelude.{◌≤◌, length};
+ghost use Rattle.std.specs.Prelude.{◌≡◌, length};
 
 use segment_fields::{Flags, Segment, write};
 use std::alloc::Global;
@@ -36,7 +36,9 @@ pub fn frame(number: u64) -> FrameId {
 }
 
 /// A segment with these flags at this place of the peer's sequence numbers, counted from its SYN.
-pub fn segment(place: u32, flags: Flags, payload: &[u8]) -> Segment<'_> {
+pub fn segment(place: u32, flags: Flags, payload: &[u8]) -> Segment<'_>
+    ensures { length result.payload.now ≡ length payload.now }
+{
     Segment {
         src: PEER,
         dst: HOST,

@@ -1,12 +1,16 @@
 //! Phases of a core and an application, on crews of several sizes.
 ghost use Rattle.std.specs.Prelude.{⊤, ◌≡◌, ◌<◌, IfSome};
-ghost use Rattle.phase_tests.specs.Hosts.{HasPlayed, IsReadyHost, MayPlay};
+ghost use Rattle.flow_lock.specs.Steps.{IsAlone};
+ghost use Rattle.phase_tests.specs.Hosts.{AreBetween, AreReady, HasPlayed, IsPlayedBy, MayPlay};
 
 use crate::host::{WORD, built};
 use crate::hosts::Host;
 use core_phase::{Answered, Lane, play_phase, with_lanes};
+use core_worker::Shared;
 use crew::{Crew, Run};
 use flow_index::IndexWriter;
+use flow_lock::SlowPass;
+use flow_state::FlowRecord;
 use libtas_sockets::SocketError;
 use std::alloc::Global;
 use std::process::Abort;
@@ -80,16 +84,37 @@ pub fn played<R: Wait, G: Gate>(
     ensures played { IfSome result (λ _. HasPlayed host.old host.new) }
     ensures crew { crew.new ≡ crew.old }
 {
-    play_phase(
+    let Some(()) = play(
         rt,
         gate,
         crew,
         &*host.shared,
         &mut host.slow,
         &mut host.lanes,
-    )
-    .ok()?;
+    ) else {
+        return None;
+    };
     Some(seen_of(host.lanes.as_slice()))
+}
+
+fn play<R: Wait, G: Gate>(
+    rt: &R,
+    gate: &G,
+    crew: &mut Crew<Lane>,
+    shared: &Shared,
+    slow: &mut SlowPass<FlowRecord>,
+    lanes: &mut Vec<Lane>,
+) -> Option<()>
+    requires slow { (slow.old.table ≡ shared.now.table) × IsAlone slow.old.view }
+    requires lanes { AreReady shared.now lanes.old.items }
+    ensures lanes { IfSome result (λ _. AreBetween shared.now lanes.new.items) }
+    ensures slow { IfSome result (λ _. IsPlayedBy slow.old slow.new) }
+    ensures crew { crew.new ≡ crew.old }
+{
+    let Ok(()) = play_phase(rt, gate, crew, shared, slow, lanes) else {
+        return None;
+    };
+    Some(())
 }
 
 fn seen_of(lanes: &[Lane]) -> Seen {

@@ -94,7 +94,9 @@ fn connected(
 {
     let mut path = SlowPath::new(alloc, PARAMS).ok()?;
     let mut pins = PinList::new(alloc);
-    let s = connect(table, &mut path, slow, &mut pins, app).ok()?;
+    let Ok(s) = connect(table, &mut path, slow, &mut pins, app) else {
+        return None;
+    };
     if pins.len() != 1 {
         return None;
     }

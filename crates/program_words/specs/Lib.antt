@@ -4,3 +4,4 @@ pub mod Faults
 pub mod Command
 pub mod Canonical
 pub mod Found
+pub mod Audits

@@ -10,7 +10,8 @@ use Rattle.flow_lock.specs.declared.view.View.{View}
 use Rattle.core_worker.specs.Workers.{Common, Worker, new_worker, IsFree, HasQueue, HasSenders}
 use Rattle.host_rounds.specs.Lists.{Each}
 use Rattle.host_rounds.proofs.Lists.{length_push}
-use Rattle.shared_host.specs.Cores.{AreCores, AreNumbered, HasRoom, HasOneSender, IsNew, IsGuestOf, TakesFrom}
+use Rattle.shared_host.specs.Cores.{AreCores, AreNumbered, AreTurned, HasRoom, HasOneSender, IsNew, IsGuestOf}
+use Rattle.shared_host.specs.Cores.{TakesFrom}
 use Rattle.shared_host.specs.Cores.{first_sender, kicking_on}
 use Rattle.slow_worker.specs.Kicking.{Kicking, AreOn, CanKick}
 use Rattle.steering.specs.Tables.{Sight}
@@ -31,12 +32,21 @@ numbered_more first (x ∷ ws) w numbered is =
     let next : first + suc (length ws) ≡ suc first + length ws = omega arith in
     (numbered.0, numbered_more (suc first) ws w numbered.1 (is ∙ next))
 
+turned_more : (first : ℕ) (ws : List Worker) (w : Worker) → AreTurned first ws
+    → w.pass.view.turns ≡ new_turn (first + length ws) ∷ [] → AreTurned first (ws ++ w ∷ [])
+turned_more first [] w turned is =
+    let none : first + 0 ≡ first = omega arith in
+    (is ∙ ap (λ (n : ℕ). new_turn n ∷ []) none, tt)
+turned_more first (x ∷ ws) w turned is =
+    let next : first + suc (length ws) ≡ suc first + length ws = omega arith in
+    (turned.0, turned_more (suc first) ws w turned.1 (is ∙ ap (λ (n : ℕ). new_turn n ∷ []) next))
+
 pub one_core : (host : ℕ) (t : TableId) (n : ℕ) (ks more : List Place) (ws grown : List Worker) (q : Place) (w : Worker)
     (pass : Seen) (v : View) (known : List Change) (kicks : Receiver)
     → AreCores host t n ks ws → HasRoom q → w ≡ new_worker host n pass known kicks → known ≡ []
-    → (pass.table ≡ t) × (pass.view ≡ right v) → kicks.line ≡ q.line → kicks.senders ≡ 1
+    → (pass.table ≡ t) × (pass.view ≡ right v) → v.made ≡ 1 + n → kicks.line ≡ q.line → kicks.senders ≡ 1
     → more ≡ ks ++ q ∷ [] → grown ≡ ws ++ w ∷ [] → AreCores host t (n + 1) more grown
-one_core host t n ks more ws grown q w pass v known kicks are room is none split of sole is-more is-grown =
+one_core host t n ks more ws grown q w pass v known kicks are room is none split count of sole is-more is-grown =
     subst (λ (xs : List Place). AreCores host t (n + 1) xs grown) (sym is-more)
     (subst (λ (ys : List Worker). AreCores host t (n + 1) (ks ++ q ∷ []) ys) (sym is-grown) grew)
   where
@@ -48,6 +58,11 @@ one_core host t n ks more ws grown q w pass v known kicks are room is none split
 
     guest : IsGuest t w.pass
     guest = subst (λ (x : Worker). IsGuest t x.pass) (sym made) (split_guest t v pass split.0 split.1)
+
+    turn : w.pass.view.turns ≡ new_turn (1 + length ws) ∷ []
+    turn = ap (λ (x : Worker). x.pass.view.turns) made
+        ∙ (ap (λ (x : View). x.turns) split.1
+        ∙ ap (λ (m : ℕ). new_turn m ∷ []) (count ∙ ap (λ (m : ℕ). 1 + m) (sym are.workers)))
 
     line : w.kicks.line ≡ q.line
     line = ap (λ (x : Worker). x.kicks.line) made ∙ of
@@ -72,6 +87,7 @@ one_core host t n ks more ws grown q w pass v known kicks are room is none split
       new = each_more (IsNew host) ws w are.new
           (subst (λ (k : ℕ). w ≡ new_worker host k w.pass [] w.kicks) (sym core) new);
       free = each_more (IsGuestOf t) ws w are.free guest;
+      turns = turned_more 1 ws w are.turns turn;
       own = each_more (TakesFrom (ks ++ q ∷ [])) ws w
           (each_map (TakesFrom ks) (TakesFrom (ks ++ q ∷ [])) ws
           (λ v own. (own.0, still_there ks q own.0 v.core own.1, own.2)) are.own)
@@ -88,6 +104,7 @@ none_yet host t = record {
   numbers = tt;
   new = tt;
   free = tt;
+  turns = tt;
   own = tt;
   sole = tt;
 }

@@ -3,6 +3,7 @@ use Rattle.std.specs.Prelude.{◌≡◌, ℕ, suc, List, [], ◌∷◌, length, 
 use Rattle.atomic_table.specs.Seated.{TableId}
 use Rattle.context_queue.specs.Notes.{Place, Sender}
 use Rattle.flow_lock.specs.Callers.{IsGuest}
+use Rattle.flow_lock.specs.Passes.{new_turn}
 use Rattle.host_rounds.specs.Lists.{Each}
 use Rattle.steering.specs.Tables.{Sight}
 use Rattle.core_worker.specs.Workers.{Worker, new_worker}
@@ -19,6 +20,11 @@ HasRoom q = q.room ≡ queue_room
 abbrev pub AreNumbered : (first : ℕ) → List Worker → Type 0
 AreNumbered first [] = ⊤
 AreNumbered first (w ∷ ws) = (w.core ≡ first) × AreNumbered (suc first) ws
+
+-- each has one turn, by these names one after the other
+abbrev pub AreTurned : (first : ℕ) → List Worker → Type 0
+AreTurned first [] = ⊤
+AreTurned first (w ∷ ws) = (w.pass.view.turns ≡ new_turn first ∷ []) × AreTurned (suc first) ws
 
 -- The worker looks at checksums. It has no frames and no lines, knows no flow, and tells no application.
 abbrev pub IsNew : (host : ℕ) → Worker → Type 0
@@ -44,6 +50,7 @@ pub record AreCores (host : ℕ) (t : TableId) (count : ℕ) (kicks : List Place
   pub numbers : AreNumbered 0 ws
   pub new : Each (IsNew host) ws
   pub free : Each (IsGuestOf t) ws
+  pub turns : AreTurned 1 ws
   pub own : Each (TakesFrom kicks) ws
   pub sole : Each HasOneSender ws
 

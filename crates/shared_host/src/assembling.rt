@@ -5,7 +5,7 @@ ghost use Rattle.host_rounds.specs.Lists.{Each};
 ghost use Rattle.core_worker.specs.Workers.{IsFree, HasQueue, HasSenders};
 ghost use Rattle.slow_worker.specs.Kicking.{CanKick};
 ghost use Rattle.slow_worker.specs.Workers.{sight_of, IsSound};
-ghost use Rattle.shared_host.specs.Cores.{AreNumbered, IsNew, HasRoom, HasOneSender, kicking_on};
+ghost use Rattle.shared_host.specs.Cores.{AreNumbered, AreTurned, IsNew, HasRoom, HasOneSender, kicking_on};
 ghost use Rattle.shared_host.specs.SlowPaths.{IsNewSlow};
 
 use crate::cores::make_cores;
@@ -47,6 +47,7 @@ pub fn assemble<R: Wait>(
     ensures numbers { IfOk result (λ a. AreNumbered 0 a.cores.items) }
     ensures new { IfOk result (λ a. Each (IsNew host) a.cores.items) }
     ensures free { IfOk result (λ a. Each (IsFree a.shared) a.cores.items) }
+    ensures turns { IfOk result (λ a. AreTurned 1 a.cores.items) }
     ensures queues { IfOk result (λ a. Each (HasQueue a.shared) a.cores.items) }
     ensures senders { IfOk result (λ a. Each (HasSenders a.shared) a.cores.items) }
     ensures kicks { IfOk result (λ a. length a.shared.kicks ≡ cores) }

@@ -63,6 +63,7 @@ fn add_core<R: Wait>(
     requires core { core < 16 }
     requires table { slow.old.pass.table ≡ table.now }
     requires split { (1 < slow.old.pass.view.parts) × (slow.old.pass.view.baton ≡ true) }
+    requires made { slow.old.pass.view.made ≡ 1 + core }
     requires reader { 0 < slow.old.index.left }
     requires cores { AreCores host table.now core cores.old.kicks.items cores.old.workers.items }
     requires kickers { slow.old.kickers.senders ≡ map first_sender cores.old.kicks.items }

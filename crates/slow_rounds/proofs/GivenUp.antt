@@ -2,7 +2,6 @@
 use Rattle.std.proofs.Common.{◌≡◌, ℕ, ◌+◌, ◌≤◌, ◌&&◌, ◌||◌, cond, Bool, true, false, List, [], ◌∷◌, ◌++◌, map}
 use Rattle.std.proofs.Common.{refl, sym, ap, ◌∙◌, subst, arith, true≢false}
 use Rattle.std.specs.Prelude.{Option, None}
-use Rattle.std.specs.List.{filter, list_any}
 use Rattle.std.proofs.lemmas.Bool.Decides.{nat_tests}
 use Rattle.std.proofs.lemmas.List.Sorted.{list_any-IsPermutation}
 use Rattle.atomic_table.specs.Seated.{TableId}
@@ -12,12 +11,11 @@ use Rattle.tas_model.specs.declared.entry.FlowId.{FlowId}
 use Rattle.flow_state.specs.Flow.{Flow}
 use Rattle.host_rounds.specs.Hosts.{Live, Holder, GivenUp, with_call}
 use Rattle.host_rounds.specs.Lists.{Each}
-use Rattle.flow_lock.specs.Orders.{known_of, same_flow, total, at_slot}
+use Rattle.flow_lock.specs.Orders.{same_flow, total, at_slot}
 use Rattle.flow_lock.specs.Passes.{Seen, with_baton}
 use Rattle.flow_lock.specs.Steps.{IsAlone}
 use Rattle.flow_lock.specs.declared.view.Held.{Held}
-use Rattle.flow_lock.specs.declared.view.View.{View}
-use Rattle.app_reaper.specs.Reaping.{AreReaped, IsAtRest, IsReapedAlone, begun, returned}
+use Rattle.app_reaper.specs.Reaping.{AreReaped, IsAtRest, IsReapedAlone, returned}
 use Rattle.app_reaper.specs.declared.ended.Ended.{Ended}
 use Rattle.libtas_sockets.specs.Apps.{Application}
 use Rattle.host_books.specs.Books.{Book, live_in}

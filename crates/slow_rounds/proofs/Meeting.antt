@@ -1,7 +1,7 @@
 -- A segment that comes to no flow, at the slow path and in a run: for the law later_turns_are_rest_phases.
 use Rattle.std.proofs.Common.{◌≡◌, ℕ, ◌+◌, ◌<◌, ◌==◌, ◌&&◌, ◌||◌, not, Bool, true, false, List, [], ◌∷◌}
 use Rattle.std.proofs.Common.{length, refl, sym, ap, ◌∙◌, subst, filter}
-use Rattle.std.proofs.Common.{if◌then◌else◌, append-nil}
+use Rattle.std.proofs.Common.{append-nil}
 use Rattle.std.specs.Prelude.{Option, Some, None, nat_lt, position, min}
 use Rattle.std.proofs.lemmas.List.{length-map}
 use Rattle.segment_fields.specs.declared.segment.Segment.{Segment}
@@ -18,8 +18,8 @@ use Rattle.flow_state.specs.Calls.{seg_of}
 use Rattle.host_rounds.specs.declared.log.LogEvent.{LogEvent}
 use Rattle.host_rounds.specs.declared.log.LogEvent.TheVariants as events
 use Rattle.host_rounds.specs.Hosts as hosts
-use Rattle.host_rounds.specs.Hosts.{Live, Host, Waiting, logged, waits_at, is_full, lowest_free, free_where, free_from}
-use Rattle.host_rounds.specs.Hosts.{is_in_slot, next_number, opened_in, first_entry, most_flows}
+use Rattle.host_rounds.specs.Hosts.{Host, Waiting, logged, is_full, lowest_free}
+use Rattle.host_rounds.specs.Hosts.{next_number, opened_in, first_entry}
 use Rattle.host_rounds.specs.Deliveries as runs
 use Rattle.host_rounds.specs.Deliveries.{opens, met_no_flow, opened_by_syn, answer_in}
 use Rattle.flow_lock.specs.Answers.{next_in, next_of, is_free}

@@ -37,7 +37,7 @@ use Rattle.sound_hosts.proofs.Told.{named_is}
 use Rattle.sound_calls.specs.Handing.{accepted_by}
 
 -- ----- the flows that wait
-waiting_append : (known : List Held) (xs ys : List Book)
+pub waiting_append : (known : List Held) (xs ys : List Book)
     → waiting_in known (xs ++ ys) ≡ waiting_in known xs ++ waiting_in known ys
 waiting_append known [] ys = refl
 waiting_append known (x ∷ xs) ys = by (waits known x) (waiting_append known xs ys)
@@ -136,7 +136,7 @@ zero_none n (z ∷ zs) e =
     none true q h = absurd (let one : tally (z.number == n) ≡ 1 = ap tally q in omega (arith, one, h))
     none false q h = grind (arith, nat_tests, q)
 
-apart_numbers : (front : List Application) (a : Application) (back : List Application)
+pub apart_numbers : (front : List Application) (a : Application) (back : List Application)
     → ((n : ℕ) → count_by (λ (x : Application). x.number == n) (front ++ a ∷ back) ≤ 1)
     → Each (λ (x : Application). (a.number == x.number) ≡ false) front
     × Each (λ (x : Application). (a.number == x.number) ≡ false) back

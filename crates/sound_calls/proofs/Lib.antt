@@ -6,3 +6,4 @@ pub mod Acceptances
 pub mod Listening
 pub mod Places
 pub mod Closing
+pub mod Connecting

@@ -5,6 +5,7 @@ mod calls;
 mod changing;
 mod kills;
 mod listeners;
+mod opened;
 
 pub use calls::{
     accepts_alone_keep_it, calls_alone_keep_it, closes_alone_keep_it, handed_over_keeps_it,
@@ -13,3 +14,4 @@ pub use calls::{
 pub use changing::holders_change_at_a_place;
 pub use kills::kills_keep_it;
 pub use listeners::listens_keep_it;
+pub use opened::connects_keep_it;

@@ -1,6 +1,6 @@
 -- The marks of the slots of flows that stand: for the laws of phases and of the time of a tick.
 use Rattle.std.proofs.Common.{◌≡◌, ℕ, zero, suc, ◌<◌, ◌==◌, ◌&&◌, ◌||◌, not, Bool, true, false, List, [], ◌∷◌, ◌++◌}
-use Rattle.std.proofs.Common.{refl, sym, ap, ◌∙◌, arith, length, slice_get, Some, Option, true≢false}
+use Rattle.std.proofs.Common.{◌≢◌, set, refl, sym, ap, ◌∙◌, arith, length, slice_get, Some, Option, true≢false}
 use Rattle.std.specs.List.{list_any}
 use Rattle.std.proofs.lemmas.Bool.{eqb-true}
 use Rattle.std.proofs.lemmas.Bool.Decides.{nat_tests}
@@ -8,6 +8,7 @@ use Rattle.host_rounds.specs.Lists.{Each}
 use Rattle.flow_lock.specs.Answers.{is_open_in}
 use Rattle.flow_lock.specs.Steps.{mark_at}
 use Rattle.flow_lock.specs.Words.{word_at}
+use Rattle.flow_lock.specs.declared.view.Mark.{Mark}
 use Rattle.flow_lock.specs.declared.view.View.{View}
 use Rattle.flow_lock.specs.declared.word.Word.{Word}
 use Rattle.host_books.specs.Books.{Book}
@@ -113,3 +114,16 @@ module _ (h : CoreHost) (sound : IsHostSound h) where
 
   pub stand_marked : Each (IsMarkedAs v.marks) h.books
   stand_marked = every_at (IsMarkedAs v.marks) h.books stands_as
+
+-- ----- a mark that is set
+pub mark_else : (ms : List Mark) (i k : ℕ) (m : Mark) → k ≢ i → mark_at (set ms i m) k ≡ mark_at ms k
+mark_else [] i k m ne = refl
+mark_else (x ∷ xs) zero zero m ne = absurd (ne refl)
+mark_else (x ∷ xs) zero (suc k) m ne = refl
+mark_else (x ∷ xs) (suc i) zero m ne = refl
+mark_else (x ∷ xs) (suc i) (suc k) m ne = mark_else xs i k m (λ e. ne (ap suc e))
+
+pub mark_own : (ms : List Mark) (i : ℕ) (m : Mark) → i < length ms → mark_at (set ms i m) i ≡ m
+mark_own [] i m lt = absurd (omega (arith, lt))
+mark_own (x ∷ xs) zero m lt = refl
+mark_own (x ∷ xs) (suc i) m lt = mark_own xs i m (omega (arith, lt))

@@ -1,5 +1,4 @@
 pub mod Orders
 pub mod Deeds
 pub mod Apps
-pub mod Words
 pub mod Phases

@@ -24,6 +24,7 @@ use Rattle.sound_hosts.specs.Leading.{Leads}
 use Rattle.sound_hosts.specs.Leaving.{reheld, left_by}
 use Rattle.sound_hosts.specs.Sound.{IsHostSound, IsApp, IsMarkedAs, IsWorded}
 use Rattle.sound_hosts.proofs.Leaving.{AreRight, IsPinnedBy, AreApart, apart_of, left_keeps, waiting_left}
+use Rattle.sound_hosts.proofs.Learned.{learned}
 use Rattle.sound_hosts.proofs.Moved.{IsMovedOn, Lifts, all_right, generation_in, moved_sound, not_had}
 use Rattle.sound_hosts.proofs.OpenSockets.{all_each}
 use Rattle.sound_hosts.proofs.Reheld.{each_reheld, StaysWaiting, waiting_same, waiting_reheld}
@@ -32,7 +33,6 @@ use Rattle.sound_phases.specs.Phased.{apps_in, books_by, books_after, after_phas
 use Rattle.sound_phases.proofs.Apps.{lanes_right, lanes_had}
 use Rattle.sound_phases.proofs.Deeds.{FramesKeep, SendsKeep, turns_lead}
 use Rattle.sound_phases.proofs.Orders.{IsLeading, from_turns, run_leads, run_columns}
-use Rattle.sound_phases.proofs.Words.{learned}
 
 -- ----- what other holders keep, a phase does
 module _ (P : List Book → Type 0)

@@ -1,7 +1,7 @@
 -- What the table, the histories and the applications have of the books, while the slow path goes from flow to flow: for
 -- the law time_keeps_it.
-use Rattle.std.proofs.Common.{◌≡◌, ◌≢◌, ℕ, zero, suc, ◌<◌, ◌==◌, ◌&&◌, not, true, false, List, [], ◌∷◌}
-use Rattle.std.proofs.Common.{◌++◌, length, refl, sym, ap, ◌∙◌, subst, arith, inl, inr, set, slice_get}
+use Rattle.std.proofs.Common.{◌≡◌, ◌≢◌, ℕ, ◌<◌, ◌==◌, ◌&&◌, not, true, false, List, [], ◌∷◌}
+use Rattle.std.proofs.Common.{◌++◌, length, refl, sym, ap, ◌∙◌, subst, inl, inr, slice_get}
 use Rattle.std.proofs.Common.{true≢false, eq-eqb, length-set}
 use Rattle.std.specs.Prelude.{IsPermutation, ◌⊎◌}
 use Rattle.tas_model.specs.declared.entry.FlowId.{FlowId}
@@ -34,6 +34,7 @@ use Rattle.sound_hosts.specs.Sound.{AreSlots, IsApp, HasHolder, IsPlain, IsMarke
 use Rattle.sound_hosts.proofs.Kept.{indexed_still}
 use Rattle.sound_hosts.proofs.Numbers.{unlike}
 use Rattle.sound_hosts.proofs.OneFlow.{one_leads, words_same}
+use Rattle.sound_hosts.proofs.Standing.{mark_else, mark_own}
 use Rattle.sound_hosts.proofs.Sweeping.{firsts, lasts, middle, freed_if, slots_still, front, back, low_mark}
 use Rattle.sound_turns.specs.Passing.{AreTabled, swept_book}
 use Rattle.sound_hosts.proofs.Names.{names_swap}
@@ -67,18 +68,6 @@ led_tabled h bs f k v w t led by =
     }
 
 -- ----- one flow is swept
-mark_else : (ms : List Mark) (i k : ℕ) (m : Mark) → k ≢ i → mark_at (set ms i m) k ≡ mark_at ms k
-mark_else [] i k m ne = refl
-mark_else (x ∷ xs) zero zero m ne = absurd (ne refl)
-mark_else (x ∷ xs) zero (suc k) m ne = refl
-mark_else (x ∷ xs) (suc i) zero m ne = refl
-mark_else (x ∷ xs) (suc i) (suc k) m ne = mark_else xs i k m (λ e. ne (ap suc e))
-
-mark_own : (ms : List Mark) (i : ℕ) (m : Mark) → i < length ms → mark_at (set ms i m) i ≡ m
-mark_own [] i m lt = absurd (omega (arith, lt))
-mark_own (x ∷ xs) zero m lt = refl
-mark_own (x ∷ xs) (suc i) m lt = mark_own xs i m (omega (arith, lt))
-
 known_long : (i : ℕ) (w : Word) (v : View) → length (known_words i w v) ≡ length v.words
 known_long i w v = by v.turns
   where

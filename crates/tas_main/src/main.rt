@@ -3,13 +3,13 @@
 
 mod streams;
 
-use program_words::names_cores;
+use program_words::{asks_audit, names_cores};
 use std::alloc::{AllocError, Global};
 use std::env;
 use std::process::ExitCode;
 use streams::{StderrSink, StdinSource, StdoutSink};
 use tas_num::NoGate;
-use tas_top::{Stop, tas, tas_serial, tell};
+use tas_top::{Stop, tas, tas_audit, tas_serial, tell};
 
 fn main(rt: HostRuntime) -> ExitCode {
     let alloc = rt.alloc();
@@ -20,7 +20,9 @@ fn main(rt: HostRuntime) -> ExitCode {
     };
     let mut source = StdinSource::new(rt.stdin());
     let mut sink = StdoutSink::new(rt.stdout());
-    let status = if names_cores(&words) {
+    let status = if asks_audit(&words) {
+        tas_audit(alloc, &mut source, &mut sink, &mut faults)
+    } else if names_cores(&words) {
         tas(
             &rt,
             alloc,

@@ -3,3 +3,4 @@ pub mod Stops
 pub mod Outputs
 pub mod Telling
 pub mod Jobs
+pub mod Audits

@@ -2,12 +2,14 @@
 #![tactic(auto)]
 
 mod asking;
+mod audits;
 mod input;
 mod runs;
 mod stop;
 mod telling;
 mod top;
 
+pub use audits::tas_audit;
 pub use stop::Stop;
 pub use telling::tell;
 pub use top::{tas, tas_serial};

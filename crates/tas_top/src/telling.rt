@@ -31,7 +31,7 @@ fn put_line<F: Sink>(faults: &mut F, stop: Stop) -> Result<(), IoFault>
 }
 
 /// Writes the fault line that names a part of the input by its number.
-fn put_numbered<F: Sink>(faults: &mut F, part: &str, number: u64) -> Result<(), IoFault>
+pub(crate) fn put_numbered<F: Sink>(faults: &mut F, part: &str, number: u64) -> Result<(), IoFault>
     ensures { Wrote (F.state faults.old) result (F.state faults.new) (part.now ++ numbered number) [] }
 {
     put(faults, part)?;
@@ -48,7 +48,7 @@ fn put_end<F: Sink>(faults: &mut F, number: u64) -> Result<(), IoFault>
 }
 
 /// Writes a text.
-fn put<F: Sink>(faults: &mut F, text: &str) -> Result<(), IoFault>
+pub(crate) fn put<F: Sink>(faults: &mut F, text: &str) -> Result<(), IoFault>
     ensures { Wrote (F.state faults.old) result (F.state faults.new) text.now [] }
 {
     write_all(faults, text.as_bytes())

@@ -1,5 +1,5 @@
 -- Answers of the proof of table/settle.
-use Rattle.std.proofs.Common.{◌≡◌, ap, ◌∙◌, subst, sym}
+use Rattle.std.proofs.Common.{ap, ◌∙◌, subst, sym}
 use Rattle.flow_lock.specs.Passes.{Seen, with_turns}
 use Rattle.flow_lock.specs.Steps.{HasAll}
 use Rattle.flow_lock.specs.declared.view.View.{View}

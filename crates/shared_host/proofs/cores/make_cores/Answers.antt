@@ -2,6 +2,7 @@ use Rattle.std.proofs.Common.{map, refl, sym, ap, ◌∙◌}
 use Rattle.shared_host.specs.Cores.{first_sender}
 use Rattle.shared_host.proofs.Adding.{no_cores}
 use Rattle.shared_host.proofs.SlowPaths.{all_left, core_added}
+use Rattle.slow_worker.specs.Workers.{Sight}
 use Rattle.shared_host.proofs.cores.make_cores.Goals as goal
 
 pub loop-core-init : goal.loop-core-init
@@ -22,3 +23,6 @@ loop-core-preserved g c = record {
   kickers = c.in_ok-add_core.ensures.kickers;
   steer = c.add_core.ensures.steer ∙ c.loop-core.invariant.steer;
 }
+
+pub add_core-requires-clause-made : goal.add_core-requires-clause-made
+add_core-requires-clause-made g c = ap (λ (s : Sight). s.pass.view.made) c.loop-core.invariant.slow.sight

@@ -1,4 +1,4 @@
--- The words of slots after a phase: for the law phases_keep_it.
+-- The words of slots that a barrier tells: for the laws of phases, and of flows that are opened for applications.
 use Rattle.std.proofs.Common.{◌≡◌, ℕ, zero, suc, ◌+◌, ◌<◌, not, Bool, true, false, List, [], ◌∷◌}
 use Rattle.std.proofs.Common.{refl, sym, ap, ◌∙◌, arith, length}
 use mathlib.Core.Option as O

@@ -1,0 +1,368 @@
+-- A flow was opened for an application that connects: for the law connects_keep_it.
+use Rattle.std.proofs.Common.{◌≡◌, ◌≢◌, ℕ, ◌+◌, ◌<◌, ◌≤◌, ◌==◌, ◌&&◌, ◌||◌, not, Bool, true, false, cond, List, [], ◌∷◌}
+use Rattle.std.proofs.Common.{◌++◌, map, length, refl, sym, ap, ◌∙◌, subst, arith, set, min, Some, None, slice_get}
+use Rattle.std.proofs.Common.{count_by, append-nil, length-set, true≢false, leb}
+use Rattle.std.specs.Prelude.{IsPermutation}
+use Rattle.std.specs.List.{filter, list_any}
+use Rattle.std.proofs.lemmas.Bool.Decides.{nat_tests}
+use Rattle.std.proofs.lemmas.List.Sorted.{IsPermutation-append_left}
+use Rattle.std.proofs.lemmas.List.Sums.{count_by-le-length}
+use mathlib.Core.Option as O
+use lib.ListN.{get_elem?}
+use Rattle.tas_model.specs.declared.entry.FlowId.{FlowId}
+use Rattle.tas_model.specs.declared.entry.FourTuple.{FourTuple}
+use Rattle.tas_model.specs.declared.entry.HostParams.{HostParams}
+use Rattle.tas_model.specs.LegalHistory.{replay}
+use Rattle.flow_state.specs.Flow.{Flow}
+use Rattle.flow_index.specs.Changes.{AnswerAlike}
+use Rattle.flow_index.specs.declared.change.Change.{Change}
+use Rattle.flow_index.specs.declared.change.Change.TheVariants.{Put}
+use Rattle.host_rounds.specs.Hosts as hosts
+use Rattle.host_rounds.specs.Hosts.{is_held_by, same_tuple}
+use Rattle.host_rounds.specs.Lists.{Each}
+use Rattle.host_rounds.proofs.Lists.{each_append}
+use Rattle.core_rounds.proofs.Filters.{tally}
+use Rattle.flow_lock.specs.Answers.{next_in}
+use Rattle.flow_lock.specs.Orders.{at_slot, known_of, pins_at, same_flow}
+use Rattle.flow_lock.specs.Steps.{mark, mark_at}
+use Rattle.flow_lock.specs.Words.{flag, word_at}
+use Rattle.flow_lock.specs.declared.view.Held.{Held}
+use Rattle.flow_lock.specs.declared.view.History.{History}
+use Rattle.flow_lock.specs.declared.view.Mark.{Mark}
+use Rattle.flow_lock.specs.declared.view.View.{View}
+use Rattle.flow_lock.specs.declared.word.Word.{Word}
+use Rattle.flow_clock.specs.Histories.{is_over}
+use Rattle.slow_handshake.specs.Openings.{Openings, first_port}
+use Rattle.slow_handshake.specs.declared.openings.Listener.{Listener}
+use Rattle.slow_worker.specs.Workers.{Worker, IsSound, sight_of, flow_with, waiting}
+use Rattle.slow_worker.specs.declared.known.KnownFlow.{KnownFlow}
+use Rattle.libtas_sockets.specs.Apps.{Application}
+use Rattle.host_books.specs.Books.{Book}
+use Rattle.host_books.specs.Indexes.{AreIndexed}
+use Rattle.sound_hosts.specs.Hosts.{CoreHost, known_in, is_indexed, is_doomed, is_filed, is_held_of, is_of_slot}
+use Rattle.sound_hosts.specs.Hosts.{stands_in, tuple_of, flows_in, waiting_in, has_given_port}
+use Rattle.sound_hosts.specs.Opening.{new_book}
+use Rattle.sound_hosts.specs.Sound.{IsHostSound, IsApp, HasHolder, IsMarked, IsMarkedAs, IsPlain, IsWorded, AreShown}
+use Rattle.sound_hosts.proofs.Counts.{count_each}
+use Rattle.sound_hosts.proofs.Distinct.{count_push}
+use Rattle.sound_hosts.proofs.Fresh.{flows_more, indexed_more, other, own, waiting_fresh}
+use Rattle.sound_hosts.proofs.Learned.{learned}
+use Rattle.sound_hosts.proofs.Names.{names, names_with, names_without}
+use Rattle.sound_hosts.proofs.Numbers.{IsNextSlot, all_older, fresh, mark_there, marks_more, next_slot, numbered_push}
+use Rattle.sound_hosts.proofs.Numbers.{unlike}
+use Rattle.sound_hosts.proofs.Opened.{all_apart, shown_more}
+use Rattle.sound_hosts.proofs.Standing.{mark_else, mark_own, stand_marked, within}
+use Rattle.sound_hosts.proofs.Sweeping.{any_here, any_swap, count_swap, firsts, lasts, middle}
+use Rattle.sound_calls.specs.Connecting.{IsOpenedBy, HasConnected, after_connecting, begun_history}
+use Rattle.sound_calls.proofs.Accepting.{apart_numbers, waiting_append}
+
+-- the history that a connect begins isn't closed
+begins_open : (app raddr rport tick : ℕ) (h : CoreHost) → is_over (begun_history app raddr rport tick h) ≡ false
+unfolding replay
+begins_open app raddr rport tick h = refl
+
+none_each : {X : Type 0} (p : X → Bool) (xs : List X) → list_any p xs ≡ false → Each (λ (x : X). p x ≡ false) xs
+none_each p [] e = tt
+none_each {X} p (x ∷ xs) e = by (p x) refl e (none_each p xs)
+  where
+    by : (t : Bool) → p x ≡ t → (t || list_any p xs) ≡ false
+        → (list_any p xs ≡ false → Each (λ (y : X). p y ≡ false) xs) → Each (λ (y : X). p y ≡ false) (x ∷ xs)
+    by true q e rest = absurd (true≢false e)
+    by false q e rest = (q, rest e)
+
+module _ (h : CoreHost) (front : List Application) (a : Application) (back : List Application) (b : Application)
+    (x : Worker) (raddr rport tick : ℕ) (id : FlowId) (sound : IsHostSound h) (apps : h.apps ≡ front ++ a ∷ back)
+    (next : next_in h.slow.pass.view.marks ≡ Some id)
+    (apart : flow_with (begun_history a.number raddr rport tick h).tuple h.slow.flows ≡ None)
+    (few : length h.books < 4294967295) (empty : pins_at h.slow.pass.view.words id.slot ≡ 0)
+    (opened : IsOpenedBy id (begun_history a.number raddr rport tick h) h.slow x) (joined : HasConnected id a b)
+    (kept : IsSound h.table (sight_of x)) where
+  abbrev k : History
+  k = begun_history a.number raddr rport tick h
+
+  abbrev known : List Held
+  known = h.slow.pass.view.base
+
+  abbrev after : List Held
+  after = record { flow = id; history = k } ∷ known
+
+  abbrev nb : Book
+  nb = new_book id (hosts.Application b.number)
+
+  abbrev cs : List Book
+  cs = h.books ++ nb ∷ []
+
+  abbrev view : View
+  view = x.pass.view
+
+  -- ----- the slot
+  slot : IsNextSlot h.slow.pass.view.marks id
+  slot = next_slot h.slow.pass.view.marks id next
+
+  marked : IsMarked h.books id.slot (mark_at h.slow.pass.view.marks id.slot)
+  marked = sound.table.marks id.slot (mark_at h.slow.pass.view.marks id.slot)
+      (mark_there h.slow.pass.view.marks id.slot slot.within)
+
+  number : id.generation ≡ 1 + count_by (is_of_slot id.slot) h.books
+  number =
+      let most : count_by (is_of_slot id.slot) h.books ≤ length h.books =
+      count_by-le-length (is_of_slot id.slot) h.books in
+      let is : id.generation ≡ min ((mark_at h.slow.pass.view.marks id.slot).generation + 1) 4294967295 = slot.number in
+      let same : (mark_at h.slow.pass.view.marks id.slot).generation ≡ count_by (is_of_slot id.slot) h.books =
+      marked.generation in
+      omega (arith, most, is, same, few)
+
+  free : list_any (stands_in id.slot) h.books ≡ false
+  free = sym marked.live ∙ slot.dead
+
+  others : Each (λ (c : Book). same_flow id c.id ≡ false) h.books
+  others = fresh id h.books h.books (all_older h.table.slots h.books sound.numbered) number
+
+  no_tuple : Each (λ (c : Book). c.indexed ≡ true → same_tuple (tuple_of known c) k.tuple ≡ false) h.books
+  no_tuple = all_apart known id k k.tuple h.books (ap (λ (fs : List KnownFlow). flow_with k.tuple fs)
+      (sym sound.kept.flows) ∙ apart)
+
+  low : id.slot < h.table.slots
+  low = let wide : length h.slow.pass.view.marks ≡ h.table.slots = sound.wide.0 in let l = slot.within in
+      omega (arith, l, wide)
+
+  base : view.base ≡ after
+  base = opened.view.base
+
+  -- ----- words
+  same_long : length view.words ≡ length view.marks
+  same_long = opened.view.wide
+      ∙ (sound.wide.1
+      ∙ sym (ap (λ (ms : List Mark). length ms) opened.view.marks
+      ∙ (length-set h.slow.pass.view.marks id.slot (mark id.generation true false) ∙ sound.wide.0)))
+
+  abbrev IsAway : Book → Type 0
+  IsAway c = c.filed ≡ false → (c.id.slot == id.slot) ≡ false
+
+  away : (ds : List Book) → Each (λ (c : Book). stands_in id.slot c ≡ false) ds → Each IsAway ds
+  away [] each = tt
+  away (d ∷ ds) each = (λ f. sym (λ i. not (f i) && (d.id.slot == id.slot)) ∙ each.0, away ds each.1)
+
+  word_of_old : (ds : List Book) → Each IsAway ds → Each (IsWorded h.slow.pass.view) ds
+      → Each (IsMarkedAs h.slow.pass.view.marks) ds → Each (λ (c : Book). c.id.slot < h.table.slots) ds
+      → Each (IsWorded view) ds
+  word_of_old [] p q r s = tt
+  word_of_old (d ∷ ds) p q r s = (
+    λ f. learned view view view.words same_long opened.view.told opened.view.idle d (near d s.0)
+        (λ g. ap (λ (ms : List Mark). mark_at ms d.id.slot) opened.view.marks
+        ∙ (mark_else h.slow.pass.view.marks id.slot d.id.slot (mark id.generation true false)
+        (λ e. unlike d.id.slot id.slot e (p.0 g)) ∙ r.0 g))
+        (λ g. pinned d (p.0 g) (ap (λ (w : Word). w.pins) (q.0 g))) f,
+    word_of_old ds p.1 q.1 r.1 s.1,
+  )
+    where
+      near : (c : Book) → c.id.slot < h.table.slots → c.id.slot < length view.marks
+      near c l =
+          let w : length view.words ≡ length view.marks = same_long in
+          let y : length view.words ≡ length h.slow.pass.view.words = opened.view.wide in
+          let z : length h.slow.pass.view.words ≡ h.table.slots = sound.wide.1 in
+          omega (arith, l, w, y, z)
+
+      pinned : (c : Book) → (c.id.slot == id.slot) ≡ false
+          → pins_at h.slow.pass.view.words c.id.slot ≡ 1 + flag (is_held_by c.holder)
+          → pins_at view.words c.id.slot ≡ 1 + flag (is_held_by c.holder)
+      pinned c ne is =
+          let t : (id.slot == c.id.slot) ≡ false = grind (arith, nat_tests, ne) in
+          let none : at_slot c.id.slot id ≡ 0 = ap (λ u. cond {A = ℕ} u 1 0) t in
+          let all : pins_at view.words c.id.slot
+          ≡ pins_at h.slow.pass.view.words c.id.slot + (at_slot c.id.slot id + at_slot c.id.slot id) =
+          opened.view.pins c.id.slot in
+          omega (arith, none, all, is)
+
+  own_word : IsWorded view nb
+  own_word f =
+      learned view view view.words same_long opened.view.told opened.view.idle nb near
+      (λ g. ap (λ (ms : List Mark). mark_at ms id.slot) opened.view.marks
+      ∙ mark_own h.slow.pass.view.marks id.slot (mark id.generation true false) slot.within)
+      (λ g. pinned) f
+    where
+      near : id.slot < length view.marks
+      near =
+          let w : length view.words ≡ length view.marks = same_long in
+          let y : length view.words ≡ length h.slow.pass.view.words = opened.view.wide in
+          let z : length h.slow.pass.view.words ≡ h.table.slots = sound.wide.1 in
+          let l = low in
+          omega (arith, l, w, y, z)
+
+      pinned : pins_at view.words id.slot ≡ 2
+      pinned =
+          let t : (id.slot == id.slot) ≡ true = grind (arith, nat_tests) in
+          let one : at_slot id.slot id ≡ 1 = ap (λ u. cond {A = ℕ} u 1 0) t in
+          let all : pins_at view.words id.slot
+          ≡ pins_at h.slow.pass.view.words id.slot + (at_slot id.slot id + at_slot id.slot id) =
+          opened.view.pins id.slot in
+          omega (arith, one, all, empty)
+
+  words : Each (IsWorded view) cs
+  words = each_append (IsWorded view) h.books (nb ∷ [])
+      (word_of_old h.books (away h.books (none_each (stands_in id.slot) h.books free)) sound.table.words
+      (stand_marked h sound) (within h.table.slots [] h.books sound.numbered))
+      (own_word, tt)
+
+  -- ----- applications
+  all_apps : Each (IsApp h.table h.books) (front ++ a ∷ back)
+  all_apps = subst (Each (IsApp h.table h.books)) apps sound.apps
+
+  old : IsApp h.table h.books a
+  old = middle (IsApp h.table h.books) front a back all_apps
+
+  its : (b.number == b.number) ≡ true
+  its = grind (arith, nat_tests)
+
+  own_app : IsApp h.table cs b
+  own_app = record {
+    own = joined.own ∙ old.own;
+    turns = joined.turns;
+    begun = joined.begun ∙ old.begun;
+    sockets = subst (IsPermutation b.sockets) (sym (names_with (is_held_of b.number) h.books nb [] its))
+        (subst (λ l. IsPermutation l (names (is_held_of b.number) h.books ++ id ∷ [])) (sym joined.sockets)
+        (IsPermutation-append_left (id ∷ []) a.sockets (names (is_held_of b.number) h.books)
+        (subst (λ n. IsPermutation a.sockets (names (is_held_of n) h.books)) (sym joined.number) old.sockets)));
+  }
+
+  abbrev IsElse : Application → Type 0
+  IsElse y = (a.number == y.number) ≡ false
+
+  others_after : (zs : List Application) → Each IsElse zs → Each (IsApp h.table h.books) zs → Each (IsApp h.table cs) zs
+  others_after [] p q = tt
+  others_after (z ∷ zs) p q = (
+    record {
+      own = q.0.own;
+      turns = q.0.turns;
+      begun = q.0.begun;
+      sockets = subst (IsPermutation z.sockets)
+          (sym (names_without (is_held_of z.number) h.books nb [] (ap (λ n. n == z.number) joined.number ∙ p.0)
+          ∙ append-nil (names (is_held_of z.number) h.books)))
+          q.0.sockets;
+    },
+    others_after zs p.1 q.1,
+  )
+
+  apart_apps : Each IsElse front × Each IsElse back
+  apart_apps = apart_numbers front a back (subst (λ (zs : List Application).
+      (n : ℕ) → count_by (λ (y : Application). y.number == n) zs ≤ 1) apps sound.numbers)
+
+  still_held : (ds : List Book) → Each (HasHolder (front ++ a ∷ back)) ds → Each (HasHolder (front ++ b ∷ back)) ds
+  still_held [] p = tt
+  still_held (d ∷ ds) p = (
+    λ e. (
+      any_swap (λ (y : Application). is_held_of y.number d) front a b back (ap (λ n. is_held_of n d) joined.number)
+          ∙ (p.0 e).0,
+      (p.0 e).1,
+    ),
+    still_held ds p.1,
+  )
+
+  -- ----- openings
+  params : x.path.params ≡ h.slow.path.params
+  params = ap (λ (o : Openings). o.params) opened.path
+
+  unfixed : x.path.params.fixed ≡ false → h.slow.path.params.fixed ≡ false
+  unfixed f = ap (λ (p : HostParams). p.fixed) (sym params) ∙ f
+
+  waits : h.slow.path.flows ≡ waiting_in view.base cs
+  waits =
+      sound.opening.flows
+      ∙ (sym (waiting_fresh known id k h.books others)
+      ∙ (sym (append-nil (waiting_in after h.books))
+      ∙ (sym (waiting_append after h.books (nb ∷ []))
+      ∙ ap (λ (l : List Held). waiting_in l cs) (sym base))))
+
+  same_ports : (ds : List Book) → Each (λ (c : Book). same_flow id c.id ≡ false) ds
+      → Each (λ (c : Book). has_given_port after c ≡ has_given_port known c) ds
+  same_ports [] each = tt
+  same_ports (d ∷ ds) each = (
+    ap (λ (y : History). leb first_port y.tuple.lport) (other known id k d.id each.0),
+    same_ports ds each.1,
+  )
+
+  ports : (f : h.slow.path.params.fixed ≡ false)
+      → h.slow.path.ports + 1 ≡ count_by (has_given_port view.base) cs
+  ports f =
+      let given : h.slow.path.ports ≡ count_by (has_given_port known) h.books = sound.opening.ports f in
+      let same : count_by (has_given_port after) h.books ≡ count_by (has_given_port known) h.books =
+      count_each (has_given_port after) (has_given_port known) h.books (same_ports h.books others) in
+      let pushed : count_by (has_given_port after) cs
+      ≡ count_by (has_given_port after) h.books + tally (has_given_port after nb) =
+      count_push (has_given_port after) h.books nb in
+      let is : leb first_port k.tuple.lport ≡ true = grind (arith, nat_tests) in
+      let one : tally (has_given_port after nb) ≡ 1 =
+      ap (λ (y : History). tally (leb first_port y.tuple.lport)) (own known id k) ∙ ap tally is in
+      let all : count_by (has_given_port after) cs ≡ count_by (has_given_port view.base) cs =
+      ap (λ (l : List Held). count_by (has_given_port l) cs) (sym base) in
+      omega (arith, given, same, pushed, one, all)
+
+  pub connected : IsHostSound (after_connecting id front b back x h)
+  connected = record {
+    alone = opened.view.alone;
+    slow_pass = opened.view.slow ∙ sound.slow_pass;
+    waiting = ap waiting opened.rest ∙ sound.waiting;
+    sound = kept;
+    slots = ap (λ (p : HostParams). p.slots) params ∙ sound.slots;
+    wide = (
+      ap (λ (ms : List Mark). length ms) opened.view.marks
+          ∙ (length-set h.slow.pass.view.marks id.slot (mark id.generation true false) ∙ sound.wide.0),
+      opened.view.wide ∙ sound.wide.1,
+    );
+    numbered = numbered_push h.table.slots [] h.books nb sound.numbered low number;
+    plain = each_append IsPlain h.books (nb ∷ []) sound.plain (λ f. absurd (true≢false (sym f)), tt);
+    indexed = subst (λ (l : List Held). AreIndexed cs l) (sym base)
+        (indexed_more known id k (hosts.Application b.number) h.books others no_tuple sound.indexed);
+    table = record {
+      marks = marks_more h.slow.pass.view view id nb refl refl refl opened.view.marks h.books number free
+          sound.table.marks;
+      words = words;
+    };
+    kept = record {
+      flows = opened.flows
+          ∙ (ap (λ (fs : List KnownFlow). fs ++ record { tuple = k.tuple; id = id } ∷ []) sound.kept.flows
+          ∙ (sym (flows_more known id k (hosts.Application b.number) h.books others)
+          ∙ ap (λ (l : List Held). flows_in l cs) (sym base)));
+      pins = opened.pins
+          ∙ (ap (λ (fs : List FlowId). fs ++ id ∷ []) sound.kept.pins ∙ sym (names_with is_indexed h.books nb [] refl));
+      doomed = subst (IsPermutation x.doomed)
+          (sym (names_without is_doomed h.books nb [] refl ∙ append-nil (names is_doomed h.books)))
+          (subst (λ (y : Worker). IsPermutation y.doomed (names is_doomed h.books)) (sym opened.rest)
+          sound.kept.doomed);
+      filed = subst (IsPermutation (map (λ (r : Flow). r.id) x.filed))
+          (sym (names_without is_filed h.books nb [] refl ∙ append-nil (names is_filed h.books)))
+          (subst (λ (y : Worker). IsPermutation (map (λ (r : Flow). r.id) y.filed) (names is_filed h.books))
+          (sym opened.rest) sound.kept.filed);
+    };
+    opening = record {
+      flows = ap (λ (o : Openings). o.flows) opened.path ∙ waits;
+      ports = λ f. ap (λ (o : Openings). o.ports) opened.path ∙ ports (unfixed f);
+      listeners = λ f. subst (λ (ls : List Listener). Each (λ (l : Listener). l.port < first_port) ls)
+          (sym (ap (λ (o : Openings). o.listeners) opened.path)) (sound.opening.listeners (unfixed f));
+    };
+    shown = record {
+      pending = opened.indexed.pending;
+      shown = subst (λ (l : List Held). AreShown cs l x.index.published) (sym base)
+          (shown_more known id k h.slow.index.published x.index.published
+          (subst (λ (l : List Change). AnswerAlike x.index.published
+          (h.slow.index.published ++ (l ++ Put k.tuple id ∷ [])))
+          sound.shown.pending opened.indexed.shown)
+          h.books others no_tuple nb refl refl sound.shown.shown);
+    };
+    apps = each_append (IsApp h.table cs) front (b ∷ back)
+        (others_after front apart_apps.0 (firsts (IsApp h.table h.books) front a back all_apps))
+        (own_app, others_after back apart_apps.1 (lasts (IsApp h.table h.books) front a back all_apps));
+    numbers = λ n.
+        let most : count_by (λ (y : Application). y.number == n) (front ++ a ∷ back) ≤ 1 =
+        subst (λ (zs : List Application). count_by (λ (y : Application). y.number == n) zs ≤ 1) apps
+        (sound.numbers n) in
+        let same : count_by (λ (y : Application). y.number == n) (front ++ b ∷ back)
+        ≡ count_by (λ (y : Application). y.number == n) (front ++ a ∷ back) =
+        count_swap (λ (y : Application). y.number == n) front a b back (ap (λ m. m == n) joined.number) in
+        omega (arith, most, same);
+    holders = each_append (HasHolder (front ++ b ∷ back)) h.books (nb ∷ [])
+        (still_held h.books (subst (λ (zs : List Application). Each (HasHolder zs) h.books) apps sound.holders)) (
+          λ e. (any_here (λ (y : Application). is_held_of y.number nb) front b back its, refl),
+          tt,
+        );
+  }

@@ -1,0 +1,16 @@
+use Rattle.std.proofs.Common.{rules, ◌≡◌, ◌++◌, codes, decimal}
+use Rattle.tas_top.specs.Telling.{numbered}
+use Rattle.tas_top.proofs.Puts.{put_then, put_stopped, put_as}
+use Rattle.tas_top.proofs.audits.put_counts.Goals as goal
+
+pub returns-in_err-put : goal.returns-in_err-put
+returns-in_err-put g c =
+    let text : c.format.result.now ≡ decimal c.args.flows = search rules in
+    put_stopped _ _ _ _ (decimal c.args.flows) (codes " " ++ numbered c.args.entries) (search rules) (search rules)
+    (put_as _ _ _ _ _ text c.put.ensures)
+
+pub returns : goal.returns
+returns g c =
+    let text : c.format.result.now ≡ decimal c.args.flows = search rules in
+    put_then _ _ _ _ (decimal c.args.flows) (codes " " ++ numbered c.args.entries)
+    (put_as _ _ _ _ _ text c.in_ok-put.ensures) c.put_numbered.ensures
