@@ -1,7 +1,7 @@
 -- A segment that comes to no flow, at the slow path and in a run: for the law later_turns_are_rest_phases.
 use Rattle.std.proofs.Common.{◌≡◌, ℕ, ◌+◌, ◌<◌, ◌==◌, ◌&&◌, ◌||◌, not, Bool, true, false, List, [], ◌∷◌}
 use Rattle.std.proofs.Common.{length, refl, sym, ap, ◌∙◌, subst, filter}
-use Rattle.std.proofs.Common.{append-nil}
+use Rattle.std.proofs.Common.{if◌then◌else◌, append-nil}
 use Rattle.std.specs.Prelude.{Option, Some, None, nat_lt, position, min}
 use Rattle.std.proofs.lemmas.List.{length-map}
 use Rattle.segment_fields.specs.declared.segment.Segment.{Segment}
