@@ -1,8 +1,8 @@
 -- Flows that applications open alone, and sockets that change hands: for the laws opened_flows_are_moves and
 -- holders_are_moves.
-use Rattle.std.proofs.Common.{◌≡◌, ℕ, zero, suc, ◌<◌, cond, List, [], ◌∷◌, map, length, refl, sym, ap, ◌∙◌}
+use Rattle.std.proofs.Common.{◌≡◌, ℕ, zero, suc, ◌+◌, ◌<◌, cond, true, false, List, [], ◌∷◌, map, length, refl, sym, ap}
+use Rattle.std.proofs.Common.{◌∙◌, arith, length-append}
 use Rattle.std.proofs.lemmas.Bool.Decides.{nat_tests}
-use Rattle.std.proofs.Common.{arith, true, false}
 use Rattle.tas_num.specs.declared.seq.Seq.{Seq}
 use Rattle.tas_model.specs.declared.entry.Call.TheVariants as calls
 use Rattle.tas_model.specs.declared.entry.Caller.TheVariants.{App}
@@ -27,6 +27,7 @@ use Rattle.sound_hosts.specs.Leaving.{reheld}
 use Rattle.sound_hosts.specs.Opening.{new_book, with_book}
 use Rattle.sound_hosts.specs.Sound.{IsHostSound}
 use Rattle.slow_rounds.specs.Opening.{IsOpening, reheld_as}
+use Rattle.slow_rounds.specs.Rests.{IsCounted}
 use Rattle.slow_rounds.proofs.Opens.{free, opened_made}
 
 -- ----- a connect
@@ -44,6 +45,7 @@ module _ (numbers : Numbers) (h : CoreHost) (tick app : ℕ) (tuple : FourTuple)
   pub opening_moves : MayMove (host_of h) (Opens id.slot tuple app)
       × (host_of (with_book (new_book id (Application app)) w h)
       ≡ moved numbers tick (host_of h) (Opens id.slot tuple app))
+      × (IsCounted h → IsCounted (with_book (new_book id (Application app)) w h))
   opening_moves = (
     free h sound few id opening.opened.0,
     opened_made h sound few id opening.opened.0 (Application app) history
@@ -53,6 +55,8 @@ module _ (numbers : Numbers) (h : CoreHost) (tick app : ℕ) (tuple : FourTuple)
         (ap (λ (x : Worker). x.log) opening.rest)
         ∙ ap (λ n. opened_in (host_of h) id.slot tuple (Application app)
         (first_entry (App app) tick (calls.Connect (record { 0 = n })))) number,
+    λ counted. ap (λ (o : Opener). o.pass.view.opened) opening.opened.1
+        ∙ (ap (λ n. n + 1) counted ∙ sym (length-append h.books (new_book id (Application app) ∷ []))),
   )
 
 -- ----- holders

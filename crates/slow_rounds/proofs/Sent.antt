@@ -20,6 +20,7 @@ use Rattle.flow_lock.specs.declared.view.View.{View}
 use Rattle.app_reaper.specs.OneCall.{history, history_with}
 use Rattle.core_phase.specs.Deeds.{IsSend, KeepsColumn}
 use Rattle.flow_clock.specs.Histories.{endpoint_of, is_over, is_running, is_running_in}
+use Rattle.flow_clock.proofs.Keeping.{after_use}
 use Rattle.host_books.specs.Books.{Book}
 use Rattle.host_books.proofs.Indexing.{is_same_flow}
 use Rattle.sound_hosts.specs.Hosts.{CoreHost, known_in}
@@ -32,6 +33,7 @@ use Rattle.sound_hosts.proofs.OneFlow.{used_leads, words_same}
 use Rattle.sound_hosts.proofs.Reheld.{StaysWaiting, waiting_same}
 use Rattle.sound_turns.proofs.Steps.{same_led}
 use Rattle.sound_turns.proofs.Sweeps.{base_leads}
+use Rattle.slow_rounds.specs.Rests.{IsCounted}
 use Rattle.slow_rounds.specs.Sending.{IsSent, AreSent, with_view}
 
 -- ----- histories
@@ -71,6 +73,7 @@ module _ (sends_keep : (core t : ℕ) (d : Deed) → IsSend core t d → KeepsCo
     pub on : IsMovedOn h w
     pub words : (slot : ℕ) → word_at w.words slot ≡ word_at h.slow.pass.view.words slot
     pub columns : (f : FlowId) → column_in f w.base ≡ column_in f (known_in h)
+    pub opened : w.opened ≡ h.slow.pass.view.opened
 
   begun : IsStill h.slow.pass.view
   begun = record {
@@ -85,6 +88,7 @@ module _ (sends_keep : (core t : ℕ) (d : Deed) → IsSend core t d → KeepsCo
     };
     words = λ slot. refl;
     columns = λ f. refl;
+    opened = refl;
   }
 
   -- ----- one segment
@@ -140,6 +144,7 @@ module _ (sends_keep : (core t : ℕ) (d : Deed) → IsSend core t d → KeepsCo
       };
       words = λ slot. led.words slot ∙ still.words slot;
       columns = λ f. columns f ∙ still.columns f;
+      opened = (after_use id sent.flow after v w sent.given).opened ∙ still.opened;
     }
 
   -- ----- all of them
@@ -168,5 +173,8 @@ module _ (sends_keep : (core t : ℕ) (d : Deed) → IsSend core t d → KeepsCo
         (sound.opening.flows ∙ sym (waiting_same (known_in h) w.base h.books (stay h.books)))
         (words_same h.slow.pass.view w still.words h.books sound.table.words) (all_right h sound).taken
 
-  pub sent_sound : (ids : List FlowId) (w : View) → AreSent tick ids h.slow.pass.view w → IsHostSound (with_view w h)
-  sent_sound ids w sent = still_sound w (all_still ids h.slow.pass.view w begun sent)
+  pub sent_sound : (ids : List FlowId) (w : View) → AreSent tick ids h.slow.pass.view w
+      → IsHostSound (with_view w h) × (IsCounted h → IsCounted (with_view w h))
+  sent_sound ids w sent =
+      let still : IsStill w = all_still ids h.slow.pass.view w begun sent in
+      (still_sound w still, λ counted. still.opened ∙ counted)

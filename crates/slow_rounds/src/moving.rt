@@ -23,9 +23,10 @@ ghost use Rattle.sound_hosts.specs.Opening.{new_book, with_book};
 ghost use Rattle.sound_hosts.specs.Sound.{IsHostSound};
 ghost use Rattle.slow_rounds.specs.Aborting.{aborted_in, given_up_by, left_alone};
 ghost use Rattle.slow_rounds.specs.Opening.{IsOpening, reheld_as};
+ghost use Rattle.slow_rounds.specs.Rests.{IsCounted};
 
 /// A flow that an application opened alone, with what [`App::connect`] says of one that it opened, is one that a run's
-/// connect opens, where its first number is the run's.
+/// connect opens, where its first number is the run's. The slow path counts it.
 ///
 /// [`App::connect`]: libtas_sockets::App::connect
 pub fn opened_flows_are_moves()
@@ -34,7 +35,8 @@ pub fn opened_flows_are_moves()
         → iss.0 ≡ next_number numbers (host_of h) tuple
         → MayMove (host_of h) (Opens id.slot tuple app)
         × (host_of (with_book (new_book id (Application app)) w h)
-        ≡ moved numbers tick (host_of h) (Opens id.slot tuple app)) }
+        ≡ moved numbers tick (host_of h) (Opens id.slot tuple app))
+        × (IsCounted h → IsCounted (with_book (new_book id (Application app)) w h)) }
 {}
 
 /// Where the socket of a flow changes hands in the books, it does so in a run.

@@ -9,6 +9,7 @@ ghost use Rattle.host_books.specs.Books.{Setting, host_of};
 ghost use Rattle.host_books.specs.Indexes.{AreIndexed};
 ghost use Rattle.sound_hosts.specs.Hosts.{CoreHost};
 ghost use Rattle.sound_hosts.specs.Sound.{IsHostSound};
+ghost use Rattle.slow_rounds.specs.Rests.{IsCounted};
 ghost use Rattle.slow_rounds.specs.Sending.{AreSent, IsSilent, with_view};
 
 use core_phase::deeds_leave_the_column;
@@ -24,10 +25,12 @@ pub fn emissions_alone_are_emit_phases()
         → IsAlone w × AreIndexed s.books w.base × (host_of s w.base ≡ emit_phase tick (host_of s v.base)) }
 {}
 
-/// A host is sound still after segments were sent so: each leaves its flow opening or running as it was.
+/// A host is sound still after segments were sent so, and counts its flows if it did: each segment leaves its flow
+/// opening or running as it was.
 pub fn emissions_alone_keep_it()
     ensures { (h : CoreHost) (tick : ℕ) (ids : List FlowId) (w : View) → IsHostSound h
-        → AreSent tick ids h.slow.pass.view w → IsHostSound (with_view w h) }
+        → AreSent tick ids h.slow.pass.view w
+        → IsHostSound (with_view w h) × (IsCounted h → IsCounted (with_view w h)) }
 {
     deeds_leave_the_column();
 }
