@@ -36,7 +36,7 @@ use Rattle.core_phase.specs.Words.{arrival_of, packet_by, frame_word, send_word,
 use Rattle.core_phase.proofs.Fast.{common_at, common_open}
 
 -- what a packet carries that spells a segment
-carries : (f : Frame) (s : Segment) (check : Bool) → refusal check f.packet ≡ None → IsText f.packet s
+pub carries : (f : Frame) (s : Segment) (check : Bool) → refusal check f.packet ≡ None → IsText f.packet s
     → (arrival_of check f).packet ≡ Carries (tuple_of s) (seg_of s)
 carries f s check reads t =
     ap (λ (o : Option Refused). packet_by o f.packet) reads

@@ -24,7 +24,8 @@ pub alike : (t u : FourTuple) → is_same u t ≡ same_tuple t u
 alike t u = grind (arith, nat_tests)
 
 -- what the list has of one more book
-one_more : (known : List Held) (t : FourTuple) (b : Book) (bs : List Book) → is_indexed_as t (live_in known b) ≡ false
+pub one_more : (known : List Held) (t : FourTuple) (b : Book) (bs : List Book)
+    → is_indexed_as t (live_in known b) ≡ false
     → flow_with t (flows_in known (b ∷ bs)) ≡ flow_with t (flows_in known bs)
 one_more known t b bs not_ = by_indexed b.indexed refl not_
   where

@@ -134,7 +134,7 @@ module _ (h : CoreHost) (xs : List Book) (b : Book) (cs : List Book) (tried left
   not_filed true plain = absurd (true≢false (sym is ∙ plain refl))
   not_filed false plain = refl
 
-  stands : b.filed ≡ false
+  pub stands : b.filed ≡ false
   stands = not_filed b.filed (middle IsPlain xs b cs p.tabled.plain)
 
   is_known : history was.flow ≡ known_of b.id l.view.base
@@ -155,7 +155,7 @@ module _ (h : CoreHost) (xs : List Book) (b : Book) (cs : List Book) (tried left
   over : is_over (known_of b.id was.found.base) ≡ true
   over = (leads b.id).over (ap is_over (sym is_known) ∙ was.over)
 
-  base : m.view.base ≡ was.found.base
+  pub base : m.view.base ≡ was.found.base
   base = same_base h xs b cs was.found m.view was.swept.swept tabled stands over was.swept.sweep
 
   tuple : was.flow.tuple ≡ tuple_of was.found.base b
@@ -185,7 +185,7 @@ module _ (h : CoreHost) (xs : List Book) (b : Book) (cs : List Book) (tried left
       ∙ ap (λ x. h.slow.index.published ++ x)
       (ap (λ t. l.changes ++ Remove t ∷ []) (sym tuple) ∙ sym was.left)
 
-  closed_at : IsPassing h (xs ++ swept_book b ∷ cs) tried left m
+  pub closed_at : IsPassing h (xs ++ swept_book b ∷ cs) tried left m
   closed_at = record {
     tabled = swept_tabled h xs b cs was.found m.view was.swept.swept tabled stands over was.swept.sweep;
     pins = ap (λ x. x ++ left) was.gone

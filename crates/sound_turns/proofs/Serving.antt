@@ -4,6 +4,7 @@ use Rattle.std.proofs.Common.{sym}
 use Rattle.std.proofs.Common.{ap, ◌∙◌, subst, arith, append-nil, append_assoc, length-append, if◌then◌else◌}
 use Rattle.std.proofs.lemmas.List.{length-map}
 use Rattle.std.specs.Prelude.{Option, Some, None}
+use Rattle.tas_num.specs.declared.seq.Seq.{Seq}
 use Rattle.segment_fields.specs.declared.segment.Segment.{Segment}
 use Rattle.segment_fields.specs.declared.segment.Refused.{Refused}
 use Rattle.segment_fields.specs.Refusals.{number_of}
@@ -15,6 +16,7 @@ use Rattle.host_rounds.specs.Deliveries.{opens}
 use Rattle.host_rounds.specs.declared.log.LogLine.{LogLine}
 use Rattle.host_rounds.proofs.Lists.{map_append}
 use Rattle.flow_lock.specs.Answers.{next_in}
+use Rattle.slow_handshake.specs.Numbers.{FirstNumbers}
 use Rattle.slow_handshake.specs.Openings.{Openings, syn_answer}
 use Rattle.slow_handshake.specs.declared.openings.SynAnswer.{SynAnswer}
 use Rattle.slow_handshake.specs.declared.openings.SynAnswer.TheVariants as syn
@@ -38,7 +40,7 @@ use Rattle.sound_hosts.proofs.Frames.{frame_sound}
 use Rattle.sound_hosts.proofs.Numbers.{next_slot}
 use Rattle.sound_hosts.proofs.OpenedHosts.{opened_sound}
 use Rattle.sound_hosts.proofs.Told.{told_params}
-use Rattle.sound_turns.specs.Serving.{quiet, without_frames, syn_book, books_opened, with_opened, IsLike}
+use Rattle.sound_turns.specs.Serving.{quiet, without_frames, syn_book, ids_of, books_opened, with_opened, IsLike}
 
 -- ----- a worker that is the same but for what soundness doesn't read
 pub like_sound : (h : CoreHost) (v w : Worker) → IsHostSound (with_slow v h) → IsLike v w → waiting w ≡ []
@@ -70,7 +72,7 @@ like_sound h v w sound like none =
 
 -- ----- one frame
 -- the host with this sight of its slow path, and these flows opened
-abbrev At : CoreHost → Worker → List Book → Sight → CoreHost
+abbrev pub At : CoreHost → Worker → List Book → Sight → CoreHost
 At h v books s = record h { slow = with_sight s v; books = books }
 
 -- what a frame leaves: no flow more, or one
@@ -78,6 +80,7 @@ pub record IsServedSound (h : CoreHost) (v : Worker) (books : List Book) (m : Si
     (f : PassedFrame) : Type 0 where
   pub ids : List FlowId
   pub few : length ids ≤ 1
+  pub named : ids ≡ ids_of a
   pub kept : kept_of f a ≡ []
   pub sound : IsHostSound (At h v (books_opened ids books) m)
 
@@ -86,11 +89,16 @@ module _ (h : CoreHost) (v : Worker) (books : List Book) (at : Setting) (f : Pas
   abbrev Done : Type 0
   Done = IsServedSound h v books m a f
 
-  none_more : kept_of f a ≡ [] → IsHostSound (At h v books m) → Done
-  none_more kept done = record {
+  -- the frame waits no more, and opened no flow
+  abbrev IsPast : Type 0
+  IsPast = (kept_of f a ≡ []) × (ids_of a ≡ [])
+
+  none_more : IsPast → IsHostSound (At h v books m) → Done
+  none_more past done = record {
     ids = [];
     few = omega arith;
-    kept = kept;
+    named = sym past.1;
+    kept = past.0;
     sound = subst (λ (bs : List Book). IsHostSound (At h v bs m)) (sym (append-nil books)) done;
   }
 
@@ -100,11 +108,15 @@ module _ (h : CoreHost) (v : Worker) (books : List Book) (at : Setting) (f : Pas
       subst (λ (x : Sight). IsHostSound (At h v books x)) (sym e)
       (like_sound (At h v books s) (with_sight s v) (with_sight (record s { log = log }) v) sound refl sound.waiting)
 
-  answered : (b : Served) → a ≡ b → kept_of f b ≡ [] → kept_of f a ≡ []
-  answered b e k = ap (kept_of f) e ∙ k
+  answered : (b : Served) → a ≡ b → (kept_of f b ≡ []) × (ids_of b ≡ []) → IsPast
+  answered b e k = (ap (kept_of f) e ∙ k.0, ap ids_of e ∙ k.1)
+
+  -- the first number of a flow that the segment opens
+  abbrev iss : Segment → Seq
+  iss seg = at.numbers (tuple_of seg) s.pass.view.opened
 
   met : (seg : Segment) → flow_with (tuple_of seg) s.flows ≡ None → (o : Option SynAnswer) → asked_of s.path seg ≡ o
-      → IsMet o at.tick f.frame.id seg s m a → Done
+      → IsMet o at.numbers at.tick f.frame.id seg s m a → Done
   met seg apart (Some syn.Opens) asked is = by (next_in s.pass.view.marks) refl is
     where
       answer : (b : Bool) → (if b then Some (syn_answer s.path seg.dport) else None) ≡ Some syn.Opens
@@ -112,13 +124,15 @@ module _ (h : CoreHost) (v : Worker) (books : List Book) (at : Setting) (f : Pas
       answer true e = cc (e)
       answer false e = absurd (cc (e))
 
-      by : (o : Option FlowId) → next_in s.pass.view.marks ≡ o → IsOpenedIn o at.tick f.frame.id seg s m a → Done
-      by None e (is, line) = none_more (answered (served.Dropped false) is refl) (lined _ line)
+      by : (o : Option FlowId) → next_in s.pass.view.marks ≡ o
+          → IsOpenedIn o at.numbers at.tick f.frame.id seg s m a → Done
+      by None e (is, line) = none_more (answered (served.Dropped false) is (refl, refl)) (lined _ line)
       by (Some id) e (is, opened) = record {
         ids = id ∷ [];
         few = omega arith;
-        kept = answered (served.Opened id) is refl;
-        sound = opened_sound (At h v books s) (with_sight m v) at.tick f.frame.id seg id sound e apart few
+        named = sym (ap ids_of is);
+        kept = ap (kept_of f) is;
+        sound = opened_sound (At h v books s) (with_sight m v) at.tick (iss seg) f.frame.id seg id sound e apart few
             (answer (opens (seg_of seg)) asked) opened refl still;
       }
         where
@@ -131,8 +145,8 @@ module _ (h : CoreHost) (v : Worker) (books : List Book) (at : Setting) (f : Pas
 
           still : IsSound h.table m
           still = (
-            opened_kept h.table id id (first_history at.tick f.frame.id seg s.path) s.pass m.pass m.doomed s.pins m.pins
-                s.flows m.flows (record { tuple = tuple_of seg; id = id }) e
+            opened_kept h.table id id (first_history at.tick (iss seg) f.frame.id seg s.path) s.pass m.pass m.doomed
+                s.pins m.pins s.flows m.flows (record { tuple = tuple_of seg; id = id }) e
                 near
                 refl refl (ap (λ (x : Sight). x.pass) opened.after)
                 (ap (λ (x : Sight). x.pins) opened.after) (ap (λ (x : Sight). x.flows) opened.after)
@@ -142,13 +156,14 @@ module _ (h : CoreHost) (v : Worker) (books : List Book) (at : Setting) (f : Pas
             subst InRange (sym (ap (λ (x : Sight). x.path.params) opened.after)) sound.sound.1,
           )
   met seg apart (Some (syn.BacklogFull n)) asked (is, line) =
-      none_more (answered (served.Dropped true) is refl) (lined _ line)
-  met seg apart (Some syn.NoListener) asked (is, line) = none_more (answered served.Stray is refl) (lined _ line)
-  met seg apart None asked (is, line) = none_more (answered served.Stray is refl) (lined _ line)
+      none_more (answered (served.Dropped true) is (refl, refl)) (lined _ line)
+  met seg apart (Some syn.NoListener) asked (is, line) =
+      none_more (answered served.Stray is (refl, refl)) (lined _ line)
+  met seg apart None asked (is, line) = none_more (answered served.Stray is (refl, refl)) (lined _ line)
 
   entered : (seg : Segment) (id : FlowId) (b : Served) → a ≡ b → IsEntered at f.frame.id seg id s m b → Done
   entered seg id (served.Entered g) e is =
-      none_more (answered (served.Entered g) e refl)
+      none_more (answered (served.Entered g) e (refl, refl))
       (frame_sound (At h v books s) (with_sight m v) at f.frame.id seg id sound is.entered.1 is.after refl still)
     where
       still : IsSound h.table m
@@ -173,10 +188,11 @@ module _ (h : CoreHost) (v : Worker) (books : List Book) (at : Setting) (f : Pas
   taken seg None e is = met seg e (asked_of s.path seg) refl is
 
   by_reading : (o : Option Refused) → IsServedBy o at f.frame.id f.frame.packet s m a → Done
-  by_reading (Some r) (is, line) = none_more (answered (served.Refused (number_of r)) is refl) (lined _ line)
+  by_reading (Some r) (is, line) =
+      none_more (answered (served.Refused (number_of r)) is (refl, refl)) (lined _ line)
   by_reading None (seg, text, is) = taken seg (flow_with (tuple_of seg) s.flows) refl is
 
-  one_served : IsOneServed at f s m a → Done
+  pub one_served : IsOneServed at f s m a → Done
   one_served is = by_reading (refusal at.check_sums f.frame.packet) is
 
 -- ----- all frames
@@ -234,12 +250,12 @@ pub record AreFramesServed (h : CoreHost) (w : Worker) : Type 0 where
   pub few : length ids ≤ length (waiting h.slow)
   pub sound : IsHostSound (with_opened ids w h)
 
-pub frames_sound : (h : CoreHost) (c : cores.Common) (tick : ℕ) (w : Worker) → IsHostSound (without_frames h)
-    → length h.books + length (waiting h.slow) < 4294967295 → IsAllServed c tick h.slow w → AreFramesServed h w
-frames_sound h c tick w sound few all =
-    let r = all_served h (quiet h.slow) (setting_of c tick h.slow) (waiting h.slow) h.books (sight_of h.slow)
-    (sight_of w)
-    w.deferred.list sound few all.served in
+pub frames_sound : (h : CoreHost) (ns : FirstNumbers) (c : cores.Common) (tick : ℕ) (w : Worker)
+    → IsHostSound (without_frames h) → length h.books + length (waiting h.slow) < 4294967295
+    → IsAllServed ns c tick h.slow w → AreFramesServed h w
+frames_sound h ns c tick w sound few all =
+    let r = all_served h (quiet h.slow) (setting_of ns c tick h.slow) (waiting h.slow) h.books (sight_of h.slow)
+    (sight_of w) w.deferred.list sound few all.served in
     record {
       ids = r.ids;
       few = r.few;

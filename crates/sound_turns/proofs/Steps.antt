@@ -207,13 +207,13 @@ module _ (h : CoreHost) (xs : List Book) (b : Book) (cs : List Book) (tried left
   gone : b.indexed ≡ false
   gone = not_true b.indexed (and_both (not b.indexed) (not b.filed) doomed).0
 
-  stands : b.filed ≡ false
+  pub stands : b.filed ≡ false
   stands = not_true b.filed (and_both (not b.indexed) (not b.filed) doomed).1
 
-  over : is_over (known_of b.id l.view.base) ≡ true
+  pub over : is_over (known_of b.id l.view.base) ≡ true
   over = middle (IsFindable l.view.base) xs b cs p.tabled.indexed.running gone
 
-  base : m.view.base ≡ l.view.base
+  pub base : m.view.base ≡ l.view.base
   base = same_base h xs b cs l.view m.view was.swept.swept p.tabled stands over was.swept.sweep
 
   lists : IsPermutation (tried ++ m.doomed) (names is_doomed (xs ++ swept_book b ∷ cs))
@@ -235,7 +235,7 @@ module _ (h : CoreHost) (xs : List Book) (b : Book) (cs : List Book) (tried left
         ∙ e);
   }
 
-  again_at : IsPassing h (xs ++ swept_book b ∷ cs) tried left m
+  pub again_at : IsPassing h (xs ++ swept_book b ∷ cs) tried left m
   again_at = record {
     tabled = swept_tabled h xs b cs l.view m.view was.swept.swept p.tabled stands over was.swept.sweep;
     pins = ap (λ (x : Ledger). x.pins ++ left) was.rest

@@ -59,54 +59,57 @@ module _ (h : CoreHost) where
 -- ----- the whole time
 module _ (h : CoreHost) (tick : ℕ) (w : Worker) (sound : IsHostSound h) (passed : IsTimePassed tick h.slow w)
     (kept : IsSound h.table (sight_of w)) where
-  abbrev first : Ledger
+  abbrev pub first : Ledger
   first = record (ledger_of h.slow h.slow.index.pending) { doomed = [] }
 
+  pub begun : IsPassing h h.books h.slow.doomed [] first
+  begun = record {
+    tabled = record {
+      alone = sound.alone;
+      slow_pass = sound.slow_pass;
+      wide = sound.wide;
+      tuples = λ f. refl;
+      swept = swept_same h.books;
+      numbered = sound.numbered;
+      plain = sound.plain;
+      indexed = sound.indexed;
+      slots = sound.table;
+      marked = stand_marked h sound;
+      apps = sound.apps;
+      holders = sound.holders;
+    };
+    pins = append-nil h.slow.pins ∙ sound.kept.pins;
+    doomed = subst (λ l. IsPermutation l (names is_doomed h.books)) (sym (append-nil h.slow.doomed))
+        sound.kept.doomed;
+    filed = sound.kept.filed;
+    waiting = sound.opening.flows;
+    path = refl;
+    shown = subst (AreShown h.books (known_in h))
+        (sym (ap (λ l. h.slow.index.published ++ l) sound.shown.pending ∙ append-nil h.slow.index.published))
+        sound.shown.shown;
+  }
+
   starts : Passes h h.slow.doomed [] first
-  starts = (
-    h.books,
-    record {
-      tabled = record {
-        alone = sound.alone;
-        slow_pass = sound.slow_pass;
-        wide = sound.wide;
-        tuples = λ f. refl;
-        swept = swept_same h.books;
-        numbered = sound.numbered;
-        plain = sound.plain;
-        indexed = sound.indexed;
-        slots = sound.table;
-        marked = stand_marked h sound;
-        apps = sound.apps;
-        holders = sound.holders;
-      };
-      pins = append-nil h.slow.pins ∙ sound.kept.pins;
-      doomed = subst (λ l. IsPermutation l (names is_doomed h.books)) (sym (append-nil h.slow.doomed))
-          sound.kept.doomed;
-      filed = sound.kept.filed;
-      waiting = sound.opening.flows;
-      path = refl;
-      shown = subst (AreShown h.books (known_in h))
-          (sym (ap (λ l. h.slow.index.published ++ l) sound.shown.pending ∙ append-nil h.slow.index.published))
-          sound.shown.shown;
-    },
-  )
+  starts = (h.books, begun)
+
+  -- the pins from that place of the list on are still to have their time
+  pub from_place : (bs : List Book) (n : Ledger) → IsPassing h bs [] [] n
+      → IsPassing h bs [] (drop (served_in tick h.slow.time) n.pins)
+      (record n { pins = take (served_in tick h.slow.time) n.pins })
+  from_place bs n p = record {
+    tabled = p.tabled;
+    pins = take-append-drop (served_in tick h.slow.time) n.pins ∙ (sym (append-nil n.pins) ∙ p.pins);
+    doomed = p.doomed;
+    filed = p.filed;
+    waiting = p.waiting;
+    path = p.path;
+    shown = p.shown;
+  }
 
   turned : (n : Ledger) → Passes h [] [] n
       → Passes h [] (drop (served_in tick h.slow.time) n.pins)
       (record n { pins = take (served_in tick h.slow.time) n.pins })
-  turned n (bs, p) = (
-    bs,
-    record {
-      tabled = p.tabled;
-      pins = take-append-drop (served_in tick h.slow.time) n.pins ∙ (sym (append-nil n.pins) ∙ p.pins);
-      doomed = p.doomed;
-      filed = p.filed;
-      waiting = p.waiting;
-      path = p.path;
-      shown = p.shown;
-    },
-  )
+  turned n (bs, p) = (bs, from_place bs n p)
 
   ends : Passes h [] [] (ledger_of w passed.changes)
   ends =
@@ -141,7 +144,7 @@ module _ (h : CoreHost) (tick : ℕ) (w : Worker) (sound : IsHostSound h) (passe
     pins : w.pins ≡ names is_indexed cs
     pins = sym (append-nil w.pins) ∙ p.pins
 
-    params : w.path.params ≡ h.slow.path.params
+    pub params : w.path.params ≡ h.slow.path.params
     params = ap (λ (o : Openings). o.params) p.path
 
     unfixed : w.path.params.fixed ≡ false → h.slow.path.params.fixed ≡ false

@@ -2,6 +2,7 @@
 use Rattle.std.proofs.Common.{ℕ, ◌+◌, ◌<◌, ◌≤◌, List, length, true, false, sym, ap, ◌∙◌, subst}
 use Rattle.tas_model.specs.declared.entry.FlowId.{FlowId}
 use Rattle.core_worker.specs.Workers as cores
+use Rattle.slow_handshake.specs.Numbers.{FirstNumbers}
 use Rattle.slow_worker.specs.Turns.{IsTurn, AreKicksPosted}
 use Rattle.slow_worker.specs.Workers.{Worker, IsSound, sight_of, waiting}
 use Rattle.host_books.specs.Books.{Book}
@@ -13,7 +14,7 @@ use Rattle.sound_turns.proofs.Serving.{AreFramesServed, like_sound, frames_sound
 use Rattle.sound_turns.proofs.Times.{time_sound}
 
 -- the kicks are posted
-posted_like : (c : cores.Common) (m w : Worker) → AreKicksPosted c m w → IsLike m w
+pub posted_like : (c : cores.Common) (m w : Worker) → AreKicksPosted c m w → IsLike m w
 posted_like c m w posted =
     posted.rest
     ∙ (λ i. record m {
@@ -27,10 +28,10 @@ posted_like c m w posted =
       kickers = w.kickers;
     })
 
-pub first_sound : (h : CoreHost) (c : cores.Common) (tick : ℕ) (w : Worker) → IsHostSound h
-    → IsTurn false c tick h.slow w → IsSound h.table (sight_of w)
+pub first_sound : (h : CoreHost) (ns : FirstNumbers) (c : cores.Common) (tick : ℕ) (w : Worker) → IsHostSound h
+    → IsTurn false ns c tick h.slow w → IsSound h.table (sight_of w)
     → (books : List Book) × AreSwept h.books books × IsHostSound (with_books books w h)
-first_sound h c tick w sound (m, passed, posted) kept =
+first_sound h ns c tick w sound (m, passed, posted) kept =
     let t = time_sound h tick m sound passed
     (subst (λ (x : Worker). IsSound h.table (sight_of x)) posted.rest kept) in (
       t.0,
@@ -39,11 +40,12 @@ first_sound h c tick w sound (m, passed, posted) kept =
           (ap waiting posted.rest ∙ t.2.waiting),
     )
 
-pub later_sound : (h : CoreHost) (c : cores.Common) (tick : ℕ) (w : Worker) → IsHostSound (without_frames h)
-    → length h.books + length (waiting h.slow) < 4294967295 → IsTurn true c tick h.slow w
+pub later_sound : (h : CoreHost) (ns : FirstNumbers) (c : cores.Common) (tick : ℕ) (w : Worker)
+    → IsHostSound (without_frames h) → length h.books + length (waiting h.slow) < 4294967295
+    → IsTurn true ns c tick h.slow w
     → (ids : List FlowId) × (length ids ≤ length (waiting h.slow)) × IsHostSound (with_opened ids w h)
-later_sound h c tick w sound few (m, all, posted) =
-    let r : AreFramesServed h m = frames_sound h c tick m sound few all in (
+later_sound h ns c tick w sound few (m, all, posted) =
+    let r : AreFramesServed h m = frames_sound h ns c tick m sound few all in (
       r.ids,
       r.few,
       like_sound (with_opened r.ids m h) m w r.sound (posted_like c m w posted)

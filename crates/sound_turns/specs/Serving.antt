@@ -1,8 +1,10 @@
 -- The frames of a tick at the slow path: what becomes of the books, and a host whose frames aren't looked at.
-use Rattle.std.specs.Prelude.{◌≡◌, List, [], ◌++◌, map}
+use Rattle.std.specs.Prelude.{◌≡◌, List, [], ◌∷◌, ◌++◌, map}
 use Rattle.tas_model.specs.declared.entry.FlowId.{FlowId}
 use Rattle.host_rounds.specs.Hosts.{Waiting}
 use Rattle.slow_worker.specs.Workers.{Worker}
+use Rattle.slow_worker.specs.declared.served.Served.{Served}
+use Rattle.slow_worker.specs.declared.served.Served.TheVariants as served
 use Rattle.host_books.specs.Books.{Book}
 use Rattle.sound_hosts.specs.Hosts.{CoreHost}
 use Rattle.sound_hosts.specs.Moving.{with_slow}
@@ -22,6 +24,11 @@ without_frames h = with_slow (quiet h.slow) h
 -- the book of a flow that a SYN opened
 abbrev pub syn_book : FlowId → Book
 syn_book id = new_book id Waiting
+
+-- the flow that a frame opened, by its answer
+abbrev pub ids_of : Served → List FlowId
+ids_of (served.Opened id) = id ∷ []
+ids_of a = []
 
 -- the books with those of these flows behind them, which SYNs opened
 abbrev pub books_opened : List FlowId → List Book → List Book

@@ -2,6 +2,7 @@
 ghost use Rattle.std.specs.Prelude.{◌≡◌, ℕ, ◌+◌, ◌<◌, ◌≤◌, List, length, true, false};
 ghost use Rattle.tas_model.specs.declared.entry.FlowId.{FlowId};
 ghost use Rattle.core_worker.specs.Workers as cores;
+ghost use Rattle.slow_handshake.specs.Numbers.{FirstNumbers};
 ghost use Rattle.slow_worker.specs.Queues.{IsCollected};
 ghost use Rattle.slow_worker.specs.Turns.{IsTurn};
 ghost use Rattle.slow_worker.specs.Workers.{Worker, IsSound, sight_of, waiting};
@@ -18,8 +19,8 @@ ghost use Rattle.sound_turns.specs.Serving.{without_frames, with_opened};
 ///
 /// [`SlowWorker::turn`]: slow_worker::SlowWorker::turn
 pub fn first_turns_keep_it()
-    ensures { (h : CoreHost) (c : cores.Common) (tick : ℕ) (w : Worker) → IsHostSound h → IsTurn false c tick h.slow w
-        → IsSound h.table (sight_of w)
+    ensures { (h : CoreHost) (ns : FirstNumbers) (c : cores.Common) (tick : ℕ) (w : Worker) → IsHostSound h
+        → IsTurn false ns c tick h.slow w → IsSound h.table (sight_of w)
         → (books : List Book) × AreSwept h.books books × IsHostSound (with_books books w h) }
 {}
 
@@ -39,7 +40,8 @@ pub fn collected_frames_keep_it()
 ///
 /// [`SlowWorker::turn`]: slow_worker::SlowWorker::turn
 pub fn later_turns_keep_it()
-    ensures { (h : CoreHost) (c : cores.Common) (tick : ℕ) (w : Worker) → IsHostSound (without_frames h)
-        → length h.books + length (waiting h.slow) < 4294967295 → IsTurn true c tick h.slow w
+    ensures { (h : CoreHost) (ns : FirstNumbers) (c : cores.Common) (tick : ℕ) (w : Worker)
+        → IsHostSound (without_frames h) → length h.books + length (waiting h.slow) < 4294967295
+        → IsTurn true ns c tick h.slow w
         → (ids : List FlowId) × (length ids ≤ length (waiting h.slow)) × IsHostSound (with_opened ids w h) }
 {}

@@ -3,4 +3,4 @@ use Rattle.sound_turns.proofs.Whole.{first_sound}
 use Rattle.sound_turns.proofs.turns.first_turns_keep_it.Goals as goal
 
 pub returns : goal.returns
-returns c' h c tick w sound turn kept = first_sound h c tick w sound turn kept
+returns c' h ns c tick w sound turn kept = first_sound h ns c tick w sound turn kept

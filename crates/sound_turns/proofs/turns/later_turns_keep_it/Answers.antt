@@ -3,4 +3,4 @@ use Rattle.sound_turns.proofs.Whole.{later_sound}
 use Rattle.sound_turns.proofs.turns.later_turns_keep_it.Goals as goal
 
 pub returns : goal.returns
-returns c' h c tick w sound few turn = later_sound h c tick w sound few turn
+returns c' h ns c tick w sound few turn = later_sound h ns c tick w sound few turn

@@ -1,0 +1,7 @@
+-- Answers of the proof of moving/holders_are_moves.
+use Rattle.slow_rounds.proofs.Openings.{holder_moves}
+use Rattle.slow_rounds.proofs.moving.holders_are_moves.Goals as goal
+
+pub returns : goal.returns
+returns c numbers s known tick n id x at =
+    holder_moves numbers s known tick n id x at

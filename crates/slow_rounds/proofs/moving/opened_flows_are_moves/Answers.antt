@@ -1,0 +1,7 @@
+-- Answers of the proof of moving/opened_flows_are_moves.
+use Rattle.slow_rounds.proofs.Openings.{opening_moves}
+use Rattle.slow_rounds.proofs.moving.opened_flows_are_moves.Goals as goal
+
+pub returns : goal.returns
+returns c numbers h tick app tuple iss id w sound few opening number =
+    opening_moves numbers h tick app tuple iss id w sound few opening number
