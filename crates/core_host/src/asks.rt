@@ -27,16 +27,16 @@ impl<'a, R> Asking<'a, R> {
 }
 
 impl<R: Wait> AskedHost for Asking<'_, R> {
-    ghost use Rattle.core_host.specs.Views.{seen_by, has_app_by, has_socket_by};
+    ghost use Rattle.core_host.specs.Askings.{seen_in, has_app_in, has_socket_in};
 
-    ghost seen = { λ asking. seen_by asking.host.now };
+    ghost seen = { seen_in };
 
-    ghost has_app = { λ asking app. has_app_by asking.host.now app };
+    ghost has_app = { has_app_in };
 
-    ghost has_socket = { λ asking app place. has_socket_by asking.host.now app place };
+    ghost has_socket = { has_socket_in };
 
     fn is_listened(&self, port: u16) -> bool {
-        self.host.slow.path.listening(port)
+        self.host.is_listened(port)
     }
 
     fn listen(&mut self, app: u32, port: u16) -> Result<(), AllocError> {
@@ -55,23 +55,8 @@ impl<R: Wait> AskedHost for Asking<'_, R> {
         rport: u16,
         numbers: &N,
     ) -> Result<Connecting, AllocError> {
-        if self.host.slow.pass.next_flow().is_none() {
-            return Ok(Connecting::NoSlot);
-        }
-        let Ok(lport) = self.host.slow.path.next_port() else {
-            return Ok(Connecting::NoPort);
-        };
-        let tuple = FourTuple {
-            laddr: self.host.params.addr,
-            lport,
-            raddr,
-            rport,
-        };
-        let count = self.host.books.opened_as(&tuple);
-        let number = numbers.first_number(tuple, count, self.host.flow_count() as u32);
-        let place = self.host.connect(self.rt, app, tick, tuple, number)?;
-        self.host.slow.path.connected();
-        Ok(Connecting::Opened(place))
+        self.host
+            .connect_out(self.rt, app, tick, raddr, rport, numbers)
     }
 
     fn ask(
@@ -99,7 +84,7 @@ impl<R: Wait> AskedHost for Asking<'_, R> {
     }
 
     fn note(&mut self, tick: u32, event: LogEvent) -> Result<(), AllocError> {
-        self.host.slow.log.add(LogLine { tick, event })
+        self.host.note(tick, event)
     }
 }
 
@@ -110,6 +95,46 @@ impl CoreHost {
             unreachable!()
         };
         at
+    }
+
+    /// Whether an application listens on the port.
+    fn is_listened(&self, port: u16) -> bool {
+        self.slow.path.listening(port)
+    }
+
+    /// Appends a line to the log. The error is want of memory.
+    fn note(&mut self, tick: u32, event: LogEvent) -> Result<(), AllocError> {
+        self.slow.log.add(LogLine { tick, event })
+    }
+
+    /// The application connects to the port of a host: a flow is opened in the lowest free slot, from the next port,
+    /// with the first number that the source has for it. The error is want of memory.
+    fn connect_out<R: Wait, N: NumberSource>(
+        &mut self,
+        rt: &R,
+        app: u32,
+        tick: u32,
+        raddr: u32,
+        rport: u16,
+        numbers: &N,
+    ) -> Result<Connecting, AllocError> {
+        if self.slow.pass.next_flow().is_none() {
+            return Ok(Connecting::NoSlot);
+        }
+        let Ok(lport) = self.slow.path.next_port() else {
+            return Ok(Connecting::NoPort);
+        };
+        let tuple = FourTuple {
+            laddr: self.params.addr,
+            lport,
+            raddr,
+            rport,
+        };
+        let place = self.books.len();
+        let number = numbers.first_number(tuple, self.books.opened_as(&tuple), place as u32);
+        self.connect(rt, app, tick, tuple, number)?;
+        self.slow.path.connected();
+        Ok(Connecting::Opened(place))
     }
 
     /// The application listens on a port, which nobody does yet. The error is want of memory.
@@ -143,8 +168,8 @@ impl CoreHost {
         }
     }
 
-    /// The application opens the next flow, with these ends and this first number: its place. The slow path and the
-    /// application act in turns of their own, as both change the slot. The error is want of memory.
+    /// The application opens the next flow, with these ends and this first number. The slow path and the application act
+    /// in turns of their own, as both change the slot. The error is want of memory.
     fn connect<R: Wait>(
         &mut self,
         rt: &R,
@@ -152,7 +177,7 @@ impl CoreHost {
         tick: u32,
         tuple: FourTuple,
         number: Seq,
-    ) -> Result<usize, AllocError> {
+    ) -> Result<(), AllocError> {
         let at = self.own_lane(app);
         let table = &self.shared.table;
         let slow = &mut self.slow;
@@ -177,10 +202,8 @@ impl CoreHost {
         };
         let id = application.flow(socket);
         self.slow.know(rt, tuple, id)?;
-        let place = self.books.len();
         self.books
-            .open(Book::new(id, tuple, Holder::Application(app)))?;
-        Ok(place)
+            .open(Book::new(id, tuple, Holder::Application(app)))
     }
 
     /// The application makes a call on the socket of the flow at a place, which it keeps. The error is want of memory.

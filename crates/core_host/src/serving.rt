@@ -1,6 +1,6 @@
 //! What cores left is served by the slow path, alone.
 
-use crate::books::Book;
+use crate::books::{Book, Books};
 use crate::handing::Coming;
 use crate::host::CoreHost;
 use core_phase::Lane;
@@ -16,7 +16,7 @@ impl CoreHost {
     /// the way of. The error is want of memory.
     pub fn serve<R: Wait>(&mut self, rt: &R, tick: u32) -> Result<(), AllocError> {
         self.collect_cores()?;
-        let pins = self.slow.pins.len();
+        let pins = count_pins(&self.slow);
         self.slow.turn(rt, &*self.shared, tick)?;
         self.open_books(pins)
     }
@@ -28,7 +28,7 @@ impl CoreHost {
         tick: u32,
         frames: &[Coming<'_>],
     ) -> Result<(), AllocError> {
-        let pins = self.slow.pins.len();
+        let pins = count_pins(&self.slow);
         for frame in frames {
             let packet = Bytes::copy(self.alloc, frame.packet)?;
             self.slow.frame(rt, &*self.shared, tick, frame.id, &packet)?;
@@ -49,13 +49,28 @@ impl CoreHost {
     /// Each flow that was opened for a SYN has a book: those whose pins stand from this place on. The error is want of
     /// memory.
     fn open_books(&mut self, from: usize) -> Result<(), AllocError> {
-        for at in from..self.slow.pins.len() {
-            let id = self.slow.pins.pin(at).id();
-            let tuple = tuple_at(&*self.shared, &mut self.slow, at);
-            self.books.open(Book::new(id, tuple, Holder::Waiting))?;
+        for at in from..count_pins(&self.slow) {
+            open_book(&*self.shared, &mut self.slow, &mut self.books, at)?;
         }
         Ok(())
     }
+}
+
+/// How many flows the index has.
+pub(crate) fn count_pins(slow: &SlowWorker) -> usize {
+    slow.pins.len()
+}
+
+/// The flow whose pin stands at a place, and that was opened for a SYN, has a book. The error is want of memory.
+fn open_book(
+    shared: &Shared,
+    slow: &mut SlowWorker,
+    books: &mut Books,
+    at: usize,
+) -> Result<(), AllocError> {
+    let id = slow.pins.pin(at).id();
+    let tuple = tuple_at(shared, slow, at);
+    books.open(Book::new(id, tuple, Holder::Waiting))
 }
 
 /// The four-tuple of the flow whose pin stands at a place.

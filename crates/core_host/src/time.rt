@@ -4,7 +4,9 @@ ghost use Rattle.sound_hosts.specs.Sound.{IsHostSound};
 ghost use Rattle.slow_worker.specs.Clocks.{last_tick};
 ghost use Rattle.core_host.specs.Steps.{IsTimePassed};
 
+use crate::books::Books;
 use crate::host::CoreHost;
+use slow_worker::SlowWorker;
 use std::alloc::AllocError;
 use std::sync::Wait;
 
@@ -16,10 +18,20 @@ impl CoreHost {
         ensures { OnOk result (IsTimePassed tick self.old self.new) }
     {
         self.busy = 0;
-        let filed = self.slow.filed.len();
+        let filed = count_filed(&self.slow);
         self.slow.turn(rt, &*self.shared, tick)?;
-        self.books.keep(&self.slow.pins);
-        self.books.file(&self.slow.filed, filed);
+        keep_books(&mut self.books, &self.slow, filed);
         Ok(())
     }
+}
+
+/// How many records were filed.
+fn count_filed(slow: &SlowWorker) -> usize {
+    slow.filed.len()
+}
+
+/// The books are those of the slow path's lists, of which the records from this place on were filed just now.
+fn keep_books(books: &mut Books, slow: &SlowWorker, filed: usize) {
+    books.keep(&slow.pins);
+    books.file(&slow.filed, filed);
 }
