@@ -1,9 +1,10 @@
-ghost use Rattle.std.specs.Prelude.{◌≡◌, ◌<◌, ◌+◌, ◌==◌, false, [], OnOk};
+ghost use Rattle.std.specs.Prelude.{◌≡◌, ◌<◌, ◌+◌, ◌==◌, true, false, [], OnOk};
 ghost use Rattle.flow_state.specs.Calls.{call_of};
 ghost use Rattle.host_rounds.specs.Hosts.{first_port};
 ghost use Rattle.scenario_ranges.specs.Ranges.{IsStepInRange};
 ghost use Rattle.scenario_runs.specs.Applications.{bound_in, port_of, listens, accepts, refused, connects_on};
 ghost use Rattle.scenario_runs.specs.Applications.{done_or, on_socket, once, ends, waits_for, step_of, turn};
+ghost use Rattle.scenario_runs.specs.Applications.{is_killed_at, has_ended};
 ghost use Rattle.scenario_runs.specs.Worlds.{numbers_of, address_in};
 ghost use Rattle.tas_model.specs.declared.entry.Call.TheVariants as calls;
 ghost use Rattle.scenario_host.specs.Sound.{IsPart, AreNamesOf, IsFitFor};
@@ -22,7 +23,7 @@ use tas_core::LogEvent;
 
 impl<'a> AppScript<'a> {
     /// What the application asks in a tick: it is killed, or makes the call of its step; one that has ended asks
-    /// nothing. The error is want of memory.
+    /// nothing, and need not run on the host any more. The error is want of memory.
     #[inline(always)]
     pub fn take_turn<H: AskedHost>(
         &mut self,
@@ -33,7 +34,8 @@ impl<'a> AppScript<'a> {
         filling: &FillBytes,
     ) -> Result<(), AllocError>
         requires listens { (H.seen host.old).params.fixed ≡ false }
-        requires lives { H.has_app host.old self.old.number }
+        requires killed { is_killed_at tick self.old.kill ≡ true → H.has_app host.old self.old.number }
+        requires lives { has_ended self.old ≡ false → H.has_app host.old self.old.number }
         requires fit { IsFitFor (H.has_socket host.old self.old.number) self.old }
         ensures { OnOk result (turn_of (H.seen host.new) self.new
             ≡ turn (numbers_of numbers.now.params) (address_in hosts.now) tick (turn_of (H.seen host.old) self.old)) }
