@@ -168,8 +168,8 @@ impl CoreHost {
         }
     }
 
-    /// The application opens the next flow, with these ends and this first number. The slow path and the application act
-    /// in turns of their own, as both change the slot. The error is want of memory.
+    /// The application opens the next flow, with these ends and this first number. The slow path and the application
+    /// act in turns of their own, as both change the slot. The error is want of memory.
     fn connect<R: Wait>(
         &mut self,
         rt: &R,

@@ -1,4 +1,9 @@
 //! What a host keeps of each flow beside its record.
+ghost use Rattle.std.specs.Prelude.{◌≡◌, ℕ, ◌<◌, ◌++◌, ◌∷◌, [], true, false, length, map, slice_get, get_or, Some};
+ghost use Rattle.std.specs.Prelude.{OnOk};
+ghost use Rattle.std.specs.List.{filter};
+ghost use Rattle.host_rounds.specs.Lists.{change_at};
+ghost use Rattle.core_host.specs.Opened.{is_of_tuple, held_by};
 
 use app_reaper::{FiledList, PinList};
 use local_host::Holder;
@@ -19,7 +24,9 @@ pub(crate) struct Book {
 
 impl Book {
     /// The book of a flow that was opened just now.
-    pub(crate) fn new(id: FlowId, tuple: FourTuple, holder: Holder) -> Book {
+    pub(crate) fn new(id: FlowId, tuple: FourTuple, holder: Holder) -> Book
+        ensures { result ≡ record { id = id; tuple = tuple; indexed = true; holder = holder; filed = false } }
+    {
         Book {
             id,
             tuple,
@@ -40,24 +47,34 @@ pub(crate) struct Books {
 
 impl Books {
     /// No book. It takes no memory.
-    pub(crate) fn new(alloc: Global) -> Books {
+    pub(crate) fn new(alloc: Global) -> Books
+        ensures books { result.books.items ≡ [] }
+        ensures latest { result.latest.items ≡ [] }
+    {
         Books {
             books: Vec::new(alloc),
             latest: Vec::new(alloc),
         }
     }
 
-    pub(crate) fn len(&self) -> usize {
+    pub(crate) fn len(&self) -> usize
+        ensures { result ≡ length self.now.books.items }
+    {
         self.books.len()
     }
 
     /// The book of the flow at place `i`.
-    pub(crate) fn get(&self, i: usize) -> &Book {
+    pub(crate) fn get(&self, i: usize) -> &Book
+        requires { i < length self.now.books.items }
+        ensures { slice_get self.now.books.items i ≡ Some result.now }
+    {
         &self.books[i]
     }
 
     /// A flow more. The error is want of memory.
-    pub(crate) fn open(&mut self, book: Book) -> Result<(), AllocError> {
+    pub(crate) fn open(&mut self, book: Book) -> Result<(), AllocError>
+        ensures { OnOk result (self.new.books.items ≡ self.old.books.items ++ book ∷ []) }
+    {
         let slot = book.id.slot as usize;
         if self.latest.len() <= slot {
             self.latest.resize(slot + 1, 0)?;
@@ -68,17 +85,26 @@ impl Books {
     }
 
     /// The place of the flow that was opened last in a slot that had one.
-    pub(crate) fn place_in(&self, slot: u32) -> usize {
+    pub(crate) fn place_in(&self, slot: u32) -> usize
+        requires { slot < length self.now.latest.items }
+        ensures { result ≡ get_or self.now.latest.items slot 0 }
+    {
         self.latest[slot as usize]
     }
 
     /// The socket of the flow at place `i` changes hands.
-    pub(crate) fn hold(&mut self, i: usize, holder: Holder) {
+    pub(crate) fn hold(&mut self, i: usize, holder: Holder)
+        requires { i < length self.old.books.items }
+        ensures books { self.new.books.items ≡ change_at i (held_by holder) self.old.books.items }
+        ensures latest { self.new.latest ≡ self.old.latest }
+    {
         self.books[i].holder = holder;
     }
 
     /// How many flows of this four-tuple were opened.
-    pub(crate) fn opened_as(&self, tuple: &FourTuple) -> usize {
+    pub(crate) fn opened_as(&self, tuple: &FourTuple) -> usize
+        ensures { result ≡ length (filter (is_of_tuple tuple.now) self.now.books.items) }
+    {
         self.books
             .iter()
             .filter(|book| book.tuple == *tuple)
