@@ -17,7 +17,7 @@ use Rattle.tas_model.specs.declared.entry.Entry.{Entry}
 use Rattle.tas_model.specs.declared.entry.HostParams.{HostParams}
 use Rattle.tas_model.specs.Endpoint.{Endpoint, phase, unread, send_room, next_place, wnd}
 use Rattle.tas_model.specs.Segments.{Outcome, bare, ack_head, acks, stray_reply, resets, is_rst, is_ack, is_syn}
-use Rattle.tas_model.specs.Segments.{seg_len}
+use Rattle.tas_model.specs.Segments.{offered_window, seg_len}
 use Rattle.tas_model.specs.Receive.{rx, rx_in, rx_later, rx_syn_sent, connected, by_verdict, verdict, Verdict, Dropped}
 use Rattle.tas_model.specs.Receive.{Answered, Reset, BareAck, Taken, AckVerdict, Stray, TooFar, Good, taken, bare_ack}
 use Rattle.tas_model.specs.Receive.{after_ack, after_data, place_of_ack, is_heard}
@@ -92,7 +92,7 @@ module _ (P : (b e : Endpoint) → Seg → Type 0) (shows : Shows P) where
   taken_shows e tick q seg Stray = reset_shows e e _ refl refl
   taken_shows e tick q seg TooFar = ack_shows e e
   taken_shows e tick q seg Good =
-      let after : Endpoint = after_data (after_ack e tick (place_of_ack e seg) q (seg_len seg) seg.head.window) tick
+      let after : Endpoint = after_data (after_ack e tick (place_of_ack e seg) q (seg_len seg) (offered_window e.scaling seg)) tick
       (wnd e) q seg in
       on_cond (Shown e after) (is_heard seg) (acks after) replies.Nothing (λ t. ack_shows e after) (λ f. tt)
 
@@ -100,7 +100,7 @@ module _ (P : (b e : Endpoint) → Seg → Type 0) (shows : Shows P) where
   bare_shows e tick seg Stray = reset_shows e e _ refl refl
   bare_shows e tick seg TooFar = ack_shows e e
   bare_shows e tick seg Good =
-      ack_shows e (after_ack e tick (place_of_ack e seg) (next_place e.rx) (seg_len seg) seg.head.window)
+      ack_shows e (after_ack e tick (place_of_ack e seg) (next_place e.rx) (seg_len seg) (offered_window e.scaling seg))
 
   verdict_shows : (e : Endpoint) (tick : ℕ) (seg : Seg) (d : Verdict) → R e (by_verdict e tick seg d)
   verdict_shows e tick seg Dropped = tt

@@ -14,7 +14,7 @@ use Rattle.tas_model.specs.Valid.{Valid}
 pub record Moves (fill paid : ℕ) (e : Endpoint) (o : Outcome) : Type 0 where
   pub una : o.state.tx.una ≤ e.tx.max
   pub read : o.state.rx.read ≤ max e.rx.read (length e.rx.got)
-  pub wl1 : o.state.tx.wl1 ≤ max e.tx.wl1 (next_place e.rx + 65535)
+  pub wl1 : o.state.tx.wl1 ≤ max e.tx.wl1 (next_place e.rx + 1048576)
   pub wl2 : o.state.tx.wl2 ≤ max e.tx.wl2 e.tx.max
   pub iss : o.state.iss ≡ e.iss
   pub shut : e.tx.shut ≡ true → (o.state.tx.shut ≡ true) × (taken_bytes o.reply ≡ [])

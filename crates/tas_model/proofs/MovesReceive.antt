@@ -16,7 +16,7 @@ use Rattle.tas_model.specs.declared.entry.Seg.{Seg}
 use Rattle.tas_model.specs.declared.entry.Reply.{Reply}
 use Rattle.tas_model.specs.declared.entry.Reply.TheVariants as replies
 use Rattle.tas_model.specs.Endpoint.{Endpoint, Sending, Receiving, Rate, Island, phase, next_place, wnd, uncounted}
-use Rattle.tas_model.specs.Segments.{seg_len, is_fin, is_ack, is_rst, is_syn, acks, resets, stray_reply}
+use Rattle.tas_model.specs.Segments.{offered_window, seg_len, is_fin, is_ack, is_rst, is_syn, acks, resets, stray_reply}
 use Rattle.tas_model.specs.Reassembly.{bridged, grown, with_part, with_data, kept_apart, trimmed}
 use Rattle.tas_model.specs.Receive.{takes_fin, ack_verdict, AckVerdict, Stray, TooFar, Good, Verdict, Dropped, Answered}
 use Rattle.tas_model.specs.Receive.{Reset, BareAck, Taken, after_ack, after_data, taken, bare_ack, by_verdict, verdict}
@@ -84,7 +84,7 @@ record Hears (e x : Endpoint) : Type 0 where
   pub shut : x.tx.shut ≡ e.tx.shut
   pub out : x.tx.out ≡ e.tx.out
   pub una : x.tx.una ≤ e.tx.max
-  pub wl1 : x.tx.wl1 ≤ max e.tx.wl1 (next_place e.rx + 65535)
+  pub wl1 : x.tx.wl1 ≤ max e.tx.wl1 (next_place e.rx + 1048576)
   pub wl2 : x.tx.wl2 ≤ max e.tx.wl2 e.tx.max
   pub rx : Receives e.rx x.rx
   pub peer : x.peer ≡ e.peer
@@ -108,7 +108,7 @@ moves_heard e x reply v h silent = record {
     same_read = ap (λ (n : ℕ). take n x.rx.got) h.rx.read
         ∙ (ap (take e.rx.read) h.rx.got.1 ∙ take-append-le e.rx.read e.rx.got h.rx.got.0 v.rx.read)
 
-ack_hears : (e : Endpoint) (tick a q len window : ℕ) → Valid e → ack_verdict e.tx a ≡ Good → q ≤ next_place e.rx + 65535
+ack_hears : (e : Endpoint) (tick a q len window : ℕ) → Valid e → ack_verdict e.tx a ≡ Good → q ≤ next_place e.rx + 1048576
     → Hears e (after_ack e tick a q len window)
 ack_hears e tick a q len window v good near =
     let most : a ≤ e.tx.max = good_tells e.tx a good in
@@ -163,15 +163,15 @@ heard_silent e true = (refl, refl)
 heard_silent e false = (refl, refl)
 
 taken_moves : (e : Endpoint) (tick q : ℕ) (seg : Seg) (a : AckVerdict) → Valid e
-    → ack_verdict e.tx (place_of_ack e seg) ≡ a → q ≤ next_place e.rx + 65535 → Moves 0 0 e (taken e tick q seg a)
+    → ack_verdict e.tx (place_of_ack e seg) ≡ a → q ≤ next_place e.rx + 1048576 → Moves 0 0 e (taken e tick q seg a)
 taken_moves e tick q seg Stray v is near = moves_nothing e (resets seg.head.ack) v (refl, refl)
 taken_moves e tick q seg TooFar v is near = moves_nothing e (acks e) v (refl, refl)
 taken_moves e tick q seg Good v is near =
-    let acked : Endpoint = after_ack e tick (place_of_ack e seg) q (seg_len seg) seg.head.window in
+    let acked : Endpoint = after_ack e tick (place_of_ack e seg) q (seg_len seg) (offered_window e.scaling seg) in
     let after : Endpoint = after_data acked tick (wnd e) q seg in
     moves_heard e after (cond (is_heard seg) (acks after) replies.Nothing) v
     (after_data_hears e acked tick (wnd e) q seg refl
-    (ack_hears e tick (place_of_ack e seg) q (seg_len seg) seg.head.window v is near))
+    (ack_hears e tick (place_of_ack e seg) q (seg_len seg) (offered_window e.scaling seg) v is near))
     (heard_silent after (is_heard seg))
 
 bare_moves : (e : Endpoint) (tick : ℕ) (seg : Seg) (a : AckVerdict) → Valid e
@@ -179,9 +179,9 @@ bare_moves : (e : Endpoint) (tick : ℕ) (seg : Seg) (a : AckVerdict) → Valid 
 bare_moves e tick seg Stray v is = moves_nothing e (resets seg.head.ack) v (refl, refl)
 bare_moves e tick seg TooFar v is = moves_nothing e (acks e) v (refl, refl)
 bare_moves e tick seg Good v is =
-    let after : Endpoint = after_ack e tick (place_of_ack e seg) (next_place e.rx) (seg_len seg) seg.head.window in
+    let after : Endpoint = after_ack e tick (place_of_ack e seg) (next_place e.rx) (seg_len seg) (offered_window e.scaling seg) in
     moves_heard e after (acks after) v (ack_hears e tick (place_of_ack e seg) (next_place e.rx)
-    (seg_len seg) seg.head.window v is (omega arith)) (refl, refl)
+    (seg_len seg) (offered_window e.scaling seg) v is (omega arith)) (refl, refl)
 
 acceptable_near : (r window q len : ℕ) → is_acceptable r window q len ≡ true → q ≤ r + window
 acceptable_near r window q len is = grind (arith, nat_tests)
