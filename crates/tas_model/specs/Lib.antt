@@ -8,6 +8,8 @@ pub mod Timers
 pub mod LegalHistory
 pub mod OneStream
 pub mod Outputs
+pub mod OfferedWindow
+pub mod Shifts
 pub mod Valid
 pub mod BucketLaw
 pub mod BadSegment
