@@ -1,74 +1,15 @@
 -- A received segment makes sending go back where it is the third duplicate acknowledgement, and nowhere else.
-use Rattle.std.proofs.Common.{
-  ◌≡◌,
-  ℕ,
-  ◌+◌,
-  ◌<◌,
-  ◌≤◌,
-  Bool,
-  true,
-  false,
-  cond,
-  not,
-  ◌&&◌,
-  length,
-  min,
-  max,
-  Option,
-  Some,
-  None,
-  refl,
-  sym,
-  ap,
-  ◌∙◌,
-  arith,
-  ltb,
-  leb,
-  eqb,
-}
+use Rattle.std.proofs.Common.{◌≡◌, ℕ, ◌+◌, ◌<◌, ◌≤◌, Bool, true, false, cond, not, ◌&&◌, length, min, Some, refl, arith, ltb, leb, eqb}
 use Rattle.std.proofs.lemmas.Bool.Decides.{nat_tests}
 use Rattle.tas_model.proofs.Tests.{on_cond}
 use Rattle.tas_model.specs.declared.entry.Phase.{Phase}
 use Rattle.tas_model.specs.declared.entry.Phase.TheVariants as phases
 use Rattle.tas_model.specs.declared.entry.Reason.TheVariants as reasons
 use Rattle.tas_model.specs.declared.entry.Seg.{Seg}
-use Rattle.tas_model.specs.declared.entry.Reply.TheVariants as replies
 use Rattle.tas_model.specs.Endpoint.{Endpoint, Sending, phase, next_place, wnd}
-use Rattle.tas_model.specs.Segments.{Outcome, offered_window, seg_len, is_ack, is_rst, is_syn, is_fin, acks, resets}
+use Rattle.tas_model.specs.Segments.{Outcome, offered_window, seg_len, is_ack, is_rst, is_syn, is_fin}
 use Rattle.tas_model.specs.Reassembly.{with_data}
-use Rattle.tas_model.specs.Receive.{
-  rx,
-  rx_in,
-  rx_later,
-  rx_syn_sent,
-  connected,
-  by_verdict,
-  verdict,
-  Verdict,
-  Dropped,
-  Answered,
-  Reset,
-  BareAck,
-  Taken,
-  AckVerdict,
-  Stray,
-  TooFar,
-  Good,
-  ack_verdict,
-  taken,
-  bare_ack,
-  after_ack,
-  after_data,
-  takes_fin,
-  place_of_ack,
-  is_heard,
-  is_duplicate,
-  after_duplicate,
-  after_advance,
-  moves_window,
-  with_window,
-  sending_after,
-}
+use Rattle.tas_model.specs.Receive.{rx, rx_in, rx_later, rx_syn_sent, by_verdict, verdict, Verdict, Dropped, Answered, Reset, BareAck, Taken, AckVerdict, Stray, TooFar, Good, taken, bare_ack, after_ack, takes_fin, place_of_ack, is_duplicate, after_duplicate, after_advance, moves_window, sending_after}
 use Rattle.tas_model.specs.StandardsWords.{RepeatsAcknowledgement}
 
 -- What a segment makes of the next place and of the count, where `Repeats` is that it is a duplicate.

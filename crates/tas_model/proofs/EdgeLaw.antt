@@ -7,7 +7,7 @@ use Rattle.std.proofs.lemmas.Nat.{pow_pos}
 use Rattle.tas_model.specs.declared.entry.HostParams.{HostParams}
 use Rattle.tas_model.specs.declared.entry.Entry.{Entry}
 use Rattle.tas_model.specs.declared.entry.Seg.{Seg}
-use Rattle.tas_model.specs.Endpoint.{Endpoint, wnd, window_field, syn_window_field, free, next_place}
+use Rattle.tas_model.specs.Endpoint.{Endpoint, wnd, window_field, syn_window_field, next_place}
 use Rattle.tas_model.specs.Segments.{has, bare, is_rst, is_syn}
 use Rattle.tas_model.specs.NextSegment.{waiting, past, syn_head, data_len}
 use Rattle.tas_model.specs.LegalHistory.{moved, replay, Legal, LegalAfter, MayFollow}
@@ -15,11 +15,10 @@ use Rattle.tas_model.specs.Outputs.{segments_in}
 use Rattle.tas_model.specs.Valid.{Valid, InRange}
 use Rattle.tas_model.specs.OfferedWindow.{right_edge, shown_edge, offers, OffersRoom, AllOfferRoom, OffersInOrder}
 use Rattle.tas_model.proofs.Histories.{legal_induction, legal_parts, legal_push, along_push, replay_push}
-use Rattle.tas_model.proofs.Moves.{Moves, KeepsRoom}
+use Rattle.tas_model.proofs.Moves.{KeepsRoom}
 use Rattle.tas_model.proofs.MovesLaws.{entry_moves}
 use Rattle.tas_model.proofs.ValidCalls.{valid_replay}
 use Rattle.tas_model.proofs.EachSegment.{Shows, all_as, entry_shows}
-use Rattle.tas_model.specs.BucketLaw.{data_by, fill_by}
 
 -- ----- the edge
 -- It is the end of the stream that was read, a ring further, or what was received, the largest window further.

@@ -1,7 +1,6 @@
 -- Where this side offers no shift, windows are as they were without the option.
-use Rattle.std.proofs.Common.{◌≡◌, ℕ, ◌+◌, ◌*◌, ◌/◌, ◌^◌, ◌≤◌, Bool, true, false, cond, not, ◌&&◌, List, [], ◌∷◌, ◌++◌}
-use Rattle.std.proofs.Common.{min, max, Option, Some, None, refl, sym, subst, ap, ◌∙◌, arith, true≢false, leb, eqb}
-use Rattle.tas_model.proofs.Tests.{on_cond}
+use Rattle.std.proofs.Common.{◌≡◌, ℕ, ◌*◌, ◌/◌, ◌^◌, Bool, true, false, cond, not, ◌&&◌, List}
+use Rattle.std.proofs.Common.{min, max, Option, Some, None, refl, sym, ap, ◌∙◌, arith, true≢false, leb, eqb}
 use Rattle.tas_model.specs.declared.entry.HostParams.{HostParams}
 use Rattle.tas_model.specs.declared.entry.Entry.{Entry}
 use Rattle.tas_model.specs.declared.entry.Phase.{Phase}
@@ -11,17 +10,17 @@ use Rattle.tas_model.specs.declared.entry.Reply.TheVariants as replies
 use Rattle.tas_model.specs.declared.entry.Seg.{Seg}
 use Rattle.tas_model.specs.Endpoint.{Endpoint, Scaling, unscaled, agreed_scaling, free, wnd, window_field, phase}
 use Rattle.tas_model.specs.Endpoint.{next_place}
-use Rattle.tas_model.specs.Segments.{Outcome, offered_window, is_syn, is_ack, is_rst, has, acks, resets, unchanged, bare}
-use Rattle.tas_model.specs.NextSegment.{waiting, data_len, syn_head, past}
+use Rattle.tas_model.specs.Segments.{Outcome, offered_window, is_syn, is_ack, is_rst, acks, resets, unchanged, bare}
+use Rattle.tas_model.specs.NextSegment.{syn_head, past}
 use Rattle.tas_model.specs.ApplicationCalls.{least_update}
 use Rattle.tas_model.specs.Receive.{rx, rx_in, rx_later, rx_syn_sent, connected, place_of_ack, place_of_seq, verdict}
 use Rattle.tas_model.specs.Receive.{AckVerdict, Stray, TooFar, Good, Verdict, Dropped, Answered, Reset, BareAck, Taken}
 use Rattle.tas_model.specs.Receive.{taken, bare_ack, by_verdict, verdict_of_place, ack_verdict}
 use Rattle.tas_model.specs.declared.entry.Call.{Call}
 use Rattle.tas_model.specs.declared.entry.Call.TheVariants as calls
-use Rattle.tas_model.specs.LegalHistory.{moved, replay, opened, Legal, MayFollow}
+use Rattle.tas_model.specs.LegalHistory.{replay, opened, Legal}
 use Rattle.tas_model.specs.Outputs.{sent}
-use Rattle.tas_model.specs.Valid.{Valid, ValidScaling, InRange}
+use Rattle.tas_model.specs.Valid.{ValidScaling, InRange}
 use Rattle.tas_model.specs.Shifts.{with_scale, AllBearInSyn, AllBearNone}
 use Rattle.tas_model.proofs.Histories.{legal_induction, replay_push, replay_first}
 use Rattle.tas_model.proofs.ValidCalls.{valid_replay}

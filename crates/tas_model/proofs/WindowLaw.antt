@@ -1,28 +1,5 @@
 -- The peer's window is the newest segment's, and no older one moves it.
-use Rattle.std.proofs.Common.{
-  ◌≡◌,
-  ℕ,
-  ◌+◌,
-  ◌<◌,
-  ◌≤◌,
-  Bool,
-  true,
-  false,
-  cond,
-  not,
-  ◌&&◌,
-  ◌||◌,
-  length,
-  refl,
-  sym,
-  ap,
-  subst,
-  ◌∙◌,
-  arith,
-  ltb,
-  leb,
-  eqb,
-}
+use Rattle.std.proofs.Common.{◌≡◌, ℕ, ◌<◌, ◌≤◌, true, false, length, refl, sym, ap, subst, ◌∙◌, arith, ltb}
 use Rattle.std.proofs.lemmas.Bool.Decides.{nat_tests}
 use Rattle.tas_model.proofs.Tests.{on_cond}
 use Rattle.tas_model.specs.declared.entry.Phase.{Phase}
@@ -31,27 +8,7 @@ use Rattle.tas_model.specs.declared.entry.Seg.{Seg}
 use Rattle.tas_model.specs.Endpoint.{Endpoint, Sending, phase, wnd}
 use Rattle.tas_model.specs.Segments.{Outcome, offered_window, seg_len, is_fin}
 use Rattle.tas_model.specs.Reassembly.{with_data}
-use Rattle.tas_model.specs.Receive.{
-  rx,
-  rx_in,
-  rx_later,
-  by_verdict,
-  verdict,
-  Taken,
-  Good,
-  ack_verdict,
-  taken,
-  after_ack,
-  after_data,
-  takes_fin,
-  place_of_ack,
-  is_duplicate,
-  after_duplicate,
-  after_advance,
-  moves_window,
-  with_window,
-  sending_after,
-}
+use Rattle.tas_model.specs.Receive.{rx, rx_in, rx_later, by_verdict, verdict, Good, ack_verdict, taken, after_ack, takes_fin, place_of_ack, is_duplicate, after_duplicate, after_advance, moves_window, sending_after}
 use Rattle.tas_model.specs.OneStream.{IsSynchronized}
 use Rattle.tas_model.specs.StandardsWords.{IsCurrent, WindowOf}
 

@@ -26,4 +26,5 @@ pub use laws::{
 pub use recorded::Recorded;
 pub use scaling_laws::{
     shifts_are_agreed, window_is_never_taken_back, without_scale_windows_are_as_before,
+    worked_scaling_is_legal,
 };

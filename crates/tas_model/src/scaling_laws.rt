@@ -10,6 +10,8 @@ ghost use Rattle.tas_model.specs.LegalHistory.{replay, Legal};
 ghost use Rattle.tas_model.specs.Outputs.{sent};
 ghost use Rattle.tas_model.specs.Valid.{InRange};
 ghost use Rattle.tas_model.specs.OfferedWindow.{right_edge, shown_edge, OffersRoom, OffersInOrder};
+ghost use Rattle.tas_model.specs.WorkedScaling.{scaled_params, unscaled_params, coarse_params, both_scale};
+ghost use Rattle.tas_model.specs.WorkedScaling.{own_side_alone, peers_side_alone, small_opening};
 ghost use Rattle.tas_model.specs.Shifts.{with_scale, AllBearInSyn, AllBearNone};
 
 /// A window that was offered is never taken back (RFC 9293, section 3.8.6; RFC 7323, section 2.4).
@@ -61,4 +63,15 @@ pub fn without_scale_windows_are_as_before()
         → AllBearNone (sent h) }
     ensures received { (e : Endpoint) (tick : ℕ) (seg : Seg) (scale : Option ℕ) → e.params.scale ≡ None
         → rx e tick (with_scale seg scale) ≡ rx e tick seg }
+{}
+
+/// Short histories of connections with and without scaled windows are legal.
+pub fn worked_scaling_is_legal()
+    // Both sides' windows are scaled, but in SYN segments (RFC 7323, sections 2.2 and 2.3),
+    ensures both_scale { Legal scaled_params both_scale }
+    // and none where one side alone offers it.
+    ensures own_side_alone { Legal scaled_params own_side_alone }
+    ensures peers_side_alone { Legal unscaled_params peers_side_alone }
+    // A window that opens by less than a field can show sends no update (RFC 9293, section 3.8.6.2.2).
+    ensures small_opening { Legal coarse_params small_opening }
 {}
