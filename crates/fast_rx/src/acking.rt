@@ -24,8 +24,8 @@ pub fn number_at(first: Seq, place: u128) -> Seq
 }
 
 /// Takes an acknowledgement of the place `a`, which may be acknowledged, in a segment of `len` places from `q` on (RFC
-/// 9293, section 3.10.7.4, fifth; RFC 5681, sections 2 and 3.2). `window` is what it offers, in bytes, and `ended` tells
-/// whether the peer's FIN was taken before.
+/// 9293, section 3.10.7.4, fifth; RFC 5681, sections 2 and 3.2). `window` is what it offers, in bytes, and `ended`
+/// tells whether the peer's FIN was taken before.
 pub fn take_ack(parts: &mut Parts, a: u128, q: u128, len: u128, window: u32, ended: bool, tick: u32)
     ensures stands { (e : Endpoint) → Valid e → Stands parts.old e → ended ≡ e.rx.ended → ack_verdict e.tx a ≡ Good
         → Stands parts.new (after_ack e tick a q len window) }

@@ -34,8 +34,8 @@ pub syn_is : (p : Parts) (e : Endpoint) (w : ℕ) → Stands p e → column e �
 syn_is p e w s o first is room =
     subst (λ (peer : Option ℕ). syn_with 2 p.nxt (record { 0 = 0 }) w p.params.mss p.params.scale ≡ syn_head e peer)
     (sym (no_peer e o (sym s.phase ∙ is)))
-    (same_head 2 p.nxt (seq_of e 0) (record { 0 = 0 }) (record { 0 = 0 }) w (syn_window_field e) p.params.mss e.params.mss
-    p.params.scale e.params.scale (s.nxt ∙ ap (seq_of e) first) refl room (mss_is p e s) (scale_is p e s))
+    (same_head 2 p.nxt (seq_of e 0) (record { 0 = 0 }) (record { 0 = 0 }) w (syn_window_field e) p.params.mss
+    e.params.mss p.params.scale e.params.scale (s.nxt ∙ ap (seq_of e) first) refl room (mss_is p e s) (scale_is p e s))
 
 -- once the peer's SYN was taken
 pub syn_ack_is : (p : Parts) (e : Endpoint) (w : ℕ) (scale : Option ℕ) → Stands p e → column e ≡ Opening → e.tx.nxt ≡ 0

@@ -1,5 +1,6 @@
 -- A received segment makes sending go back where it is the third duplicate acknowledgement, and nowhere else.
-use Rattle.std.proofs.Common.{◌≡◌, ℕ, ◌+◌, ◌<◌, ◌≤◌, Bool, true, false, cond, not, ◌&&◌, length, min, Some, refl, arith, ltb, leb, eqb}
+use Rattle.std.proofs.Common.{◌≡◌, ℕ, ◌+◌, ◌<◌, ◌≤◌, Bool, true, false, cond, not, ◌&&◌, length, min, Some, refl}
+use Rattle.std.proofs.Common.{arith, ltb, leb, eqb}
 use Rattle.std.proofs.lemmas.Bool.Decides.{nat_tests}
 use Rattle.tas_model.proofs.Tests.{on_cond}
 use Rattle.tas_model.specs.declared.entry.Phase.{Phase}
@@ -9,7 +10,10 @@ use Rattle.tas_model.specs.declared.entry.Seg.{Seg}
 use Rattle.tas_model.specs.Endpoint.{Endpoint, Sending, phase, next_place, wnd}
 use Rattle.tas_model.specs.Segments.{Outcome, offered_window, seg_len, is_ack, is_rst, is_syn, is_fin}
 use Rattle.tas_model.specs.Reassembly.{with_data}
-use Rattle.tas_model.specs.Receive.{rx, rx_in, rx_later, rx_syn_sent, by_verdict, verdict, Verdict, Dropped, Answered, Reset, BareAck, Taken, AckVerdict, Stray, TooFar, Good, taken, bare_ack, after_ack, takes_fin, place_of_ack, is_duplicate, after_duplicate, after_advance, moves_window, sending_after}
+use Rattle.tas_model.specs.Receive.{rx, rx_in, rx_later, rx_syn_sent, by_verdict, verdict, Verdict, Dropped, Answered}
+use Rattle.tas_model.specs.Receive.{Reset, BareAck, Taken, AckVerdict, Stray, TooFar, Good, taken, bare_ack}
+use Rattle.tas_model.specs.Receive.{after_ack, takes_fin, place_of_ack, is_duplicate, after_duplicate, after_advance}
+use Rattle.tas_model.specs.Receive.{moves_window, sending_after}
 use Rattle.tas_model.specs.StandardsWords.{RepeatsAcknowledgement}
 
 -- What a segment makes of the next place and of the count, where `Repeats` is that it is a duplicate.
@@ -75,7 +79,8 @@ W e seg x = Duplicates (RepeatsAcknowledgement e seg) e.tx x.tx.nxt x.tx.dup
 same : (e : Endpoint) (seg : Seg) → W e seg e
 same e seg = forward _ e.tx _ _ (omega arith) (omega arith)
 
-told : (e : Endpoint) (seg : Seg) → is_duplicate e.tx (place_of_ack e seg) (seg_len seg) (offered_window e.scaling seg) ≡ true
+told : (e : Endpoint) (seg : Seg)
+    → is_duplicate e.tx (place_of_ack e seg) (seg_len seg) (offered_window e.scaling seg) ≡ true
     → RepeatsAcknowledgement e seg
 told e seg is = record {
   outstanding = grind (arith, nat_tests, is);

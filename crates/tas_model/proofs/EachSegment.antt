@@ -172,7 +172,8 @@ module _ (P : (b e : Endpoint) → Seg → Type 0) (shows : Shows P) where
   close_shows e Running = tt
 
   abort_reply_shows : (e after : Endpoint) → Shown e after (abort_reply e)
-  abort_reply_shows e after = on_cond (Shown e after) (tells_abort (phase e)) _ _ (λ t. reset_shows e after _ refl refl refl)
+  abort_reply_shows e after = on_cond (Shown e after) (tells_abort (phase e)) _ _
+      (λ t. reset_shows e after _ refl refl refl)
       (λ f. tt)
 
   abort_shows : (e : Endpoint) (c : Column) → R e (abort_in c e)

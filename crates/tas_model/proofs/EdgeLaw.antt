@@ -40,7 +40,8 @@ scaled_grows a b le =
 edge_keeps : (e f : Endpoint) → Valid e → Valid f → KeepsRoom e f → right_edge e ≤ right_edge f
 edge_keeps e f v w k =
     let ring : f.params.ring ≡ e.params.ring = ap (λ (p : HostParams). p.ring) k.params in
-    subst (λ (n : ℕ). right_edge e ≤ next_place f.rx + min (n - (length f.rx.got - f.rx.read)) (65535 * 2 ^ f.scaling.rs))
+    subst (λ (n : ℕ). right_edge e
+    ≤ next_place f.rx + min (n - (length f.rx.got - f.rx.read)) (65535 * 2 ^ f.scaling.rs))
     (sym ring)
     (edge_grows e.params.ring (length e.rx.got) (length f.rx.got) e.rx.read f.rx.read (cond e.rx.ended 1 0)
     (cond f.rx.ended 1 0) (65535 * 2 ^ e.scaling.rs) (65535 * 2 ^ f.scaling.rs)
@@ -105,8 +106,8 @@ field_offers e seg plain shows =
 some_room : (e : Endpoint) → syn_window_field e ≤ wnd e
 some_room e = let one : 0 < 2 ^ e.scaling.rs = pow_pos e.scaling.rs in omega (arith, one)
 
-syn_offers : (e after : Endpoint) (o : Option ℕ) → right_edge after ≡ right_edge e → next_place after.rx ≡ next_place e.rx
-    → OffersRoom after (bare (syn_head e o))
+syn_offers : (e after : Endpoint) (o : Option ℕ) → right_edge after ≡ right_edge e
+    → next_place after.rx ≡ next_place e.rx → OffersRoom after (bare (syn_head e o))
 syn_offers e after None edge next = record {
   within = omega (arith, edge, next, some_room e);
   whole = λ p. absurd (true≢false p);

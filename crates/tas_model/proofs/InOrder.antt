@@ -93,8 +93,8 @@ rx_in_order e tick seg v f =
     let heard : is_heard seg ≡ true = grind (arith, nat_tests, f.some) in
     let after : after_data (record e { tx = (in_order e seg).tx }) tick (wnd e) r seg ≡ in_order e seg =
     rw (f.fin, data_in_order e.rx (wnd e) seg.bytes f.some f.fits f.ended f.island) refl in
-    let both : after_data (after_ack e tick (place_of_ack e seg) r (seg_len seg) (offered_window e.scaling seg)) tick (wnd e) r seg
-    ≡ in_order e seg =
+    let both : after_data (after_ack e tick (place_of_ack e seg) r (seg_len seg) (offered_window e.scaling seg)) tick
+    (wnd e) r seg ≡ in_order e seg =
     ap (λ (x : Endpoint). after_data x tick (wnd e) r seg) acked ∙ after in
     let last : taken e tick r seg Good ≡ in_order_outcome e seg =
     ap (λ (x : Endpoint). answered seg x) both ∙ ap (λ (t : Bool). heard_outcome (in_order e seg) t) heard in

@@ -121,8 +121,8 @@ moves_heard e x reply v h silent = record {
     same_read = ap (λ (n : ℕ). take n x.rx.got) h.rx.read
         ∙ (ap (take e.rx.read) h.rx.got.1 ∙ take-append-le e.rx.read e.rx.got h.rx.got.0 v.rx.read)
 
-ack_hears : (e : Endpoint) (tick a q len window : ℕ) → Valid e → ack_verdict e.tx a ≡ Good → q ≤ next_place e.rx + 1048576
-    → Hears e (after_ack e tick a q len window)
+ack_hears : (e : Endpoint) (tick a q len window : ℕ) → Valid e → ack_verdict e.tx a ≡ Good
+    → q ≤ next_place e.rx + 1048576 → Hears e (after_ack e tick a q len window)
 ack_hears e tick a q len window v good near =
     let most : a ≤ e.tx.max = good_tells e.tx a good in
     let s : Acked e.tx a q (sending_after e.tx a q len window) =
@@ -198,7 +198,8 @@ bare_moves : (e : Endpoint) (tick : ℕ) (seg : Seg) (a : AckVerdict) → Valid 
 bare_moves e tick seg Stray v is = moves_nothing e (resets seg.head.ack) v (refl, refl)
 bare_moves e tick seg TooFar v is = moves_nothing e (acks e) v (refl, refl)
 bare_moves e tick seg Good v is =
-    let after : Endpoint = after_ack e tick (place_of_ack e seg) (next_place e.rx) (seg_len seg) (offered_window e.scaling seg) in
+    let after : Endpoint = after_ack e tick (place_of_ack e seg) (next_place e.rx) (seg_len seg)
+    (offered_window e.scaling seg) in
     moves_heard e after (acks after) v (ack_hears e tick (place_of_ack e seg) (next_place e.rx)
     (seg_len seg) (offered_window e.scaling seg) v is (omega arith)) (refl, refl)
 

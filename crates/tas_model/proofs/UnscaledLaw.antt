@@ -60,7 +60,8 @@ alone_unscaled p peer s v none = by_agreed s.agreed refl
     by_agreed false is = v.alone is
     by_agreed true is = absurd (cc (v.own is, none))
 
-same_params : (params : HostParams) (h : List Entry) → InRange params → Legal params h → (replay params h).params ≡ params
+same_params : (params : HostParams) (h : List Entry) → InRange params → Legal params h
+    → (replay params h).params ≡ params
 same_params params h fits legal =
     legal_induction params (λ (es : List Entry). (replay params es).params ≡ params)
     (λ x first. ap (λ (e : Endpoint). e.params) (replay_first params x) ∙ opened_params x.call)
@@ -179,7 +180,8 @@ each_bears = record {
 -- a shift stands in a SYN alone
 pub bear_in_syn : (params : HostParams) (h : List Entry) → InRange params → Legal params h → AllBearInSyn (sent h)
 bear_in_syn params h fits legal =
-    all_as (λ seg. is_syn seg ≡ false → seg.head.scale ≡ None) AllBearInSyn tt (λ seg segs one rest. (one, rest)) (sent h)
+    all_as (λ seg. is_syn seg ≡ false → seg.head.scale ≡ None) AllBearInSyn tt (λ seg segs one rest. (one, rest))
+    (sent h)
     (sent_shows P each_bears (λ e seg. is_syn seg ≡ false → seg.head.scale ≡ None) params fits
     (λ b e seg v p. p.0) (λ es x before may seg q. q) h legal)
 

@@ -124,8 +124,8 @@ taken_keeps : (e : Endpoint) (tick q : ℕ) (seg : Seg) (a : AckVerdict) → Lat
 taken_keeps e tick q seg Stray later is v = v
 taken_keeps e tick q seg TooFar later is v = v
 taken_keeps e tick q seg Good later is v =
-    after_data_keeps (after_ack e tick (place_of_ack e seg) q (seg_len seg) (offered_window e.scaling seg)) tick (wnd e) q seg
-    (omega arith)
+    after_data_keeps (after_ack e tick (place_of_ack e seg) q (seg_len seg) (offered_window e.scaling seg)) tick
+    (wnd e) q seg (omega arith)
     (ack_keeps e tick (place_of_ack e seg) q (seg_len seg) (offered_window e.scaling seg) later is v)
 
 bare_keeps : (e : Endpoint) (tick : ℕ) (seg : Seg) (a : AckVerdict) → Later e

@@ -8,7 +8,9 @@ use Rattle.tas_model.specs.declared.entry.Seg.{Seg}
 use Rattle.tas_model.specs.Endpoint.{Endpoint, Sending, phase, wnd}
 use Rattle.tas_model.specs.Segments.{Outcome, offered_window, seg_len, is_fin}
 use Rattle.tas_model.specs.Reassembly.{with_data}
-use Rattle.tas_model.specs.Receive.{rx, rx_in, rx_later, by_verdict, verdict, Good, ack_verdict, taken, after_ack, takes_fin, place_of_ack, is_duplicate, after_duplicate, after_advance, moves_window, sending_after}
+use Rattle.tas_model.specs.Receive.{rx, rx_in, rx_later, by_verdict, verdict, Good, ack_verdict, taken, after_ack}
+use Rattle.tas_model.specs.Receive.{takes_fin, place_of_ack, is_duplicate, after_duplicate, after_advance}
+use Rattle.tas_model.specs.Receive.{moves_window, sending_after}
 use Rattle.tas_model.specs.OneStream.{IsSynchronized}
 use Rattle.tas_model.specs.StandardsWords.{IsCurrent, WindowOf}
 
@@ -51,7 +53,8 @@ heard e tick q seg c =
 
 -- what holds of the sending side after rule 5 holds after all rules
 after_rules : (P : Sending → Type 0) (e : Endpoint) (tick q : ℕ) (seg : Seg) → IsCurrent e seg q
-    → P (sending_after e.tx (place_of_ack e seg) q (seg_len seg) (offered_window e.scaling seg)) → P (rx e tick seg).state.tx
+    → P (sending_after e.tx (place_of_ack e seg) q (seg_len seg) (offered_window e.scaling seg))
+    → P (rx e tick seg).state.tx
 after_rules P e tick q seg c h =
     let x : Endpoint = after_ack e tick (place_of_ack e seg) q (seg_len seg) (offered_window e.scaling seg) in
     let all : P (taken e tick q seg Good).state.tx =
@@ -81,7 +84,8 @@ newer_is_taken e tick q seg c newer =
     (newer_moves e.tx (place_of_ack e seg) q c.not_old newer))
 
 pub as_new_is_taken : (e : Endpoint) (tick q : ℕ) (seg : Seg) → IsCurrent e seg q → q ≡ e.tx.wl1
-    → e.tx.wl2 ≤ place_of_ack e seg → WindowOf q (place_of_ack e seg) (offered_window e.scaling seg) (rx e tick seg).state.tx
+    → e.tx.wl2 ≤ place_of_ack e seg
+    → WindowOf q (place_of_ack e seg) (offered_window e.scaling seg) (rx e tick seg).state.tx
 as_new_is_taken e tick q seg c at le =
     after_rules (WindowOf q (place_of_ack e seg) (offered_window e.scaling seg)) e tick q seg c
     (window_taken e.tx (place_of_ack e seg) q (seg_len seg) (offered_window e.scaling seg)

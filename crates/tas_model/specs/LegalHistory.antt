@@ -18,8 +18,8 @@ use Rattle.tas_model.specs.NextSegment.{going, emitted}
 use Rattle.tas_model.specs.Timers.{ticks, control}
 
 -- ----- the opened endpoint (RFC 9293, sections 3.10.1 and 3.10.7.2)
--- Connect begins one, and Passive one that has taken the peer's SYN: its number, window, MSS and shift, and nothing else
--- of that segment.
+-- Connect begins one, and Passive one that has taken the peer's SYN: its number, window, MSS and shift, and nothing
+-- else of that segment.
 abbrev pub opened : HostParams → Call → Endpoint
 opened params (calls.Connect iss) = fresh params iss.0
 opened params (calls.Passive frame iss seg) =

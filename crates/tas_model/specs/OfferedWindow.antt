@@ -21,8 +21,8 @@ offers e seg = if is_syn seg then seg.head.window else seg.head.window * 2 ^ e.s
 abbrev pub shown_edge : Endpoint → Seg → ℕ
 shown_edge e seg = next_place e.rx + offers e seg
 
--- The segment offers no byte for which there is no room; and but for what the shift rounds off, all room there is, where
--- it is no SYN.
+-- The segment offers no byte for which there is no room; and but for what the shift rounds off, all room there is,
+-- where it is no SYN.
 pub record OffersRoom (e : Endpoint) (seg : Seg) : Type 0 where
   pub within : shown_edge e seg ≤ right_edge e
   pub whole : is_syn seg ≡ false → right_edge e < shown_edge e seg + 2 ^ e.scaling.rs
@@ -34,4 +34,5 @@ AllOfferRoom e (seg ∷ segs) = (is_rst seg ≡ false → OffersRoom e seg) × A
 
 -- Each segment that the history sent offers the room of its entry.
 abbrev pub OffersInOrder : HostParams → List Entry → Type 0
-OffersInOrder params h = Along (λ earlier x. AllOfferRoom (replay params (earlier ++ x ∷ [])) (segments_in x.reply)) [] h
+OffersInOrder params h =
+    Along (λ earlier x. AllOfferRoom (replay params (earlier ++ x ∷ [])) (segments_in x.reply)) [] h

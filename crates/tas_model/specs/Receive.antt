@@ -50,8 +50,9 @@ is_acceptable r window q len =
 abbrev pub refused : Seg → Verdict
 refused seg = if is_rst seg then Dropped else Answered
 
--- First: it is acceptable, or one that comes to a window of 0 in order. Second: a reset exactly at r resets, another one
--- in the window is asked for again (RFC 5961). Fourth: a SYN is answered by an ACK. Fifth: without ACK it is dropped.
+-- First: it is acceptable, or one that comes to a window of 0 in order. Second: a reset exactly at r resets, another
+-- one in the window is asked for again (RFC 5961). Fourth: a SYN is answered by an ACK. Fifth: without ACK it is
+-- dropped.
 abbrev pub verdict_at : (r window q : ℕ) → Seg → Verdict
 verdict_at r window q seg =
     if not (is_acceptable r window q (seg_len seg)) then (

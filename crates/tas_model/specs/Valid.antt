@@ -70,8 +70,8 @@ IsPaced None r = ⊤
 IsPaced (Some first) r = Paced r
 
 -- ----- the scaling of windows
--- No shift is above 14 (RFC 7323, section 2.3). Windows are not scaled before the peer's SYN was taken, nor where either
--- SYN lacked the option; where they are, the own ones have the shift of the parameters.
+-- No shift is above 14 (RFC 7323, section 2.3). Windows are not scaled before the peer's SYN was taken, nor where
+-- either SYN lacked the option; where they are, the own ones have the shift of the parameters.
 pub record ValidScaling (p : HostParams) (peer : Option ℕ) (s : Scaling) : Type 0 where
   pub ss : s.ss ≤ 14
   pub rs : s.rs ≤ 14

@@ -64,8 +64,8 @@ peers_side_alone =
 abbrev pub coarse_params : HostParams
 coarse_params = record brief_params { mss = 64; scale = Some 7 }
 
--- A window of 6 bytes is shown as none, and yet what comes into it is taken. Reading sends no update until a window field
--- can show what it opened.
+-- A window of 6 bytes is shown as none, and yet what comes into it is taken. Reading sends no update until a window
+-- field can show what it opened.
 abbrev pub small_opening : List Entry
 small_opening =
     entry Slow 0 0 (calls.Passive peers (record { 0 = 1000 }) (scaled_syn 2 5000 0 1000 0)) replies.Ok

@@ -19,8 +19,8 @@ pub fn window_is_never_taken_back()
     // The end of the window in which bytes are taken never moves left,
     ensures edge { (params : HostParams) (h stretch : List Entry) → InRange params → Legal params h
         → Legal params (h ++ stretch) → right_edge (replay params h) ≤ right_edge (replay params (h ++ stretch)) }
-    // and each segment that was sent, and is no reset, shows no more than it, and no less than it but for what the shift
-    // rounds off; a SYN may show less.
+    // and each segment that was sent, and is no reset, shows no more than it, and no less than it but for what the
+    // shift rounds off; a SYN may show less.
     ensures offered { (params : HostParams) (h : List Entry) → Legal params h → OffersInOrder params h }
     // So a byte that any segment ever offered is in the window ever after,
     ensures honoured { (params : HostParams) (h stretch : List Entry) (seg : Seg) → InRange params → Legal params h
@@ -44,8 +44,8 @@ pub fn shifts_are_agreed()
     ensures in_syn { (params : HostParams) (h : List Entry) → InRange params → Legal params h → AllBearInSyn (sent h) }
 {}
 
-/// Where this side offers no shift, each term of the rules that the option touches is what it is without the option, and
-/// so is every history.
+/// Where this side offers no shift, each term of the rules that the option touches is what it is without the option,
+/// and so is every history.
 pub fn without_scale_windows_are_as_before()
     ensures unscaled { (params : HostParams) (h : List Entry) → InRange params → params.scale ≡ None → Legal params h
         → (replay params h).scaling ≡ unscaled }
