@@ -158,7 +158,7 @@ limit_line (ticks ∷ []) = said says.Limit (number_in 1 10000 ticks)
 limit_line _ = Wrong 4
 
 abbrev pub host_line : List (List ℕ) → Reading
-host_line (name ∷ addr ∷ words) = if length words % 2 == 0 && nat_le (length words) 12
+host_line (name ∷ addr ∷ words) = if length words % 2 == 0 && nat_le (length words) 14
     then host_said name (address_of addr) (given_by none_given words) else Wrong 4
 host_line _ = Wrong 4
 
