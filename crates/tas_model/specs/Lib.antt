@@ -10,6 +10,7 @@ pub mod OneStream
 pub mod Outputs
 pub mod OfferedWindow
 pub mod Shifts
+pub mod Fields
 pub mod WorkedScaling
 pub mod Valid
 pub mod BucketLaw

@@ -1,4 +1,5 @@
-ghost use Rattle.std.specs.Prelude.{◌≡◌, ℕ, ◌+◌, ◌/◌, ◌^◌, ◌<◌, ◌≤◌, List, ◌++◌, Option, Some, None, min, true, false};
+ghost use Rattle.std.specs.Prelude.{◌≡◌, ℕ, ◌+◌, ◌*◌, ◌/◌, ◌^◌, ◌<◌, ◌≤◌, List, ◌++◌, Option, Some, None, min, true};
+ghost use Rattle.std.specs.Prelude.{false};
 ghost use Rattle.tas_model.specs.declared.entry.Entry.{Entry};
 ghost use Rattle.tas_model.specs.declared.entry.HostParams.{HostParams};
 ghost use Rattle.tas_model.specs.declared.entry.Seg.{Seg};
@@ -9,6 +10,7 @@ ghost use Rattle.tas_model.specs.Receive.{rx};
 ghost use Rattle.tas_model.specs.LegalHistory.{replay, Legal};
 ghost use Rattle.tas_model.specs.Outputs.{sent};
 ghost use Rattle.tas_model.specs.Valid.{InRange};
+ghost use Rattle.tas_model.specs.Fields.{FitWindows};
 ghost use Rattle.tas_model.specs.OfferedWindow.{right_edge, shown_edge, OffersRoom, OffersInOrder};
 ghost use Rattle.tas_model.specs.WorkedScaling.{scaled_params, unscaled_params, coarse_params, both_scale};
 ghost use Rattle.tas_model.specs.WorkedScaling.{own_side_alone, peers_side_alone, small_opening};
@@ -42,6 +44,13 @@ pub fn shifts_are_agreed()
         ≡ record { agreed = true; ss = min theirs 14; rs = own } }
     // No segment without SYN bears a shift.
     ensures in_syn { (params : HostParams) (h : List Entry) → InRange params → Legal params h → AllBearInSyn (sent h) }
+{}
+
+/// The peer's window is at most 65,535 units of its shift, where the window fields of the segments that came fit into
+/// 16 bits (RFC 7323, section 2.3).
+pub fn peers_window_is_bounded()
+    ensures { (params : HostParams) (h : List Entry) → Legal params h → FitWindows h
+        → (replay params h).tx.window ≤ 65535 * 2 ^ (replay params h).scaling.ss }
 {}
 
 /// Where this side offers no shift, each term of the rules that the option touches is what it is without the option,
