@@ -1,5 +1,5 @@
 ghost use Rattle.std.specs.Prelude.{◌≡◌, ◌*◌, ◌^◌, ◌<◌, ◌≤◌, ◌||◌, ℕ, Bool, not, List, length, IfOk, IfSome, min};
-ghost use Rattle.std.specs.Prelude.{unwrap_or};
+ghost use Rattle.std.specs.Prelude.{unwrap_or, nat_lt};
 ghost use Rattle.scenario_text.specs.Drafts as drafts;
 ghost use Rattle.scenario_text.specs.declared.scenario.Step.{Step};
 
@@ -28,13 +28,20 @@ fn least_ring(scale: Option<u8>) -> u64
     256 << scale.unwrap_or(0).min(32)
 }
 
+/// Whether a ring is below the least one of its shift.
+fn is_below_least(ring: u32, scale: Option<u8>) -> bool
+    ensures { result ≡ nat_lt ring (256 * 2 ^ unwrap_or scale 0) }
+{
+    u64::from(ring) < least_ring(scale)
+}
+
 /// Whether a host's ring is too small for its shift, or its rings are too large for its slots.
 fn is_large(given: &Given) -> bool
     ensures { result ≡ drafts.is_large given.now }
 {
     let ring = given.ring.unwrap_or(16_384);
     let slots = given.slots.unwrap_or(1_024);
-    u64::from(ring) < least_ring(given.scale) || u64::from(slots) * u64::from(ring) > MOST_BYTES
+    is_below_least(ring, given.scale) || u64::from(slots) * u64::from(ring) > MOST_BYTES
 }
 
 /// A scenario as far as it was read.

@@ -1,5 +1,6 @@
 -- The peer's window is at most 65,535 units of its shift.
-use Rattle.std.proofs.Common.{◌≡◌, ℕ, ◌*◌, ◌^◌, ◌≤◌, ◌+◌, Bool, true, false, cond, not, ◌&&◌, List, [], ◌∷◌, ◌++◌}
+use Rattle.std.proofs.Common.{◌≡◌, ℕ, ◌-◌, ◌*◌, ◌^◌, ◌<◌, ◌≤◌, ◌+◌, Bool, true, false, cond, not, ◌&&◌, List, [], ◌∷◌}
+use Rattle.std.proofs.Common.{◌++◌}
 use Rattle.std.proofs.Common.{length}
 use Rattle.std.proofs.Common.{min, max, Option, Some, None, refl, sym, subst, ap, ◌∙◌, arith, ltb, leb, eqb, true≢false}
 use Rattle.std.proofs.lemmas.Bool.{and_parts}
