@@ -1,4 +1,4 @@
-use Rattle.std.proofs.Common.{◌≡◌, ℕ, ◌<◌, nat_lt, unwrap_or, ◌∙◌, ap, arith}
+use Rattle.std.proofs.Common.{◌≡◌, ℕ, ◌^◌, ◌<◌, nat_lt, unwrap_or, ◌∙◌, ap, arith}
 use Rattle.scenario_text.proofs.LeastRings.{same_least}
 use Rattle.scenario_text.proofs.draft.is_below_least.Goals as goal
 
