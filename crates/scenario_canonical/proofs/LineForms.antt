@@ -136,8 +136,8 @@ limit_again (ticks ∷ []) =
 limit_again (ticks ∷ word ∷ words) = tt
 
 host_words : (line name addr : List ℕ) (n : ℕ) (words : List (List ℕ)) (given : Given)
-    → (length words % 2 == 0 && nat_le (length words) 14) ≡ true → is_name name ≡ true → address_of addr ≡ Some n → given_by none_given words ≡ given
-    → given.wrong ≡ false
+    → (length words % 2 == 0 && nat_le (length words) 14) ≡ true → is_name name ≡ true → address_of addr ≡ Some n
+    → given_by none_given words ≡ given → given.wrong ≡ false
     → by_words line (codes "host" ∷ name ∷ addr ∷ words) ≡ Says (says.Host name n given)
 host_words line name addr n words given fits a b c d =
     rw (fits, b, c) (said_so given d) where
