@@ -20,7 +20,7 @@ const MOST_BYTES: u32 = 67_108_864;
 
 /// Answers the word `audit`, and gives the status that the program ends with: it reads a scenario, a line `==` and a
 /// report of a run, and judges the report. Where each flow is right it writes a line that says so; else, or where it
-/// stops, a fault line goes to `faults`, and if that fails, the status stays. It starts no threads and waits for nobody.
+/// stops, a fault line goes to `faults`, and if that fails, the status stays. It starts no threads.
 pub fn tas_audit<S: Source, K: Sink, F: Sink>(
     alloc: Global,
     source: &mut S,

@@ -67,7 +67,8 @@ listen_named : (words : List (List ℕ)) → IsHostRead (listen_line words)
 listen_named [] = tt
 listen_named (name ∷ []) = tt
 listen_named (name ∷ port ∷ []) =
-    said_other (λ (n : List ℕ × ℕ). says.Do (steps.Listen n.0 n.1)) (named_number name (number_in 1 49151 port)) (λ n. tt)
+    said_other (λ (n : List ℕ × ℕ). says.Do (steps.Listen n.0 n.1)) (named_number name (number_in 1 49151 port))
+    (λ n. tt)
 listen_named (name ∷ port ∷ word ∷ words) = tt
 
 connecting_named : (names : Option (List ℕ × List ℕ)) (port : Option ℕ) → IsHostRead (connecting names port)

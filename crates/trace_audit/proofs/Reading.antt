@@ -104,7 +104,8 @@ fault_end hosts a texts count before ok some none all open_ = (
     here = inr (
       all,
       λ report. open_ (ended report.0 (said_once (names_of hosts) ok texts report.0 some.lines report.1
-          (subst (λ (ts : List (List ℕ)). AreSaid (names_of hosts) ts some.lines) (take_rest texts count none) some.said))
+          (subst (λ (ts : List (List ℕ)). AreSaid (names_of hosts) ts some.lines) (take_rest texts count none)
+          some.said))
           report.2),
     );
   },

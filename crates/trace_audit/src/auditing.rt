@@ -35,9 +35,9 @@ pub enum AuditFault {
     Refused { line: u64 },
 }
 
-/// Judges a text that is a scenario, a line `==` and a report of a run of it (RFC 9293's endpoint in this profile): it is
-/// legal where each flow's entries are a history of the endpoint, and its state and what was read are those that the
-/// history leads to. A text of another form is refused at the earliest line at fault, before anything is judged.
+/// Judges a text that is a scenario, a line `==` and a report of a run of it: it is legal where each flow's entries are
+/// a history of the endpoint (RFC 9293, in this profile), and its state and what was read are those that the history
+/// leads to. A text of another form is refused at the earliest line at fault, before anything is judged.
 pub fn audit(alloc: Global, text: &[u8]) -> Result<Verdict, AuditFault>
     ensures found { IfOk result (IsFound text.now) }
     ensures unfound { IfErr result (IsUnfound text.now) }

@@ -139,7 +139,8 @@ impl Watched {
     /// Whether the flow is in this state.
     fn is_in(&self, phase: Phase, reason: Option<Reason>) -> bool
         ensures right { result ≡ true → (hosts : List HostParams) → (n : Now) → FlowWatched hosts self.now n
-            → Comes (length hosts) n (State phase reason) → FlowWatched hosts self.now (with_line n (State phase reason)) }
+            → Comes (length hosts) n (State phase reason)
+            → FlowWatched hosts self.now (with_line n (State phase reason)) }
         ensures wrong { result ≡ false → (hosts : List HostParams) → (n : Now) → FlowWatched hosts self.now n
             → Comes (length hosts) n (State phase reason) → IsRightNow hosts (with_line n (State phase reason)) → ⊥ }
     {

@@ -32,7 +32,8 @@ returns-in-Err-Failed g c = (
           (g.K.Sink.state c.args.sink.now) (g.K.Sink.state c.put_legal.new.sink) (g.F.Sink.state c.args.faults.now)
           (g.F.Sink.state c.stopped.new.faults))
           c.in-Ok-Legal.field-0 c.in-Ok-Legal.flows c.in-Ok-Legal.entries c.put_legal.result (Err Failed)
-          c.in-Ok-Legal.ensures.found c.in-Ok-Legal.field-0-is c.in-Ok-Legal.ensures.read c.put_legal.ensures (c.in-Err-Failed.is ∙ ap (λ (f : IoFault). Err f) c.in-Err-Failed.field-0-is),
+          c.in-Ok-Legal.ensures.found c.in-Ok-Legal.field-0-is c.in-Ok-Legal.ensures.read c.put_legal.ensures
+          (c.in-Err-Failed.is ∙ ap (λ (f : IoFault). Err f) c.in-Err-Failed.field-0-is),
     );
     told = c.stopped.ensures.told;
   },
@@ -50,7 +51,8 @@ returns-in-Err-OutOfMemory g c = (
           (g.K.Sink.state c.args.sink.now) (g.K.Sink.state c.put_legal.new.sink) (g.F.Sink.state c.args.faults.now)
           (g.F.Sink.state c.stopped-in-Err-OutOfMemory.new.faults))
           c.in-Ok-Legal.field-0 c.in-Ok-Legal.flows c.in-Ok-Legal.entries c.put_legal.result (Err OutOfMemory)
-          c.in-Ok-Legal.ensures.found c.in-Ok-Legal.field-0-is c.in-Ok-Legal.ensures.read c.put_legal.ensures (c.in-Err-OutOfMemory.is ∙ ap (λ (f : IoFault). Err f) c.in-Err-OutOfMemory.field-0-is),
+          c.in-Ok-Legal.ensures.found c.in-Ok-Legal.field-0-is c.in-Ok-Legal.ensures.read c.put_legal.ensures
+          (c.in-Err-OutOfMemory.is ∙ ap (λ (f : IoFault). Err f) c.in-Err-OutOfMemory.field-0-is),
     );
     told = c.stopped-in-Err-OutOfMemory.ensures.told;
   },

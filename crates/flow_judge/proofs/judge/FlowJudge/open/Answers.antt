@@ -8,7 +8,8 @@ use Rattle.flow_judge.proofs.judge.FlowJudge.open.Goals as goal
 
 pub returns-clause-right : goal.returns-clause-right
 returns-clause-right c =
-    first_judged c.in-Some.record c.args.params.now (seen_entry c.args.entry.now) c.push.new.self.items c.new.result.items
+    first_judged c.in-Some.record c.args.params.now (seen_entry c.args.entry.now) c.push.new.self.items
+    c.new.result.items
     (subst (λ (o : Option Flow). IsOpened o c.args.params.now (seen_entry c.args.entry.now)) c.in-Some.is
     c.in_ok-record.ensures.opened)
     (c.is_ok.ensures.0 c.if-not-is_ok.false) c.if-entry-ne0.false
