@@ -1,0 +1,4 @@
+mod Turns
+mod Phases
+mod Calls
+mod AllBack
