@@ -2,3 +2,6 @@ mod Turns
 mod Phases
 mod Calls
 mod AllBack
+mod Added
+mod Both
+mod Looking

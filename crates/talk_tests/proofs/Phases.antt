@@ -81,7 +81,7 @@ pub lends : (t : Team) (s : Seen) → IsTeam t → s.table ≡ (common_in t).tab
 lends t s is table alone = record {
   table = table;
   alone = alone;
-  lanes = of_every (phase.IsIdle (common_in t)) (lanes_of t) (is.first, is.second, is.app, tt);
+  lanes = of_every (phase.IsIdle (common_in t)) (lanes_of t) (is.first, (is.second, (is.app, tt)));
 }
 
 -- ----- one application

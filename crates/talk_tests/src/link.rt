@@ -1,9 +1,9 @@
 //! The link between both ends: what one sent in a tick comes to the other in the next one.
-ghost use Rattle.std.specs.Prelude.{◌≡◌, IfSome};
+ghost use Rattle.std.specs.Prelude.{◌≡◌, ◌<◌, length, IfSome};
 ghost use Rattle.talk_tests.specs.Ends.{IsSlow, IsEnd, common_in};
 
-use crate::ends::End;
-use core_worker::Frame;
+use crate::ends::{End, Plan};
+use core_worker::{Frame, Shared};
 use flow_state::{FlowRecord, ReplyView, SegView};
 use segment_fields::{Flags, Segment, write};
 use slow_worker::SlowWorker;
@@ -108,10 +108,27 @@ pub fn look(alloc: Global, slow: &mut SlowWorker, end: &End, tick: u32) -> Optio
         });
     }
     let host = end.team.app.host;
-    let plan = &end.plan;
-    let table = &end.team.part.shared.table;
+    first_news(alloc, host, &*end.team.part.shared, slow, &end.plan, tick)
+}
+
+/// What the slow path's first flow has sent since it was last looked at. `None` where memory is wanting.
+fn first_news(
+    alloc: Global,
+    host: u32,
+    shared: &Shared,
+    slow: &mut SlowWorker,
+    plan: &Plan,
+    tick: u32,
+) -> Option<News>
+    requires slow { IsSlow shared.now tick slow.old }
+    requires some { 0 < length slow.old.pins }
+    ensures { IfSome result (λ _. IsSlow shared.now tick slow.new) }
+{
+    let table = &shared.table;
     let pin = slow.pins.pin(0);
-    let flow = table.slow_take(&mut slow.pass, pin).ok()?;
+    let Ok(flow) = table.slow_take(&mut slow.pass, pin) else {
+        return None;
+    };
     let news = sent_from(alloc, host, &flow, plan.entries, plan.sent);
     table.slow_give(&mut slow.pass, pin, flow);
     news

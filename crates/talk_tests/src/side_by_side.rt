@@ -35,7 +35,8 @@ pub fn phase<R: Wait, G: Gate>(
     let (first, second) = ends;
     let (one, plan) = lend(slow, first);
     let (two, other_plan) = lend(other, second);
-    let (one, two) = both_play(rt, gate, crew, alloc, one, two)?;
+    let both = both_play(rt, gate, crew, alloc, one, two)?;
+    let (one, two) = both;
     Some((regain(slow, one, plan), regain(other, two, other_plan)))
 }
 
@@ -74,7 +75,7 @@ fn both_play<R: Wait, G: Gate>(
     ensures played { IfSome result (λ r. HasPlayed one r.0 × HasPlayed two r.1) }
     ensures crew { crew.new ≡ crew.old }
 {
-    let mut hosts = Vec::from_array(alloc, [one.part, two.part]).ok()?;
+    let mut hosts = hosts_of(alloc, [one.part, two.part])?;
     let lanes = [
         Lane::Core(one.first),
         Lane::Core(one.second),
@@ -83,8 +84,31 @@ fn both_play<R: Wait, G: Gate>(
         Lane::Core(two.second),
         Lane::App(two.app),
     ];
-    let mut lanes = Vec::from_array(alloc, lanes).ok()?;
+    let mut lanes = list_of(alloc, lanes)?;
     play(rt, gate, crew, &mut hosts, &mut lanes)?;
+    let both = teams_of(hosts, lanes)?;
+    Some(both)
+}
+
+fn hosts_of(alloc: Global, hosts: [HostPart; 2]) -> Option<Vec<HostPart>>
+    ensures { IfSome result (λ v. v.items ≡ hosts) }
+{
+    Vec::from_array(alloc, hosts).ok()
+}
+
+fn list_of(alloc: Global, lanes: [Lane; 6]) -> Option<Vec<Lane>>
+    ensures { IfSome result (λ v. v.items ≡ lanes) }
+{
+    Vec::from_array(alloc, lanes).ok()
+}
+
+/// The teams of two hosts that these lists are made of. `None` where they are not.
+fn teams_of(hosts: Vec<HostPart>, lanes: Vec<Lane>) -> Option<(Team, Team)>
+    ensures hosts { IfSome result (λ r. hosts.items ≡ r.0.part ∷ r.1.part ∷ []) }
+    ensures lanes { IfSome result (λ r. lanes.items ≡ lanes_of r.0 ++ lanes_of r.1) }
+{
+    let mut hosts = hosts;
+    let mut lanes = lanes;
     let two = last_team(&mut hosts, &mut lanes)?;
     let one = last_team(&mut hosts, &mut lanes)?;
     if hosts.is_empty() && lanes.is_empty() {

@@ -1,11 +1,14 @@
 //! An end is put together.
-ghost use Rattle.std.specs.Prelude.{◌≡◌, ◌<◌, ◌∷◌, [], false, IfSome, IfOk, length};
-ghost use Rattle.host_rounds.specs.Lists.{Each};
+ghost use Rattle.std.specs.Prelude.{◌≡◌, ◌<◌, ◌∷◌, [], true, false, IfSome, IfOk, length};
+ghost use Rattle.tas_model.specs.Valid.{InRange};
+ghost use Rattle.flow_lock.specs.Orders.{Order};
+ghost use Rattle.flow_lock.specs.Plays.{IsOrdered};
+ghost use Rattle.flow_lock.specs.Steps.{HasAll};
 ghost use Rattle.core_worker.specs.Workers.{IsFree, HasQueue, HasSenders};
-ghost use Rattle.shared_host.specs.Cores.{AreTurned};
 ghost use Rattle.core_phase.specs.Lanes.{IsIdleCore, IsIdleApp};
-ghost use Rattle.slow_worker.specs.Workers as slow_worker;
-ghost use Rattle.talk_tests.specs.Ends.{IsSlow, IsEnd, IsTeam, IsFresh, AreNewCores, has_socket, common_in};
+ghost use Rattle.talk_tests.specs.Ends.{IsSlow, IsEnd, IsTeam, has_socket, common_in};
+ghost use Rattle.talk_tests.specs.Ends.{IsFresh, AreNewCores};
+ghost use Rattle.talk_tests.specs.Starting.{IsFull, IsNewApp, IsNewCore, gathered};
 
 use crate::ends::{End, Plan, Step, Team};
 use crate::serving::CORES;
@@ -34,7 +37,9 @@ pub struct Beginning {
 }
 
 /// The parameters of a host of the scenario.
-fn params_of(beginning: Beginning) -> HostParams {
+fn params_of(beginning: Beginning) -> HostParams
+    ensures { InRange result }
+{
     HostParams {
         addr: beginning.addr,
         iss: beginning.iss,
@@ -99,14 +104,120 @@ fn team_of(
 {
     let mut shared = shared;
     let mut workers = workers;
-    let mut app = add_app(alloc, beginning.number, &mut shared, slow, &mut workers).ok()?;
-    let mut second = workers.pop()?;
-    let mut first = workers.pop()?;
-    shared.table.collect(&mut slow.pass, &mut first.pass);
-    shared.table.collect(&mut slow.pass, &mut second.pass);
+    let mut app = added_to(alloc, beginning.number, &mut shared, slow, &mut workers)?;
+    let both = both_of(workers)?;
+    let (mut first, mut second) = both;
+    rest(&shared, slow, &mut first, &mut second, &mut app);
+    let Ok(team) = lanes_of(alloc, beginning.host, shared, first, second, app) else {
+        return None;
+    };
+    Some(team)
+}
+
+/// The host's application is added. `None` where memory is wanting.
+fn added(
+    alloc: Global,
+    number: u32,
+    shared: &mut Shared,
+    slow: &mut SlowWorker,
+    workers: &mut [CoreWorker],
+) -> Option<App>
+    requires slow { IsFresh shared.old slow.old }
+    requires cores { AreNewCores shared.old workers.old }
+    ensures app { IfSome result (λ app. IsNewApp shared.new app) }
+    ensures slow { IfSome result (λ _. IsFull shared.new slow.new) }
+    ensures cores { IfSome result (λ _. AreNewCores shared.new workers.new) }
+    ensures steering { shared.new.steering ≡ shared.old.steering }
+    ensures count { length workers.new ≡ length workers.old }
+{
+    let Ok(app) = add_app(alloc, number, shared, slow, workers) else {
+        return None;
+    };
+    Some(app)
+}
+
+fn added_to(
+    alloc: Global,
+    number: u32,
+    shared: &mut Shared,
+    slow: &mut SlowWorker,
+    workers: &mut Vec<CoreWorker>,
+) -> Option<App>
+    requires slow { IsFresh shared.old slow.old }
+    requires cores { AreNewCores shared.old workers.old.items }
+    ensures app { IfSome result (λ app. IsNewApp shared.new app) }
+    ensures slow { IfSome result (λ _. IsFull shared.new slow.new) }
+    ensures cores { IfSome result (λ _. AreNewCores shared.new workers.new.items) }
+    ensures steering { shared.new.steering ≡ shared.old.steering }
+{
+    added(alloc, number, shared, slow, workers.as_mut_slice())
+}
+
+/// The workers of both cores. `None` where there are not two.
+fn both_of(workers: Vec<CoreWorker>) -> Option<(CoreWorker, CoreWorker)>
+    ensures { IfSome result (λ both. workers.items ≡ both.0 ∷ both.1 ∷ []) }
+{
+    let mut workers = workers;
+    let second = workers.pop()?;
+    let first = workers.pop()?;
+    if workers.is_empty() {
+        Some((first, second))
+    } else {
+        None
+    }
+}
+
+/// All turns are given back, and the slow path learns what was done in them.
+fn rest(
+    shared: &Shared,
+    slow: &mut SlowWorker,
+    first: &mut CoreWorker,
+    second: &mut CoreWorker,
+    app: &mut App,
+)
+    requires slow { IsFull shared.now slow.old }
+    requires first { IsNewCore shared.now 1 first.old }
+    requires second { IsNewCore shared.now 2 second.old }
+    requires app { IsNewApp shared.now app.old }
+    ensures slow { IsSlow shared.now 0 slow.new }
+    ensures first { IsIdleCore shared.now first.new }
+    ensures second { IsIdleCore shared.now second.new }
+    ensures app { IsIdleApp shared.now app.new × (app.new.begun ≡ []) }
+{
+    rest_core(shared, slow, first);
+    rest_core(shared, slow, second);
+    rest_app(shared, slow, app);
+    learn(shared, slow);
+}
+
+/// A core gives its turn back.
+fn rest_core(shared: &Shared, slow: &mut SlowWorker, core: &mut CoreWorker)
+    requires slow { slow.old.pass.table ≡ shared.now.table }
+    requires core { IsFree shared.now core.old × HasQueue shared.now core.old × HasSenders shared.now core.old }
+    ensures slow { slow.new ≡ gathered slow.old core.old.pass.view }
+    ensures core { IsIdleCore shared.now core.new }
+{
+    shared.table.collect(&mut slow.pass, &mut core.pass);
+}
+
+/// The application gives its turn back.
+fn rest_app(shared: &Shared, slow: &mut SlowWorker, app: &mut App)
+    requires slow { slow.old.pass.table ≡ shared.now.table }
+    requires app { IsNewApp shared.now app.old }
+    ensures slow { slow.new ≡ gathered slow.old app.old.pass.view }
+    ensures app { IsIdleApp shared.now app.new × (app.new.begun ≡ []) }
+{
     app.collect(&shared.table, &mut slow.pass);
+}
+
+fn learn(shared: &Shared, slow: &mut SlowWorker)
+    requires { (slow.old.pass.table ≡ shared.now.table) × (slow.old.pass.view.baton ≡ true)
+        × HasAll slow.old.pass.view }
+    ensures rest { slow.new ≡ record slow.old { pass = slow.new.pass } }
+    ensures table { slow.new.pass.table ≡ slow.old.pass.table }
+    ensures order { (order : Order) × IsOrdered order slow.old.pass.view slow.new.pass.view }
+{
     shared.table.learn(&mut slow.pass);
-    lanes_of(alloc, beginning.host, shared, first, second, app).ok()
 }
 
 /// These workers and this application as lanes.
