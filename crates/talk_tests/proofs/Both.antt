@@ -1,10 +1,10 @@
 -- Two teams that played in one list of lanes.
-use Rattle.std.proofs.Common.{◌≡◌, ◌==◌, ℕ, List, [], ◌∷◌, ◌++◌, length, ap, sym, ◌∙◌, subst, refl, Bool, true}
+use Rattle.std.proofs.Common.{◌≡◌, ◌==◌, ℕ, suc, arith, tests, List, [], ◌∷◌, ◌++◌, length, ap, sym, ◌∙◌, subst, refl, Bool, true}
 use Rattle.std.specs.Prelude.{All}
 use Rattle.core_phase.specs.Hosts.{ByHosts, BetweenHosts, IsIdleHost, IsHostPhase}
 use Rattle.core_phase.specs.Attempts.{MayTry}
 use Rattle.core_phase.specs.Lanes as phase
-use Rattle.core_phase.proofs.Numbers.{of_every}
+use Rattle.talk_tests.proofs.Lists.{of_every}
 use Rattle.core_phase.specs.declared.hosts.HostPart.{HostPart}
 use Rattle.core_phase.specs.declared.attempt.Attempt.{Attempt}
 use Rattle.core_phase.specs.declared.attempt.Attempt.TheVariants as attempts
@@ -80,9 +80,12 @@ both_played a b c d hs gs ls ms one two before lanes after others idle between =
     (subst (λ (l : List Lane). BetweenHosts IsHostPhase hs gs ls l) others between))))
 
 -- two parts were taken off the end, and nothing is left
-pub two_off : {X : Type 0} (xs ys zs as bs : List X) → xs ≡ ys ++ bs → ys ≡ zs ++ as → zs ≡ [] → xs ≡ as ++ bs
-two_off xs ys zs as bs e f none = e ∙ ap (λ l. l ++ bs) (f ∙ ap (λ l. l ++ as) none)
+pub two_off : {X : Type 0} (xs ys zs ps qs : List X) → xs ≡ ys ++ qs → ys ≡ zs ++ ps → zs ≡ [] → xs ≡ ps ++ qs
+two_off xs ys zs ps qs e f none = e ∙ ap (λ l. l ++ qs) (f ∙ ap (λ l. l ++ ps) none)
 
-pub none_left : {X : Type 0} (xs : List X) (b : Bool) → b ≡ (length xs == 0) → b ≡ true → xs ≡ []
-none_left [] b is holds = refl
-none_left (x ∷ xs) b is holds = absurd (cc (is, holds))
+pub none_left : {X : Type 0} (xs : List X) (n : ℕ) (b : Bool) → n ≡ length xs → b ≡ (n == 0) → b ≡ true → xs ≡ []
+none_left [] n b long is holds = refl
+none_left (x ∷ xs) n b long is holds = absurd (no_zero n (length xs) long (sym is ∙ holds))
+  where
+    no_zero : (n k : ℕ) → n ≡ suc k → (n == 0) ≡ true → ⊥
+    no_zero n k long holds = grind (arith, tests, long, holds)

@@ -1,5 +1,9 @@
+mod Lists
 mod Turns
 mod Phases
+mod Heard
+mod Begun
+mod Over
 mod Calls
 mod AllBack
 mod Added

@@ -132,7 +132,10 @@ fn play<R: Wait, G: Gate>(
         BetweenHosts IsHostPhase hosts.old.items hosts.new.items lanes.old.items lanes.new.items) }
     ensures crew { crew.new ≡ crew.old }
 {
-    play_phases(rt, gate, crew, hosts.as_mut_slice(), lanes).ok()
+    let Ok(()) = play_phases(rt, gate, crew, hosts.as_mut_slice(), lanes) else {
+        return None;
+    };
+    Some(())
 }
 
 /// The last host, with the last three lanes.

@@ -150,7 +150,10 @@ fn added_to(
     ensures cores { IfSome result (λ _. AreNewCores shared.new workers.new.items) }
     ensures steering { shared.new.steering ≡ shared.old.steering }
 {
-    added(alloc, number, shared, slow, workers.as_mut_slice())
+    let Some(app) = added(alloc, number, shared, slow, workers.as_mut_slice()) else {
+        return None;
+    };
+    Some(app)
 }
 
 /// The workers of both cores. `None` where there are not two.

@@ -1,7 +1,7 @@
 -- Answers of the proof of side_by_side/phase.
 use Rattle.std.proofs.Common.{◌∙◌}
 use Rattle.talk_tests.proofs.Both.{is_lent}
-use Rattle.talk_tests.proofs.Phases.{phase_over}
+use Rattle.talk_tests.proofs.Over.{phase_over}
 use Rattle.talk_tests.proofs.side_by_side.phase.Goals as goal
 
 pub both_play-requires : goal.both_play-requires
