@@ -174,7 +174,7 @@ called_turned t a b s tick call None told h is =
 called_turned t a b s tick call (Some e) told h is =
     refused_turned t (flow_of a s) e a.pass b.pass (ap (λ (x : Application). x.pass.table) h.1) h.0 is
 
-pins_turned : (t : TableId) (f : FlowId) (s n : Seen) → n.table ≡ s.table → IsPinned f s.view n.view → IsTurned t s
+pub pins_turned : (t : TableId) (f : FlowId) (s n : Seen) → n.table ≡ s.table → IsPinned f s.view n.view → IsTurned t s
     → IsTurned t n
 pins_turned t f s n table p is =
     let e = p.3 in

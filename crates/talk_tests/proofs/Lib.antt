@@ -1,4 +1,5 @@
 mod Turns
 mod Phases
 mod Calls
+mod Seating
 mod AllBack

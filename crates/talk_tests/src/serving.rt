@@ -1,5 +1,5 @@
 //! What the slow path and the hand-out of frames do at one end in a tick.
-ghost use Rattle.std.specs.Prelude.{◌≡◌, ◌<◌, ℕ, suc, All, IfSome};
+ghost use Rattle.std.specs.Prelude.{◌≡◌, ◌<◌, ℕ, suc, All, IfSome, length};
 ghost use Rattle.core_phase.specs.Lanes.{IsIdle};
 ghost use Rattle.core_phase.specs.declared.lane.Lane.TheVariants as lanes;
 ghost use Rattle.core_worker.specs.Workers.{Common};
@@ -121,14 +121,21 @@ fn emit(slow: &mut SlowWorker, shared: &Shared, tick: u32) -> Option<bool>
     if slow.pins.len() == 0 {
         return Some(false);
     }
-    let table = &shared.table;
+    emit_first(slow, shared, tick)
+}
+
+fn emit_first(slow: &mut SlowWorker, shared: &Shared, tick: u32) -> Option<bool>
+    requires slow { IsSlow shared.now tick slow.old }
+    requires pins { 0 < length slow.old.pins }
+    ensures { IsSlow shared.now tick slow.new }
+{
     let pin = slow.pins.pin(0);
     let caller = Caller::Core(0);
     let call = CallIn::Emit;
-    match make_slow_call(table, &mut slow.pass, pin, caller, tick, &call, &FastTx) {
-        Ok(sent) => Some(sent.is_some()),
-        Err(_) => None,
-    }
+    let Ok(sent) = make_slow_call(&shared.table, &mut slow.pass, pin, caller, tick, &call, &FastTx) else {
+        return None;
+    };
+    Some(sent.is_some())
 }
 
 /// Sends what may still go of the end's flow. `None` where memory is wanting, or that is more than it sends in a tick.
