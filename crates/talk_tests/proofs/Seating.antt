@@ -52,9 +52,8 @@ use Rattle.talk_tests.specs.declared.ends.End.{End}
 use Rattle.talk_tests.specs.declared.ends.Plan.{Plan}
 use Rattle.talk_tests.specs.declared.ends.Step.{Step}
 use Rattle.talk_tests.specs.declared.ends.Team.{Team}
-use Rattle.talk_tests.proofs.Phases.{kept_alike}
 use Rattle.talk_tests.proofs.Calls.{app_rests, app_turned, accept_turned, accept_names, called_names, called_turned}
-use Rattle.talk_tests.proofs.Calls.{lent_named, one_back, learned_alone, has_two, still_named, pins_turned}
+use Rattle.talk_tests.proofs.Calls.{lent_named, one_back, learned_alone, has_two, still_named, pins_turned, kept_alike}
 
 pub of_some : {A : Type 0} (P : A → Type 0) (o : Option A) (x : A) → o ≡ Some x → IfSome o P → P x
 of_some P o x e h = subst (λ q. IfSome q P) e h
@@ -226,7 +225,7 @@ module _ (c : Common) (tick raddr rport : ℕ) (o : Openings) (target : Target) 
   app_names = still_named l.pass.view m.pass.view [] (did.0 ∷ []) [] (ap (λ (x : View). x.turns) did.2.1.3)
       ∙ lent_names a l s1.view 1 idle.turns made_two turn
 
-  the_history : History
+  abbrev the_history : History
   the_history = first_history (next_tuple o raddr rport) o.params (callers.App l.number) tick o.next_iss
 
   slow_is : s3 ≡ opened_two did.0 the_history s
@@ -323,9 +322,9 @@ pub slow_opened : (c : Common) (tick : ℕ) (v m w : Worker) (id : FlowId) (tupl
     → HasOpened id v.pass m.pass v.pins m.pins → m.path.params ≡ v.path.params
     → m ≡ record v { path = m.path; pass = m.pass; pins = m.pins } → IsKnown tuple id (sight_of m) (sight_of w)
     → w ≡ with_sight (sight_of w) m → IsSlow c tick w
-slow_opened c tick v m w id tuple is next near opened params rest known after =
+slow_opened c tick v m w id tuple is next near did params rest known after =
     let f : KnownFlow = record { tuple = tuple; id = id } in
-    let b = opened.back in
+    let b = did.back in
     let t = is.sound.0.ready.0 in
     let e : w ≡ record m { flows = m.flows ++ f ∷ []; index = w.index } =
     after ∙ ap (λ (x : Sight). with_sight x m) known.after in
@@ -337,12 +336,12 @@ slow_opened c tick v m w id tuple is next near opened params rest known after =
       index = w.index;
     } =
     e ∙ ap (λ (x : Worker). record x { flows = x.flows ++ f ∷ []; index = w.index }) rest in
-    let grown = opened_kept c.table id id opened.history v.pass (with_open id opened.history v.pass) v.doomed v.pins
+    let grown = opened_kept c.table id id did.history v.pass (with_open id did.history v.pass) v.doomed v.pins
     m.pins v.flows (v.flows ++ f ∷ []) f next (subst (λ (x : TableId). id.slot < x.slots) t near) refl refl refl
-    opened.pins_are refl is.sound.0 in
+    did.pins_are refl is.sound.0 in
     subst (λ (y : Worker). IsSlow c tick y) (sym all) (record {
       sound = (
-        kept_alike c.table (with_open id opened.history v.pass) m.pass v.doomed m.pins (v.flows ++ f ∷ [])
+        kept_alike c.table (with_open id did.history v.pass) m.pass v.doomed m.pins (v.flows ++ f ∷ [])
             (b.table ∙ t) b.alone b.held b.pins b.marks grown,
         subst InRange (sym params) is.sound.1,
       );
@@ -391,3 +390,7 @@ one_later c tick w is = record {
   kickers = is.kickers;
   alone = is.alone;
 }
+
+-- the worker, by another name of what is shared
+pub slow_shared : (c d : Common) (tick : ℕ) (w : Worker) → d ≡ c → IsSlow c tick w → IsSlow d tick w
+slow_shared c d tick w e is = subst (λ (x : Common). IsSlow x tick w) (sym e) is

@@ -120,7 +120,7 @@ fn connect<R: Wait>(rt: &R, slow: &mut SlowWorker, end: &mut End, tick: u32) -> 
     requires both { IsSlow (common_in end.old.team) tick slow.old × IsEnd end.old }
     ensures { IfSome result (λ _. IsSlow (common_in end.new.team) tick slow.new × IsEnd end.new) }
 {
-    let Some(id) = slow.pass.next_flow() else {
+    let Some(id) = next_flow(slow) else {
         return None;
     };
     let shared = &*end.team.part.shared;
@@ -140,6 +140,14 @@ fn connect<R: Wait>(rt: &R, slow: &mut SlowWorker, end: &mut End, tick: u32) -> 
     end.team.app.socket = socket;
     go_on(&mut end.plan);
     Some(())
+}
+
+/// The flow that is opened next; `None` where every slot has one.
+fn next_flow(slow: &SlowWorker) -> Option<FlowId>
+    ensures next { result ≡ next_in slow.now.pass.view.marks }
+    ensures slot { IfSome result (λ id. id.slot < slow.now.pass.table.slots) }
+{
+    slow.pass.next_flow()
 }
 
 /// The application connects, by the worker's pass, its pins and its list of openings.

@@ -16,5 +16,7 @@ returns c =
           c.go_on.ensures.plan
           (subst (IsIdleApp (common_in c.args.end.now.team)) (sym same) c.requires.both.1.team.app.1)
           (ap (λ (x : Application). x.begun) same)
-          (no_socket c.go_on.new.plan.step _ (c.go_on.ensures.first c.requires.step)),
+          (no_socket c.go_on.new.plan.step
+          (record (c.args.end.now.team.app)
+          { app = c.listen_alone.new.app; socket = c.args.end.now.team.app.socket }) (c.go_on.ensures.first c.requires.step)),
     )

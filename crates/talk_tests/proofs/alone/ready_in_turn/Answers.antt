@@ -1,5 +1,6 @@
 -- Answers of the proof of alone/ready_in_turn.
-use Rattle.std.proofs.Common.{◌≡◌, ◌∷◌, [], ◌∙◌, ap, inl}
+use Rattle.std.proofs.Common.{◌≡◌, ◌∷◌, [], ◌∙◌, ap, sym, inl}
+use Rattle.core_worker.specs.Workers.{Common}
 use Rattle.libtas_sockets.specs.Apps.{Application}
 use Rattle.talk_tests.proofs.Calls.{called_names, app_turned}
 use Rattle.talk_tests.proofs.Seating.{same_socket, lent_names, may_learn, is_back, rested_as}
@@ -9,7 +10,7 @@ pub ready-ready-requires-clause-pass : goal.ready-ready-requires-clause-pass
 ready-ready-requires-clause-pass c =
     let turned = app_turned c.args.shared.now c.args.app.now c.lend.new.self c.args.pass.now.view c.requires.app.0
     c.lend.ensures.lent in
-    (turned.0, inl turned.1)
+    (turned.0 ∙ sym (ap (λ (x : Common). x.table) c.shared.view_is), inl turned.1)
 
 pub ready-ready-requires-clause-socket : goal.ready-ready-requires-clause-socket
 ready-ready-requires-clause-socket c =
@@ -18,11 +19,13 @@ ready-ready-requires-clause-socket c =
 
 pub learn-requires : goal.learn-requires
 learn-requires c =
+    let back =
     may_learn c.args.shared.now.table c.args.pass.now c.lend.new.slow c.collect.new.slow c.ready-ready.new.self.pass.view
     c.requires.slow.0 c.requires.slow.1 c.lend.ensures.slow c.collect.ensures.slow
     (called_names c.lend.new.self c.ready-ready.new.self c.args.socket c.args.tick _ _ _ c.ready-ready.ensures.made
     ∙ lent_names c.args.app.now c.lend.new.self c.args.pass.now.view 0 c.requires.app.0.turns c.requires.slow.1.2
-    c.lend.ensures.lent)
+    c.lend.ensures.lent) in
+    (back.0 ∙ sym (ap (λ (x : Common). x.table) c.shared.view_is), back.1, back.2)
 
 pub returns-clause-slow : goal.returns-clause-slow
 returns-clause-slow c =

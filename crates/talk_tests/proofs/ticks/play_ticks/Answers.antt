@@ -26,13 +26,13 @@ loop-tick-preserved g c =
 
 pub returns-clause-one : goal.returns-clause-one
 returns-clause-one g c =
-    let same : c.loop-tick.tick ≡ c.args.ticks = omega (arith, c.loop-tick.far-tick, c.loop-tick-test.false) in
+    let same : c.loop-tick.tick ≡ c.args.ticks = omega (arith, c.loop-tick-test.false) in
     subst (λ (t : ℕ). IsSlow (common_in c.loop-tick.one.team) t c.loop-tick.slow × IsEnd c.loop-tick.one) same
     c.loop-tick.invariant.0
 
 pub returns-clause-two : goal.returns-clause-two
 returns-clause-two g c =
-    let same : c.loop-tick.tick ≡ c.args.ticks = omega (arith, c.loop-tick.far-tick, c.loop-tick-test.false) in
+    let same : c.loop-tick.tick ≡ c.args.ticks = omega (arith, c.loop-tick-test.false) in
     subst (λ (t : ℕ). IsSlow (common_in c.loop-tick.two.team) t c.loop-tick.other × IsEnd c.loop-tick.two) same
     c.loop-tick.invariant.1
 
