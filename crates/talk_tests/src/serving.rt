@@ -53,9 +53,21 @@ fn groups_of(alloc: Global, frames: &VecDeque<Frame>) -> Option<Vec<u32>>
 {
     let mut groups = Vec::new(alloc);
     for frame in frames.iter() {
-        groups.push(group_of(frame)).ok()?;
+        add_group(&mut groups, frame)?;
     }
     Some(groups)
+}
+
+/// Adds the group of a frame. `None` where memory is wanting.
+fn add_group(groups: &mut Vec<u32>, frame: &Frame) -> Option<()>
+    requires { All (λ group. group < 64) groups.old.items }
+    ensures { IfSome result (λ _. All (λ group. group < 64) groups.new.items) }
+{
+    let group = group_of(frame);
+    let Ok(()) = groups.push(group) else {
+        return None;
+    };
+    Some(())
 }
 
 /// Hands the frames of the tick to the cores of their groups. `None` where memory is wanting.
@@ -67,6 +79,14 @@ pub fn hand_due<R: Wait>(rt: &R, alloc: Global, end: &mut End) -> Option<()>
     let steering = &end.team.part.shared.steering;
     let steer = &mut end.plan.steer;
     let cores = hand_out(rt, alloc, steering, steer, CORES, groups.as_slice(), &[]).ok()?;
+    hand_each(end, &cores)
+}
+
+/// Hands the first frames to these cores, one to each.
+fn hand_each(end: &mut End, cores: &Vec<u32>) -> Option<()>
+    requires { IsEnd end.old }
+    ensures { IfSome result (λ _. IsEnd end.new × IsKeptEnd end.old end.new) }
+{
     for core in cores.iter() {
         hand_first(end, *core)?;
     }
