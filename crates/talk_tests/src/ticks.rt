@@ -33,13 +33,67 @@ fn play_tick<R: Wait, G: Gate>(
     ensures two { IfSome result (λ r. IsSlow (common_in r.1.team) tick other.new × IsEnd r.1) }
     ensures crew { crew.new ≡ crew.old }
 {
+    let ends = begin_both(rt, alloc, slow, other, ends, tick)?;
+    let ends = phase(rt, gate, crew, alloc, slow, other, ends, tick)?;
+    let ends = go_through_both(rt, alloc, slow, other, ends, tick)?;
+    let ends = phase(rt, gate, crew, alloc, slow, other, ends, tick)?;
+    finish_both(alloc, slow, other, ends, tick)
+}
+
+/// The tick begins at both ends.
+fn begin_both<R: Wait>(
+    rt: &R,
+    alloc: Global,
+    slow: &mut SlowWorker,
+    other: &mut SlowWorker,
+    ends: (End, End),
+    tick: u32,
+) -> Option<(End, End)>
+    requires one { IsSlow (common_in ends.0.team) tick slow.old × IsEnd ends.0 }
+    requires two { IsSlow (common_in ends.1.team) tick other.old × IsEnd ends.1 }
+    ensures one { IfSome result (λ r. IsSlow (common_in r.0.team) tick slow.new × IsTrying r.0) }
+    ensures two { IfSome result (λ r. IsSlow (common_in r.1.team) tick other.new × IsTrying r.1) }
+{
     let (mut one, mut two) = ends;
     begin(rt, alloc, slow, &mut one, tick)?;
     begin(rt, alloc, other, &mut two, tick)?;
-    let (mut one, mut two) = phase(rt, gate, crew, alloc, slow, other, (one, two), tick)?;
+    Some((one, two))
+}
+
+/// Both ends go through what the first phase left.
+fn go_through_both<R: Wait>(
+    rt: &R,
+    alloc: Global,
+    slow: &mut SlowWorker,
+    other: &mut SlowWorker,
+    ends: (End, End),
+    tick: u32,
+) -> Option<(End, End)>
+    requires one { IsSlow (common_in ends.0.team) tick slow.old × IsAnswered ends.0 }
+    requires two { IsSlow (common_in ends.1.team) tick other.old × IsAnswered ends.1 }
+    ensures one { IfSome result (λ r. IsSlow (common_in r.0.team) tick slow.new × IsTrying r.0) }
+    ensures two { IfSome result (λ r. IsSlow (common_in r.1.team) tick other.new × IsTrying r.1) }
+{
+    let (mut one, mut two) = ends;
     go_through(rt, alloc, slow, &mut one, tick)?;
     go_through(rt, alloc, other, &mut two, tick)?;
-    let (mut one, mut two) = phase(rt, gate, crew, alloc, slow, other, (one, two), tick)?;
+    Some((one, two))
+}
+
+/// Both ends send what may still go, and the frames go on the link.
+fn finish_both(
+    alloc: Global,
+    slow: &mut SlowWorker,
+    other: &mut SlowWorker,
+    ends: (End, End),
+    tick: u32,
+) -> Option<(End, End)>
+    requires one { IsSlow (common_in ends.0.team) tick slow.old × IsAnswered ends.0 }
+    requires two { IsSlow (common_in ends.1.team) tick other.old × IsAnswered ends.1 }
+    ensures one { IfSome result (λ r. IsSlow (common_in r.0.team) tick slow.new × IsEnd r.0) }
+    ensures two { IfSome result (λ r. IsSlow (common_in r.1.team) tick other.new × IsEnd r.1) }
+{
+    let (mut one, mut two) = ends;
     let news = finish(alloc, slow, &mut one, tick)?;
     let others = finish(alloc, other, &mut two, tick)?;
     cross(&mut one, &mut two, news);
