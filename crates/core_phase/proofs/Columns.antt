@@ -18,7 +18,7 @@ use Rattle.tas_model.specs.declared.entry.Reason.TheVariants as reasons
 use Rattle.tas_model.specs.declared.entry.Reply.{Reply}
 use Rattle.tas_model.specs.declared.entry.Seg.{Seg}
 use Rattle.tas_model.specs.Endpoint.{Endpoint, Sending, phase, wnd, next_place}
-use Rattle.tas_model.specs.Segments.{bare, Outcome, is_rst, is_syn, is_ack, seg_len}
+use Rattle.tas_model.specs.Segments.{offered_window, bare, Outcome, is_rst, is_syn, is_ack, seg_len}
 use Rattle.tas_model.specs.ApplicationCalls.{Column, Opening, Over, Running, column, column_by}
 use Rattle.tas_model.specs.LegalHistory.{moved, step, state_or, last_tick}
 use Rattle.tas_model.specs.NextSegment.{Going, going, going_in, going_data, going_probe, going_fin, emitted, data_len}
@@ -111,15 +111,15 @@ module _ (e : Endpoint) (tick : ℕ) (seg : Seg) (open_ : is_common (phase e) �
   taken_keeps q receive.Stray = same
   taken_keeps q receive.TooFar = same
   taken_keeps q receive.Good =
-      let a : Endpoint = after_ack e tick (place_of_ack e seg) q (seg_len seg) seg.head.window in
+      let a : Endpoint = after_ack e tick (place_of_ack e seg) q (seg_len seg) (offered_window e.scaling seg) in
       data_keeps e a tick (wnd e) q seg
-      (ack_keeps e tick (place_of_ack e seg) q (seg_len seg) seg.head.window open_ begun)
+      (ack_keeps e tick (place_of_ack e seg) q (seg_len seg) (offered_window e.scaling seg) open_ begun)
 
   bare_keeps : (v : AckVerdict) → P (bare_ack e tick seg v)
   bare_keeps receive.Stray = same
   bare_keeps receive.TooFar = same
   bare_keeps receive.Good =
-      ack_keeps e tick (place_of_ack e seg) (next_place e.rx) (seg_len seg) seg.head.window open_ begun
+      ack_keeps e tick (place_of_ack e seg) (next_place e.rx) (seg_len seg) (offered_window e.scaling seg) open_ begun
 
   -- nobody resets
   abbrev NoReset : Verdict → Type 0

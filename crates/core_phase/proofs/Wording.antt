@@ -49,6 +49,7 @@ carries f s check reads t =
         ack = record { 0 = sym t.ack i };
         window = sym t.window i;
         mss = sym t.mss i;
+        scale = sym t.scale i;
       };
       bytes = sym t.payload i;
     }))

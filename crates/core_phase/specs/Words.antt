@@ -30,6 +30,7 @@ seg_in f = record {
     ack = record { 0 = f.ack };
     window = f.window;
     mss = f.mss;
+    scale = f.scale;
   };
   bytes = f.payload;
 }

@@ -24,8 +24,9 @@ pub fn number_at(first: Seq, place: u128) -> Seq
 }
 
 /// Takes an acknowledgement of the place `a`, which may be acknowledged, in a segment of `len` places from `q` on (RFC
-/// 9293, section 3.10.7.4, fifth; RFC 5681, sections 2 and 3.2). `ended` tells whether the peer's FIN was taken before.
-pub fn take_ack(parts: &mut Parts, a: u128, q: u128, len: u128, window: u16, ended: bool, tick: u32)
+/// 9293, section 3.10.7.4, fifth; RFC 5681, sections 2 and 3.2). `window` is what it offers, in bytes, and `ended`
+/// tells whether the peer's FIN was taken before.
+pub fn take_ack(parts: &mut Parts, a: u128, q: u128, len: u128, window: u32, ended: bool, tick: u32)
     ensures stands { (e : Endpoint) → Valid e → Stands parts.old e → ended ≡ e.rx.ended → ack_verdict e.tx a ≡ Good
         → Stands parts.new (after_ack e tick a q len window) }
     ensures rx { parts.new.rx ≡ parts.old.rx }
@@ -45,10 +46,10 @@ pub fn take_ack(parts: &mut Parts, a: u128, q: u128, len: u128, window: u16, end
 }
 
 /// Whether it acknowledges and offers the same again while data is in flight (RFC 5681, section 2).
-fn is_duplicate(una: u128, max: u128, offered: u32, a: u128, len: u128, window: u16) -> bool
+fn is_duplicate(una: u128, max: u128, offered: u32, a: u128, len: u128, window: u32) -> bool
     ensures { result ≡ (nat_lt una max && nat_lt 0 offered && len == 0 && a == una && window == offered) }
 {
-    una < max && offered > 0 && len == 0 && a == una && u32::from(window) == offered
+    una < max && offered > 0 && len == 0 && a == una && window == offered
 }
 
 /// Whether the segment is at least as new as the one that the window is from.
@@ -159,7 +160,7 @@ fn unless(condition: bool, number: u32) -> u32
 }
 
 /// Takes the peer's window, where it is a newer one.
-fn take_window(parts: &mut Parts, a: u128, q: u128, window: u16, moves: bool)
+fn take_window(parts: &mut Parts, a: u128, q: u128, window: u32, moves: bool)
     ensures stands { (e : Endpoint) → Stands parts.old e
         → Stands parts.new (record e { tx = if moves then with_window e.tx a q window else e.tx }) }
     ensures rx { parts.new.rx ≡ parts.old.rx }
@@ -173,7 +174,7 @@ fn take_window(parts: &mut Parts, a: u128, q: u128, window: u16, moves: bool)
     parts.age = unless(opens, parts.age);
     parts.probe = parts.probe && !opens;
     parts.tries = unless(window == 0, u32::from(parts.tries)) as u8;
-    parts.window = u32::from(window);
+    parts.window = window;
     parts.wl1 = q;
     parts.wl2 = a;
 }

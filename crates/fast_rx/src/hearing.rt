@@ -58,7 +58,7 @@ pub fn len_of(seg: &Segment<'_>) -> u128
 }
 
 /// Whether the place lies in the window that is open to the peer.
-fn is_within(next: u128, window: u16, q: u128) -> bool
+fn is_within(next: u128, window: u32, q: u128) -> bool
     requires { next < 2 ^ 126 }
     ensures { result ≡ model_within next window q }
 {
@@ -66,7 +66,7 @@ fn is_within(next: u128, window: u16, q: u128) -> bool
 }
 
 /// Whether a segment of `len` places from `q` on is acceptable (RFC 9293, section 3.10.7.4, the table).
-fn is_acceptable(next: u128, window: u16, q: u128, len: u128) -> bool
+fn is_acceptable(next: u128, window: u32, q: u128, len: u128) -> bool
     requires next { next < 2 ^ 126 }
     requires far { q < 2 ^ 127 }
     requires small { len < 2 ^ 65 }
@@ -94,7 +94,7 @@ fn refused(seg: &Segment<'_>) -> Hearing
 }
 
 /// What becomes of a segment whose first number has the place `q`.
-fn hear_at(next: u128, window: u16, q: u128, seg: &Segment<'_>) -> Hearing
+fn hear_at(next: u128, window: u32, q: u128, seg: &Segment<'_>) -> Hearing
     requires next { next < 2 ^ 126 }
     requires far { q < 2 ^ 127 }
     ensures verdict { verdict_of result ≡ verdict_at next window q (seg_of seg.now) }
@@ -121,7 +121,7 @@ fn hear_at(next: u128, window: u16, q: u128, seg: &Segment<'_>) -> Hearing
 }
 
 /// What becomes of a segment that is not acceptable: one that comes in order to a window of 0 still acknowledges.
-fn hear_outside(next: u128, window: u16, q: u128, seg: &Segment<'_>) -> Hearing
+fn hear_outside(next: u128, window: u32, q: u128, seg: &Segment<'_>) -> Hearing
     ensures verdict { verdict_of result ≡ (if window == 0 && q == next && not (is_rst (seg_of seg.now))
         && not (is_syn (seg_of seg.now)) then BareAck else model_refused (seg_of seg.now)) }
     ensures placed { IsPlaced result }

@@ -10,7 +10,7 @@ use crate::acking::number_at;
 use flow_state::Parts;
 
 /// The part of a payload, whose first byte has the place `q`, from the next place to the end of the window.
-fn trimmed(next: u128, window: u16, q: u128, payload: &[u8]) -> &[u8]
+fn trimmed(next: u128, window: u32, q: u128, payload: &[u8]) -> &[u8]
     requires next { next < 2 ^ 127 }
     ensures part { result.now ≡ model_trimmed next window q payload.now }
     ensures within { length result.now ≤ next + window - max q next }
@@ -24,7 +24,7 @@ fn trimmed(next: u128, window: u16, q: u128, payload: &[u8]) -> &[u8]
 
 /// Receives the bytes of a payload, whose first one has the place `q`, that lie in the window, where the peer's FIN was
 /// not taken (RFC 9293, section 3.10.7.4, seventh). Those in order are received, and one stretch past a gap is kept.
-pub fn take_data(parts: &mut Parts, q: u128, window: u16, payload: &[u8])
+pub fn take_data(parts: &mut Parts, q: u128, window: u32, payload: &[u8])
     requires ready { parts.old.rx.ready ≡ true }
     requires room { window ≤ room_of parts.old.rx }
     requires near { end_of parts.old.rx + 2 < 2 ^ 126 }

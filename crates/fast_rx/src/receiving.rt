@@ -46,6 +46,7 @@ fn reset_answer(ack: Seq) -> Answer
             ack: Seq(0),
             window: 0,
             mss: None,
+            scale: None,
         },
         len: 0,
     }
@@ -99,7 +100,7 @@ fn follows(fin: bool, at: u128, limit: u128, next: u128) -> bool
 
 /// Takes the payload, whose first byte has the place `q`, and the FIN behind it. `ended` tells whether the peer's FIN
 /// was taken before, and `window` what is advertised.
-fn take_rest(parts: &mut Parts, seg: &Segment<'_>, q: u128, window: u16, ended: bool, tick: u32)
+fn take_rest(parts: &mut Parts, seg: &Segment<'_>, q: u128, window: u32, ended: bool, tick: u32)
     requires ready { parts.old.rx.ready ≡ true }
     requires room { window ≤ room_of parts.old.rx }
     requires near { end_of parts.old.rx + 2 < 2 ^ 126 }
@@ -140,7 +141,8 @@ fn take_good(parts: &mut Parts, seg: &Segment<'_>, a: u128, q: u128, tick: u32) 
 {
     let window = parts.window();
     let ended = parts.is_ended();
-    take_ack(parts, a, q, len_of(seg), seg.window, ended, tick);
+    let offered = parts.offered_window(seg);
+    take_ack(parts, a, q, len_of(seg), offered, ended, tick);
     take_rest(parts, seg, q, window, ended, tick);
     if !is_heard(seg) {
         return Answer::Nothing;
@@ -178,7 +180,8 @@ fn take_bare(parts: &mut Parts, seg: &Segment<'_>, a: u128, tick: u32) -> Answer
 {
     let next = parts.next_place();
     let ended = parts.is_ended();
-    take_ack(parts, a, next, len_of(seg), seg.window, ended, tick);
+    let offered = parts.offered_window(seg);
+    take_ack(parts, a, next, len_of(seg), offered, ended, tick);
     ack_answer(parts)
 }
 

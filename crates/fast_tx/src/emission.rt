@@ -1,7 +1,7 @@
 ghost use Rattle.std.specs.Prelude.{◌≡◌, ℕ, ◌+◌, ◌-◌, ◌^◌, ◌==◌, ◌≤◌, ◌<◌, ◌↔◌, max, List, length, take, drop, Some};
 ghost use Rattle.std.specs.Prelude.{None, IsSome, IfSome, if◌then◌else◌};
 ghost use Rattle.tas_model.specs.declared.entry.Phase.TheVariants as phases;
-ghost use Rattle.tas_model.specs.Endpoint.{Endpoint, wnd, phase};
+ghost use Rattle.tas_model.specs.Endpoint.{Endpoint, window_field, phase};
 ghost use Rattle.tas_model.specs.Segments.{seq_of, ack_of};
 ghost use Rattle.tas_model.specs.ApplicationCalls.{column, Opening, Running};
 ghost use Rattle.tas_model.specs.NextSegment.{Going, going as model_going, past, syn_head, waiting, going_data};
@@ -68,18 +68,38 @@ fn len_for(piece: Piece) -> u32
 /// A header of the next place.
 fn head_with(parts: &Parts, flags: u8) -> Head
     ensures { (e : Endpoint) → Stands parts.now e
-        → result ≡ record { flags = flags; seq = seq_of e e.tx.nxt; ack = ack_of e; window = wnd e; mss = None } }
+        → result ≡ record {
+          flags = flags;
+          seq = seq_of e e.tx.nxt;
+          ack = ack_of e;
+          window = window_field e;
+          mss = None;
+          scale = None;
+        } }
 {
     Head {
         flags,
         seq: parts.nxt,
         ack: parts.rcv,
-        window: parts.window(),
+        window: parts.window_field(),
         mss: None,
+        scale: None,
     }
 }
 
-/// The header of the SYN, or of SYN and ACK (RFC 9293, section 3.5), with the own MSS.
+/// The shift that the answer to a SYN bears: the own one, where the SYN bore one (RFC 7323, section 2.2).
+fn scale_in_answer(parts: &Parts) -> Option<u8>
+    ensures { (e : Endpoint) → Stands parts.now e
+        → result ≡ (if e.scaling.agreed then e.params.scale else None) }
+{
+    if parts.scaling.agreed {
+        parts.params.scale
+    } else {
+        None
+    }
+}
+
+/// The header of the SYN, or of SYN and ACK (RFC 9293, section 3.5), with the own MSS and shift.
 fn syn_header(parts: &Parts) -> Head
     ensures { (e : Endpoint) → Stands parts.now e → column e ≡ Opening → e.tx.nxt ≡ 0 → result ≡ syn_head e e.peer }
 {
@@ -89,15 +109,17 @@ fn syn_header(parts: &Parts) -> Head
             flags: 2,
             seq: parts.nxt,
             ack: Seq(0),
-            window: parts.window(),
+            window: parts.syn_window_field(),
             mss,
+            scale: parts.params.scale,
         },
         _ => Head {
             flags: 18,
             seq: parts.nxt,
             ack: parts.rcv,
-            window: parts.window(),
+            window: parts.syn_window_field(),
             mss,
+            scale: scale_in_answer(parts),
         },
     }
 }

@@ -17,6 +17,7 @@ const PARAMS: HostParams = HostParams {
     slots: 16,
     backlog: 16,
     fixed: false,
+    scale: None,
 };
 
 const TUPLE: FourTuple = FourTuple {
@@ -49,6 +50,7 @@ fn segment<'a>(flags: u8, seq: u32, ack: u32, payload: &'a [u8]) -> Segment<'a> 
         flags: Flags(flags),
         window: 16384,
         mss: None,
+        scale: None,
         payload,
     }
 }
@@ -103,6 +105,7 @@ fn acks(ack: u32, window: u16) -> Option<Answer> {
             ack: Seq(ack),
             window,
             mss: None,
+            scale: None,
         },
         len: 0,
     })

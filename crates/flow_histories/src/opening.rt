@@ -14,6 +14,7 @@ const PARAMS: HostParams = HostParams {
     slots: 1024,
     backlog: 1,
     fixed: false,
+    scale: None,
 };
 
 fn segment(flags: u8) -> Segment<'static> {
@@ -27,6 +28,7 @@ fn segment(flags: u8) -> Segment<'static> {
         flags: Flags(flags),
         window: 65535,
         mss: None,
+        scale: None,
         payload: &[1, 2],
     }
 }

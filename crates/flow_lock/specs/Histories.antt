@@ -1,5 +1,5 @@
 -- Histories as plain data.
-use Rattle.std.specs.Prelude.{◌≡◌, false, ◌⊎◌, List, [], ◌++◌}
+use Rattle.std.specs.Prelude.{◌≡◌, false, ◌⊎◌, List, [], ◌++◌, None}
 use Rattle.tas_model.specs.declared.entry.Entry.{Entry}
 use Rattle.tas_model.specs.declared.entry.FourTuple.{FourTuple}
 use Rattle.tas_model.specs.declared.entry.HostParams.{HostParams}
@@ -21,7 +21,17 @@ unborn h = record h { entries = [] }
 abbrev pub no_history : History
 no_history = record {
   tuple = record { laddr = 0; lport = 0; raddr = 0; rport = 0 };
-  params = record { addr = 0; iss = 0; ring = 0; mss = 0; rto = 0; slots = 0; backlog = 0; fixed = false };
+  params = record {
+    addr = 0;
+    iss = 0;
+    ring = 0;
+    mss = 0;
+    rto = 0;
+    slots = 0;
+    backlog = 0;
+    fixed = false;
+    scale = None;
+  };
   entries = [];
 }
 

@@ -5,6 +5,7 @@ pub mod Owning
 pub mod Memory
 pub mod Sending
 pub mod Receiving
+pub mod ScaledWindows
 pub mod Near
 pub mod Ready
 pub mod Looking

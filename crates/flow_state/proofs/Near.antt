@@ -5,7 +5,8 @@ use Rattle.tas_model.specs.Valid.{PlacesWithin}
 use Rattle.flow_state.specs.declared.parts.Parts.{Parts}
 use Rattle.flow_state.specs.Stands.{Stands, IsNear, acked_bytes}
 
-pub near_of : (p : Parts) (e : Endpoint) (n : ℕ) → Stands p e → PlacesWithin (65536 * (n + 1)) e → n < 2 ^ 64 → IsNear p
+pub near_of : (p : Parts) (e : Endpoint) (n : ℕ) → Stands p e → PlacesWithin (1048577 * (n + 1)) e
+    → n < 2 ^ 64 → IsNear p
 near_of p e n s w fits =
     let sent : length p.tx.bytes ≡ length e.tx.out - acked_bytes e.tx =
     omega (arith, ap (length {A = ℕ}) s.tx.bytes, length-drop (acked_bytes e.tx) e.tx.out) in

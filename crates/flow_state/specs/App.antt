@@ -1,5 +1,5 @@
 -- The calls of an application, by what the parts tell.
-use Rattle.std.specs.Prelude.{ℕ, ◌/◌, ◌&&◌, not, Bool, true, false, min, nat_lt, nat_le, Option, Some, None}
+use Rattle.std.specs.Prelude.{ℕ, ◌&&◌, not, Bool, true, false, nat_lt, nat_le, Option, Some, None}
 use Rattle.std.specs.Prelude.{if◌then◌else◌, ⊤}
 use Rattle.tas_model.specs.declared.entry.Head.{Head}
 use Rattle.tas_model.specs.declared.entry.Reason.{Reason}
@@ -7,7 +7,7 @@ use Rattle.tas_model.specs.declared.entry.Phase.{Phase}
 use Rattle.tas_model.specs.declared.entry.Phase.TheVariants as phases
 use Rattle.tas_model.specs.Endpoint.{Endpoint, free}
 use Rattle.tas_model.specs.Segments.{ack_head}
-use Rattle.tas_model.specs.ApplicationCalls.{Column, Opening, Over, Running}
+use Rattle.tas_model.specs.ApplicationCalls.{Column, Opening, Over, Running, least_update}
 use Rattle.flow_state.specs.declared.stage.Stage.{Stage}
 use Rattle.flow_state.specs.declared.stage.Stage.TheVariants as stages
 use Rattle.flow_state.specs.declared.call.CallIn.{CallIn}
@@ -44,7 +44,7 @@ phase_after_shut phase = phase
 -- the update of an endpoint that had this room before
 abbrev pub update_from : (room : ℕ) → Endpoint → Option Head
 update_from room e =
-    let m : ℕ = min e.params.mss (e.params.ring / 2) in
+    let m : ℕ = least_update e in
     if not e.rx.ended && nat_lt room m && nat_le m (free e) then Some (ack_head e) else None
 
 -- the calls of an application

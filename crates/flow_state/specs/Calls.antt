@@ -19,7 +19,14 @@ use Rattle.flow_state.specs.declared.call.Answer.TheVariants as answers
 -- ----- calls
 -- the header of a segment of the code
 abbrev pub head_of : Segment → Head
-head_of s = record { flags = s.flags.0; seq = s.seq; ack = s.ack; window = s.window; mss = s.mss }
+head_of s = record {
+  flags = s.flags.0;
+  seq = s.seq;
+  ack = s.ack;
+  window = s.window;
+  mss = s.mss;
+  scale = s.scale;
+}
 
 -- the segment, with its payload as a list
 abbrev pub seg_of : Segment → Seg

@@ -36,7 +36,14 @@ SpanWithin n s = s.from + s.len ≤ n
 
 -- the header of a slot
 abbrev pub head_in : HeadSlot → Head
-head_in h = record { flags = h.flags; seq = h.seq; ack = h.ack; window = h.window; mss = h.mss }
+head_in h = record {
+  flags = h.flags;
+  seq = h.seq;
+  ack = h.ack;
+  window = h.window;
+  mss = h.mss;
+  scale = h.scale;
+}
 
 -- ----- segments that came
 -- the frame of a segment that came
@@ -51,7 +58,14 @@ came_of frame iss s = record {
   flow = frame.flow;
   copy = frame.copy;
   iss = iss;
-  head = record { seq = s.seq; ack = s.ack; window = s.window; flags = s.flags.0; mss = s.mss };
+  head = record {
+    seq = s.seq;
+    ack = s.ack;
+    window = s.window;
+    mss = s.mss;
+    flags = s.flags.0;
+    scale = s.scale;
+  };
 }
 
 -- how many segments the call brings
@@ -105,18 +119,20 @@ reply_part (cs.Rx at) bytes = []
 reply_part _ bytes = bytes
 
 -- the header with these fields
-abbrev pub header : (flags window : ℕ) (seq ack : Seq) (mss : Option ℕ) → Head
-header flags window seq ack mss = record { flags = flags; seq = seq; ack = ack; window = window; mss = mss }
+abbrev pub header : (flags window : ℕ) (seq ack : Seq) (mss scale : Option ℕ) → Head
+header flags window seq ack mss scale =
+    record { flags = flags; seq = seq; ack = ack; window = window; mss = mss; scale = scale }
 
 -- the reply of a slot with these bytes
 abbrev pub reply_in : List ℕ → ReplySlot → Reply
 reply_in bytes rs.Ok = replies.Ok
 reply_in bytes rs.Nothing = replies.Nothing
-reply_in bytes (rs.Sent flags window seq ack mss) =
-    replies.Sent (record { head = header flags window seq ack mss; bytes = bytes })
+reply_in bytes (rs.Sent flags window seq ack mss scale) =
+    replies.Sent (record { head = header flags window seq ack mss scale; bytes = bytes })
 reply_in bytes rs.Took = replies.Took bytes
 reply_in bytes rs.Got = replies.Got bytes None
-reply_in bytes (rs.Update flags window seq ack mss) = replies.Got bytes (Some (header flags window seq ack mss))
+reply_in bytes (rs.Update flags window seq ack mss scale) =
+    replies.Got bytes (Some (header flags window seq ack mss scale))
 reply_in bytes rs.End = replies.End
 reply_in bytes rs.NotYet = replies.NotYet
 reply_in bytes rs.NotOpen = replies.NotOpen

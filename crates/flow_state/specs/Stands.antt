@@ -3,11 +3,12 @@ use Rattle.std.specs.Prelude.{◌≡◌, ℕ, ◌+◌, ◌-◌, ◌^◌, ◌<◌
 use Rattle.std.specs.Prelude.{Some, None, ⊤}
 use Rattle.payload_ring.specs.Window.{Holds}
 use Rattle.tas_num.specs.declared.seq.Seq.{Seq}
-use Rattle.tas_model.specs.Endpoint.{Endpoint, Sending, Island, phase}
+use Rattle.tas_model.specs.Endpoint.{Endpoint, Scaling as ModelScaling, Sending, Island, phase}
 use Rattle.tas_model.specs.Segments.{seq_of, ack_of}
 use Rattle.tas_model.specs.OneStream.{IsSynchronized}
 use Rattle.tas_model.specs.declared.entry.Reason.{Reason}
 use Rattle.flow_state.specs.declared.parts.Parts.{Parts}
+use Rattle.flow_state.specs.declared.scaling.Scaling.{Scaling}
 
 -- how many bytes of the stream are acknowledged
 abbrev pub acked_bytes : Sending → ℕ
@@ -24,6 +25,12 @@ abbrev pub IsIsland : Option (ℕ × ℕ) → (ahead : List ℕ) → (end : ℕ)
 IsIsland kept ahead end None = kept ≡ None
 IsIsland kept ahead end (Some i) = (kept ≡ Some (i.at - end, length i.bytes))
     × (take (length i.bytes) (drop (i.at - end) ahead) ≡ i.bytes)
+
+-- the scaling of windows, field by field
+pub record IsScaling (s : Scaling) (m : ModelScaling) : Type 0 where
+  pub agreed : s.agreed ≡ m.agreed
+  pub ss : s.ss ≡ m.ss
+  pub rs : s.rs ≡ m.rs
 
 -- both rings have their memory, where there is no reason to be closed
 abbrev pub AreReady : Option Reason → (tx rx : Bool) → Type 0
@@ -47,6 +54,7 @@ pub record Stands (p : Parts) (e : Endpoint) : Type 0 where
   pub rings : AreReady p.reason p.tx.ready p.rx.ready
   pub island : IsIsland p.island p.rx.ahead (length e.rx.got) e.rx.island
   pub window : p.window ≡ e.tx.window
+  pub scaling : IsScaling p.scaling e.scaling
   pub wl1 : p.wl1 ≡ e.tx.wl1
   pub wl2 : p.wl2 ≡ e.tx.wl2
   pub dup : p.dup ≡ e.tx.dup

@@ -124,6 +124,7 @@ fn abort_answer(parts: &Parts) -> Answer
                 ack: Seq(0),
                 window: 0,
                 mss: None,
+                scale: None,
             },
             len: 0,
         },

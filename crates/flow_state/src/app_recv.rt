@@ -105,7 +105,7 @@ fn copy_front(rx: &Ring, count: u32, out: &mut [u8])
 fn update(parts: &Parts, before: u32) -> Option<Head>
     ensures { (e : Endpoint) → Valid e → Stands parts.now e → result ≡ update_from before e }
 {
-    let least = u32::from(parts.params.mss).min(parts.params.ring / 2);
+    let least = parts.least_update();
     if !parts.is_ended() && before < least && least <= parts.rx.room() {
         Some(parts.ack_head())
     } else {

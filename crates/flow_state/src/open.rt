@@ -9,6 +9,7 @@ ghost use Rattle.flow_state.specs.Calls.{seg_of};
 ghost use Rattle.flow_state.specs.Stands.{Stands};
 
 use crate::parts::Parts;
+use crate::scaling::Scaling;
 use payload_ring::Ring;
 use rate_bucket::{Bucket, Counters};
 use segment_fields::Segment;
@@ -77,7 +78,7 @@ impl Parts {
     }
 }
 
-/// The parts of a flow that a peer's SYN opens, whose window and MSS are taken.
+/// The parts of a flow that a peer's SYN opens, whose window, MSS and shift are taken.
 pub fn passive_parts(
     alloc: Global,
     tuple: FourTuple,
@@ -109,6 +110,7 @@ pub fn passive_parts(
         rx: Ring::new(alloc, params.ring)?,
         island: None,
         window: u32::from(seg.window),
+        scaling: Scaling::between(params.scale, seg.scale),
         wl1: 0,
         wl2: 0,
         dup: 0,
@@ -156,6 +158,7 @@ pub fn connect_parts(
         rx: Ring::new(alloc, params.ring)?,
         island: None,
         window: 0,
+        scaling: Scaling::NONE,
         wl1: 0,
         wl2: 0,
         dup: 0,

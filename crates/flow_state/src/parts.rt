@@ -1,3 +1,4 @@
+use crate::scaling::Scaling;
 use payload_ring::Ring;
 use rate_bucket::{Bucket, Counters};
 use tas_model::{FourTuple, HostParams, Phase, Reason};
@@ -25,8 +26,10 @@ pub struct Parts {
     pub max: Seq,
     /// The next place that is expected of the peer.
     pub rcv: Seq,
-    /// The window that the peer advertised, in bytes.
+    /// The window that the peer advertised, in bytes, its shift included.
     pub window: u32,
+    /// How windows are scaled, once the peer's SYN was taken.
+    pub scaling: Scaling,
     /// The congestion window, in bytes (RFC 5681, section 3.1).
     pub cwnd: u32,
     /// The slow start threshold, in bytes.

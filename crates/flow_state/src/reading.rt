@@ -1,5 +1,5 @@
 ghost use Rattle.std.specs.Prelude.{◌≡◌, ℕ, ◌+◌, ◌-◌, ◌^◌, ◌<◌, ◌≤◌, List, length, min};
-ghost use Rattle.tas_model.specs.Endpoint.{Endpoint, wnd, next_place as model_next_place};
+ghost use Rattle.tas_model.specs.Endpoint.{Endpoint, next_place as model_next_place};
 ghost use Rattle.tas_model.specs.Segments.{ack_head as model_ack_head};
 ghost use Rattle.tas_model.specs.Valid.{Valid};
 ghost use Rattle.flow_state.specs.Stands.{Stands, IsNear};
@@ -59,14 +59,6 @@ impl Parts {
         }
     }
 
-    /// The window that is advertised, in bytes.
-    pub fn window(&self) -> u16
-        ensures exact { result ≡ min (self.now.rx.size - length self.now.rx.bytes) 65535 }
-        ensures wnd { (e : Endpoint) → Stands self.now e → result ≡ wnd e }
-    {
-        self.rx.room().min(65535) as u16
-    }
-
     /// The header of an ACK as it is made now (RFC 9293, section 3.10.7.4).
     pub fn ack_head(&self) -> Head
         ensures { (e : Endpoint) → Stands self.now e → result ≡ model_ack_head e }
@@ -75,8 +67,9 @@ impl Parts {
             flags: 16,
             seq: self.max,
             ack: self.rcv,
-            window: self.window(),
+            window: self.window_field(),
             mss: None,
+            scale: None,
         }
     }
 

@@ -28,8 +28,9 @@ pub struct HeadSlot {
     pub seq: Seq,
     pub ack: Seq,
     pub window: u16,
-    pub flags: u8,
     pub mss: Option<u16>,
+    pub flags: u8,
+    pub scale: Option<u8>,
 }
 
 /// A segment that came, but for its payload. Few entries have one, so that it stands in a list of its own.
@@ -76,6 +77,7 @@ pub enum ReplySlot {
         seq: Seq,
         ack: Seq,
         mss: Option<u16>,
+        scale: Option<u8>,
     },
     Took,
     Got,
@@ -86,6 +88,7 @@ pub enum ReplySlot {
         seq: Seq,
         ack: Seq,
         mss: Option<u16>,
+        scale: Option<u8>,
     },
     End,
     NotYet,
@@ -144,6 +147,7 @@ impl HeadSlot {
             ack: self.ack,
             window: self.window,
             mss: self.mss,
+            scale: self.scale,
         }
     }
 }
@@ -162,8 +166,9 @@ pub fn came_slot(frame: FrameId, iss: Seq, seg: &Segment<'_>) -> CameSlot
             seq: seg.seq,
             ack: seg.ack,
             window: seg.window,
-            flags: seg.flags.0,
             mss: seg.mss,
+            flags: seg.flags.0,
+            scale: seg.scale,
         },
     }
 }
@@ -229,6 +234,7 @@ pub fn reply_slot(answer: &Answer) -> ReplySlot
             seq: head.seq,
             ack: head.ack,
             mss: head.mss,
+            scale: head.scale,
         },
         Answer::Took { .. } => ReplySlot::Took,
         Answer::Got { update: None, .. } => ReplySlot::Got,
@@ -241,6 +247,7 @@ pub fn reply_slot(answer: &Answer) -> ReplySlot
             seq: head.seq,
             ack: head.ack,
             mss: head.mss,
+            scale: head.scale,
         },
         Answer::End => ReplySlot::End,
         Answer::NotYet => ReplySlot::NotYet,

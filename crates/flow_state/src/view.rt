@@ -183,6 +183,7 @@ fn reply_view<'a>(bytes: &'a [u8], reply: ReplySlot) -> ReplyView<'a>
             seq,
             ack,
             mss,
+            scale,
         } => ReplyView::Sent {
             seg: SegView {
                 head: Head {
@@ -191,6 +192,7 @@ fn reply_view<'a>(bytes: &'a [u8], reply: ReplySlot) -> ReplyView<'a>
                     ack,
                     window,
                     mss,
+                    scale,
                 },
                 bytes,
             },
@@ -206,6 +208,7 @@ fn reply_view<'a>(bytes: &'a [u8], reply: ReplySlot) -> ReplyView<'a>
             seq,
             ack,
             mss,
+            scale,
         } => ReplyView::Got {
             bytes,
             update: Some(Head {
@@ -214,6 +217,7 @@ fn reply_view<'a>(bytes: &'a [u8], reply: ReplySlot) -> ReplyView<'a>
                 ack,
                 window,
                 mss,
+                scale,
             }),
         },
         ReplySlot::End => ReplyView::End,

@@ -91,6 +91,7 @@ fn a_packet_is_written_as_another_program_does(rt: HostRuntime) {
         flags: Flags::SYN.with(Flags::ACK),
         window: 65535,
         mss: Some(1460),
+        scale: None,
         payload: &[],
     };
     let mut packet = [0; 44];

@@ -31,7 +31,8 @@ IsOpenedBySyn l = Each (λ (x : Entry). OpensBySyn x.call) l.flow.entries
 -- ----- what is answered
 -- a reset that bears the number which the segment acknowledges
 abbrev pub reset_for : Seg → Head
-reset_for seg = record { flags = 4; seq = seg.head.ack; ack = record { 0 = 0 }; window = 0; mss = None }
+reset_for seg =
+    record { flags = 4; seq = seg.head.ack; ack = record { 0 = 0 }; window = 0; mss = None; scale = None }
 
 -- A reset gets no answer. An acknowledgement gets a reset, whether a listener is there or not.
 pub record IsAnswered (seg : Seg) (answer : Option Head) : Type 0 where

@@ -45,7 +45,8 @@ abbrev pub frame : (k : ℕ) → FrameId
 frame k = record { host = 0; flow = 0; number = k; copy = 0 }
 
 abbrev pub head : (flags seq ack : ℕ) → Head
-head flags seq ack = record { flags = flags; seq = seq_at 0 seq; ack = seq_at 0 ack; window = 5000; mss = None }
+head flags seq ack =
+    record { flags = flags; seq = seq_at 0 seq; ack = seq_at 0 ack; window = 5000; mss = None; scale = None }
 
 abbrev pub comes : (k : ℕ) → FourTuple → Head → (bytes : List ℕ) → Arrival
 comes k tuple h bytes = record { frame = frame k; packet = Segment tuple (record { head = h; bytes = bytes }) }
@@ -68,6 +69,7 @@ with_slots slots fixed =
         slots = slots;
         backlog = 1;
         fixed = fixed;
+        scale = None;
       };
       listeners = (record { port = 80; app = 3 }) ∷ [];
       log = [];
@@ -163,10 +165,10 @@ abbrev pub visited_log : List LogLine
 visited_log =
     at 8 (events.Dropped (frame 2) true)
     ∷ at 8 (stray 3 (from_port 1002 81) (head 2 500 0)
-    (Some (record { flags = 20; seq = seq_at 0 0; ack = seq_at 0 501; window = 0; mss = None })))
+    (Some (record { flags = 20; seq = seq_at 0 0; ack = seq_at 0 501; window = 0; mss = None; scale = None })))
     ∷ at 8 (stray 4 (from_port 1003 81) (head 4 500 0) None)
     ∷ at 8 (stray 5 (from_port 1004 80) (head 16 7 900)
-    (Some (record { flags = 4; seq = seq_at 0 900; ack = seq_at 0 0; window = 0; mss = None })))
+    (Some (record { flags = 4; seq = seq_at 0 900; ack = seq_at 0 0; window = 0; mss = None; scale = None })))
     ∷ at 8 (events.Refused (frame 6) 9)
     ∷ at 11 (events.Dropped (frame 10) true)
     ∷ []

@@ -97,6 +97,7 @@ pub fn packet(alloc: Global, peer: Peer, place: u32, flags: Flags, payload: &[u8
         flags,
         window: 16384,
         mss: None,
+        scale: None,
         payload,
     };
     packed(alloc, &seg)

@@ -24,6 +24,7 @@ const PARAMS: HostParams = HostParams {
     slots: 16,
     backlog: 4,
     fixed: false,
+    scale: None,
 };
 
 /// Adds both applications. `None` where memory is wanting.

@@ -410,6 +410,7 @@ bare_seg resets = record {
         { 0 = 0 };
     window = 0;
     mss = None;
+    scale = None;
   };
   bytes = [];
 }

@@ -723,6 +723,7 @@ fn owned(alloc: Global, seg: &Segment<'_>) -> Result<KeptSeg, AllocError>
             ack: seg.ack,
             window: seg.window,
             mss: seg.mss,
+            scale: seg.scale,
         },
         bytes: Bytes::copy(alloc, seg.payload)?,
     };

@@ -59,6 +59,7 @@ const SMALLEST: HostParams = HostParams {
     slots: 1,
     backlog: 1,
     fixed: true,
+    scale: None,
 };
 
 /// A flow of the host, seen as that flow in the middle of a run.

@@ -73,6 +73,7 @@ impl LocalReplay {
                 slots: 1024,
                 backlog: 16,
                 fixed: true,
+                scale: None,
             },
         );
         LocalReplay {

@@ -7,7 +7,7 @@ use Rattle.scenario_text.specs.Words.{is_digit}
 use Rattle.tas_model.specs.declared.entry.Head.{Head}
 use Rattle.tas_model.specs.declared.entry.Seg.{Seg}
 use Rattle.tas_runs.specs.Report as report
-use Rattle.report_lines.specs.Fronts.{Reader, behind, u16, u32, is_hex}
+use Rattle.report_lines.specs.Fronts.{Reader, behind, u8, u16, u32, is_hex}
 use Rattle.report_lines.specs.Segments.{HeadParts, head_of, head, payload_of, payload, seg_of, seg}
 use Rattle.report_lines.specs.Shown.{AreBytes, IsHead, IsSeg}
 use Rattle.report_lines.proofs.Texts.{stops}
@@ -47,22 +47,53 @@ u32_exact = number_exact 4294967295 (omega arith)
 pub u16_exact : Exact decimal (λ (n : ℕ). n ≤ 65535) (stops is_digit) u16
 u16_exact = number_exact 65535 (omega arith)
 
+pub u8_exact : Exact decimal (λ (n : ℕ). n ≤ 255) (stops is_digit) u8
+u8_exact = number_exact 255 (omega arith)
+
 -- ----- a segment without its payload
--- no MSS comes
+-- no option comes
+abbrev pub no_scale : List ℕ → Bool
+no_scale rest = stops is_digit rest && fails (behind (codes " ws ") rest)
+
 abbrev pub no_mss : List ℕ → Bool
 no_mss rest = stops is_digit rest && fails (behind (codes " mss ") rest)
+
+abbrev pub no_options : List ℕ → Bool
+no_options rest = no_mss rest && no_scale rest
 
 abbrev FitsMss : Option ℕ → Type 0
 FitsMss mss = MaybeFits (λ (n : ℕ). n ≤ 65535) mss
 
-mss_goes : (mss : Option ℕ) (rest : List ℕ) → no_mss rest ≡ true
-    → stops is_digit (maybe_text (codes " mss ") decimal mss ++ rest) ≡ true
-mss_goes None rest e = (and_parts (stops is_digit rest) (fails (behind (codes " mss ") rest)) e).0
-mss_goes (Some n) rest e = refl
+abbrev FitsScale : Option ℕ → Type 0
+FitsScale scale = MaybeFits (λ (n : ℕ). n ≤ 255) scale
 
-mss_same : (mss : Option ℕ) → maybe_text (codes " mss ") decimal mss ≡ report.mss_text mss
+abbrev mss_words : Option ℕ → List ℕ
+mss_words mss = maybe_text (codes " mss ") decimal mss
+
+abbrev scale_words : Option ℕ → List ℕ
+scale_words scale = maybe_text (codes " ws ") decimal scale
+
+-- no MSS comes behind a scale, or where no option does
+scale_goes : (scale : Option ℕ) (rest : List ℕ) → no_options rest ≡ true → no_mss (scale_words scale ++ rest) ≡ true
+unfolding behind
+scale_goes None rest e = (and_parts (no_mss rest) (no_scale rest) e).0
+scale_goes (Some n) rest e = refl
+
+options_go : (o : Option ℕ × Option ℕ) (rest : List ℕ) → no_options rest ≡ true
+    → stops is_digit ((mss_words o.0 ++ scale_words o.1) ++ rest) ≡ true
+options_go (None, None) rest e =
+    (and_parts (stops is_digit rest) (fails (behind (codes " mss ") rest))
+    (and_parts (no_mss rest) (no_scale rest) e).0).0
+options_go (None, Some n) rest e = refl
+options_go (Some n, scale) rest e = refl
+
+mss_same : (mss : Option ℕ) → mss_words mss ≡ report.mss_text mss
 mss_same None = refl
 mss_same (Some n) = refl
+
+scale_same : (scale : Option ℕ) → scale_words scale ≡ report.scale_text scale
+scale_same None = refl
+scale_same (Some n) = refl
 
 mss_in : (mss : Option ℕ) → FitsMss mss → IfSome mss (λ m. m < 2 ^ 16)
 mss_in None h = tt
@@ -72,35 +103,59 @@ mss_out : (mss : Option ℕ) → IfSome mss (λ m. m < 2 ^ 16) → FitsMss mss
 mss_out None h = tt
 mss_out (Some n) h = omega (arith, h)
 
+scale_in : (scale : Option ℕ) → FitsScale scale → IfSome scale (λ s. s < 2 ^ 8)
+scale_in None h = tt
+scale_in (Some n) h = omega (arith, h)
+
+scale_out : (scale : Option ℕ) → IfSome scale (λ s. s < 2 ^ 8) → FitsScale scale
+scale_out None h = tt
+scale_out (Some n) h = omega (arith, h)
+
 abbrev head_back : Head → HeadParts
-head_back h = (h.flags, (h.seq.0, (h.ack.0, (h.window, h.mss))))
+head_back h = (h.flags, (h.seq.0, (h.ack.0, (h.window, (h.mss, h.scale)))))
 
 abbrev parts_text : HeadParts → List ℕ
 parts_text a = report.flags_text a.0 ++ ((codes " seq " ++ decimal a.1.0) ++ ((codes " ack " ++ decimal a.1.1.0)
-    ++ ((codes " win " ++ decimal a.1.1.1.0) ++ maybe_text (codes " mss ") decimal a.1.1.1.1)))
+    ++ ((codes " win " ++ decimal a.1.1.1.0) ++ (mss_words a.1.1.1.1.0 ++ scale_words a.1.1.1.1.1))))
 
-head_grouped : (f s a w m : List ℕ)
-    → f ++ ((codes " seq " ++ s) ++ ((codes " ack " ++ a) ++ ((codes " win " ++ w) ++ m)))
-    ≡ f ++ codes " seq " ++ s ++ codes " ack " ++ a ++ codes " win " ++ w ++ m
-head_grouped f s a w m = simp append_assoc refl
+head_grouped : (f s a w m c : List ℕ)
+    → f ++ ((codes " seq " ++ s) ++ ((codes " ack " ++ a) ++ ((codes " win " ++ w) ++ (m ++ c))))
+    ≡ f ++ codes " seq " ++ s ++ codes " ack " ++ a ++ codes " win " ++ w ++ m ++ c
+head_grouped f s a w m c = simp append_assoc refl
 
 head_same : (a : HeadParts) → parts_text a ≡ report.head_text (head_of a)
 head_same a =
     ap (λ (m : List ℕ). report.flags_text a.0 ++ ((codes " seq " ++ decimal a.1.0) ++
     ((codes " ack " ++ decimal a.1.1.0)
-    ++ ((codes " win " ++ decimal a.1.1.1.0) ++ m)))) (mss_same a.1.1.1.1)
+    ++ ((codes " win " ++ decimal a.1.1.1.0) ++ (m ++ scale_words a.1.1.1.1.1))))) (mss_same a.1.1.1.1.0)
+    ∙ (ap (λ (c : List ℕ). report.flags_text a.0 ++ ((codes " seq " ++ decimal a.1.0) ++
+    ((codes " ack " ++ decimal a.1.1.0)
+    ++ ((codes " win " ++ decimal a.1.1.1.0) ++ (report.mss_text a.1.1.1.1.0 ++ c))))) (scale_same a.1.1.1.1.1)
     ∙ head_grouped (report.flags_text a.0) (decimal a.1.0) (decimal a.1.1.0) (decimal a.1.1.1.0)
-    (report.mss_text a.1.1.1.1)
+    (report.mss_text a.1.1.1.1.0) (report.scale_text a.1.1.1.1.1))
 
-pub head_exact : Exact report.head_text IsHead no_mss head
+-- what is read where a text goes on in one way is read where it goes on in a narrower way
+weaker_exact : {A : Type 0} {text : A → List ℕ} {Fits : A → Type 0} {ends narrow : List ℕ → Bool} {reader : Reader A}
+    → ((rest : List ℕ) → narrow rest ≡ true → ends rest ≡ true) → Exact text Fits ends reader
+    → Exact text Fits narrow reader
+weaker_exact weaker x = record {
+  spells = x.spells;
+  again = λ a rest fits e. x.again a rest fits (weaker rest e);
+}
+
+scale_ends : (rest : List ℕ) → no_options rest ≡ true → no_scale rest ≡ true
+scale_ends rest e = (and_parts (no_mss rest) (no_scale rest) e).1
+
+pub head_exact : Exact report.head_text IsHead no_options head
 unfolding head
 head_exact =
     made_exact head_of head_back report.head_text IsHead
     (both_exact (λ b rest fits e. refl) flags_exact
     (both_exact (λ b rest fits e. refl) (after_exact (codes " seq ") u32_exact)
     (both_exact (λ b rest fits e. refl) (after_exact (codes " ack ") u32_exact)
-    (both_exact (λ b rest fits e. mss_goes b rest e) (after_exact (codes " win ") u16_exact)
-    (maybe_exact (codes " mss ") u16_exact)))))
+    (both_exact (λ b rest fits e. options_go b rest e) (after_exact (codes " win ") u16_exact)
+    (both_exact (λ b rest fits e. scale_goes b rest e) (maybe_exact (codes " mss ") u16_exact)
+    (weaker_exact scale_ends (maybe_exact (codes " ws ") u8_exact)))))))
     (λ a fits. (
       head_same a,
       record {
@@ -108,7 +163,8 @@ head_exact =
         seq = omega (arith, fits.1.0);
         ack = omega (arith, fits.1.1.0);
         window = omega (arith, fits.1.1.1.0);
-        mss = mss_in a.1.1.1.1 fits.1.1.1.1;
+        mss = mss_in a.1.1.1.1.0 fits.1.1.1.1.0;
+        scale = scale_in a.1.1.1.1.1 fits.1.1.1.1.1;
       },
     ))
     (λ h fits. (
@@ -122,7 +178,7 @@ head_exact =
             omega (arith, fits.ack),
             (
               omega (arith, fits.window),
-              mss_out h.mss fits.mss,
+              (mss_out h.mss fits.mss, scale_out h.scale fits.scale),
             ),
           ),
         ),
@@ -156,18 +212,15 @@ payload_exact =
     payload_keeps payload_turns
 
 -- ----- a segment
-no_mss_before : (bytes rest : List ℕ) → at_end rest ≡ true → no_mss (report.data_text bytes ++ rest) ≡ true
+no_options_before : (bytes rest : List ℕ) → at_end rest ≡ true → no_options (report.data_text bytes ++ rest) ≡ true
 unfolding behind
-no_mss_before [] rest e = by_end (λ (r : List ℕ). no_mss r ≡ true) rest e refl (λ cs. refl)
-no_mss_before (b ∷ bs) rest e = refl
+no_options_before [] rest e = by_end (λ (r : List ℕ). no_options r ≡ true) rest e refl (λ cs. refl)
+no_options_before (b ∷ bs) rest e = refl
 
 pub at_end_exact : {A : Type 0} {text : A → List ℕ} {Fits : A → Type 0} {ends : List ℕ → Bool} {reader : Reader A}
     → ((rest : List ℕ) → at_end rest ≡ true → ends rest ≡ true) → Exact text Fits ends reader
     → Exact text Fits at_end reader
-at_end_exact weaker x = record {
-  spells = x.spells;
-  again = λ a rest fits e. x.again a rest fits (weaker rest e);
-}
+at_end_exact weaker x = weaker_exact weaker x
 
 no_data_there : (rest : List ℕ) → at_end rest ≡ true → no_data rest ≡ true
 unfolding behind
@@ -177,15 +230,15 @@ pub seg_exact : Exact report.seg_text IsSeg at_end seg
 unfolding seg
 seg_exact =
     made_exact seg_of (λ (s : Seg). (s.head, s.bytes)) report.seg_text IsSeg
-    (both_exact (λ bytes rest fits e. no_mss_before bytes rest e) head_exact
+    (both_exact (λ bytes rest fits e. no_options_before bytes rest e) head_exact
     (at_end_exact no_data_there payload_exact))
     (λ a fits. (refl, record { head = fits.0; bytes = fits.1 }))
     (λ s fits. (refl, refl, (fits.head, fits.bytes)))
 
 -- a segment without its payload, at an end
-no_mss_there : (rest : List ℕ) → at_end rest ≡ true → no_mss rest ≡ true
+no_options_there : (rest : List ℕ) → at_end rest ≡ true → no_options rest ≡ true
 unfolding behind
-no_mss_there rest e = by_end (λ (r : List ℕ). no_mss r ≡ true) rest e refl (λ cs. refl)
+no_options_there rest e = by_end (λ (r : List ℕ). no_options r ≡ true) rest e refl (λ cs. refl)
 
 pub head_at_end : Exact report.head_text IsHead at_end head
-head_at_end = at_end_exact no_mss_there head_exact
+head_at_end = at_end_exact no_options_there head_exact

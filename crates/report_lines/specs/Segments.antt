@@ -3,7 +3,7 @@ use Rattle.std.specs.Prelude.{ℕ, ◌+◌, ◌==◌, List, [], ◌∷◌, codes
 use Rattle.segment_fields.specs.ControlBits.{fin, syn, rst, psh, ack, urg, ece, cwr}
 use Rattle.tas_model.specs.declared.entry.Head.{Head}
 use Rattle.tas_model.specs.declared.entry.Seg.{Seg}
-use Rattle.report_lines.specs.Fronts.{Reader, word, made, after, both, maybe, u16, u32, some_hex}
+use Rattle.report_lines.specs.Fronts.{Reader, word, made, after, both, maybe, u8, u16, u32, some_hex}
 
 -- the flags that were read, and what is left of the text
 abbrev pub Letters : Type 0
@@ -28,15 +28,22 @@ flags text = flags_of (letters_at text)
 
 -- a segment without its payload, from its parts
 abbrev pub HeadParts : Type 0
-HeadParts = ℕ × (ℕ × (ℕ × (ℕ × Option ℕ)))
+HeadParts = ℕ × (ℕ × (ℕ × (ℕ × (Option ℕ × Option ℕ))))
 
 abbrev pub head_of : HeadParts → Head
-head_of (flags, (seq, (ack, (window, mss)))) =
-    record { flags = flags; seq = record { 0 = seq }; ack = record { 0 = ack }; window = window; mss = mss }
+head_of (flags, (seq, (ack, (window, (mss, scale))))) =
+    record {
+      flags = flags;
+      seq = record { 0 = seq };
+      ack = record { 0 = ack };
+      window = window;
+      mss = mss;
+      scale = scale;
+    }
 
 unfoldable pub head : Reader Head
 head = made head_of (both flags (both (after (codes " seq ") u32) (both (after (codes " ack ") u32)
-    (both (after (codes " win ") u16) (maybe (codes " mss ") u16)))))
+    (both (after (codes " win ") u16) (both (maybe (codes " mss ") u16) (maybe (codes " ws ") u8))))))
 
 -- a payload, where one is shown
 abbrev pub payload_of : Option (List ℕ) → List ℕ

@@ -39,6 +39,7 @@ pub record IsHead (h : Head) : Type 0 where
   pub ack : h.ack.0 < 2 ^ 32
   pub window : h.window < 2 ^ 16
   pub mss : IfSome h.mss (λ m. m < 2 ^ 16)
+  pub scale : IfSome h.scale (λ s. s < 2 ^ 8)
 
 pub record IsSeg (s : Seg) : Type 0 where
   pub head : IsHead s.head

@@ -29,6 +29,16 @@ pub(crate) fn u16_at(text: &[u8]) -> Option<(u16, &[u8])>
     Some((number as u16, rest))
 }
 
+/// A number of 8 bits at the front, and what stands behind it.
+#[inline(always)]
+fn u8_at(text: &[u8]) -> Option<(u8, &[u8])>
+    ensures { MatchOption result (fronts.u8 text.now ≡ None)
+        (λ x. fronts.u8 text.now ≡ Some (x.0, x.1.now)) }
+{
+    let (number, rest) = number_at(255, text)?;
+    Some((number as u8, rest))
+}
+
 /// One bit more, where its letter comes next.
 #[inline(always)]
 #[tactic(auto, unfolding(crate::specs::Segments::letter_at))]
@@ -86,6 +96,21 @@ fn mss_at(text: &[u8]) -> Option<(Option<u16>, &[u8])>
     }
 }
 
+/// A window scale, where one is shown.
+#[tactic(auto, unfolding(crate::specs::Fronts::with))]
+fn scale_at(text: &[u8]) -> Option<(Option<u8>, &[u8])>
+    ensures { MatchOption result (fronts.maybe (codes " ws ") fronts.u8 text.now ≡ None)
+        (λ x. fronts.maybe (codes " ws ") fronts.u8 text.now ≡ Some (x.0, x.1.now)) }
+{
+    match behind(text, b" ws ") {
+        None => Some((None, text)),
+        Some(rest) => {
+            let (shift, rest) = u8_at(rest)?;
+            Some((Some(shift), rest))
+        }
+    }
+}
+
 /// A segment without its payload.
 #[tactic(auto, unfolding(crate::specs::Segments::head, crate::specs::Fronts::with))]
 pub(crate) fn head_at(text: &[u8]) -> Option<(Head, &[u8])>
@@ -96,12 +121,14 @@ pub(crate) fn head_at(text: &[u8]) -> Option<(Head, &[u8])>
     let (ack, rest) = u32_at(behind(rest, b" ack ")?)?;
     let (window, rest) = u16_at(behind(rest, b" win ")?)?;
     let (mss, rest) = mss_at(rest)?;
+    let (scale, rest) = scale_at(rest)?;
     let head = Head {
         flags,
         seq: Seq(seq),
         ack: Seq(ack),
         window,
         mss,
+        scale,
     };
     Some((head, rest))
 }

@@ -5,7 +5,7 @@ use Rattle.std.specs.Fmt.{digits}
 use Rattle.tas_num.specs.Places.{nearest}
 use Rattle.tas_num.specs.Captures.{form_of, first_record, capture_of}
 use Rattle.segment_fields.specs.Canon.{ip_header, tcp_fixed}
-use Rattle.segment_fields.specs.Text.{refusal, mss_of}
+use Rattle.segment_fields.specs.Text.{refusal, mss_of, scale_of}
 use Rattle.tas_model.specs.Receive.{rx, rx_later, rx_syn_sent}
 use Rattle.tas_model.specs.NextSegment.{going}
 use Rattle.tas_model.specs.Timers.{ticks, control}
@@ -40,11 +40,11 @@ pub all_due_are : due some_lines all_sent 10 ≡ all_due
 all_due_are = refl
 
 pub broken_is : replayed host_address broken_capture false ≡ broken_report
-unfolding digits nearest refusal mss_of rx rx_later rx_syn_sent going ticks control step replay form_of first_record
-    capture_of items_of batches_of first_number serial_tick serial_ticks serial_replay report
+unfolding digits nearest refusal mss_of scale_of rx rx_later rx_syn_sent going ticks control step replay form_of
+    first_record capture_of items_of batches_of first_number serial_tick serial_ticks serial_replay report
 broken_is = refl
 
 pub late_answer_is : reported late_answer ≡ late_answer_report
-unfolding reads reading digits nearest ip_header tcp_fixed refusal mss_of rx rx_later rx_syn_sent going ticks control
-    step replay serial_tick report serial_world serial_from
+unfolding reads reading digits nearest ip_header tcp_fixed refusal mss_of scale_of rx rx_later rx_syn_sent going ticks
+    control step replay serial_tick report serial_world serial_from
 late_answer_is = refl

@@ -13,11 +13,11 @@ use Rattle.flow_state.specs.Views.{seen_seg}
 use Rattle.run_texts.specs.declared.frames.Frame.{Frame}
 use Rattle.run_texts.specs.Frames.{segment_record, sent_record, seen_frame, frame_before}
 
-fits : (n : ℕ) → n ≤ 65491 → nat_le n 65491 ≡ true
+fits : (n : ℕ) → n ≤ 65487 → nat_le n 65487 ≡ true
 fits n h = grind (arith, common_steps, h)
 
 -- what was written of a segment's packet, behind its head
-packet_record : (t n : ℕ) (tuple : FourTuple) (seg : Seg) (buf rest : List ℕ) → length seg.bytes ≤ 65491
+packet_record : (t n : ℕ) (tuple : FourTuple) (seg : Seg) (buf rest : List ℕ) → length seg.bytes ≤ 65487
     → buf ≡ canon (sent_fields tuple seg) ++ rest → n ≡ canon_len (sent_fields tuple seg) → record_bytes t (take n buf)
     ≡ segment_record t tuple seg
 packet_record t n tuple seg buf rest small is len =
@@ -30,7 +30,7 @@ packet_record t n tuple seg buf rest small is len =
 sooner : (n ticks : ℕ) → n < ticks → nat_lt n ticks ≡ true
 sooner n ticks h = grind (arith, common_steps, h)
 
-pub frame_packet : (ticks n : ℕ) (f : Frame) (buf rest : List ℕ) → f.tick < ticks → length f.seg.bytes.now ≤ 65491
+pub frame_packet : (ticks n : ℕ) (f : Frame) (buf rest : List ℕ) → f.tick < ticks → length f.seg.bytes.now ≤ 65487
     → buf ≡ canon (sent_fields f.tuple (seen_seg f.seg)) ++ rest → n ≡ canon_len (sent_fields f.tuple (seen_seg f.seg))
     → record_bytes f.tick (take n buf) ≡ frame_before ticks f
 frame_packet ticks n f buf rest soon small is len =
@@ -38,7 +38,7 @@ frame_packet ticks n f buf rest soon small is len =
     ∙ sym (ap (λ b. cond b (sent_record (seen_frame f)) []) (sooner f.tick ticks soon))
 
 -- a frame of a later tick, or one that no packet has room for
-pub no_record : (ticks : ℕ) (f : Frame) → (ticks ≤ f.tick) ⊎ (65491 < length f.seg.bytes.now)
+pub no_record : (ticks : ℕ) (f : Frame) → (ticks ≤ f.tick) ⊎ (65487 < length f.seg.bytes.now)
     → [] ≡ frame_before ticks f
 no_record ticks f (inl late) = sym (ap (λ b. cond b (sent_record (seen_frame f)) []) (later f.tick ticks late))
   where
@@ -46,7 +46,7 @@ no_record ticks f (inl late) = sym (ap (λ b. cond b (sent_record (seen_frame f)
     later t ticks h = grind (arith, common_steps, h)
 no_record ticks f (inr long) = none (nat_lt f.tick ticks)
   where
-    large : (n : ℕ) → 65491 < n → nat_le n 65491 ≡ false
+    large : (n : ℕ) → 65487 < n → nat_le n 65487 ≡ false
     large n h = grind (arith, common_steps, h)
 
     none : (b : Bool) → [] ≡ cond b (sent_record (seen_frame f)) []

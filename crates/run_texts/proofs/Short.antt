@@ -17,9 +17,9 @@ use Rattle.host_rounds.specs.Lists.{Each}
 use Rattle.run_texts.specs.Frames.{AreAllShort, AreFlowsShort, AreShort}
 
 abbrev IsShort : Seg → Type 0
-IsShort seg = length seg.bytes ≤ 65491
+IsShort seg = length seg.bytes ≤ 65487
 
-taken_short : (p : List ℕ) (at n : ℕ) → n ≤ 65491 → length (take n (drop at p)) ≤ 65491
+taken_short : (p : List ℕ) (at n : ℕ) → n ≤ 65487 → length (take n (drop at p)) ≤ 65487
 taken_short p at n h = omega (arith, length-take n (drop at p), h)
 
 -- once the connection runs, a segment has at most 8,960 bytes
@@ -29,7 +29,7 @@ paced_in (Some why) peer una r is p = absurd (cc (is))
 paced_in None None una r is p = absurd (cc (is))
 paced_in None (Some first) una r is p = p.mss.1
 
-data_short : (e : Endpoint) → column e ≡ Running → Valid e → length (data_seg e (data_len e)).bytes ≤ 65491
+data_short : (e : Endpoint) → column e ≡ Running → Valid e → length (data_seg e (data_len e)).bytes ≤ 65487
 data_short e is v =
     let limit : e.rate.mss ≤ 8960 = paced_in e.reason e.peer e.tx.una e.rate is v.paced in
     taken_short e.tx.out (e.tx.nxt - 1) (data_len e) (omega (arith, limit))
@@ -38,7 +38,7 @@ data_short e is v =
 each_short : Shows (λ b e seg. Valid b → IsShort seg)
 each_short = record {
   ack = λ b e v. omega arith;
-  reset = λ b e head rst plain v. omega arith;
+  reset = λ b e head rst plain none v. omega arith;
   syn = λ e v. omega arith;
   payload = λ e is v. data_short e is v;
   probe = λ e is v. taken_short e.tx.out (e.tx.nxt - 1) 1 (omega arith);

@@ -137,10 +137,10 @@ segments_bytes-append t tuple (x ∷ xs) ys = ap (λ l. record_bytes t (canon (s
     ∙ sym (append_assoc (record_bytes t (canon (sent_fields tuple x))) (segments_bytes t tuple xs)
     (segments_bytes t tuple ys))
 
-short_test : (n : ℕ) → n ≤ 65491 → nat_le n 65491 ≡ true
+short_test : (n : ℕ) → n ≤ 65487 → nat_le n 65487 ≡ true
 short_test n h = grind (arith, common_steps, h)
 
-short_record : (t : ℕ) (tuple : FourTuple) (s : Seg) → length s.bytes ≤ 65491 → segment_record t tuple s
+short_record : (t : ℕ) (tuple : FourTuple) (s : Seg) → length s.bytes ≤ 65487 → segment_record t tuple s
     ≡ record_bytes t (canon (sent_fields tuple s))
 short_record t tuple s h = ap (λ b. cond b (record_bytes t (canon (sent_fields tuple s))) [])
     (short_test (length s.bytes) h)

@@ -131,6 +131,15 @@ eight_behind w0 w1 w2 w3 w4 w5 w6 w7 w8 a b c d e f g h e1 e2 e3 e4 e5 e6 e7 e8 
     two : (v w x y : List ℕ) → v ≡ w0 ++ x → w ≡ v ++ y → w ≡ w0 ++ (x ++ y)
     two v w x y first second = second ∙ ap (λ t. t ++ y) first ∙ append_assoc w0 x y
 
+-- and one more
+pub nine_behind : (w0 w1 w2 w3 w4 w5 w6 w7 w8 w9 a b c d e f g h i : List ℕ) → w1 ≡ w0 ++ a → w2 ≡ w1 ++ b
+    → w3 ≡ w2 ++ c → w4 ≡ w3 ++ d → w5 ≡ w4 ++ e → w6 ≡ w5 ++ f → w7 ≡ w6 ++ g → w8 ≡ w7 ++ h → w9 ≡ w8 ++ i
+    → w9 ≡ w0 ++ (a ++ b ++ c ++ d ++ e ++ f ++ g ++ h ++ i)
+nine_behind w0 w1 w2 w3 w4 w5 w6 w7 w8 w9 a b c d e f g h i e1 e2 e3 e4 e5 e6 e7 e8 e9 =
+    let eight : w8 ≡ w0 ++ (a ++ b ++ c ++ d ++ e ++ f ++ g ++ h) =
+    eight_behind w0 w1 w2 w3 w4 w5 w6 w7 w8 a b c d e f g h e1 e2 e3 e4 e5 e6 e7 e8 in
+    e9 ∙ (ap (λ t. t ++ i) eight ∙ append_assoc w0 (a ++ b ++ c ++ d ++ e ++ f ++ g ++ h) i)
+
 -- ----- pieces
 pub text_more : (bytes : List ℕ) (from to : ℕ) → from ≤ to → take from bytes ++ take (to - from) (drop from bytes)
     ≡ take to bytes

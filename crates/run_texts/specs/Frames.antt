@@ -36,7 +36,7 @@ Adds before after more = map seen_frame after ≡ map seen_frame before ++ more
 
 -- The record of a segment. One is left out that has more bytes than a packet has room for.
 abbrev pub segment_record : (tick : ℕ) → FourTuple → Seg → List ℕ
-segment_record t tuple seg = if nat_le (length seg.bytes) 65491 then record_bytes t (canon (sent_fields tuple seg))
+segment_record t tuple seg = if nat_le (length seg.bytes) 65487 then record_bytes t (canon (sent_fields tuple seg))
     else []
 
 abbrev pub sent_record : Sent → List ℕ
@@ -91,7 +91,7 @@ seen_host h = host_of (map history_of h.flows.now) (lines_of h.log.now)
 -- each segment that a flow sent has room in a packet
 abbrev pub AreAllShort : List Seg → Type 0
 AreAllShort [] = ⊤
-AreAllShort (s ∷ ss) = (length s.bytes ≤ 65491) × AreAllShort ss
+AreAllShort (s ∷ ss) = (length s.bytes ≤ 65487) × AreAllShort ss
 
 abbrev pub AreFlowsShort : List Flow → Type 0
 AreFlowsShort [] = ⊤

@@ -23,8 +23,8 @@ use tas_core::LogStretch;
 use tas_model::{FourTuple, Head};
 use tas_num::{IoFault, Sink};
 
-/// How many bytes of payload a packet has room for: 65,535 less its headers with an MSS option.
-const MOST_PAYLOAD: usize = 65491;
+/// How many bytes of payload a packet has room for: 65,535 less its headers with both options.
+const MOST_PAYLOAD: usize = 65487;
 
 /// A segment that was sent: in which tick, and between which ends.
 #[derive(Clone, Copy, Debug)]
@@ -297,6 +297,7 @@ fn write_record<K: Sink>(
         flags: Flags(frame.seg.head.flags),
         window: frame.seg.head.window,
         mss: frame.seg.head.mss,
+        scale: frame.seg.head.scale,
         payload: frame.seg.bytes,
     };
     if frame.tick >= ticks || seg.payload.len() > MOST_PAYLOAD {

@@ -65,7 +65,7 @@ impl Text for HeadText {
 
     ghost text = { λ t. head_text t.0 };
 
-    ghost most = { 58 };
+    ghost most = { 65 };
 
     #[inline(always)]
     fn add_to(&self, waiting: &mut Buffer) {
@@ -78,6 +78,7 @@ impl Text for HeadText {
         add(waiting, b" win ");
         add_number(waiting, head.window);
         MssText(head.mss).add_to(waiting);
+        ScaleText(head.scale).add_to(waiting);
     }
 }
 
@@ -96,6 +97,25 @@ impl Text for MssText {
         if let Some(mss) = self.0 {
             add(waiting, b" mss ");
             add_number(waiting, mss);
+        }
+    }
+}
+
+/// A window scale, where there is one.
+#[derive(Clone, Copy)]
+struct ScaleText(Option<u8>);
+
+impl Text for ScaleText {
+    ghost use Rattle.tas_runs.specs.Report.{scale_text};
+
+    ghost text = { λ t. scale_text t.0 };
+
+    ghost most = { 7 };
+
+    fn add_to(&self, waiting: &mut Buffer) {
+        if let Some(shift) = self.0 {
+            add(waiting, b" ws ");
+            add_number(waiting, shift);
         }
     }
 }
@@ -333,7 +353,7 @@ impl Text for UpdateText {
 
     ghost text = { λ t. update_text t.0 };
 
-    ghost most = { 64 };
+    ghost most = { 71 };
 
     fn add_to(&self, waiting: &mut Buffer) {
         if let Some(head) = self.0 {
@@ -352,7 +372,7 @@ impl Text for AnswerText {
 
     ghost text = { λ t. answer_text t.0 };
 
-    ghost most = { 58 };
+    ghost most = { 65 };
 
     fn add_to(&self, waiting: &mut Buffer) {
         match self.0 {

@@ -104,7 +104,8 @@ host_back s all before h rest t l =
     let same : with_line (with_hosts s before) (says.Host h.name h.params.addr (given_of h.params))
     ≡ with_hosts s (before ++ h ∷ []) = ap (λ (x : HostLine). with_hosts s (before ++ x ∷ [])) t.same in
     line_back (with_hosts s before) (with_hosts s (before ++ h ∷ [])) (host_text h)
-    (says.Host h.name h.params.addr (given_of h.params)) rest t.line refl (rw (t.name, t.address) refl) t.few same all l
+    (says.Host h.name h.params.addr (given_of h.params)) rest t.line refl (rw (t.name, t.address) refl)
+    (rw (t.few, t.fits) refl) same all l
 
 -- ----- applications and their steps
 abbrev with_apps : Scenario → List AppLine → Draft

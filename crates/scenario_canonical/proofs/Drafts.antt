@@ -1,5 +1,5 @@
 -- A scenario as far as its lines were read: each of them can be printed and read again.
-use Rattle.std.proofs.Common.{◌≡◌, ℕ, ◌+◌, ◌||◌, Bool, true, false, not, List, [], ◌∷◌, ◌++◌}
+use Rattle.std.proofs.Common.{length, nat_le, ◌≡◌, ℕ, ◌+◌, ◌||◌, Bool, true, false, not, List, [], ◌∷◌, ◌++◌}
 use Rattle.std.proofs.Common.{Option, Some, None, Result, Ok, Err, IfSome, IfOk, is_some, unwrap_or, refl, sym}
 use Rattle.std.proofs.Common.{◌∙◌, ap, subst, if◌then◌else◌}
 use Rattle.std.proofs.lemmas.Result.{IfOk-at_ok}
@@ -9,7 +9,7 @@ use Rattle.link_script.specs.declared.script.LinkAct.{LinkAct}
 use Rattle.link_script.specs.declared.script.Target.{Target}
 use Rattle.scenario_text.specs.Statements.{reading}
 use Rattle.scenario_text.specs.Drafts.{no_draft, is_unknown, repeats, is_full, judged, host_of, has_host, has_address}
-use Rattle.scenario_text.specs.Drafts.{has_app, has_kill, host_with, is_nil, last_steps, is_lost_step, brings}
+use Rattle.scenario_text.specs.Drafts.{is_large, has_app, has_kill, host_with, is_nil, last_steps, is_lost_step, brings}
 use Rattle.scenario_text.specs.Drafts.{brings_again, is_second, is_second_each, with_step, with_line}
 use Rattle.scenario_text.specs.Reads.{taken_if, taken_by, taken, finished, read_from, reads}
 use Rattle.scenario_text.specs.declared.draft.Draft.{Draft}
@@ -175,12 +175,14 @@ line_added d (says.Limit ticks) h r l = record {
 line_added d (says.Host name addr given) h r l =
     let front : ((given.repeated || has_host d.hosts name) ≡ false) × (has_address d.hosts addr ≡ false) =
     neither _ _ r.fresh in
+    let room : (nat_le 8 (length d.hosts) ≡ false) × (is_large given ≡ false) = neither _ _ r.few in
     host_added d (host_with name addr given) h (record {
       line = l;
       same = refl;
       name = (neither _ _ front.0).1;
       address = front.1;
-      few = r.few;
+      few = room.0;
+      fits = room.1;
     })
 line_added d (says.App host name) h r l = app_added d (record { host = host; name = name; steps = [] }) h (record {
   line = l;

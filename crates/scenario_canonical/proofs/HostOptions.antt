@@ -5,7 +5,7 @@ use Rattle.std.specs.Prelude.{codes, decimal}
 use Rattle.tas_model.specs.declared.entry.HostParams.{HostParams}
 use Rattle.scenario_text.specs.Words.{number_in}
 use Rattle.scenario_text.specs.Statements.{option_of, none_given, put_option, by_option, given_by}
-use Rattle.scenario_text.specs.Canonical.{params_words}
+use Rattle.scenario_text.specs.Canonical.{params_words, scale_words}
 use Rattle.scenario_text.specs.Drafts.{host_with}
 use Rattle.scenario_text.specs.declared.statement.OptionName.{OptionName}
 use Rattle.scenario_text.specs.declared.statement.OptionName.TheVariants as options
@@ -15,17 +15,26 @@ use Rattle.scenario_canonical.proofs.WordForms.{IsFrom, IsNumber, number_from, n
 -- ----- the options that are given are in their ranges
 pub record AreFrom (g : Given) : Type 0 where
   pub iss : IfSome g.iss (IsFrom 0 4294967295)
-  pub ring : IfSome g.ring (IsFrom 256 65535)
+  pub ring : IfSome g.ring (IsFrom 256 1048576)
   pub mss : IfSome g.mss (IsFrom 64 8960)
   pub rto : IfSome g.rto (IsFrom 1 1000)
   pub slots : IfSome g.slots (IsFrom 1 1024)
   pub backlog : IfSome g.backlog (IsFrom 1 1024)
+  pub scale : IfSome g.scale (IsFrom 0 14)
 
 -- the same options, whatever was wrong besides
 marked : (g : Given) (wrong unknown repeated : Bool) → AreFrom g
     → AreFrom (record g { wrong = wrong; unknown = unknown; repeated = repeated })
 marked g wrong unknown repeated h =
-    record { iss = h.iss; ring = h.ring; mss = h.mss; rto = h.rto; slots = h.slots; backlog = h.backlog }
+    record {
+      iss = h.iss;
+      ring = h.ring;
+      mss = h.mss;
+      rto = h.rto;
+      slots = h.slots;
+      backlog = h.backlog;
+      scale = h.scale;
+    }
 
 put_from : (given : Given) (before : Bool) (number : Option ℕ) (taken : Given)
     → AreFrom given → AreFrom taken → AreFrom (put_option given before number taken)
@@ -45,16 +54,18 @@ option_from given (Some options.Iss) value g =
       rto = g.rto;
       slots = g.slots;
       backlog = g.backlog;
+      scale = g.scale;
     })
 option_from given (Some options.Ring) value g =
-    let number : Option ℕ = number_in 256 65535 value in
+    let number : Option ℕ = number_in 256 1048576 value in
     put_from given (is_some given.ring) number (record given { ring = number }) g (record {
-      ring = number_from 256 65535 value;
+      ring = number_from 256 1048576 value;
       iss = g.iss;
       mss = g.mss;
       rto = g.rto;
       slots = g.slots;
       backlog = g.backlog;
+      scale = g.scale;
     })
 option_from given (Some options.Mss) value g =
     let number : Option ℕ = number_in 64 8960 value in
@@ -65,6 +76,7 @@ option_from given (Some options.Mss) value g =
       rto = g.rto;
       slots = g.slots;
       backlog = g.backlog;
+      scale = g.scale;
     })
 option_from given (Some options.Rto) value g =
     let number : Option ℕ = number_in 1 1000 value in
@@ -75,6 +87,7 @@ option_from given (Some options.Rto) value g =
       mss = g.mss;
       slots = g.slots;
       backlog = g.backlog;
+      scale = g.scale;
     })
 option_from given (Some options.Slots) value g =
     let number : Option ℕ = number_in 1 1024 value in
@@ -85,6 +98,7 @@ option_from given (Some options.Slots) value g =
       mss = g.mss;
       rto = g.rto;
       backlog = g.backlog;
+      scale = g.scale;
     })
 option_from given (Some options.Backlog) value g =
     let number : Option ℕ = number_in 1 1024 value in
@@ -95,6 +109,18 @@ option_from given (Some options.Backlog) value g =
       mss = g.mss;
       rto = g.rto;
       slots = g.slots;
+      scale = g.scale;
+    })
+option_from given (Some options.Scale) value g =
+    let number : Option ℕ = number_in 0 14 value in
+    put_from given (is_some given.scale) number (record given { scale = number }) g (record {
+      scale = number_from 0 14 value;
+      iss = g.iss;
+      ring = g.ring;
+      mss = g.mss;
+      rto = g.rto;
+      slots = g.slots;
+      backlog = g.backlog;
     })
 
 pub given_from : (given : Given) (words : List (List ℕ)) → AreFrom given → AreFrom (given_by given words)
@@ -104,7 +130,7 @@ given_from given (word ∷ value ∷ words) g =
     given_from (by_option given (option_of word) value) words (option_from given (option_of word) value g)
 
 pub none_from : AreFrom none_given
-none_from = record { iss = tt; ring = tt; mss = tt; rto = tt; slots = tt; backlog = tt }
+none_from = record { iss = tt; ring = tt; mss = tt; rto = tt; slots = tt; backlog = tt; scale = tt }
 
 -- ----- all options of a host
 abbrev pub given_of : HostParams → Given
@@ -115,6 +141,7 @@ given_of p = record {
   rto = Some p.rto;
   slots = Some p.slots;
   backlog = Some p.backlog;
+  scale = p.scale;
   wrong = false;
   unknown = false;
   repeated = false;
@@ -122,27 +149,38 @@ given_of p = record {
 
 pub record ArePrinted (p : HostParams) : Type 0 where
   pub iss : IsNumber 0 4294967295 p.iss
-  pub ring : IsNumber 256 65535 p.ring
+  pub ring : IsNumber 256 1048576 p.ring
   pub mss : IsNumber 64 8960 p.mss
   pub rto : IsNumber 1 1000 p.rto
   pub slots : IsNumber 1 1024 p.slots
   pub backlog : IsNumber 1 1024 p.backlog
+  pub scale : IfSome p.scale (IsNumber 0 14)
 
 or_default : (low high n : ℕ) (given : Option ℕ) → IfSome given (IsFrom low high) → low ≤ n → n ≤ high
     → high ≤ 4294967295 → IsNumber low high (unwrap_or given n)
 or_default low high n None g a b top = number_of low high n (a, b) top
 or_default low high n (Some m) g a b top = number_of low high m g top
 
+or_none : (low high : ℕ) (given : Option ℕ) → IfSome given (IsFrom low high) → high ≤ 4294967295
+    → IfSome given (IsNumber low high)
+or_none low high None g top = tt
+or_none low high (Some m) g top = number_of low high m g top
+
 pub host_printed : (name : List ℕ) (addr : ℕ) (given : Given) → AreFrom given
     → ArePrinted (host_with name addr given).params
 host_printed name addr given g = record {
   iss = or_default 0 4294967295 0 given.iss g.iss (omega arith) (omega arith) (omega arith);
-  ring = or_default 256 65535 16384 given.ring g.ring (omega arith) (omega arith) (omega arith);
+  ring = or_default 256 1048576 16384 given.ring g.ring (omega arith) (omega arith) (omega arith);
   mss = or_default 64 8960 1460 given.mss g.mss (omega arith) (omega arith) (omega arith);
   rto = or_default 1 1000 20 given.rto g.rto (omega arith) (omega arith) (omega arith);
   slots = or_default 1 1024 1024 given.slots g.slots (omega arith) (omega arith) (omega arith);
   backlog = or_default 1 1024 16 given.backlog g.backlog (omega arith) (omega arith) (omega arith);
+  scale = or_none 0 14 given.scale g.scale (omega arith);
 }
+
+short_scale : (scale : Option ℕ) → IfSome scale (IsNumber 0 14) → AreShort (scale_words scale)
+short_scale None h = tt
+short_scale (Some n) h = (fixed (codes "scale") refl refl, (h.short, tt))
 
 pub short_params : (p : HostParams) → ArePrinted p → AreShort (params_words p)
 short_params p h = (
@@ -167,7 +205,7 @@ short_params p h = (
                     h.slots.short,
                     (
                       fixed (codes "backlog") refl refl,
-                      (h.backlog.short, tt),
+                      (h.backlog.short, short_scale p.scale h.scale),
                     ),
                   ),
                 ),
@@ -205,7 +243,7 @@ with_slots p = record (with_rto p) { slots = Some p.slots }
 
 -- the words behind each option
 abbrev behind_slots : HostParams → List (List ℕ)
-behind_slots p = codes "backlog" ∷ decimal p.backlog ∷ []
+behind_slots p = codes "backlog" ∷ decimal p.backlog ∷ scale_words p.scale
 
 abbrev behind_rto : HostParams → List (List ℕ)
 behind_rto p = codes "slots" ∷ decimal p.slots ∷ behind_slots p
@@ -219,17 +257,32 @@ behind_ring p = codes "mss" ∷ decimal p.mss ∷ behind_mss p
 abbrev behind_iss : HostParams → List (List ℕ)
 behind_iss p = codes "ring" ∷ decimal p.ring ∷ behind_ring p
 
+abbrev with_backlog : HostParams → Given
+with_backlog p = record (with_slots p) { backlog = Some p.backlog }
+
+-- the shift, where there is one
+scale_back : (given : Given) (scale : Option ℕ) → IfSome scale (IsNumber 0 14) → given.scale ≡ None
+    → given_by given (scale_words scale) ≡ record given { scale = scale }
+scale_back given None h none = ap (λ (o : Option ℕ). record given { scale = o }) none
+scale_back given (Some n) h none =
+    ap (λ (o : Option ℕ). given_by (put_option given (is_some o) (number_in 0 14 (decimal n))
+    (record given { scale = number_in 0 14 (decimal n) })) []) none
+    ∙ taken_new given (record given { scale = Some n }) [] (λ (o : Option ℕ). record given { scale = o })
+    (number_in 0 14 (decimal n)) n h.back refl
+
 pub given_back : (p : HostParams) → ArePrinted p → given_by none_given (params_words p) ≡ given_of p
 given_back p h =
     taken_new none_given (with_iss p.iss) (behind_iss p) (λ (o : Option ℕ). record none_given { iss = o })
     (number_in 0 4294967295 (decimal p.iss)) p.iss h.iss.back refl
     ∙ (taken_new (with_iss p.iss) (with_ring p) (behind_ring p) (λ (o : Option ℕ). record (with_iss p.iss) { ring = o })
-    (number_in 256 65535 (decimal p.ring)) p.ring h.ring.back refl
+    (number_in 256 1048576 (decimal p.ring)) p.ring h.ring.back refl
     ∙ (taken_new (with_ring p) (with_mss p) (behind_mss p) (λ (o : Option ℕ). record (with_ring p) { mss = o })
     (number_in 64 8960 (decimal p.mss)) p.mss h.mss.back refl
     ∙ (taken_new (with_mss p) (with_rto p) (behind_rto p) (λ (o : Option ℕ). record (with_mss p) { rto = o })
     (number_in 1 1000 (decimal p.rto)) p.rto h.rto.back refl
     ∙ (taken_new (with_rto p) (with_slots p) (behind_slots p) (λ (o : Option ℕ). record (with_rto p) { slots = o })
     (number_in 1 1024 (decimal p.slots)) p.slots h.slots.back refl
-    ∙ taken_new (with_slots p) (given_of p) [] (λ (o : Option ℕ). record (with_slots p) { backlog = o })
-    (number_in 1 1024 (decimal p.backlog)) p.backlog h.backlog.back refl))))
+    ∙ (taken_new (with_slots p) (with_backlog p) (scale_words p.scale)
+    (λ (o : Option ℕ). record (with_slots p) { backlog = o })
+    (number_in 1 1024 (decimal p.backlog)) p.backlog h.backlog.back refl
+    ∙ scale_back (with_backlog p) p.scale h.scale refl)))))

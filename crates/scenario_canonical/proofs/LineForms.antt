@@ -7,7 +7,8 @@ use Rattle.link_script.specs.declared.script.LinkAct.{LinkAct}
 use Rattle.link_script.specs.declared.script.LinkAct.TheVariants as acts
 use Rattle.scenario_text.specs.Words.{is_name, number_in, address_of}
 use Rattle.scenario_text.specs.Canonical.{line_of, address_text, params_words, host_text, step_text, act_line}
-use Rattle.scenario_text.specs.Canonical.{move_text, kill_text}
+use Rattle.scenario_text.specs.Canonical.{move_text, kill_text, scale_words}
+use Rattle.tas_model.specs.declared.entry.HostParams.{HostParams}
 use Rattle.scenario_text.specs.Drafts.{host_with}
 use Rattle.scenario_text.specs.Statements.{said, named, with_number, with_name, with_frame, named_number, two_names}
 use Rattle.scenario_text.specs.Statements.{frame_named, host_said, none_given, given_by, limit_line, host_line}
@@ -134,13 +135,27 @@ limit_again (ticks ∷ []) =
     said_if (IsNumber 1 10000) says.Limit (number_in 1 10000 ticks) (number_word 1 10000 ticks (omega arith)) limit_said
 limit_again (ticks ∷ word ∷ words) = tt
 
-host_words : (line name addr : List ℕ) (n : ℕ) (words : List (List ℕ)) (given : Given) → length words ≡ 12
-    → is_name name ≡ true → address_of addr ≡ Some n → given_by none_given words ≡ given → given.wrong ≡ false
+host_words : (line name addr : List ℕ) (n : ℕ) (words : List (List ℕ)) (given : Given)
+    → (length words % 2 == 0 && nat_le (length words) 14) ≡ true → is_name name ≡ true → address_of addr ≡ Some n
+    → given_by none_given words ≡ given → given.wrong ≡ false
     → by_words line (codes "host" ∷ name ∷ addr ∷ words) ≡ Says (says.Host name n given)
-host_words line name addr n words given twelve a b c d =
-    rw (twelve, b, c) (said_so given d) where
+host_words line name addr n words given fits a b c d =
+    rw (fits, b, c) (said_so given d) where
       said_so : (given : Given) → given.wrong ≡ false → host_said name (Some n) given ≡ Says (says.Host name n given)
       said_so given d = rw (a, d) refl
+
+-- six options, or seven
+params_fit : (p : HostParams) → (length (params_words p) % 2 == 0 && nat_le (length (params_words p)) 14) ≡ true
+params_fit p = by_scale p.scale
+  where
+    by_scale : (scale : Option ℕ) → (length (params_words (record p { scale = scale })) % 2 == 0
+        && nat_le (length (params_words (record p { scale = scale }))) 14) ≡ true
+    by_scale None = refl
+    by_scale (Some n) = refl
+
+few_words : (scale : Option ℕ) → length (scale_words scale) ≤ 2
+few_words None = omega arith
+few_words (Some n) = omega arith
 
 host_again_said : (name : List ℕ) (addr : ℕ) (given : Given) → IsNamed name → IsFrom 0 4294967295 addr → AreFrom given
     → IsAgain (Says (says.Host name addr given))
@@ -148,8 +163,9 @@ host_again_said name addr given h a g =
     let params = (host_with name addr given).params in
     let printed : ArePrinted params = host_printed name addr given g in
     line_said (codes "host") (name ∷ address_text addr ∷ params_words params) (says.Host name addr (given_of params))
-    (fixed (codes "host") refl refl, (h.short, (address_short addr a.1, short_params params printed))) (omega arith)
-    (host_words [] name (address_text addr) addr (params_words params) (given_of params) refl h.is
+    (fixed (codes "host") refl refl, (h.short, (address_short addr a.1, short_params params printed)))
+    (omega (arith, few_words params.scale))
+    (host_words [] name (address_text addr) addr (params_words params) (given_of params) (params_fit params) h.is
     (address_back addr a.1) (given_back params printed) refl)
 
 host_said_again : (name : List ℕ) (addr : Option ℕ) (given : Given) → IfSome addr (IsFrom 0 4294967295)
@@ -163,7 +179,7 @@ pub host_line_again : (words : List (List ℕ)) → IsAgain (host_line words)
 host_line_again [] = tt
 host_line_again (name ∷ []) = tt
 host_line_again (name ∷ addr ∷ words) =
-    on_cond IsAgain (length words % 2 == 0 && nat_le (length words) 12)
+    on_cond IsAgain (length words % 2 == 0 && nat_le (length words) 14)
     (host_said name (address_of addr) (given_by none_given words)) (Wrong 4)
     (λ t. host_said_again name (address_of addr) (given_by none_given words) (address_from addr)
     (given_from none_given words none_from)) (λ f. tt)

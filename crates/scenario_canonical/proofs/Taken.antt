@@ -11,7 +11,7 @@ use Rattle.link_script.specs.LinkLines.{LinkLines, drop_each_of}
 use Rattle.link_script.specs.declared.script.DropEach.{DropEach}
 use Rattle.scenario_text.specs.Canonical.{line_of, host_text, step_text, act_line, move_text, kill_text}
 use Rattle.scenario_text.specs.Drafts.{host_of, has_host, has_address, has_app, has_kill, brings, brings_again}
-use Rattle.scenario_text.specs.Drafts.{is_lost_step, is_nil, last_steps, with_step, host_with}
+use Rattle.scenario_text.specs.Drafts.{is_large, is_lost_step, is_nil, last_steps, with_step, host_with}
 use Rattle.scenario_text.specs.declared.draft.Draft.{Draft}
 use Rattle.scenario_text.specs.declared.scenario.HostLine.{HostLine}
 use Rattle.scenario_text.specs.declared.scenario.AppLine.{AppLine}
@@ -47,6 +47,7 @@ pub record IsHostTaken (before : List HostLine) (h : HostLine) : Type 0 where
   pub name : has_host before h.name ≡ false
   pub address : has_address before h.params.addr ≡ false
   pub few : nat_le 8 (length before) ≡ false
+  pub fits : is_large (given_of h.params) ≡ false
 
 pub record IsStepTaken (hosts : List HostLine) (before : List Step) (step : Step) : Type 0 where
   pub line : IsLine (step_text step) (says.Do step)

@@ -1,5 +1,5 @@
 -- A scenario as far as its lines were read is in its ranges, and so is the whole.
-use Rattle.std.proofs.Common.{◌≡◌, ◌≤◌, ℕ, ◌+◌, Bool, true, false, nat_le, List, [], ◌∷◌, ◌++◌, length}
+use Rattle.std.proofs.Common.{◌≡◌, ◌≤◌, ℕ, ◌+◌, ◌||◌, Bool, true, false, nat_le, List, [], ◌∷◌, ◌++◌, length}
 use Rattle.std.proofs.Common.{Option, Some, None, Result, Ok, Err, unwrap_or, if◌then◌else◌, IfSome, IfOk}
 use Rattle.std.proofs.Common.{refl, sym, ap, subst, suc, arith, length-append}
 use Rattle.std.proofs.lemmas.Result.{IfOk-at_ok}
@@ -8,7 +8,7 @@ use Rattle.std.specs.Str.Lines.{lines}
 use Rattle.host_rounds.specs.Lists.{Each}
 use Rattle.host_rounds.proofs.Lists.{each_append}
 use Rattle.scenario_text.specs.Statements.{reading}
-use Rattle.scenario_text.specs.Drafts.{no_draft, is_unknown, repeats, judged, host_with, with_step, with_line}
+use Rattle.scenario_text.specs.Drafts.{no_draft, is_large, is_unknown, repeats, judged, host_with, with_step, with_line}
 use Rattle.scenario_text.specs.Reads.{taken_if, taken_by, taken, finished, read_from, reads}
 use Rattle.scenario_text.specs.declared.draft.Draft.{Draft}
 use Rattle.scenario_text.specs.declared.scenario.HostLine.{HostLine}
@@ -59,6 +59,10 @@ not_full false true full e = absurd (cc (e))
 not_full false false true e = absurd (cc (e))
 not_full false false false e = refl
 
+neither : (a b : Bool) → (a || b) ≡ false → a ≡ false
+neither true b e = absurd (cc (e))
+neither false b e = refl
+
 one_more : (hosts : List HostLine) (host : HostLine) → nat_le 8 (length hosts) ≡ false → length (hosts ++ host ∷ []) ≤ 8
 one_more hosts host e = grind (arith, nat_tests, e, length-append hosts (host ∷ []))
 
@@ -77,7 +81,8 @@ line_added d (says.Limit ticks) h s e = record {
 line_added d (says.Host name addr given) h s e = record {
   limit = h.limit;
   count = one_more d.hosts (host_with name addr given)
-      (not_full given.unknown (repeats d (says.Host name addr given)) (nat_le 8 (length d.hosts)) e);
+      (neither (nat_le 8 (length d.hosts)) (is_large given) (not_full given.unknown
+      (repeats d (says.Host name addr given)) (nat_le 8 (length d.hosts) || is_large given) e));
   hosts = each_append IsHostInRange d.hosts (host_with name addr given ∷ []) h.hosts (host_from name addr given s, tt);
   apps = h.apps;
   steps = h.steps;

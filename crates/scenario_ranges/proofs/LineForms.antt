@@ -70,7 +70,7 @@ pub host_line_from : (words : List (List ℕ)) → IsReadInRange (host_line word
 host_line_from [] = tt
 host_line_from (name ∷ []) = tt
 host_line_from (name ∷ addr ∷ words) =
-    on_cond IsReadInRange (length words % 2 == 0 && nat_le (length words) 12)
+    on_cond IsReadInRange (length words % 2 == 0 && nat_le (length words) 14)
     (host_said name (address_of addr) (given_by none_given words)) (Wrong 4)
     (λ t. host_said_from name (address_of addr) (given_by none_given words) (given_from none_given words none_from))
     (λ f. tt)

@@ -4,7 +4,7 @@ use Rattle.std.proofs.Common.{refl}
 use Rattle.std.specs.Fmt.{digits}
 use Rattle.tas_num.specs.Places.{nearest}
 use Rattle.segment_fields.specs.Canon.{ip_header, tcp_fixed}
-use Rattle.segment_fields.specs.Text.{refusal, mss_of}
+use Rattle.segment_fields.specs.Text.{refusal, mss_of, scale_of}
 use Rattle.tas_model.specs.Receive.{rx, rx_later, rx_syn_sent}
 use Rattle.tas_model.specs.NextSegment.{going}
 use Rattle.tas_model.specs.Timers.{ticks, control}
@@ -19,21 +19,21 @@ use Rattle.scenario_runs.specs.WorkedRuns.{hello, hello_report, damaged, damaged
 use Rattle.scenario_runs.specs.WorkedRuns.{killed_early_report, one_slot, one_slot_report}
 
 pub hello_is : reported hello ≡ hello_report
-unfolding reads reading digits nearest ip_header tcp_fixed refusal mss_of rx rx_later rx_syn_sent going ticks control
-    step replay serial_tick report serial_world serial_from
+unfolding reads reading digits nearest ip_header tcp_fixed refusal mss_of scale_of rx rx_later rx_syn_sent going ticks
+    control step replay serial_tick report serial_world serial_from
 hello_is = refl
 
 pub damaged_is : reported damaged ≡ damaged_report
-unfolding reads reading digits nearest ip_header tcp_fixed refusal mss_of rx rx_later rx_syn_sent going ticks control
-    step replay serial_tick report serial_world serial_from
+unfolding reads reading digits nearest ip_header tcp_fixed refusal mss_of scale_of rx rx_later rx_syn_sent going ticks
+    control step replay serial_tick report serial_world serial_from
 damaged_is = refl
 
 pub killed_early_is : reported killed_early ≡ killed_early_report
-unfolding reads reading digits nearest ip_header tcp_fixed refusal mss_of rx rx_later rx_syn_sent going ticks control
-    step replay serial_tick report serial_world serial_from
+unfolding reads reading digits nearest ip_header tcp_fixed refusal mss_of scale_of rx rx_later rx_syn_sent going ticks
+    control step replay serial_tick report serial_world serial_from
 killed_early_is = refl
 
 pub one_slot_is : reported one_slot ≡ one_slot_report
-unfolding reads reading digits nearest ip_header tcp_fixed refusal mss_of rx rx_later rx_syn_sent going ticks control
-    step replay serial_tick report serial_world serial_from
+unfolding reads reading digits nearest ip_header tcp_fixed refusal mss_of scale_of rx rx_later rx_syn_sent going ticks
+    control step replay serial_tick report serial_world serial_from
 one_slot_is = refl

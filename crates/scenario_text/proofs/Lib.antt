@@ -8,3 +8,4 @@ pub mod Decimals
 pub mod Appended
 pub mod MadeApps
 pub mod MadeTexts
+pub mod LeastRings

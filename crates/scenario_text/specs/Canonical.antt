@@ -23,10 +23,15 @@ abbrev pub address_text : (addr : ℕ) → List ℕ
 address_text addr = decimal (addr / 16777216)
     ++ (46 ∷ decimal (addr / 65536 % 256) ++ (46 ∷ decimal (addr / 256 % 256) ++ (46 ∷ decimal (addr % 256))))
 
+-- a shift stands only where one was given
+abbrev pub scale_words : Option ℕ → List (List ℕ)
+scale_words None = []
+scale_words (Some shift) = codes "scale" ∷ decimal shift ∷ []
+
 -- a host with all its options, in this order
 abbrev pub params_words : HostParams → List (List ℕ)
 params_words p = codes "iss" ∷ decimal p.iss ∷ codes "ring" ∷ decimal p.ring ∷ codes "mss" ∷ decimal p.mss ∷ codes "rto"
-    ∷ decimal p.rto ∷ codes "slots" ∷ decimal p.slots ∷ codes "backlog" ∷ decimal p.backlog ∷ []
+    ∷ decimal p.rto ∷ codes "slots" ∷ decimal p.slots ∷ codes "backlog" ∷ decimal p.backlog ∷ scale_words p.scale
 
 abbrev pub host_text : HostLine → List ℕ
 host_text h = line_of (codes "host") (h.name ∷ address_text h.params.addr ∷ params_words h.params)

@@ -1,6 +1,6 @@
 -- A scenario as far as its lines were read: the kinds of refusal from 6 to 8, and what a line adds.
-use Rattle.std.specs.Prelude.{◌≡◌, ℕ, Bool, true, false, not, ◌&&◌, ◌||◌, ◌==◌, nat_le, List, [], ◌∷◌, ◌++◌}
-use Rattle.std.specs.Prelude.{length, Option, Some, None, is_some, unwrap_or, bytes_eq, position}
+use Rattle.std.specs.Prelude.{◌≡◌, ℕ, ◌*◌, ◌^◌, Bool, true, false, not, ◌&&◌, ◌||◌, ◌==◌, nat_le, nat_lt, List, []}
+use Rattle.std.specs.Prelude.{◌∷◌, ◌++◌, length, Option, Some, None, is_some, unwrap_or, bytes_eq, position}
 use Rattle.std.specs.Prelude.{if◌then◌else◌}
 use Rattle.std.specs.List.{list_any}
 use Rattle.std.specs.declared.cmp.Ordering.{Ordering}
@@ -133,8 +133,15 @@ repeats d (says.Move line worded) = false
 repeats d (says.Kill line worded) = has_kill d.kills line.host line.app
 
 -- ----- kind 8: above a limit
+-- A ring has 256 units of the window's shift at least, and the rings of all slots of a host have 67,108,864 bytes at
+-- most in each direction.
+abbrev pub is_large : Given → Bool
+is_large given =
+    nat_lt (unwrap_or given.ring 16384) (256 * 2 ^ unwrap_or given.scale 0)
+    || nat_lt 67108864 (unwrap_or given.slots 1024 * unwrap_or given.ring 16384)
+
 abbrev pub is_full : Draft → Statement → Bool
-is_full d (says.Host name addr given) = nat_le 8 (length d.hosts)
+is_full d (says.Host name addr given) = nat_le 8 (length d.hosts) || is_large given
 is_full d (says.App host name) = nat_le 2048 (length d.apps)
 is_full d (says.Do step) = nat_le 1000 (length (last_steps d.apps))
 is_full d _ = false
@@ -158,6 +165,7 @@ host_with name addr given = record {
     slots = unwrap_or given.slots 1024;
     backlog = unwrap_or given.backlog 16;
     fixed = false;
+    scale = given.scale;
   };
 }
 

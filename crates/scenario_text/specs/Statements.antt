@@ -90,6 +90,7 @@ option_of word =
     else if bytes_eq word (codes "rto") then Some options.Rto
     else if bytes_eq word (codes "slots") then Some options.Slots
     else if bytes_eq word (codes "backlog") then Some options.Backlog
+    else if bytes_eq word (codes "scale") then Some options.Scale
     else None
 
 abbrev pub none_given : Given
@@ -100,6 +101,7 @@ none_given = record {
   rto = None;
   slots = None;
   backlog = None;
+  scale = None;
   wrong = false;
   unknown = false;
   repeated = false;
@@ -110,7 +112,7 @@ abbrev pub put_option : Given → (before : Bool) → (number : Option ℕ) → 
 put_option given before None taken = record given { wrong = true }
 put_option given before (Some n) taken = if before then record given { repeated = true } else taken
 
--- an option with its number; that of `mss` has a type of its own
+-- an option with its number; those of `mss` and `scale` have types of their own
 abbrev pub taken_option : Given → OptionName → Option ℕ → Given
 taken_option given options.Iss number = record given { iss = number }
 taken_option given options.Ring number = record given { ring = number }
@@ -118,6 +120,7 @@ taken_option given options.Rto number = record given { rto = number }
 taken_option given options.Slots number = record given { slots = number }
 taken_option given options.Backlog number = record given { backlog = number }
 taken_option given options.Mss number = given
+taken_option given options.Scale number = given
 
 abbrev pub by_option : Given → Option OptionName → (value : List ℕ) → Given
 by_option given None value = record given { unknown = true }
@@ -125,8 +128,8 @@ by_option given (Some options.Iss) value =
     put_option given (is_some given.iss) (number_in 0 4294967295 value)
     (record given { iss = number_in 0 4294967295 value })
 by_option given (Some options.Ring) value =
-    put_option given (is_some given.ring) (number_in 256 65535 value)
-    (record given { ring = number_in 256 65535 value })
+    put_option given (is_some given.ring) (number_in 256 1048576 value)
+    (record given { ring = number_in 256 1048576 value })
 by_option given (Some options.Mss) value =
     put_option given (is_some given.mss) (number_in 64 8960 value) (record given { mss = number_in 64 8960 value })
 by_option given (Some options.Rto) value =
@@ -136,6 +139,8 @@ by_option given (Some options.Slots) value =
 by_option given (Some options.Backlog) value =
     put_option given (is_some given.backlog) (number_in 1 1024 value)
     (record given { backlog = number_in 1 1024 value })
+by_option given (Some options.Scale) value =
+    put_option given (is_some given.scale) (number_in 0 14 value) (record given { scale = number_in 0 14 value })
 
 -- all options, two words each
 abbrev pub given_by : Given → (words : List (List ℕ)) → Given
@@ -153,7 +158,7 @@ limit_line (ticks ∷ []) = said says.Limit (number_in 1 10000 ticks)
 limit_line _ = Wrong 4
 
 abbrev pub host_line : List (List ℕ) → Reading
-host_line (name ∷ addr ∷ words) = if length words % 2 == 0 && nat_le (length words) 12
+host_line (name ∷ addr ∷ words) = if length words % 2 == 0 && nat_le (length words) 14
     then host_said name (address_of addr) (given_by none_given words) else Wrong 4
 host_line _ = Wrong 4
 

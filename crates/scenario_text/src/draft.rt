@@ -1,4 +1,5 @@
-ghost use Rattle.std.specs.Prelude.{◌≡◌, ◌<◌, ◌≤◌, ◌||◌, ℕ, Bool, not, List, length, IfOk, IfSome};
+ghost use Rattle.std.specs.Prelude.{◌≡◌, ◌*◌, ◌^◌, ◌<◌, ◌≤◌, ◌||◌, ℕ, Bool, not, List, length, IfOk, IfSome, min};
+ghost use Rattle.std.specs.Prelude.{unwrap_or, nat_lt};
 ghost use Rattle.scenario_text.specs.Drafts as drafts;
 ghost use Rattle.scenario_text.specs.declared.scenario.Step.{Step};
 
@@ -6,7 +7,7 @@ use crate::lists::Lines;
 use crate::names::{Names, has_name};
 use crate::roles::{Roles, brings_again, is_listener, is_socket};
 use crate::scenario::{AppLine, HostLine, KillLine, MoveLine, Step};
-use crate::statement::Statement;
+use crate::statement::{Given, Statement};
 use link_script::{LinkScript, Target};
 use std::alloc::{AllocError, Global};
 
@@ -16,6 +17,32 @@ const MOST_HOSTS: usize = 8;
 const MOST_APPS: usize = 2_048;
 /// The most steps of an application.
 const MOST_STEPS: usize = 1_000;
+
+/// The most bytes of the rings of one direction of all flows of a host.
+const MOST_BYTES: u64 = 67_108_864;
+
+/// The least ring whose window a field shows with this shift: 256 units, in bytes.
+fn least_ring(scale: Option<u8>) -> u64
+    ensures { result ≡ 256 * 2 ^ min (unwrap_or scale 0) 32 }
+{
+    256 << scale.unwrap_or(0).min(32)
+}
+
+/// Whether a ring is below the least one of its shift.
+fn is_below_least(ring: u32, scale: Option<u8>) -> bool
+    ensures { result ≡ nat_lt ring (256 * 2 ^ unwrap_or scale 0) }
+{
+    u64::from(ring) < least_ring(scale)
+}
+
+/// Whether a host's ring is too small for its shift, or its rings are too large for its slots.
+fn is_large(given: &Given) -> bool
+    ensures { result ≡ drafts.is_large given.now }
+{
+    let ring = given.ring.unwrap_or(16_384);
+    let slots = given.slots.unwrap_or(1_024);
+    is_below_least(ring, given.scale) || u64::from(slots) * u64::from(ring) > MOST_BYTES
+}
 
 /// A scenario as far as it was read.
 #[derive(Drop)]
@@ -227,7 +254,7 @@ impl Draft {
         ensures { result ≡ drafts.is_full self.now statement.now }
     {
         match statement {
-            Statement::Host(_, _, _) => self.hosts.len() >= MOST_HOSTS,
+            Statement::Host(_, _, given) => self.hosts.len() >= MOST_HOSTS || is_large(given),
             Statement::App(_, _) => self.apps.len() >= MOST_APPS,
             Statement::Do(_) => self.apps.last_steps() >= MOST_STEPS,
             _ => false,

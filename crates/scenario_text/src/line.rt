@@ -194,7 +194,7 @@ fn host_line(alloc: Global, words: &[&[u8]]) -> Result<Reading, AllocError>
 {
     match words {
         [name, addr, options @ ..] => {
-            if options.len() % 2 != 0 || options.len() > 12 {
+            if options.len() % 2 != 0 || options.len() > 14 {
                 return Ok(Reading::Wrong(4));
             }
             host_said(alloc, name, address_of(addr), given_by(options))

@@ -16,6 +16,7 @@ pub(crate) fn given_by(words: &[&[u8]]) -> Given
         rto: None,
         slots: None,
         backlog: None,
+        scale: None,
         wrong: false,
         unknown: false,
         repeated: false,
@@ -50,6 +51,9 @@ fn option_of(word: &[u8]) -> Option<OptionName>
     if is(word, b"backlog") {
         return Some(OptionName::Backlog);
     }
+    if is(word, b"scale") {
+        return Some(OptionName::Scale);
+    }
     None
 }
 
@@ -59,6 +63,16 @@ fn mss_in(word: &[u8]) -> Option<u16>
 {
     match number_in(64, 8_960, word) {
         Some(mss) => Some(mss as u16),
+        None => None,
+    }
+}
+
+/// The shift that a word gives, from 0 to 14 (RFC 7323, section 2.3).
+fn scale_in(word: &[u8]) -> Option<u8>
+    ensures { result ≡ words.number_in 0 14 word.now }
+{
+    match number_in(0, 14, word) {
+        Some(shift) => Some(shift as u8),
         None => None,
     }
 }
@@ -74,6 +88,7 @@ impl Given {
                 ..self
             },
             Some(OptionName::Mss) => self.with_mss(mss_in(value)),
+            Some(OptionName::Scale) => self.with_scale(scale_in(value)),
             Some(OptionName::Iss) => self.put(
                 self.iss.is_some(),
                 number_in(0, 4_294_967_295, value),
@@ -81,7 +96,7 @@ impl Given {
             ),
             Some(OptionName::Ring) => self.put(
                 self.ring.is_some(),
-                number_in(256, 65_535, value),
+                number_in(256, 1_048_576, value),
                 OptionName::Ring,
             ),
             Some(OptionName::Rto) => self.put(
@@ -118,6 +133,24 @@ impl Given {
             };
         }
         Given { mss, ..self }
+    }
+
+    fn with_scale(self, scale: Option<u8>) -> Given
+        ensures { result ≡ forms.put_option self (is_some self.scale) scale (record self { scale = scale }) }
+    {
+        if scale.is_none() {
+            return Given {
+                wrong: true,
+                ..self
+            };
+        }
+        if self.scale.is_some() {
+            return Given {
+                repeated: true,
+                ..self
+            };
+        }
+        Given { scale, ..self }
     }
 
     /// The options with a number for one of them, where it has one and had none before.
@@ -163,7 +196,7 @@ impl Given {
                 backlog: number,
                 ..self
             },
-            OptionName::Mss => self,
+            OptionName::Mss | OptionName::Scale => self,
         }
     }
 }

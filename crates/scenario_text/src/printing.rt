@@ -218,6 +218,7 @@ fn put_params(
     let mut rto = Buffer::new();
     let mut slots = Buffer::new();
     let mut backlog = Buffer::new();
+    let mut scale = Buffer::new();
     let words = [
         name,
         addr,
@@ -233,8 +234,13 @@ fn put_params(
         slots.format(params.slots).as_bytes(),
         b"backlog".as_slice(),
         backlog.format(params.backlog).as_bytes(),
+        b"scale".as_slice(),
+        scale.format(u32::from(params.scale.unwrap_or(0))).as_bytes(),
     ];
-    put_line(out, b"host", &words)
+    match params.scale {
+        Some(_) => put_line(out, b"host", &words),
+        None => put_line(out, b"host", &words[..14]),
+    }
 }
 
 fn put_step(out: &mut Vec<u8>, step: &Step) -> Result<(), AllocError>

@@ -37,6 +37,7 @@ pub enum OptionName {
     Rto,
     Slots,
     Backlog,
+    Scale,
 }
 
 /// The options that a host's line gives, as far as it was read: whether a value was out of its range, a word was no
@@ -49,6 +50,7 @@ pub struct Given {
     pub rto: Option<u32>,
     pub slots: Option<u32>,
     pub backlog: Option<u32>,
+    pub scale: Option<u8>,
     pub wrong: bool,
     pub unknown: bool,
     pub repeated: bool,

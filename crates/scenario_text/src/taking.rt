@@ -26,6 +26,7 @@ fn host_with(name: Bytes, addr: u32, given: Given) -> HostLine
             slots: given.slots.unwrap_or(1_024),
             backlog: given.backlog.unwrap_or(16),
             fixed: false,
+            scale: given.scale,
         },
     }
 }

@@ -1,19 +1,23 @@
 -- What the one packet of a segment's fields says.
-use Rattle.std.proofs.Common.{◌≡◌, ℕ, ◌+◌, ◌-◌, ◌/◌, ◌%◌, ◌≤◌, ◌==◌, ◌&&◌, ◌||◌, not, Bool, true, false, List, ◌++◌}
-use Rattle.std.proofs.Common.{Option, Some, None, IsSome, IsTrue, length, sum, take, drop, slice_range, nat_lt, refl}
-use Rattle.std.proofs.Common.{sym, ap, ◌∙◌, arith, length-append, if◌then◌else◌}
+use Rattle.std.proofs.Common.{◌≡◌, ℕ, ◌+◌, ◌-◌, ◌/◌, ◌%◌, ◌≤◌, ◌==◌, ◌&&◌, ◌||◌, not, Bool, true, false, List, [], ◌∷◌}
+use Rattle.std.proofs.Common.{◌++◌, Option, Some, None, IsSome, IfSome, IsTrue, length, sum, take, drop, slice_range}
+use Rattle.std.proofs.Common.{nat_lt, refl, sym, ap, ◌∙◌, arith, length-append, if◌then◌else◌}
 use Rattle.std.proofs.lemmas.Bool.Decides.{nat_tests}
 use Rattle.std.proofs.lemmas.List.{take_at, drop_at, drop-drop, take_all}
 use Rattle.tas_num.specs.Sums.{words, checksum}
-use Rattle.segment_fields.specs.Bytes.{byte, half, word}
+use Rattle.segment_fields.specs.Bytes.{byte, half, word, two}
 use Rattle.segment_fields.specs.ControlBits.{has, syn}
 use Rattle.segment_fields.specs.Fields.{Fields, fields_of}
-use Rattle.segment_fields.specs.Options.{mss_past}
+use Rattle.std.specs.Option.{option_map}
+use Rattle.segment_fields.specs.Options.{options_past, first_mss, first_scale, read_shift}
 use Rattle.segment_fields.specs.Canon.{canon, packet, ip_header, tcp_fixed, tcp_checksum, offset_byte, tcp_len, halves}
-use Rattle.segment_fields.specs.Canon.{option_bytes, borne_mss, canon_len, HasMssInSynAlone}
-use Rattle.segment_fields.specs.Text.{IsText, refusal, fields_in, mss_of, tcp, ip_len, total_len, data_offset, ip_sum}
+use Rattle.segment_fields.specs.Canon.{option_bytes, mss_bytes, scale_bytes, borne_mss, borne_scale, canon_len}
+use Rattle.segment_fields.specs.Canon.{HasOptionsInSynAlone}
+use Rattle.segment_fields.specs.Text.{IsText, refusal, fields_in, mss_of, scale_of, options_of}
+use Rattle.segment_fields.specs.Text.{tcp, ip_len, total_len, data_offset, ip_sum}
 use Rattle.segment_fields.specs.Text.{tcp_sum, pseudo_sum, is_wrong}
 use Rattle.segment_fields.specs.declared.segment.Segment.{Segment}
+use Rattle.segment_fields.specs.declared.segment.FirstOption.{FirstOption}
 use Rattle.segment_fields.specs.declared.segment.Refused.{Refused}
 use Rattle.segment_fields.specs.declared.segment.Refused.TheVariants.{Short, NotIpv4, HeaderLength, TotalLength}
 use Rattle.segment_fields.specs.declared.segment.Refused.TheVariants.{Fragment, NotTcp, IpSum, DataOffset, TcpSum}
@@ -47,28 +51,62 @@ unfolding tcp_fixed
 data_offset-tcp_bytes f o aligned = omega (arith, aligned)
 
 -- ----- the fields
-mss_past-option : (mss : Option ℕ) → mss_past 0 (option_bytes mss) ≡ mss
-mss_past-option None = refl
-mss_past-option (Some m) = ap (λ (n : ℕ). Some n) (omega arith)
+mss_bytes_aligned : (mss : Option ℕ) → length (mss_bytes mss) % 4 ≡ 0
+mss_bytes_aligned None = refl
+mss_bytes_aligned (Some m) = refl
 
-option_aligned : (mss : Option ℕ) → length (option_bytes mss) % 4 ≡ 0
-option_aligned None = refl
-option_aligned (Some m) = refl
+options_aligned : (mss scale : Option ℕ) → length (mss_bytes mss ++ scale_bytes scale) % 4 ≡ 0
+options_aligned None None = refl
+options_aligned None (Some s) = refl
+options_aligned (Some m) None = refl
+options_aligned (Some m) (Some s) = refl
 
-mss_of-tcp_bytes : (f : Fields) → mss_of (tcp_bytes f (option_bytes (borne_mss f))) ≡ borne_mss f
-unfolding mss_of tcp_fixed
-mss_of-tcp_bytes f =
-    let o : List ℕ = option_bytes (borne_mss f) in
+option_aligned : (f : Fields) → length (option_bytes f) % 4 ≡ 0
+option_aligned f = options_aligned (borne_mss f) (borne_scale f)
+
+two_bytes : (m : ℕ) → half (2 ∷ 4 ∷ two m) 2 ≡ m
+two_bytes m = omega arith
+
+first_mss-written : (mss scale : Option ℕ) → first_mss (options_past 0 (mss_bytes mss ++ scale_bytes scale)) ≡ mss
+first_mss-written None None = refl
+first_mss-written None (Some s) = refl
+first_mss-written (Some m) None = ap (λ (n : ℕ). Some n) (two_bytes m)
+first_mss-written (Some m) (Some s) = ap (λ (n : ℕ). Some n) (two_bytes m)
+
+first_scale-written : (mss scale : Option ℕ)
+    → first_scale (options_past 0 (mss_bytes mss ++ scale_bytes scale)) ≡ option_map read_shift scale
+first_scale-written None None = refl
+first_scale-written None (Some s) = refl
+first_scale-written (Some m) None = refl
+first_scale-written (Some m) (Some s) = refl
+
+options_of-tcp_bytes : (f : Fields) → options_of (tcp_bytes f (option_bytes f)) ≡ options_past 0 (option_bytes f)
+unfolding tcp_fixed
+options_of-tcp_bytes f =
+    let o : List ℕ = option_bytes f in
     let len : data_offset (tcp_bytes f o) - 20 ≡ length o =
-    omega (arith, data_offset-tcp_bytes f o (option_aligned (borne_mss f))) in
-    let options : slice_range (tcp_bytes f o) 20 (data_offset (tcp_bytes f o)) ≡ o =
-    ap (λ (n : ℕ). take n (o ++ f.payload)) len ∙ take_at o f.payload (length o) refl in
-    by_syn (has f.flags syn) f.mss _ options
+    omega (arith, data_offset-tcp_bytes f o (option_aligned f)) in
+    ap (options_past 0) (ap (λ (n : ℕ). take n (o ++ f.payload)) len ∙ take_at o f.payload (length o) refl)
+
+mss_of-tcp_bytes : (f : Fields) → mss_of (tcp_bytes f (option_bytes f)) ≡ borne_mss f
+unfolding mss_of tcp_fixed
+mss_of-tcp_bytes f = by_syn (has f.flags syn) f.mss f.scale _ (options_of-tcp_bytes f)
   where
-    by_syn : (t : Bool) (mss : Option ℕ) (xs : List ℕ) → xs ≡ option_bytes (if t then mss else None)
-        → (if t then mss_past 0 xs else None) ≡ (if t then mss else None)
-    by_syn true mss xs e = ap (mss_past 0) e ∙ mss_past-option mss
-    by_syn false mss xs e = refl
+    by_syn : (t : Bool) (mss scale : Option ℕ) (os : List FirstOption)
+        → os ≡ options_past 0 (mss_bytes (if t then mss else None) ++ scale_bytes (if t then scale else None))
+        → (if t then first_mss os else None) ≡ (if t then mss else None)
+    by_syn true mss scale os e = ap first_mss e ∙ first_mss-written mss scale
+    by_syn false mss scale os e = refl
+
+scale_of-tcp_bytes : (f : Fields) → scale_of (tcp_bytes f (option_bytes f)) ≡ option_map read_shift (borne_scale f)
+unfolding scale_of tcp_fixed
+scale_of-tcp_bytes f = by_syn (has f.flags syn) f.mss f.scale _ (options_of-tcp_bytes f)
+  where
+    by_syn : (t : Bool) (mss scale : Option ℕ) (os : List FirstOption)
+        → os ≡ options_past 0 (mss_bytes (if t then mss else None) ++ scale_bytes (if t then scale else None))
+        → (if t then first_scale os else None) ≡ option_map read_shift (if t then scale else None)
+    by_syn true mss scale os e = ap first_scale e ∙ first_scale-written mss scale
+    by_syn false mss scale os e = refl
 
 payload-tcp_bytes : (f : Fields) (o : List ℕ) → length o % 4 ≡ 0
     → drop (data_offset (tcp_bytes f o)) (tcp_bytes f o) ≡ f.payload
@@ -77,10 +115,11 @@ payload-tcp_bytes f o aligned =
     ap (λ (n : ℕ). drop n (tcp_bytes f o)) (data_offset-tcp_bytes f o aligned)
     ∙ (sym (drop-drop (length o) 20 (tcp_bytes f o)) ∙ drop_at o f.payload (length o) refl)
 
-pub fields_in-canon : (f : Fields) → fields_in (canon f) ≡ record f { mss = borne_mss f }
+pub fields_in-canon : (f : Fields)
+    → fields_in (canon f) ≡ record f { mss = borne_mss f; scale = option_map read_shift (borne_scale f) }
 unfolding ip_header tcp_fixed
 fields_in-canon f =
-    let o : List ℕ = option_bytes (borne_mss f) in
+    let o : List ℕ = option_bytes f in
     let t : tcp (canon f) ≡ tcp_bytes f o = tcp-packet f o in
     let src : word (canon f) 12 ≡ f.src = omega arith in
     let dst : word (canon f) 16 ≡ f.dst = omega arith in
@@ -91,9 +130,11 @@ fields_in-canon f =
     let flags : byte (tcp (canon f)) 13 ≡ f.flags = ap (λ (b : List ℕ). byte b 13) t in
     let window : half (tcp (canon f)) 14 ≡ f.window = ap (λ (b : List ℕ). half b 14) t ∙ omega arith in
     let mss : mss_of (tcp (canon f)) ≡ borne_mss f = ap mss_of t ∙ mss_of-tcp_bytes f in
+    let scale : scale_of (tcp (canon f)) ≡ option_map read_shift (borne_scale f) =
+    ap scale_of t ∙ scale_of-tcp_bytes f in
     let payload : drop (data_offset (tcp (canon f))) (tcp (canon f)) ≡ f.payload =
-    ap (λ (b : List ℕ). drop (data_offset b) b) t ∙ payload-tcp_bytes f o (option_aligned (borne_mss f)) in
-    cc (src, dst, sport, dport, seq, ack, flags, window, mss, payload)
+    ap (λ (b : List ℕ). drop (data_offset b) b) t ∙ payload-tcp_bytes f o (option_aligned f) in
+    cc (src, dst, sport, dport, seq, ack, flags, window, mss, scale, payload)
 
 -- ----- the sums
 ip_sum-packet : (f : Fields) (o : List ℕ) → is_wrong (ip_sum (packet f o)) ≡ false
@@ -209,19 +250,30 @@ refusal-packet check f o aligned =
     (checked check (is_wrong (tcp_sum b)) (tcp_sum-packet f o aligned))
 
 pub refusal-canon : (check : Bool) (f : Fields) → refusal check (canon f) ≡ None
-refusal-canon check f = refusal-packet check f (option_bytes (borne_mss f)) (option_aligned (borne_mss f))
+refusal-canon check f = refusal-packet check f (option_bytes f) (option_aligned f)
 
-by_mss : (mss : Option ℕ) (t : Bool) → (IsSome mss → IsTrue t) → (if t then mss else None) ≡ mss
-by_mss mss true e = refl
-by_mss None false e = refl
-by_mss (Some m) false e = absurd (cc (e refl))
+borne : (o : Option ℕ) (t : Bool) → (IsSome o → IsTrue t) → (if t then o else None) ≡ o
+borne o true e = refl
+borne None false e = refl
+borne (Some x) false e = absurd (cc (e refl))
 
-pub fields_in-canon_same : (f : Fields) → HasMssInSynAlone f → fields_in (canon f) ≡ f
-fields_in-canon_same f alone = fields_in-canon f
-    ∙ ap (λ (mss : Option ℕ). record f { mss = mss }) (by_mss f.mss (has f.flags syn) alone)
+as_read : (o : Option ℕ) → IfSome o (λ shift. shift ≤ 14) → option_map read_shift o ≡ o
+as_read None small = refl
+as_read (Some s) small =
+    let same : read_shift s ≡ s = omega (arith, small) in
+    ap (λ (n : ℕ). Some n) same
+
+pub fields_in-canon_same : (f : Fields) → HasOptionsInSynAlone f → fields_in (canon f) ≡ f
+fields_in-canon_same f alone =
+    let mss : borne_mss f ≡ f.mss = borne f.mss (has f.flags syn) alone.mss in
+    let scale : option_map read_shift (borne_scale f) ≡ f.scale =
+    ap (option_map read_shift) (borne f.scale (has f.flags syn) alone.scale) ∙ as_read f.scale alone.shift in
+    fields_in-canon f
+    ∙ (ap (λ (m : Option ℕ). record f { mss = m; scale = option_map read_shift (borne_scale f) }) mss
+    ∙ ap (λ (s : Option ℕ). record f { scale = s }) scale)
 
 pub fields_of-text : (b : List ℕ) (s : Segment) → IsText b s → fields_of s ≡ fields_in b
-fields_of-text b s t = cc (t.src, t.dst, t.sport, t.dport, t.seq, t.ack, t.flags, t.window, t.mss, t.payload)
+fields_of-text b s t = cc (t.src, t.dst, t.sport, t.dport, t.seq, t.ack, t.flags, t.window, t.mss, t.scale, t.payload)
 
 pub length-canon : (f : Fields) → length (canon f) ≡ canon_len f
-length-canon f = omega (arith, length-packet f (option_bytes (borne_mss f)))
+length-canon f = omega (arith, length-packet f (option_bytes f))

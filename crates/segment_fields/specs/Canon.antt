@@ -1,6 +1,6 @@
 -- The one packet that a segment is written as (RFC 791, section 3.1; RFC 9293, section 3.1).
 use Rattle.std.specs.Prelude.{ℕ, ◌+◌, ◌*◌, ◌/◌, ◌%◌, List, [], ◌∷◌, ◌++◌, length, sum, Option, Some, None, IsSome}
-use Rattle.std.specs.Prelude.{IsTrue, if◌then◌else◌}
+use Rattle.std.specs.Prelude.{IfSome, IsTrue, ◌≤◌, if◌then◌else◌}
 use Rattle.tas_num.specs.Sums.{words, checksum}
 use Rattle.segment_fields.specs.Bytes.{two, four}
 use Rattle.segment_fields.specs.ControlBits.{has, syn}
@@ -8,17 +8,32 @@ use Rattle.segment_fields.specs.Fields.{Fields}
 
 -- ----- the pieces
 -- the option Maximum Segment Size: kind 2, length 4, and the number
-abbrev pub option_bytes : Option ℕ → List ℕ
-option_bytes None = []
-option_bytes (Some mss) = 2 ∷ 4 ∷ two mss
+abbrev pub mss_bytes : Option ℕ → List ℕ
+mss_bytes None = []
+mss_bytes (Some mss) = 2 ∷ 4 ∷ two mss
 
--- an MSS stands in a SYN alone
+-- the option Window Scale (RFC 7323, section 2.2): kind 3, length 3, and the shift, behind one byte of kind 1, which
+-- makes it four bytes long
+abbrev pub scale_bytes : Option ℕ → List ℕ
+scale_bytes None = []
+scale_bytes (Some shift) = 1 ∷ 3 ∷ 3 ∷ shift ∷ []
+
+-- both stand in a SYN alone
 abbrev pub borne_mss : Fields → Option ℕ
 borne_mss f = if has f.flags syn then f.mss else None
 
--- the MSS is one that a packet can bear: there is none, or SYN is set
-abbrev pub HasMssInSynAlone : Fields → Type 0
-HasMssInSynAlone f = IsSome f.mss → IsTrue (has f.flags syn)
+abbrev pub borne_scale : Fields → Option ℕ
+borne_scale f = if has f.flags syn then f.scale else None
+
+-- the options of a packet, the MSS first
+abbrev pub option_bytes : Fields → List ℕ
+option_bytes f = mss_bytes (borne_mss f) ++ scale_bytes (borne_scale f)
+
+-- The options are ones that a packet bears as they are: there is none, or SYN is set, and the shift is at most 14.
+pub record HasOptionsInSynAlone (f : Fields) : Type 0 where
+  pub mss : IsSome f.mss → IsTrue (has f.flags syn)
+  pub scale : IsSome f.scale → IsTrue (has f.flags syn)
+  pub shift : IfSome f.scale (λ shift. shift ≤ 14)
 
 -- The IPv4 header without options: version 4 and IHL 5, type of service 0, total length, identification 0, DF and
 -- fragment offset 0, TTL 64, protocol 6,
@@ -67,8 +82,8 @@ packet f option =
 
 -- the one packet of a segment's fields
 abbrev pub canon : Fields → List ℕ
-canon f = packet f (option_bytes (borne_mss f))
+canon f = packet f (option_bytes f)
 
--- its length: 40 bytes of headers, 4 with an MSS, and the payload
+-- its length: 40 bytes of headers, 4 with an MSS, 4 with a window scale, and the payload
 abbrev pub canon_len : Fields → ℕ
-canon_len f = 40 + length (option_bytes (borne_mss f)) + length f.payload
+canon_len f = 40 + length (option_bytes f) + length f.payload

@@ -3,8 +3,8 @@
 use Rattle.std.specs.Prelude.{ℕ, List, Option}
 use Rattle.segment_fields.specs.declared.segment.Segment.{Segment}
 
--- `flags` is the byte of control bits, `mss` the value of the option Maximum Segment Size, and the payload is a list of
--- bytes.
+-- `flags` is the byte of control bits, `mss` the value of the option Maximum Segment Size, `scale` the shift of the
+-- option Window Scale (RFC 7323, section 2.2), and the payload is a list of bytes.
 pub record Fields : Type 0 where
   pub src : ℕ
   pub dst : ℕ
@@ -15,6 +15,7 @@ pub record Fields : Type 0 where
   pub flags : ℕ
   pub window : ℕ
   pub mss : Option ℕ
+  pub scale : Option ℕ
   pub payload : List ℕ
 
 -- the fields of a segment of the code
@@ -30,5 +31,6 @@ fields_of s =
       flags = s.flags.0;
       window = s.window;
       mss = s.mss;
+      scale = s.scale;
       payload = s.payload.now;
     }

@@ -6,7 +6,8 @@ use Rattle.tas_num.specs.Sums.{words}
 use Rattle.segment_fields.specs.Bytes.{byte, half, word}
 use Rattle.segment_fields.specs.ControlBits.{has, syn}
 use Rattle.segment_fields.specs.Fields.{Fields}
-use Rattle.segment_fields.specs.Options.{mss_past}
+use Rattle.segment_fields.specs.Options.{options_past, first_mss, first_scale}
+use Rattle.segment_fields.specs.declared.segment.FirstOption.{FirstOption}
 use Rattle.segment_fields.specs.declared.segment.Segment.{Segment}
 use Rattle.segment_fields.specs.declared.segment.Refused.{Refused}
 use Rattle.segment_fields.specs.declared.segment.Refused.TheVariants.{Short, NotIpv4, HeaderLength, TotalLength}
@@ -64,9 +65,17 @@ refusal check b =
     else None
 
 -- ----- the fields
+-- the options behind the fixed part of TCP's header
+abbrev pub options_of : List ℕ → List FirstOption
+options_of t = options_past 0 (slice_range t 20 (data_offset t))
+
 -- the MSS that TCP's bytes bear: the first one among the options, and that of a SYN alone
 unfoldable pub mss_of : List ℕ → Option ℕ
-mss_of t = if has (byte t 13) syn then mss_past 0 (slice_range t 20 (data_offset t)) else None
+mss_of t = if has (byte t 13) syn then first_mss (options_of t) else None
+
+-- and the shift of windows
+unfoldable pub scale_of : List ℕ → Option ℕ
+scale_of t = if has (byte t 13) syn then first_scale (options_of t) else None
 
 -- the fields that the bytes spell
 abbrev pub fields_in : List ℕ → Fields
@@ -81,6 +90,7 @@ fields_in b =
       flags = byte (tcp b) 13;
       window = half (tcp b) 14;
       mss = mss_of (tcp b);
+      scale = scale_of (tcp b);
       payload = drop (data_offset (tcp b)) (tcp b);
     }
 
@@ -95,4 +105,5 @@ pub record IsText (b : List ℕ) (s : Segment) : Type 0 where
   pub flags : s.flags.0 ≡ byte (tcp b) 13
   pub window : s.window ≡ half (tcp b) 14
   pub mss : s.mss ≡ mss_of (tcp b)
+  pub scale : s.scale ≡ scale_of (tcp b)
   pub payload : s.payload.now ≡ drop (data_offset (tcp b)) (tcp b)

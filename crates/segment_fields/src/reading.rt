@@ -2,11 +2,12 @@ ghost use Rattle.std.specs.Prelude.{◌≡◌, ℕ, ◌+◌, ◌-◌, ◌*◌, �
 ghost use Rattle.std.specs.Prelude.{true, false, slice_range, sum};
 ghost use Rattle.tas_num.specs.Sums.{words};
 ghost use Rattle.segment_fields.specs.Bytes.{half};
-ghost use Rattle.segment_fields.specs.Text.{IsText, refusal, is_wrong, mss_of, data_offset};
-ghost use Rattle.segment_fields.specs.Options.{IsInside, mss_past, option_at};
+ghost use Rattle.segment_fields.specs.Text.{IsText, refusal, is_wrong, mss_of, scale_of, data_offset};
+ghost use Rattle.segment_fields.specs.Options.{IsInside, options_past, option_at, read_shift};
+ghost use Rattle.segment_fields.specs.Options.{first_mss, first_scale};
 
 use crate::bytes::{half_at, word_at};
-use crate::segment::{FirstOption, Flags, Refused, Segment};
+use crate::segment::{FirstOption, Flags, Refused, Segment, SynOptions};
 use tas_num::{Seq, Sum16};
 
 /// The segment that the bytes of an IPv4 packet spell, or the first rule that they break. The checksums are looked at
@@ -53,6 +54,7 @@ pub fn read(bytes: &[u8], check_sums: bool) -> Result<Segment<'_>, Refused>
     if check_sums && is_wrong_sum(pseudo(bytes, tcp.len()), tcp) {
         return Err(Refused::TcpSum);
     }
+    let SynOptions { mss, scale } = syn_options(tcp, offset);
     Ok(Segment {
         src: word_at(bytes, 12),
         dst: word_at(bytes, 16),
@@ -62,7 +64,8 @@ pub fn read(bytes: &[u8], check_sums: bool) -> Result<Segment<'_>, Refused>
         ack: Seq(word_at(tcp, 8)),
         flags: Flags(tcp[13]),
         window: half_at(tcp, 14),
-        mss: mss(tcp, offset),
+        mss,
+        scale,
         payload: &tcp[offset..],
     })
 }
@@ -110,35 +113,48 @@ fn is_wrong_sum(start: u64, bytes: &[u8]) -> bool
     total.finish() != 0
 }
 
-/// The MSS that a SYN bears.
-#[tactic(auto, unfolding(crate::specs::Text::mss_of))]
-fn mss(tcp: &[u8], offset: usize) -> Option<u16>
+/// What the options of a SYN say; those of another segment say nothing.
+#[tactic(auto, unfolding(crate::specs::Text::mss_of, crate::specs::Text::scale_of))]
+fn syn_options(tcp: &[u8], offset: usize) -> SynOptions
     requires offset { offset ≡ data_offset tcp.now }
     requires least { 20 ≤ offset }
     requires room { offset ≤ length tcp.now }
-    ensures { result ≡ mss_of tcp.now }
+    ensures mss { result.mss ≡ mss_of tcp.now }
+    ensures scale { result.scale ≡ scale_of tcp.now }
 {
     if Flags(tcp[13]).is_syn() {
-        first_mss(&tcp[20..offset])
+        first_of_each(&tcp[20..offset])
     } else {
-        None
+        SynOptions {
+            mss: None,
+            scale: None,
+        }
     }
 }
 
-/// The first MSS among the options.
-#[tactic(auto, using(crate::proofs::Options::mss_past_ends, crate::proofs::Options::mss_past_mss))]
-fn first_mss(options: &[u8]) -> Option<u16>
-    ensures { result ≡ mss_past 0 options.now }
+/// The first MSS and the first window scale among the options.
+fn first_of_each(options: &[u8]) -> SynOptions
+    ensures mss { result.mss ≡ first_mss (options_past 0 options.now) }
+    ensures scale { result.scale ≡ first_scale (options_past 0 options.now) }
 {
+    let mut mss = None;
+    let mut scale = None;
     let mut rest = options;
     while !rest.is_empty() {
         match first_option(rest) {
-            FirstOption::Ends => return None,
-            FirstOption::Mss(mss) => return Some(mss),
+            FirstOption::Ends => break,
+            FirstOption::Mss(size) => {
+                mss = mss.or(Some(size));
+                rest = &rest[4..];
+            }
+            FirstOption::Scale(shift) => {
+                scale = scale.or(Some(shift));
+                rest = &rest[3..];
+            }
             FirstOption::Skips(count) => rest = &rest[count..],
         }
     }
-    None
+    SynOptions { mss, scale }
 }
 
 /// What the first option says.
@@ -164,5 +180,15 @@ fn first_option(options: &[u8]) -> FirstOption
     if kind == 2 && len == 4 {
         return FirstOption::Mss(half_at(options, 2));
     }
+    if kind == 3 && len == 3 {
+        return FirstOption::Scale(shift(options[2]));
+    }
     FirstOption::Skips(len as usize)
+}
+
+/// A shift as it is read: 14 at most (RFC 7323, section 2.3).
+fn shift(written: u8) -> u8
+    ensures { result ≡ read_shift written }
+{
+    written.min(14)
 }

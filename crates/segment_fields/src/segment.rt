@@ -113,10 +113,13 @@ pub struct Segment<'a> {
     /// The acknowledgement number, which counts with ACK set.
     pub ack: Seq,
     pub flags: Flags,
-    /// How many bytes its sender has room for.
+    /// How many bytes its sender has room for; of a segment without SYN by the shift that its SYN bore.
     pub window: u16,
     /// The largest payload that its sender takes in one segment, in bytes; it counts in a SYN alone.
     pub mss: Option<u16>,
+    /// The shift by which its sender's later windows count (RFC 7323, section 2.2); it counts in a SYN alone. What was
+    /// read is 14 at most (section 2.3).
+    pub scale: Option<u8>,
     pub payload: &'a [u8],
 }
 
@@ -170,6 +173,16 @@ pub enum FirstOption {
     Ends,
     /// It is a maximum segment size, in bytes.
     Mss(u16),
+    /// It is a window scale: this shift, 14 at most.
+    Scale(u8),
     /// It is another option, with this many bytes.
     Skips(usize),
+}
+
+/// What the options of a SYN say.
+pub struct SynOptions {
+    /// The largest payload that its sender takes in one segment, in bytes.
+    pub mss: Option<u16>,
+    /// The shift by which its sender's later windows count, 14 at most.
+    pub scale: Option<u8>,
 }

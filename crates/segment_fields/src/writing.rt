@@ -4,7 +4,8 @@ ghost use Rattle.tas_num.specs.Sums.{words, checksum};
 ghost use Rattle.segment_fields.specs.Fields.{fields_of};
 ghost use Rattle.segment_fields.specs.Bytes.{two, four};
 ghost use Rattle.segment_fields.specs.Canon.{canon, canon_len, packet, ip_header, ip_checksum, tcp_fixed, tcp_checksum};
-ghost use Rattle.segment_fields.specs.Canon.{borne_mss, option_bytes, offset_byte, halves as model_halves};
+ghost use Rattle.segment_fields.specs.Canon.{borne_mss, borne_scale, mss_bytes, scale_bytes, option_bytes};
+ghost use Rattle.segment_fields.specs.Canon.{offset_byte, halves as model_halves};
 
 use crate::segment::Segment;
 use tas_num::Sum16;
@@ -13,39 +14,51 @@ use tas_num::Sum16;
 #[derive(Clone, Copy, PartialEq, Eq, Debug)]
 pub struct NoRoom;
 
-/// Writes the one packet of a segment at the front of `buf`, and answers its length in bytes: 40, 4 more with an MSS,
-/// and the payload (RFC 791, section 3.1;
-/// RFC 9293, section 3.1). An MSS is written in a SYN alone.
+/// Writes the one packet of a segment at the front of `buf`, and answers its length in bytes: 40, 4 more with an MSS, 4
+/// more with a window scale, and the payload (RFC 791, section 3.1; RFC 9293, section 3.1; RFC 7323, section 2.2). Both
+/// options are written in a SYN alone.
 ///
 /// `NoRoom` comes where `buf` is shorter than the packet; then it is as before.
 pub fn write(seg: &Segment<'_>, buf: &mut [u8]) -> Result<usize, NoRoom>
-    requires { length seg.now.payload.now ≤ 65491 }
+    requires { length seg.now.payload.now ≤ 65487 }
     ensures text { IfOk result (λ n. buf.new ≡ canon (fields_of seg.now) ++ drop n buf.old) }
     ensures len { IfOk result (λ n. n ≡ canon_len (fields_of seg.now)) }
     ensures no_room { IsErr result ↔ (length buf.old < canon_len (fields_of seg.now)) }
     ensures err { OnErr result (buf.new ≡ buf.old) }
 {
-    match borne(seg) {
-        Some(mss) => {
+    match (borne_mss_of(seg), borne_scale_of(seg)) {
+        (Some(mss), Some(shift)) => {
+            let [high, low] = half_bytes(mss);
+            write_with(seg, &[2, 4, high, low, 1, 3, 3, shift], buf)
+        }
+        (Some(mss), None) => {
             let [high, low] = half_bytes(mss);
             write_with(seg, &[2, 4, high, low], buf)
         }
-        None => write_with(seg, &[], buf),
+        (None, Some(shift)) => write_with(seg, &[1, 3, 3, shift], buf),
+        (None, None) => write_with(seg, &[], buf),
     }
 }
 
 /// The MSS that the packet bears.
-fn borne(seg: &Segment<'_>) -> Option<u16>
+fn borne_mss_of(seg: &Segment<'_>) -> Option<u16>
     ensures { result ≡ borne_mss (fields_of seg.now) }
 {
     if seg.flags.is_syn() { seg.mss } else { None }
+}
+
+/// The shift of windows that the packet bears.
+fn borne_scale_of(seg: &Segment<'_>) -> Option<u8>
+    ensures { result ≡ borne_scale (fields_of seg.now) }
+{
+    if seg.flags.is_syn() { seg.scale } else { None }
 }
 
 /// Writes the packet with these options.
 fn write_with(seg: &Segment<'_>, option: &[u8], buf: &mut [u8]) -> Result<usize, NoRoom>
     requires small { length option.now + length seg.now.payload.now ≤ 65495 }
     requires aligned { length option.now % 4 ≡ 0 }
-    requires short { length option.now ≤ 4 }
+    requires short { length option.now ≤ 8 }
     ensures text { IfOk result (λ n. buf.new ≡ packet (fields_of seg.now) option.now ++ drop n buf.old) }
     ensures len { IfOk result (λ n. n ≡ 40 + length option.now + length seg.now.payload.now) }
     ensures no_room { IsErr result ↔ (length buf.old < 40 + length option.now + length seg.now.payload.now) }

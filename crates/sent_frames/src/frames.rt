@@ -11,8 +11,8 @@ use segment_fields::{Flags, Segment, write};
 use std::alloc::{AllocError, Global};
 use tas_model::{Bytes, FourTuple, FrameId};
 
-/// How many bytes the headers of a packet have at most: 20 each for IPv4 and TCP, and an MSS option of 4.
-const MOST_HEADERS: usize = 44;
+/// How many bytes the headers of a packet have at most: 20 each for IPv4 and TCP, an MSS of 4, and a window scale of 4.
+const MOST_HEADERS: usize = 48;
 
 /// A host that sends, by its number, and the addresses of all hosts.
 #[derive(Clone, Copy)]
@@ -62,7 +62,7 @@ pub fn push_segment(
     seg: SegView<'_>,
     sent: &mut SentList,
 ) -> Result<(), AllocError>
-    requires room { length seg.bytes.now ≤ 65491 }
+    requires room { length seg.bytes.now ≤ 65487 }
     requires last { AreUpTo tick sent.old }
     ensures frame { OnOk result (sent.new ≡ sent.old
         ++ segment_frames origin.now number tick (seen_seg seg.entry ∷ [])) }
@@ -84,7 +84,7 @@ pub fn push_segment(
 
 /// The packet of a segment that the local end of this four-tuple sends. The error is want of memory.
 fn packet_of(alloc: Global, tuple: FourTuple, seg: SegView<'_>) -> Result<Bytes, AllocError>
-    requires { length seg.bytes.now ≤ 65491 }
+    requires { length seg.bytes.now ≤ 65487 }
     ensures { IfOk result (λ packet. packet ≡ canon (sent_fields tuple (seen_seg seg.entry))) }
 {
     let segment = Segment {
@@ -97,6 +97,7 @@ fn packet_of(alloc: Global, tuple: FourTuple, seg: SegView<'_>) -> Result<Bytes,
         flags: Flags(seg.head.flags),
         window: seg.head.window,
         mss: seg.head.mss,
+        scale: seg.head.scale,
         payload: seg.bytes,
     };
     let mut packet = Vec::from_elem(alloc, 0, MOST_HEADERS + seg.bytes.len())?;

@@ -17,7 +17,8 @@ use Rattle.tas_model.specs.declared.entry.Seg.{Seg}
 use Rattle.tas_model.specs.declared.entry.Reply.{Reply}
 use Rattle.tas_model.specs.declared.entry.Reply.TheVariants as replies
 use Rattle.tas_model.specs.Endpoint.{Endpoint, Receiving, phase, unread, send_room, next_place, wnd}
-use Rattle.tas_model.specs.Segments.{Outcome, is_fin, is_ack, is_rst, is_syn, seg_len, acks, resets, stray_reply}
+use Rattle.tas_model.specs.Segments.{offered_window, Outcome, is_fin, is_ack, is_rst, is_syn, seg_len, acks, resets}
+use Rattle.tas_model.specs.Segments.{stray_reply}
 use Rattle.tas_model.specs.Reassembly.{with_data, with_part, trimmed}
 use Rattle.tas_model.specs.Receive.{rx, rx_in, rx_later, rx_syn_sent, connected, by_verdict, verdict}
 use Rattle.tas_model.specs.Receive.{Verdict, Dropped, Answered, Reset, BareAck, Taken, AckVerdict, Stray, TooFar, Good}
@@ -86,7 +87,7 @@ taken_ends : (e : Endpoint) (tick q : ℕ) (seg : Seg) (a : AckVerdict) → R e 
 taken_ends e tick q seg Stray = silent e e (resets seg.head.ack) refl refl
 taken_ends e tick q seg TooFar = silent e e (acks e) refl refl
 taken_ends e tick q seg Good =
-    let acked : Endpoint = after_ack e tick (place_of_ack e seg) q (seg_len seg) seg.head.window in
+    let acked : Endpoint = after_ack e tick (place_of_ack e seg) q (seg_len seg) (offered_window e.scaling seg) in
     record {
       keeps = λ all. after_keeps acked tick (wnd e) q seg all;
       told = λ t. absurd (true≢false (sym t ∙ heard_silent (is_heard seg) (after_data acked tick (wnd e) q seg)));

@@ -35,7 +35,7 @@ syn_begins e (Some first) r s = refl
 each_begins : Shows Shown
 each_begins = record {
   ack = λ b e r s. absurd (cc (s));
-  reset = λ b e head rst plain r s. absurd (true≢false (sym rst ∙ r));
+  reset = λ b e head rst plain none r s. absurd (true≢false (sym rst ∙ r));
   syn = λ e. syn_begins e e.peer;
   payload = λ e is r s. absurd (no_syn (eqb (data_len e) (waiting e.tx)) s);
   probe = λ e is r s. absurd (no_syn (eqb 1 (waiting e.tx)) s);

@@ -303,7 +303,7 @@ all_spent params h fits legal =
         subst (Spent (ticks_in (es ++ x ∷ []))) (sym same) all
 
 pub time_bounds : (params : HostParams) (h : List Entry) → InRange params → Legal params h
-    → length (accepted h) ≤ 65536 * (ticks_in h + 2)
+    → length (accepted h) ≤ 65536 * (ticks_in h + 17)
 time_bounds params h fits legal =
     let e : Endpoint = replay params h in
     let v : Valid e = valid_replay params h fits legal in

@@ -13,7 +13,7 @@ use Rattle.tas_model.specs.declared.entry.Seg.{Seg}
 use Rattle.tas_model.specs.declared.entry.Reply.{Reply}
 use Rattle.tas_model.specs.Endpoint.{Endpoint, Sending, Rate, phase, unread, send_room, next_place, wnd, uncounted}
 use Rattle.tas_model.specs.Endpoint.{first_rate}
-use Rattle.tas_model.specs.Segments.{Outcome, one_if, is_fin, is_ack, is_rst, is_syn, seg_len}
+use Rattle.tas_model.specs.Segments.{offered_window, Outcome, one_if, is_fin, is_ack, is_rst, is_syn, seg_len}
 use Rattle.tas_model.specs.Reassembly.{with_data}
 use Rattle.tas_model.specs.Receive.{rx, rx_in, rx_later, rx_syn_sent, connected, by_verdict, verdict, Verdict, Dropped}
 use Rattle.tas_model.specs.Receive.{Answered, Reset, BareAck, Taken, AckVerdict, Stray, TooFar, Good, taken, bare_ack}
@@ -99,13 +99,14 @@ taken_same : (e : Endpoint) (tick q : ℕ) (seg : Seg) (a : AckVerdict) → R e 
 taken_same e tick q seg Stray = whole e
 taken_same e tick q seg TooFar = whole e
 taken_same e tick q seg Good =
-    data_same e (after_ack e tick (place_of_ack e seg) q (seg_len seg) seg.head.window) tick (wnd e) q seg
-    (ack_same e tick (place_of_ack e seg) q (seg_len seg) seg.head.window)
+    data_same e (after_ack e tick (place_of_ack e seg) q (seg_len seg) (offered_window e.scaling seg)) tick (wnd e) q
+    seg (ack_same e tick (place_of_ack e seg) q (seg_len seg) (offered_window e.scaling seg))
 
 bare_same : (e : Endpoint) (tick : ℕ) (seg : Seg) (a : AckVerdict) → R e (bare_ack e tick seg a)
 bare_same e tick seg Stray = whole e
 bare_same e tick seg TooFar = whole e
-bare_same e tick seg Good = ack_same e tick (place_of_ack e seg) (next_place e.rx) (seg_len seg) seg.head.window
+bare_same e tick seg Good =
+    ack_same e tick (place_of_ack e seg) (next_place e.rx) (seg_len seg) (offered_window e.scaling seg)
 
 verdict_same : (e : Endpoint) (tick : ℕ) (seg : Seg) (d : Verdict) → R e (by_verdict e tick seg d)
 verdict_same e tick seg Dropped = whole e

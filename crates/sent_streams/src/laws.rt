@@ -26,7 +26,7 @@ pub fn taken_is_one_stream()
 /// In so many ticks an endpoint accepts no more bytes than these: its bucket lets so many go, and a ring more waits.
 pub fn time_bounds_what_is_accepted()
     ensures { (params : HostParams) (h : List Entry) → InRange params → Legal params h
-        → length (accepted h) ≤ 65536 * (ticks_in h + 2) }
+        → length (accepted h) ≤ 65536 * (ticks_in h + 17) }
 {}
 
 /// Once a Recv was answered by the end, the peer has ended its stream, and all of it that was received was read.

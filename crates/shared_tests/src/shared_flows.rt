@@ -58,6 +58,7 @@ fn record_of(alloc: Global, id: FlowId) -> Result<Record, AllocError>
         slots: 2,
         backlog: 1,
         fixed: false,
+        scale: None,
     };
     Ok(Record {
         id,

@@ -39,7 +39,7 @@ pub fn stray(seg: &Segment<'_>, listening: bool) -> Option<Head>
 
 /// A reset, which has neither window nor options.
 pub fn reset(flags: Flags, seq: Seq, ack: Seq) -> Head
-    ensures { result ≡ record { flags = flags.0; seq = seq; ack = ack; window = 0; mss = None } }
+    ensures { result ≡ record { flags = flags.0; seq = seq; ack = ack; window = 0; mss = None; scale = None } }
 {
     Head {
         flags: flags.0,
@@ -47,5 +47,6 @@ pub fn reset(flags: Flags, seq: Seq, ack: Seq) -> Head
         ack,
         window: 0,
         mss: None,
+        scale: None,
     }
 }

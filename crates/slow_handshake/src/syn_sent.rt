@@ -73,13 +73,15 @@ fn take_syn(parts: &mut Parts, seg: &Segment<'_>)
 {
     let nxt = parts.nxt_place().max(1);
     let phase = phase_after_syn(parts.is_ended());
+    let window = parts.offered_window(seg);
+    parts.agree_scaling(seg.scale);
     parts.begin_rate(seg.mss);
     parts.phase = phase;
     parts.rcv = seg.seq.plus(parts.rcv.minus(parts.irs));
     parts.irs = seg.seq;
     parts.una = parts.iss.plus(1);
     parts.nxt = parts.iss.plus((nxt % 0x1_0000_0000) as u32);
-    parts.window = u32::from(seg.window);
+    parts.window = window;
     parts.wl1 = 0;
     parts.wl2 = 1;
     parts.age = 0;

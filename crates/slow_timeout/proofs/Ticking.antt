@@ -50,6 +50,7 @@ paced (Some first) r p = record { mss = p.mss; cwnd = p.cwnd }
 pub filled_valid : (e : Endpoint) → Valid e → Valid (record e { rate = filled e.rate })
 filled_valid e v = record {
   fits = v.fits;
+  scaling = v.scaling;
   unopened = v.unopened;
   tx = v.tx;
   rx = v.rx;

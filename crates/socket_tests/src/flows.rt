@@ -28,6 +28,7 @@ pub const PARAMS: HostParams = HostParams {
     slots: 2,
     backlog: 1,
     fixed: false,
+    scale: None,
 };
 
 const TUPLE: FourTuple = FourTuple {
@@ -186,6 +187,7 @@ fn syn_ack() -> Segment<'static> {
         flags: Flags(18),
         window: 16384,
         mss: None,
+        scale: None,
         payload: &[],
     }
 }

@@ -14,7 +14,7 @@ use Rattle.tas_model.specs.declared.entry.Reply.{Reply}
 use Rattle.tas_model.specs.declared.entry.Seg.{Seg}
 use Rattle.tas_model.specs.Endpoint.{Endpoint, Sending, phase, phase_by, is_fin_acked, next_place, wnd, unread}
 use Rattle.tas_model.specs.Endpoint.{send_room}
-use Rattle.tas_model.specs.Segments.{Outcome, unchanged, is_ack, acks, seg_len, is_fin}
+use Rattle.tas_model.specs.Segments.{offered_window, Outcome, unchanged, is_ack, acks, seg_len, is_fin}
 use Rattle.tas_model.specs.Reassembly.{with_data}
 use Rattle.tas_model.specs.Receive.{rx, rx_in, rx_later, verdict, Verdict, Dropped, Answered, Reset}
 use Rattle.tas_model.specs.Receive.{BareAck}
@@ -60,14 +60,14 @@ taken_past : (e : Endpoint) (tick q : ℕ) (seg : Seg) (v : AckVerdict) → IsPa
 taken_past e tick q seg Stray past = past
 taken_past e tick q seg TooFar past = past
 taken_past e tick q seg Good past =
-    data_past (after_ack e tick (place_of_ack e seg) q (seg_len seg) seg.head.window) tick (wnd e) q seg
-    (ack_past e tick (place_of_ack e seg) q (seg_len seg) seg.head.window past)
+    data_past (after_ack e tick (place_of_ack e seg) q (seg_len seg) (offered_window e.scaling seg)) tick (wnd e) q seg
+    (ack_past e tick (place_of_ack e seg) q (seg_len seg) (offered_window e.scaling seg) past)
 
 bare_past : (e : Endpoint) (tick : ℕ) (seg : Seg) (v : AckVerdict) → IsPast e → IsPast (bare_ack e tick seg v).state
 bare_past e tick seg Stray past = past
 bare_past e tick seg TooFar past = past
 bare_past e tick seg Good past =
-    ack_past e tick (place_of_ack e seg) (next_place e.rx) (seg_len seg) seg.head.window past
+    ack_past e tick (place_of_ack e seg) (next_place e.rx) (seg_len seg) (offered_window e.scaling seg) past
 
 verdict_past : (e : Endpoint) (tick : ℕ) (seg : Seg) (v : Verdict) → IsPast e → IsPast (by_verdict e tick seg v).state
 verdict_past e tick seg Dropped past = past

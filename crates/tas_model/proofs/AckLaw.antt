@@ -83,7 +83,7 @@ fin_from_out e t =
 pub each_right : Shows IsRight
 each_right = record {
   ack = λ b e. (λ a r. refl, λ v h. absurd (cc (h)));
-  reset = λ b e head rst plain. (λ a r. absurd (cc (rst, r)), λ v h. absurd (cc (plain, h)));
+  reset = λ b e head rst plain none. (λ a r. absurd (cc (rst, r)), λ v h. absurd (cc (plain, h)));
   syn = λ e. syn_right e (record e { tx = past e.tx 1 }) e.peer refl;
   payload = λ e is. (λ a r. refl, λ v h. data_from_out e _ (data_len e) is refl refl v);
   probe = λ e is. (λ a r. refl, λ v h. data_from_out e _ 1 is refl refl v);

@@ -1,74 +1,19 @@
 -- A received segment makes sending go back where it is the third duplicate acknowledgement, and nowhere else.
-use Rattle.std.proofs.Common.{
-  ◌≡◌,
-  ℕ,
-  ◌+◌,
-  ◌<◌,
-  ◌≤◌,
-  Bool,
-  true,
-  false,
-  cond,
-  not,
-  ◌&&◌,
-  length,
-  min,
-  max,
-  Option,
-  Some,
-  None,
-  refl,
-  sym,
-  ap,
-  ◌∙◌,
-  arith,
-  ltb,
-  leb,
-  eqb,
-}
+use Rattle.std.proofs.Common.{◌≡◌, ℕ, ◌+◌, ◌<◌, ◌≤◌, Bool, true, false, cond, not, ◌&&◌, length, min, Some, refl}
+use Rattle.std.proofs.Common.{arith, ltb, leb, eqb}
 use Rattle.std.proofs.lemmas.Bool.Decides.{nat_tests}
 use Rattle.tas_model.proofs.Tests.{on_cond}
 use Rattle.tas_model.specs.declared.entry.Phase.{Phase}
 use Rattle.tas_model.specs.declared.entry.Phase.TheVariants as phases
 use Rattle.tas_model.specs.declared.entry.Reason.TheVariants as reasons
 use Rattle.tas_model.specs.declared.entry.Seg.{Seg}
-use Rattle.tas_model.specs.declared.entry.Reply.TheVariants as replies
 use Rattle.tas_model.specs.Endpoint.{Endpoint, Sending, phase, next_place, wnd}
-use Rattle.tas_model.specs.Segments.{Outcome, seg_len, is_ack, is_rst, is_syn, is_fin, acks, resets}
+use Rattle.tas_model.specs.Segments.{Outcome, offered_window, seg_len, is_ack, is_rst, is_syn, is_fin}
 use Rattle.tas_model.specs.Reassembly.{with_data}
-use Rattle.tas_model.specs.Receive.{
-  rx,
-  rx_in,
-  rx_later,
-  rx_syn_sent,
-  connected,
-  by_verdict,
-  verdict,
-  Verdict,
-  Dropped,
-  Answered,
-  Reset,
-  BareAck,
-  Taken,
-  AckVerdict,
-  Stray,
-  TooFar,
-  Good,
-  ack_verdict,
-  taken,
-  bare_ack,
-  after_ack,
-  after_data,
-  takes_fin,
-  place_of_ack,
-  is_heard,
-  is_duplicate,
-  after_duplicate,
-  after_advance,
-  moves_window,
-  with_window,
-  sending_after,
-}
+use Rattle.tas_model.specs.Receive.{rx, rx_in, rx_later, rx_syn_sent, by_verdict, verdict, Verdict, Dropped, Answered}
+use Rattle.tas_model.specs.Receive.{Reset, BareAck, Taken, AckVerdict, Stray, TooFar, Good, taken, bare_ack}
+use Rattle.tas_model.specs.Receive.{after_ack, takes_fin, place_of_ack, is_duplicate, after_duplicate, after_advance}
+use Rattle.tas_model.specs.Receive.{moves_window, sending_after}
 use Rattle.tas_model.specs.StandardsWords.{RepeatsAcknowledgement}
 
 -- What a segment makes of the next place and of the count, where `Repeats` is that it is a duplicate.
@@ -134,7 +79,8 @@ W e seg x = Duplicates (RepeatsAcknowledgement e seg) e.tx x.tx.nxt x.tx.dup
 same : (e : Endpoint) (seg : Seg) → W e seg e
 same e seg = forward _ e.tx _ _ (omega arith) (omega arith)
 
-told : (e : Endpoint) (seg : Seg) → is_duplicate e.tx (place_of_ack e seg) (seg_len seg) seg.head.window ≡ true
+told : (e : Endpoint) (seg : Seg)
+    → is_duplicate e.tx (place_of_ack e seg) (seg_len seg) (offered_window e.scaling seg) ≡ true
     → RepeatsAcknowledgement e seg
 told e seg is = record {
   outstanding = grind (arith, nat_tests, is);
@@ -144,13 +90,13 @@ told e seg is = record {
 }
 
 abbrev acked_by : Endpoint → (q : ℕ) → Seg → Sending
-acked_by e q seg = sending_after e.tx (place_of_ack e seg) q (seg_len seg) seg.head.window
+acked_by e q seg = sending_after e.tx (place_of_ack e seg) q (seg_len seg) (offered_window e.scaling seg)
 
 acked : (e : Endpoint) (q : ℕ) (seg : Seg)
     → Duplicates (RepeatsAcknowledgement e seg) e.tx (acked_by e q seg).nxt (acked_by e q seg).dup
 acked e q seg =
-    let d : D e.tx (place_of_ack e seg) (seg_len seg) seg.head.window (acked_by e q seg) =
-    sending_duplicates e.tx (place_of_ack e seg) q (seg_len seg) seg.head.window in
+    let d : D e.tx (place_of_ack e seg) (seg_len seg) (offered_window e.scaling seg) (acked_by e q seg) =
+    sending_duplicates e.tx (place_of_ack e seg) q (seg_len seg) (offered_window e.scaling seg) in
     record {
       repeats = λ h. told e seg (d.repeats h);
       third = d.third;
@@ -162,7 +108,7 @@ taken_duplicates : (e : Endpoint) (tick q : ℕ) (seg : Seg) (a : AckVerdict) �
 taken_duplicates e tick q seg Stray = same e seg
 taken_duplicates e tick q seg TooFar = same e seg
 taken_duplicates e tick q seg Good =
-    let x : Endpoint = after_ack e tick (place_of_ack e seg) q (seg_len seg) seg.head.window in
+    let x : Endpoint = after_ack e tick (place_of_ack e seg) q (seg_len seg) (offered_window e.scaling seg) in
     on_cond (W e seg)
     (takes_fin x.rx (with_data x.rx (wnd e) q seg.bytes) (wnd e) q (length seg.bytes) (is_fin seg)) _ _
     (λ t. acked e q seg) (λ f. acked e q seg)

@@ -17,7 +17,7 @@ use Rattle.tas_model.specs.declared.entry.Entry.{Entry}
 use Rattle.tas_model.specs.declared.entry.HostParams.{HostParams}
 use Rattle.tas_model.specs.Endpoint.{Endpoint, phase, unread, send_room, next_place, wnd}
 use Rattle.tas_model.specs.Segments.{Outcome, bare, ack_head, acks, stray_reply, resets, is_rst, is_ack, is_syn}
-use Rattle.tas_model.specs.Segments.{seg_len}
+use Rattle.tas_model.specs.Segments.{offered_window, seg_len}
 use Rattle.tas_model.specs.Receive.{rx, rx_in, rx_later, rx_syn_sent, connected, by_verdict, verdict, Verdict, Dropped}
 use Rattle.tas_model.specs.Receive.{Answered, Reset, BareAck, Taken, AckVerdict, Stray, TooFar, Good, taken, bare_ack}
 use Rattle.tas_model.specs.Receive.{after_ack, after_data, place_of_ack, is_heard}
@@ -51,11 +51,11 @@ all_append Q (seg ∷ xs) ys x y = (x.0, all_append Q xs ys x.1 y)
 
 -- ----- what is asked of a property
 -- Each kind of segment that is sent has the property `P`; `b` is the endpoint before it, and `e` the one after it.
--- Resets are bare, without FIN.
+-- Resets are bare, without FIN and without a shift.
 pub record Shows (P : (b e : Endpoint) → Seg → Type 0) : Type 0 where
   pub ack : (b e : Endpoint) → P b e (bare (ack_head e))
   pub reset : (b e : Endpoint) (head : Head) → is_rst (bare head) ≡ true → is_heard (bare head) ≡ false
-      → P b e (bare head)
+      → head.scale ≡ None → P b e (bare head)
   pub syn : (e : Endpoint) → P e (record e { tx = past e.tx 1 }) (bare (syn_head e e.peer))
   pub payload : (e : Endpoint) → column e ≡ Running
       → P e (going_data e (data_len e)).after (going_data e (data_len e)).seg
@@ -79,28 +79,28 @@ module _ (P : (b e : Endpoint) → Seg → Type 0) (shows : Shows P) where
   ack_shows b e = (shows.ack b e, tt)
 
   reset_shows : (b e : Endpoint) (head : Head) → is_rst (bare head) ≡ true → is_heard (bare head) ≡ false
-      → Shown b e (replies.Sent (bare head))
-  reset_shows b e head rst plain = (shows.reset b e head rst plain, tt)
+      → head.scale ≡ None → Shown b e (replies.Sent (bare head))
+  reset_shows b e head rst plain none = (shows.reset b e head rst plain none, tt)
 
   stray_shows : (e : Endpoint) (seg : Seg) → Shown e e (stray_reply seg)
   stray_shows e seg =
       on_cond (Shown e e) (is_rst seg) _ _ (λ t. tt)
-      (λ f. on_cond (Shown e e) (is_ack seg) _ _ (λ t. reset_shows e e _ refl refl)
-      (λ g. reset_shows e e _ refl refl))
+      (λ f. on_cond (Shown e e) (is_ack seg) _ _ (λ t. reset_shows e e _ refl refl refl)
+      (λ g. reset_shows e e _ refl refl refl))
 
   taken_shows : (e : Endpoint) (tick q : ℕ) (seg : Seg) (a : AckVerdict) → R e (taken e tick q seg a)
-  taken_shows e tick q seg Stray = reset_shows e e _ refl refl
+  taken_shows e tick q seg Stray = reset_shows e e _ refl refl refl
   taken_shows e tick q seg TooFar = ack_shows e e
   taken_shows e tick q seg Good =
-      let after : Endpoint = after_data (after_ack e tick (place_of_ack e seg) q (seg_len seg) seg.head.window) tick
-      (wnd e) q seg in
+      let acked : Endpoint = after_ack e tick (place_of_ack e seg) q (seg_len seg) (offered_window e.scaling seg) in
+      let after : Endpoint = after_data acked tick (wnd e) q seg in
       on_cond (Shown e after) (is_heard seg) (acks after) replies.Nothing (λ t. ack_shows e after) (λ f. tt)
 
   bare_shows : (e : Endpoint) (tick : ℕ) (seg : Seg) (a : AckVerdict) → R e (bare_ack e tick seg a)
-  bare_shows e tick seg Stray = reset_shows e e _ refl refl
+  bare_shows e tick seg Stray = reset_shows e e _ refl refl refl
   bare_shows e tick seg TooFar = ack_shows e e
   bare_shows e tick seg Good =
-      ack_shows e (after_ack e tick (place_of_ack e seg) (next_place e.rx) (seg_len seg) seg.head.window)
+      ack_shows e (after_ack e tick (place_of_ack e seg) (next_place e.rx) (seg_len seg) (offered_window e.scaling seg))
 
   verdict_shows : (e : Endpoint) (tick : ℕ) (seg : Seg) (d : Verdict) → R e (by_verdict e tick seg d)
   verdict_shows e tick seg Dropped = tt
@@ -115,7 +115,7 @@ module _ (P : (b e : Endpoint) → Seg → Type 0) (shows : Shows P) where
   rx_in_shows phases.SynSent e tick seg =
       on_cond (R e) (is_ack seg && not (eqb (place_of_ack e seg) 1 && leb 1 e.tx.max)) _ _
       (λ t. on_cond (Shown e e) (is_rst seg) replies.Nothing (resets seg.head.ack) (λ u. tt)
-      (λ u. reset_shows e e _ refl refl))
+      (λ u. reset_shows e e _ refl refl refl))
       (λ f. on_cond (R e) (is_rst seg) _ _ (λ t. tt)
       (λ g. on_cond (R e) (is_syn seg && is_ack seg) _ _ (λ t. ack_shows e (connected e seg)) (λ h. tt)))
   rx_in_shows _ e tick seg = verdict_shows e tick seg (verdict e seg)
@@ -172,7 +172,8 @@ module _ (P : (b e : Endpoint) → Seg → Type 0) (shows : Shows P) where
   close_shows e Running = tt
 
   abort_reply_shows : (e after : Endpoint) → Shown e after (abort_reply e)
-  abort_reply_shows e after = on_cond (Shown e after) (tells_abort (phase e)) _ _ (λ t. reset_shows e after _ refl refl)
+  abort_reply_shows e after = on_cond (Shown e after) (tells_abort (phase e)) _ _
+      (λ t. reset_shows e after _ refl refl refl)
       (λ f. tt)
 
   abort_shows : (e : Endpoint) (c : Column) → R e (abort_in c e)

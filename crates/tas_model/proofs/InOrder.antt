@@ -7,7 +7,7 @@ use Rattle.tas_model.specs.declared.entry.Seg.{Seg}
 use Rattle.tas_model.specs.declared.entry.Phase.TheVariants as phases
 use Rattle.tas_model.specs.declared.entry.Reply.TheVariants as replies
 use Rattle.tas_model.specs.Endpoint.{Endpoint, Sending, Receiving, Rate, phase, wnd, next_place}
-use Rattle.tas_model.specs.Segments.{Outcome, seg_len, is_fin, is_ack, is_rst, is_syn, acks}
+use Rattle.tas_model.specs.Segments.{Outcome, offered_window, seg_len, is_fin, is_ack, is_rst, is_syn, acks}
 use Rattle.tas_model.specs.Receive.{rx, rx_later, rx_in, is_duplicate, moves_window, with_window, by_verdict}
 use Rattle.tas_model.specs.Receive.{verdict_at, verdict_of_place, Taken, taken, ack_verdict, Good, place_of_seq}
 use Rattle.tas_model.specs.Receive.{place_of_ack, after_ack, after_data, sending_after, rate_after, is_heard}
@@ -86,15 +86,15 @@ rx_in_order e tick seg v f =
     ∙ ap (by_verdict e tick seg) (taken_at_r r (wnd e) seg f.some f.fits f.ack f.rst f.syn f.fin) in
     let three : ack_verdict e.tx (place_of_ack e seg) ≡ Good = ap (ack_verdict e.tx) f.a
     ∙ good_at_una e.tx f.began (omega (arith, f.max)) in
-    let acked : after_ack e tick (place_of_ack e seg) r (seg_len seg) seg.head.window
+    let acked : after_ack e tick (place_of_ack e seg) r (seg_len seg) (offered_window e.scaling seg)
     ≡ record e { tx = (in_order e seg).tx } =
-    ap (λ (a : ℕ). after_ack e tick a r (seg_len seg) seg.head.window) f.a
-    ∙ ack_in_order e tick r (seg_len seg) seg.head.window f.phase f.began (grind arith) in
+    ap (λ (a : ℕ). after_ack e tick a r (seg_len seg) (offered_window e.scaling seg)) f.a
+    ∙ ack_in_order e tick r (seg_len seg) (offered_window e.scaling seg) f.phase f.began (grind arith) in
     let heard : is_heard seg ≡ true = grind (arith, nat_tests, f.some) in
     let after : after_data (record e { tx = (in_order e seg).tx }) tick (wnd e) r seg ≡ in_order e seg =
     rw (f.fin, data_in_order e.rx (wnd e) seg.bytes f.some f.fits f.ended f.island) refl in
-    let both : after_data (after_ack e tick (place_of_ack e seg) r (seg_len seg) seg.head.window) tick (wnd e) r seg
-    ≡ in_order e seg =
+    let both : after_data (after_ack e tick (place_of_ack e seg) r (seg_len seg) (offered_window e.scaling seg)) tick
+    (wnd e) r seg ≡ in_order e seg =
     ap (λ (x : Endpoint). after_data x tick (wnd e) r seg) acked ∙ after in
     let last : taken e tick r seg Good ≡ in_order_outcome e seg =
     ap (λ (x : Endpoint). answered seg x) both ∙ ap (λ (t : Bool). heard_outcome (in_order e seg) t) heard in

@@ -9,14 +9,23 @@ use Rattle.tas_model.specs.Outputs.{given_bytes}
 use Rattle.tas_model.specs.LegalHistory.{taken_bytes}
 use Rattle.tas_model.specs.Valid.{Valid}
 
+-- Nothing that was received or read is forgotten, the peer's end stays, and windows that go are scaled by no less.
+pub record KeepsRoom (e f : Endpoint) : Type 0 where
+  pub params : f.params ≡ e.params
+  pub got : length e.rx.got ≤ length f.rx.got
+  pub read : e.rx.read ≤ f.rx.read
+  pub ended : e.rx.ended ≡ true → f.rx.ended ≡ true
+  pub shift : e.scaling.rs ≤ f.scaling.rs
+
 -- Of places: nothing passes what was sent or received before by more than a window. Of bytes: what is accepted and what
 -- is read grow by what the reply shows. Of the bucket: data is paid for.
 pub record Moves (fill paid : ℕ) (e : Endpoint) (o : Outcome) : Type 0 where
   pub una : o.state.tx.una ≤ e.tx.max
   pub read : o.state.rx.read ≤ max e.rx.read (length e.rx.got)
-  pub wl1 : o.state.tx.wl1 ≤ max e.tx.wl1 (next_place e.rx + 65535)
+  pub wl1 : o.state.tx.wl1 ≤ max e.tx.wl1 (next_place e.rx + 1048576)
   pub wl2 : o.state.tx.wl2 ≤ max e.tx.wl2 e.tx.max
   pub iss : o.state.iss ≡ e.iss
+  pub keeps : KeepsRoom e o.state
   pub shut : e.tx.shut ≡ true → (o.state.tx.shut ≡ true) × (taken_bytes o.reply ≡ [])
   pub out : o.state.tx.out ≡ e.tx.out ++ taken_bytes o.reply
   pub bytes : take o.state.rx.read o.state.rx.got ≡ take e.rx.read e.rx.got ++ given_bytes o.reply
@@ -45,6 +54,13 @@ moves_sending fill paid e tx rate reason reply v out shut una wl1 wl2 pays silen
   wl1 = omega (arith, wl1);
   wl2 = omega (arith, wl2);
   iss = refl;
+  keeps = record {
+    params = refl;
+    got = omega arith;
+    read = omega arith;
+    ended = λ h. h;
+    shift = omega arith;
+  };
   shut = λ s. (shut s, silent.1);
   out = out ∙ grown_by_none e.tx.out (taken_bytes reply) silent.1;
   bytes = grown_by_none (take e.rx.read e.rx.got) (given_bytes reply) silent.0;

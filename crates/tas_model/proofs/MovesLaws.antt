@@ -54,7 +54,7 @@ end_of_got got true = omega arith
 end_of_got got false = omega arith
 
 sizes_grow : (bound fill paid : ℕ) (e f : Endpoint) (reply : Reply) → Valid e → Valid f
-    → Moves fill paid e (record { state = f; reply = reply }) → Sizes bound e → Sizes (bound + 65536) f
+    → Moves fill paid e (record { state = f; reply = reply }) → Sizes bound e → Sizes (bound + 1048577) f
 sizes_grow bound fill paid e f reply v w m s =
     let most : e.tx.max ≤ length e.tx.out + 2 = end_of_out (length e.tx.out) e.tx.max e.tx.shut v.tx.max in
     let next : next_place e.rx ≤ length e.rx.got + 2 = end_of_got (length e.rx.got) e.rx.ended in
@@ -65,7 +65,7 @@ sizes_grow bound fill paid e f reply v w m s =
       wl2 = omega (arith, m.wl2, most, s.wl2, s.out);
     }
 
-opened_sizes : (params : HostParams) (call : Call) → Sizes 65536 (opened params call)
+opened_sizes : (params : HostParams) (call : Call) → Sizes 1048577 (opened params call)
 opened_sizes params (calls.Connect iss) = record {
   out = omega arith;
   got = omega arith;
@@ -77,41 +77,41 @@ opened_sizes params (calls.Passive frame iss seg) =
 opened_sizes params _ = record { out = omega arith; got = omega arith; wl1 = omega arith; wl2 = omega arith }
 
 sizes_of : (params : HostParams) (h : List Entry) → InRange params → Legal params h
-    → Sizes (65536 * length h) (replay params h)
+    → Sizes (1048577 * length h) (replay params h)
 sizes_of params h fits legal =
-    legal_induction params (λ (es : List Entry). Sizes (65536 * length es) (replay params es))
-    (λ x first. subst (Sizes 65536) (sym (replay_first params x)) (opened_sizes params x.call))
+    legal_induction params (λ (es : List Entry). Sizes (1048577 * length es) (replay params es))
+    (λ x first. subst (Sizes 1048577) (sym (replay_first params x)) (opened_sizes params x.call))
     (λ es x before so_far may. after es x before so_far may)
     h legal
   where
-    after : (es : List Entry) (x : Entry) → Legal params es → Sizes (65536 * length es) (replay params es)
-        → MayFollow params es x → Sizes (65536 * length (es ++ x ∷ [])) (replay params (es ++ x ∷ []))
+    after : (es : List Entry) (x : Entry) → Legal params es → Sizes (1048577 * length es) (replay params es)
+        → MayFollow params es x → Sizes (1048577 * length (es ++ x ∷ [])) (replay params (es ++ x ∷ []))
     after es x before so_far may =
         let e : Endpoint = replay params es in
         let f : Endpoint = moved e x in
         let same : replay params (es ++ x ∷ []) ≡ f = replay_push params es x before in
         let w : Valid f =
         subst Valid same (valid_replay params (es ++ x ∷ []) fits (legal_push params es x before may)) in
-        let more : 65536 * length es + 65536 ≡ 65536 * length (es ++ x ∷ []) =
+        let more : 1048577 * length es + 1048577 ≡ 1048577 * length (es ++ x ∷ []) =
         omega (arith, length-append es (x ∷ [])) in
-        let grown : Sizes (65536 * length es + 65536) f =
-        sizes_grow (65536 * length es) (fill_by e x.call) (data_by e x.call) e f x.reply
+        let grown : Sizes (1048577 * length es + 1048577) f =
+        sizes_grow (1048577 * length es) (fill_by e x.call) (data_by e x.call) e f x.reply
         (valid_replay params es fits before) w (entry_moves params es x fits before may) so_far in
         subst (λ (b : ℕ). Sizes b (replay params (es ++ x ∷ []))) more
-        (subst (Sizes (65536 * length es + 65536)) (sym same) grown)
+        (subst (Sizes (1048577 * length es + 1048577)) (sym same) grown)
 
 island_within : (got limit bound : ℕ) (o : Option Island) → IsPastGap got limit o → limit + 1 ≤ bound
     → IslandWithin bound o
 island_within got limit bound None v le = tt
 island_within got limit bound (Some i) v le = omega (arith, v.within)
 
--- no place is above 65,536 times one more than the entries
+-- no place is above 1,048,577 times one more than the entries
 pub places_of : (params : HostParams) (h : List Entry) → InRange params → Legal params h
-    → PlacesWithin (65536 * (length h + 1)) (replay params h)
+    → PlacesWithin (1048577 * (length h + 1)) (replay params h)
 places_of params h fits legal =
     let e : Endpoint = replay params h in
     let v : Valid e = valid_replay params h fits legal in
-    let s : Sizes (65536 * length h) e = sizes_of params h fits legal in
+    let s : Sizes (1048577 * length h) e = sizes_of params h fits legal in
     let most : e.tx.max ≤ length e.tx.out + 2 = end_of_out (length e.tx.out) e.tx.max e.tx.shut v.tx.max in
     let next : next_place e.rx ≤ length e.rx.got + 2 = end_of_got (length e.rx.got) e.rx.ended in
     record {
@@ -124,7 +124,7 @@ places_of params h fits legal =
       next = omega (arith, next, s.got);
       read = omega (arith, v.rx.read, s.got);
       island = island_within (length e.rx.got) (e.rx.read + e.params.ring)
-          (65536 * (length h + 1)) e.rx.island v.rx.island (omega (arith, v.rx.read, v.fits.ring, s.got));
+          (1048577 * (length h + 1)) e.rx.island v.rx.island (omega (arith, v.rx.read, v.fits.ring, s.got));
     }
 
 -- ----- which bytes were read

@@ -1,7 +1,7 @@
 -- How far a received segment moves an endpoint.
 use Rattle.std.proofs.Common.{◌≡◌, ℕ, ◌+◌, ◌-◌, ◌≤◌, Bool, true, false, cond, not, ◌&&◌, List, [], ◌∷◌, ◌++◌, length}
 use Rattle.std.proofs.Common.{take, drop, max, Option, Some, None, IsSome, refl, sym, subst, ap, ◌∙◌, arith, true≢false}
-use Rattle.std.proofs.Common.{ltb, leb, eqb, append-nil, append_assoc}
+use Rattle.std.proofs.Common.{ltb, leb, eqb, append-nil, append_assoc, length-append}
 use Rattle.std.proofs.lemmas.Bool.Decides.{nat_tests}
 use Rattle.std.proofs.lemmas.List.{take-append-le}
 use Rattle.tas_model.proofs.Tests.{on_cond}
@@ -15,8 +15,9 @@ use Rattle.tas_model.specs.declared.entry.Reason.TheVariants as reasons
 use Rattle.tas_model.specs.declared.entry.Seg.{Seg}
 use Rattle.tas_model.specs.declared.entry.Reply.{Reply}
 use Rattle.tas_model.specs.declared.entry.Reply.TheVariants as replies
-use Rattle.tas_model.specs.Endpoint.{Endpoint, Sending, Receiving, Rate, Island, phase, next_place, wnd, uncounted}
-use Rattle.tas_model.specs.Segments.{seg_len, is_fin, is_ack, is_rst, is_syn, acks, resets, stray_reply}
+use Rattle.tas_model.specs.Endpoint.{Endpoint, Scaling, Sending, Receiving, Rate, Island, phase, next_place, wnd}
+use Rattle.tas_model.specs.Endpoint.{uncounted}
+use Rattle.tas_model.specs.Segments.{offered_window, seg_len, is_fin, is_ack, is_rst, is_syn, acks, resets, stray_reply}
 use Rattle.tas_model.specs.Reassembly.{bridged, grown, with_part, with_data, kept_apart, trimmed}
 use Rattle.tas_model.specs.Receive.{takes_fin, ack_verdict, AckVerdict, Stray, TooFar, Good, Verdict, Dropped, Answered}
 use Rattle.tas_model.specs.Receive.{Reset, BareAck, Taken, after_ack, after_data, taken, bare_ack, by_verdict, verdict}
@@ -31,28 +32,31 @@ use Rattle.tas_model.specs.Valid.{Valid}
 -- nothing is read, and what is in order grows at its end
 record Receives (before after : Receiving) : Type 0 where
   pub read : after.read ≡ before.read
+  pub ended : before.ended ≡ true → after.ended ≡ true
   pub got : (more : List ℕ) × (after.got ≡ before.got ++ more)
 
 receives_nothing : (rx : Receiving) → Receives rx rx
-receives_nothing rx = record { read = refl; got = ([], sym (append-nil rx.got)) }
+receives_nothing rx = record { read = refl; ended = λ h. h; got = ([], sym (append-nil rx.got)) }
 
 bridged_receives : (rx : Receiving) (o : Option Island) → Receives rx (bridged rx o)
 bridged_receives rx None = receives_nothing rx
 bridged_receives rx (Some i) = on_cond (Receives rx) (leb i.at (length rx.got)) _ rx
-    (λ t. record { read = refl; got = (drop (length rx.got - i.at) i.bytes, refl) }) (λ f. receives_nothing rx)
+    (λ t. record { read = refl; ended = λ h. h; got = (drop (length rx.got - i.at) i.bytes, refl) })
+    (λ f. receives_nothing rx)
 
 grown_receives : (rx : Receiving) (part : List ℕ) → Receives rx (grown rx part)
 grown_receives rx part =
     let b : Receives (record rx { got = rx.got ++ part }) (grown rx part) =
     bridged_receives (record rx { got = rx.got ++ part }) rx.island in
-    record { read = b.read; got = (part ++ b.got.0, b.got.1 ∙ append_assoc rx.got part b.got.0) }
+    record { read = b.read; ended = b.ended; got = (part ++ b.got.0, b.got.1 ∙ append_assoc rx.got part b.got.0) }
 
 part_receives : (rx : Receiving) (at : ℕ) (part : List ℕ) → Receives rx (with_part rx at part)
 part_receives rx at [] = receives_nothing rx
 part_receives rx at (b ∷ part) =
     on_cond (Receives rx) (eqb at (length rx.got)) (grown rx (b ∷ part))
     (record rx { island = kept_apart rx.island at (b ∷ part) })
-    (λ t. grown_receives rx (b ∷ part)) (λ f. record { read = refl; got = ([], sym (append-nil rx.got)) })
+    (λ t. grown_receives rx (b ∷ part))
+    (λ f. record { read = refl; ended = λ h. h; got = ([], sym (append-nil rx.got)) })
 
 data_receives : (rx : Receiving) (window q : ℕ) (payload : List ℕ) → Receives rx (with_data rx window q payload)
 data_receives rx window q payload =
@@ -84,10 +88,12 @@ record Hears (e x : Endpoint) : Type 0 where
   pub shut : x.tx.shut ≡ e.tx.shut
   pub out : x.tx.out ≡ e.tx.out
   pub una : x.tx.una ≤ e.tx.max
-  pub wl1 : x.tx.wl1 ≤ max e.tx.wl1 (next_place e.rx + 65535)
+  pub wl1 : x.tx.wl1 ≤ max e.tx.wl1 (next_place e.rx + 1048576)
   pub wl2 : x.tx.wl2 ≤ max e.tx.wl2 e.tx.max
   pub rx : Receives e.rx x.rx
   pub peer : x.peer ≡ e.peer
+  pub params : x.params ≡ e.params
+  pub scaling : x.scaling ≡ e.scaling
   pub tokens : x.rate.tokens ≡ e.rate.tokens
 
 moves_heard : (e x : Endpoint) (reply : Reply) → Valid e → Hears e x → IsSilent reply
@@ -98,6 +104,13 @@ moves_heard e x reply v h silent = record {
   wl1 = h.wl1;
   wl2 = h.wl2;
   iss = h.iss;
+  keeps = record {
+    params = h.params;
+    got = omega (arith, ap length h.rx.got.1, length-append e.rx.got h.rx.got.0);
+    read = omega (arith, h.rx.read);
+    ended = h.rx.ended;
+    shift = omega (arith, ap (λ (s : Scaling). s.rs) h.scaling);
+  };
   shut = λ s. (h.shut ∙ s, silent.1);
   out = h.out ∙ grown_by_none e.tx.out (taken_bytes reply) silent.1;
   bytes = same_read ∙ grown_by_none (take e.rx.read e.rx.got) (given_bytes reply) silent.0;
@@ -108,8 +121,8 @@ moves_heard e x reply v h silent = record {
     same_read = ap (λ (n : ℕ). take n x.rx.got) h.rx.read
         ∙ (ap (take e.rx.read) h.rx.got.1 ∙ take-append-le e.rx.read e.rx.got h.rx.got.0 v.rx.read)
 
-ack_hears : (e : Endpoint) (tick a q len window : ℕ) → Valid e → ack_verdict e.tx a ≡ Good → q ≤ next_place e.rx + 65535
-    → Hears e (after_ack e tick a q len window)
+ack_hears : (e : Endpoint) (tick a q len window : ℕ) → Valid e → ack_verdict e.tx a ≡ Good
+    → q ≤ next_place e.rx + 1048576 → Hears e (after_ack e tick a q len window)
 ack_hears e tick a q len window v good near =
     let most : a ≤ e.tx.max = good_tells e.tx a good in
     let s : Acked e.tx a q (sending_after e.tx a q len window) =
@@ -123,6 +136,8 @@ ack_hears e tick a q len window v good near =
       wl2 = omega (arith, s.2);
       rx = receives_nothing e.rx;
       peer = refl;
+      params = refl;
+      scaling = refl;
       tokens = on_cond (λ (r : Rate). r.tokens ≡ e.rate.tokens) (eqb e.tx.una 0) (uncounted e.rate) _ (λ t. refl)
           (λ f. refl);
     }
@@ -141,8 +156,10 @@ after_data_hears e x tick window q seg same h =
       una = h.una;
       wl1 = h.wl1;
       wl2 = h.wl2;
-      rx = record { read = rx.read; got = rx.got };
+      rx = record { read = rx.read; ended = λ g. refl; got = rx.got };
       peer = h.peer;
+      params = h.params;
+      scaling = h.scaling;
       tokens = h.tokens;
     })
     (λ f. record {
@@ -154,6 +171,8 @@ after_data_hears e x tick window q seg same h =
       wl2 = h.wl2;
       rx = rx;
       peer = h.peer;
+      params = h.params;
+      scaling = h.scaling;
       tokens = h.tokens;
     })
 
@@ -163,15 +182,15 @@ heard_silent e true = (refl, refl)
 heard_silent e false = (refl, refl)
 
 taken_moves : (e : Endpoint) (tick q : ℕ) (seg : Seg) (a : AckVerdict) → Valid e
-    → ack_verdict e.tx (place_of_ack e seg) ≡ a → q ≤ next_place e.rx + 65535 → Moves 0 0 e (taken e tick q seg a)
+    → ack_verdict e.tx (place_of_ack e seg) ≡ a → q ≤ next_place e.rx + 1048576 → Moves 0 0 e (taken e tick q seg a)
 taken_moves e tick q seg Stray v is near = moves_nothing e (resets seg.head.ack) v (refl, refl)
 taken_moves e tick q seg TooFar v is near = moves_nothing e (acks e) v (refl, refl)
 taken_moves e tick q seg Good v is near =
-    let acked : Endpoint = after_ack e tick (place_of_ack e seg) q (seg_len seg) seg.head.window in
+    let acked : Endpoint = after_ack e tick (place_of_ack e seg) q (seg_len seg) (offered_window e.scaling seg) in
     let after : Endpoint = after_data acked tick (wnd e) q seg in
     moves_heard e after (cond (is_heard seg) (acks after) replies.Nothing) v
     (after_data_hears e acked tick (wnd e) q seg refl
-    (ack_hears e tick (place_of_ack e seg) q (seg_len seg) seg.head.window v is near))
+    (ack_hears e tick (place_of_ack e seg) q (seg_len seg) (offered_window e.scaling seg) v is near))
     (heard_silent after (is_heard seg))
 
 bare_moves : (e : Endpoint) (tick : ℕ) (seg : Seg) (a : AckVerdict) → Valid e
@@ -179,9 +198,10 @@ bare_moves : (e : Endpoint) (tick : ℕ) (seg : Seg) (a : AckVerdict) → Valid 
 bare_moves e tick seg Stray v is = moves_nothing e (resets seg.head.ack) v (refl, refl)
 bare_moves e tick seg TooFar v is = moves_nothing e (acks e) v (refl, refl)
 bare_moves e tick seg Good v is =
-    let after : Endpoint = after_ack e tick (place_of_ack e seg) (next_place e.rx) (seg_len seg) seg.head.window in
+    let after : Endpoint = after_ack e tick (place_of_ack e seg) (next_place e.rx) (seg_len seg)
+    (offered_window e.scaling seg) in
     moves_heard e after (acks after) v (ack_hears e tick (place_of_ack e seg) (next_place e.rx)
-    (seg_len seg) seg.head.window v is (omega arith)) (refl, refl)
+    (seg_len seg) (offered_window e.scaling seg) v is (omega arith)) (refl, refl)
 
 acceptable_near : (r window q len : ℕ) → is_acceptable r window q len ≡ true → q ≤ r + window
 acceptable_near r window q len is = grind (arith, nat_tests)
@@ -211,6 +231,13 @@ connected_moves e seg v none sent = record {
   wl1 = omega arith;
   wl2 = omega arith;
   iss = refl;
+  keeps = record {
+    params = refl;
+    got = omega arith;
+    read = omega arith;
+    ended = λ h. h;
+    shift = omega (arith, ap (λ (s : Scaling). s.rs) (v.scaling.early none));
+  };
   shut = λ s. (s, refl);
   out = sym (append-nil e.tx.out);
   bytes = sym (append-nil (take e.rx.read e.rx.got));

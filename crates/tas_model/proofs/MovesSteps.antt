@@ -59,6 +59,13 @@ accepted_moves e bytes going v =
       wl1 = omega arith;
       wl2 = omega arith;
       iss = refl;
+      keeps = record {
+        params = refl;
+        got = omega arith;
+        read = omega arith;
+        ended = λ h. h;
+        shift = omega arith;
+      };
       shut = λ s. absurd (true≢false (sym s ∙ going));
       out = refl;
       bytes =
@@ -83,6 +90,7 @@ given_moves e most v = record {
   wl1 = omega arith;
   wl2 = omega arith;
   iss = refl;
+  keeps = record { params = refl; got = omega arith; read = omega arith; ended = λ h. h; shift = omega arith };
   shut = λ s. (s, refl);
   out = sym (append-nil e.tx.out);
   bytes = take-add e.rx.read (min most (unread e.rx)) e.rx.got;

@@ -1,53 +1,17 @@
 -- No reset is the answer to a reset.
-use Rattle.std.proofs.Common.{
-  ◌≡◌,
-  ℕ,
-  Bool,
-  true,
-  false,
-  not,
-  ◌&&◌,
-  Option,
-  Some,
-  None,
-  refl,
-  sym,
-  ◌∙◌,
-  true≢false,
-  arith,
-  leb,
-  eqb,
-}
+use Rattle.std.proofs.Common.{◌≡◌, ℕ, Bool, true, not, ◌&&◌, Option, Some, None, refl, sym, ◌∙◌, true≢false, arith}
+use Rattle.std.proofs.Common.{leb, eqb}
 use Rattle.std.proofs.lemmas.Bool.Decides.{nat_tests}
 use Rattle.tas_model.proofs.Tests.{on_cond}
 use Rattle.tas_model.specs.declared.entry.Phase.{Phase}
 use Rattle.tas_model.specs.declared.entry.Phase.TheVariants as phases
-use Rattle.tas_model.specs.declared.entry.Reason.TheVariants as reasons
 use Rattle.tas_model.specs.declared.entry.Seg.{Seg}
 use Rattle.tas_model.specs.declared.entry.Reply.TheVariants as replies
 use Rattle.tas_model.specs.Endpoint.{Endpoint, phase, next_place, wnd}
-use Rattle.tas_model.specs.Segments.{Outcome, seg_len, is_ack, is_rst, is_syn, stray_reply}
-use Rattle.tas_model.specs.Receive.{
-  rx,
-  rx_in,
-  rx_later,
-  rx_syn_sent,
-  connected,
-  by_verdict,
-  verdict,
-  verdict_at,
-  verdict_of_place,
-  refused,
-  place_of_seq,
-  place_of_ack,
-  is_acceptable,
-  Verdict,
-  Dropped,
-  Answered,
-  Reset,
-  BareAck,
-  Taken,
-}
+use Rattle.tas_model.specs.Segments.{Outcome, seg_len, is_ack, is_rst, is_syn}
+use Rattle.tas_model.specs.Receive.{rx, rx_in, rx_later, rx_syn_sent, by_verdict, verdict, verdict_at}
+use Rattle.tas_model.specs.Receive.{verdict_of_place, refused, place_of_seq, place_of_ack, is_acceptable, Verdict}
+use Rattle.tas_model.specs.Receive.{Dropped, Answered, Reset, BareAck, Taken}
 use Rattle.tas_model.specs.StandardsWords.{IsNoReset}
 
 -- neither its bytes nor its acknowledgement are heard

@@ -14,7 +14,7 @@ use Rattle.tas_model.specs.declared.entry.Phase.{Phase}
 use Rattle.tas_model.specs.declared.entry.Phase.TheVariants as phases
 use Rattle.tas_model.specs.declared.entry.Reason.TheVariants as reasons
 use Rattle.tas_model.specs.declared.entry.Call.TheVariants as calls
-use Rattle.tas_model.specs.Segments.{Outcome, is_fin, is_syn, is_rst, is_ack, seg_len}
+use Rattle.tas_model.specs.Segments.{Outcome, offered_window, is_fin, is_syn, is_rst, is_ack, seg_len}
 use Rattle.tas_model.specs.Receive.{takes_fin, after_data, after_ack, taken, bare_ack, by_verdict, verdict}
 use Rattle.tas_model.specs.Receive.{verdict_of_place, is_acceptable, Verdict, Dropped, Answered, Reset, BareAck, Taken}
 use Rattle.tas_model.specs.Receive.{AckVerdict, Stray, TooFar, Good, place_of_seq, place_of_ack, rx, rx_in, rx_later}
@@ -252,7 +252,7 @@ taken_in : (p : List ℕ) (e : Endpoint) (tick q from : ℕ) (seg : Seg) (a : Ac
 taken_in p e tick q from seg Stray is says s = s
 taken_in p e tick q from seg TooFar is says s = s
 taken_in p e tick q from seg Good is says s =
-    after_data_in p (after_ack e tick (place_of_ack e seg) q (seg_len seg) seg.head.window) tick
+    after_data_in p (after_ack e tick (place_of_ack e seg) q (seg_len seg) (offered_window e.scaling seg)) tick
     (wnd e) q from seg is says s
 
 bare_in : (p : List ℕ) (e : Endpoint) (tick : ℕ) (seg : Seg) (a : AckVerdict) → InStream p e.rx

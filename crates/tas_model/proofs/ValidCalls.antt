@@ -1,7 +1,7 @@
 -- Every step leaves an endpoint valid.
 use Rattle.std.proofs.Common.{◌≡◌, ℕ, ◌+◌, ◌-◌, ◌*◌, ◌/◌, ◌<◌, ◌≤◌, Bool, true, false, cond, not, ◌&&◌, List, ◌++◌}
 use Rattle.std.proofs.Common.{length, min, max, Option, Some, None, refl, sym, subst, arith, length-append, ltb, leb}
-use Rattle.std.proofs.Common.{eqb}
+use Rattle.std.proofs.Common.{eqb, IfSome, true≢false}
 use Rattle.std.proofs.lemmas.Bool.Decides.{nat_tests}
 use Rattle.tas_model.proofs.Tests.{on_cond}
 use Rattle.tas_model.proofs.ValidSteps.{data_keeps, sending_keeps}
@@ -17,7 +17,8 @@ use Rattle.tas_model.specs.declared.entry.Call.TheVariants as calls
 use Rattle.tas_model.specs.declared.entry.Reply.{Reply}
 use Rattle.tas_model.specs.Endpoint.{Endpoint, Sending, Receiving, Rate, Island, phase, phase_by, next_place, wnd}
 use Rattle.tas_model.specs.Endpoint.{unread, unacked, send_room, uncounted, first_rate, first_cwnd, send_mss, fresh}
-use Rattle.tas_model.specs.Segments.{Outcome, seg_len, is_fin, is_ack, is_syn, is_rst}
+use Rattle.tas_model.specs.Endpoint.{unscaled, agreed_scaling}
+use Rattle.tas_model.specs.Segments.{Outcome, offered_window, seg_len, is_fin, is_ack, is_syn, is_rst}
 use Rattle.tas_model.specs.Receive.{with_fin, takes_fin, rate_after, ack_verdict, AckVerdict, Stray, TooFar, Good}
 use Rattle.tas_model.specs.Receive.{Verdict, Dropped, Answered, Reset, BareAck, Taken, after_ack, after_data, taken}
 use Rattle.tas_model.specs.Receive.{bare_ack, by_verdict, verdict, rx_later, rx_syn_sent, connected, rx_in, rx}
@@ -32,7 +33,7 @@ use Rattle.tas_model.specs.Timers.{controlled, control}
 use Rattle.tas_num.specs.Control.{cwnd_after, ssthresh_after}
 use Rattle.tas_model.specs.LegalHistory.{step, control_in, opened, taken_bytes, Legal, Opens, replay, state_or}
 use Rattle.tas_model.specs.Valid.{ValidSending, ValidReceiving, ValidRate, Valid, IsUnopened, IsPastGap, LeavesValid}
-use Rattle.tas_model.specs.Valid.{InRange, IsPaced, Paced, IsTrying}
+use Rattle.tas_model.specs.Valid.{InRange, IsPaced, Paced, IsTrying, ValidScaling}
 use Rattle.tas_model.proofs.Histories.{legal_induction, replay_push, replay_first}
 
 -- the peer's SYN was taken
@@ -77,6 +78,7 @@ ack_keeps : (e : Endpoint) (tick a q len window : ℕ) → Later e → ack_verdi
 ack_keeps e tick a q len window later good v =
     record {
       fits = v.fits;
+      scaling = v.scaling;
       unopened = later (after_ack e tick a q len window).tx.una;
       tx = sending_keeps e.params.ring e.tx a q len window good v.tx;
       rx = v.rx;
@@ -98,6 +100,7 @@ after_data_keeps e tick window q seg small v =
     on_cond Valid (takes_fin e.rx (with_data e.rx window q seg.bytes) window q (length seg.bytes) (is_fin seg)) _ _
     (λ t. record {
       fits = v.fits;
+      scaling = v.scaling;
       unopened = v.unopened;
       tx = v.tx;
       rx = fin_keeps e.params.ring (with_data e.rx window q seg.bytes) e.tx.shut rx;
@@ -107,6 +110,7 @@ after_data_keeps e tick window q seg small v =
     })
     (λ f. record {
       fits = v.fits;
+      scaling = v.scaling;
       unopened = v.unopened;
       tx = v.tx;
       rx = rx;
@@ -120,20 +124,21 @@ taken_keeps : (e : Endpoint) (tick q : ℕ) (seg : Seg) (a : AckVerdict) → Lat
 taken_keeps e tick q seg Stray later is v = v
 taken_keeps e tick q seg TooFar later is v = v
 taken_keeps e tick q seg Good later is v =
-    after_data_keeps (after_ack e tick (place_of_ack e seg) q (seg_len seg) seg.head.window) tick (wnd e) q seg
-    (omega arith)
-    (ack_keeps e tick (place_of_ack e seg) q (seg_len seg) seg.head.window later is v)
+    after_data_keeps (after_ack e tick (place_of_ack e seg) q (seg_len seg) (offered_window e.scaling seg)) tick
+    (wnd e) q seg (omega arith)
+    (ack_keeps e tick (place_of_ack e seg) q (seg_len seg) (offered_window e.scaling seg) later is v)
 
 bare_keeps : (e : Endpoint) (tick : ℕ) (seg : Seg) (a : AckVerdict) → Later e
     → ack_verdict e.tx (place_of_ack e seg) ≡ a → Valid e → Valid (bare_ack e tick seg a).state
 bare_keeps e tick seg Stray later is v = v
 bare_keeps e tick seg TooFar later is v = v
 bare_keeps e tick seg Good later is v =
-    ack_keeps e tick (place_of_ack e seg) (next_place e.rx) (seg_len seg) seg.head.window later is v
+    ack_keeps e tick (place_of_ack e seg) (next_place e.rx) (seg_len seg) (offered_window e.scaling seg) later is v
 
 with_reason : (e : Endpoint) (why : Reason) → Valid e → Valid (record e { reason = Some why })
 with_reason e why v = record {
   fits = v.fits;
+  scaling = v.scaling;
   unopened = v.unopened;
   tx = v.tx;
   rx = v.rx;
@@ -170,12 +175,47 @@ first_rate_paced p theirs fits = record { mss = (omega arith, omega (arith, fits
     some true = omega arith
     some false = grind (arith, nat_tests)
 
+-- ----- the scaling of windows
+fresh_scaling : (p : HostParams) → ValidScaling p None unscaled
+fresh_scaling p = record {
+  ss = omega arith;
+  rs = omega arith;
+  early = λ h. refl;
+  alone = λ h. refl;
+  own = λ h. absurd (true≢false (sym h));
+}
+
+taken_scaling : (p : HostParams) (first : ℕ) (own theirs : Option ℕ) → p.scale ≡ own
+    → IfSome own (λ shift. shift ≤ 14) → ValidScaling p (Some first) (agreed_scaling own theirs)
+taken_scaling p first (Some own) (Some theirs) is small = record {
+  ss = omega arith;
+  rs = small;
+  early = λ h. absurd (cc (h));
+  alone = λ h. absurd (true≢false h);
+  own = λ h. is;
+}
+taken_scaling p first (Some own) None is small = record {
+  ss = omega arith;
+  rs = omega arith;
+  early = λ h. refl;
+  alone = λ h. refl;
+  own = λ h. absurd (true≢false (sym h));
+}
+taken_scaling p first None theirs is small = record {
+  ss = omega arith;
+  rs = omega arith;
+  early = λ h. refl;
+  alone = λ h. refl;
+  own = λ h. absurd (true≢false (sym h));
+}
+
 connected_keeps : (e : Endpoint) (seg : Seg) → InRange e.params → 1 ≤ e.tx.max → e.peer ≡ None → Valid e
     → Valid (connected e seg)
 connected_keeps e seg fits sent none v =
     let una : e.tx.una ≡ 0 = subst (λ (o : Option ℕ). IsUnopened o e.tx.una) none v.unopened in
     record {
       fits = v.fits;
+      scaling = taken_scaling e.params seg.head.seq.0 e.params.scale seg.head.scale refl fits.scale;
       unopened = tt;
       tx = record {
         una = omega arith;
@@ -262,6 +302,7 @@ with_tx : (e : Endpoint) (tx : Sending) → tx.una ≡ e.tx.una → IsTrying e.r
     → Valid e → Valid (record e { tx = tx })
 with_tx e tx una trying s v = record {
   fits = v.fits;
+  scaling = v.scaling;
   unopened = subst (IsUnopened e.peer) (sym una) v.unopened;
   tx = s;
   rx = v.rx;
@@ -273,6 +314,7 @@ with_tx e tx una trying s v = record {
 with_rx : (e : Endpoint) (rx : Receiving) → ValidReceiving e.params.ring rx → Valid e → Valid (record e { rx = rx })
 with_rx e rx r v = record {
   fits = v.fits;
+  scaling = v.scaling;
   unopened = v.unopened;
   tx = v.tx;
   rx = r;
@@ -409,6 +451,7 @@ running_keeps e v =
     on_cond G (ltb 0 (data_len e)) _ _
     (λ t. record {
       fits = v.fits;
+      scaling = v.scaling;
       unopened = v.unopened;
       tx = past_keeps e.params.ring e.tx (data_len e) (data_fits e v t) v.tx;
       rx = v.rx;
@@ -458,6 +501,7 @@ emit_keeps (Some x) g = g
 filled_keeps : (e : Endpoint) → Valid e → Valid (record e { rate = filled e.rate })
 filled_keeps e v = record {
   fits = v.fits;
+  scaling = v.scaling;
   unopened = v.unopened;
   tx = v.tx;
   rx = v.rx;
@@ -493,6 +537,7 @@ expired_keeps e v =
     on_cond V (eqb (e.tx.tries + 1) 9) _ _
     (λ t. record {
       fits = v.fits;
+      scaling = v.scaling;
       unopened = v.unopened;
       tx = back_valid e.params.ring e.tx (e.tx.tries + 1) e.tx.nxt e.tx.probe v.tx.una v.tx.nxt v.tx;
       rx = v.rx;
@@ -506,6 +551,7 @@ expired_keeps e v =
     (back_valid e.params.ring e.tx (e.tx.tries + 1) e.tx.una true (omega arith) high v.tx) v)
     (λ g. record {
       fits = v.fits;
+      scaling = v.scaling;
       unopened = v.unopened;
       tx = back_valid e.params.ring e.tx (e.tx.tries + 1) e.tx.una e.tx.probe (omega arith) high v.tx;
       rx = v.rx;
@@ -560,6 +606,7 @@ control_keeps : (e : Endpoint) → Valid e → V (control e)
 unfolding control
 control_keeps e v = record {
   fits = v.fits;
+  scaling = v.scaling;
   unopened = v.unopened;
   tx = v.tx;
   rx = v.rx;
@@ -600,6 +647,7 @@ step_keeps e tick calls.Abort reply fits v = abort_keeps e (column e) v
 fresh_valid : (p : HostParams) (iss : ℕ) → InRange p → Valid (fresh p iss)
 fresh_valid p iss fits = record {
   fits = fits;
+  scaling = fresh_scaling p;
   unopened = refl;
   tx = record {
     una = omega arith;
@@ -619,6 +667,7 @@ opened_valid : (p : HostParams) (call : Call) → InRange p → Opens call → V
 opened_valid p (calls.Connect iss) fits opens = fresh_valid p iss.0 fits
 opened_valid p (calls.Passive frame iss seg) fits opens = record {
   fits = fits;
+  scaling = taken_scaling p seg.head.seq.0 p.scale seg.head.scale refl fits.scale;
   unopened = tt;
   tx = record {
     una = omega arith;

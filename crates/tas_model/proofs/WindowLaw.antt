@@ -1,57 +1,16 @@
 -- The peer's window is the newest segment's, and no older one moves it.
-use Rattle.std.proofs.Common.{
-  ◌≡◌,
-  ℕ,
-  ◌+◌,
-  ◌<◌,
-  ◌≤◌,
-  Bool,
-  true,
-  false,
-  cond,
-  not,
-  ◌&&◌,
-  ◌||◌,
-  length,
-  refl,
-  sym,
-  ap,
-  subst,
-  ◌∙◌,
-  arith,
-  ltb,
-  leb,
-  eqb,
-}
+use Rattle.std.proofs.Common.{◌≡◌, ℕ, ◌<◌, ◌≤◌, true, false, length, refl, sym, ap, subst, ◌∙◌, arith, ltb}
 use Rattle.std.proofs.lemmas.Bool.Decides.{nat_tests}
 use Rattle.tas_model.proofs.Tests.{on_cond}
 use Rattle.tas_model.specs.declared.entry.Phase.{Phase}
 use Rattle.tas_model.specs.declared.entry.Phase.TheVariants as phases
 use Rattle.tas_model.specs.declared.entry.Seg.{Seg}
 use Rattle.tas_model.specs.Endpoint.{Endpoint, Sending, phase, wnd}
-use Rattle.tas_model.specs.Segments.{Outcome, seg_len, is_fin}
+use Rattle.tas_model.specs.Segments.{Outcome, offered_window, seg_len, is_fin}
 use Rattle.tas_model.specs.Reassembly.{with_data}
-use Rattle.tas_model.specs.Receive.{
-  rx,
-  rx_in,
-  rx_later,
-  by_verdict,
-  verdict,
-  Taken,
-  Good,
-  ack_verdict,
-  taken,
-  after_ack,
-  after_data,
-  takes_fin,
-  place_of_ack,
-  is_duplicate,
-  after_duplicate,
-  after_advance,
-  moves_window,
-  with_window,
-  sending_after,
-}
+use Rattle.tas_model.specs.Receive.{rx, rx_in, rx_later, by_verdict, verdict, Good, ack_verdict, taken, after_ack}
+use Rattle.tas_model.specs.Receive.{takes_fin, place_of_ack, is_duplicate, after_duplicate, after_advance}
+use Rattle.tas_model.specs.Receive.{moves_window, sending_after}
 use Rattle.tas_model.specs.OneStream.{IsSynchronized}
 use Rattle.tas_model.specs.StandardsWords.{IsCurrent, WindowOf}
 
@@ -94,9 +53,10 @@ heard e tick q seg c =
 
 -- what holds of the sending side after rule 5 holds after all rules
 after_rules : (P : Sending → Type 0) (e : Endpoint) (tick q : ℕ) (seg : Seg) → IsCurrent e seg q
-    → P (sending_after e.tx (place_of_ack e seg) q (seg_len seg) seg.head.window) → P (rx e tick seg).state.tx
+    → P (sending_after e.tx (place_of_ack e seg) q (seg_len seg) (offered_window e.scaling seg))
+    → P (rx e tick seg).state.tx
 after_rules P e tick q seg c h =
-    let x : Endpoint = after_ack e tick (place_of_ack e seg) q (seg_len seg) seg.head.window in
+    let x : Endpoint = after_ack e tick (place_of_ack e seg) q (seg_len seg) (offered_window e.scaling seg) in
     let all : P (taken e tick q seg Good).state.tx =
     on_cond (λ (y : Endpoint). P y.tx)
     (takes_fin x.rx (with_data x.rx (wnd e) q seg.bytes) (wnd e) q (length seg.bytes) (is_fin seg)) _ _
@@ -117,29 +77,30 @@ same_keeps : (tx : Sending) (a q : ℕ) → 0 < tx.una → q ≡ tx.wl1 → a < 
 same_keeps tx a q past at less = grind (arith, nat_tests)
 
 pub newer_is_taken : (e : Endpoint) (tick q : ℕ) (seg : Seg) → IsCurrent e seg q → e.tx.wl1 < q
-    → WindowOf q (place_of_ack e seg) seg.head.window (rx e tick seg).state.tx
+    → WindowOf q (place_of_ack e seg) (offered_window e.scaling seg) (rx e tick seg).state.tx
 newer_is_taken e tick q seg c newer =
-    after_rules (WindowOf q (place_of_ack e seg) seg.head.window) e tick q seg c
-    (window_taken e.tx (place_of_ack e seg) q (seg_len seg) seg.head.window
+    after_rules (WindowOf q (place_of_ack e seg) (offered_window e.scaling seg)) e tick q seg c
+    (window_taken e.tx (place_of_ack e seg) q (seg_len seg) (offered_window e.scaling seg)
     (newer_moves e.tx (place_of_ack e seg) q c.not_old newer))
 
 pub as_new_is_taken : (e : Endpoint) (tick q : ℕ) (seg : Seg) → IsCurrent e seg q → q ≡ e.tx.wl1
-    → e.tx.wl2 ≤ place_of_ack e seg → WindowOf q (place_of_ack e seg) seg.head.window (rx e tick seg).state.tx
+    → e.tx.wl2 ≤ place_of_ack e seg
+    → WindowOf q (place_of_ack e seg) (offered_window e.scaling seg) (rx e tick seg).state.tx
 as_new_is_taken e tick q seg c at le =
-    after_rules (WindowOf q (place_of_ack e seg) seg.head.window) e tick q seg c
-    (window_taken e.tx (place_of_ack e seg) q (seg_len seg) seg.head.window
+    after_rules (WindowOf q (place_of_ack e seg) (offered_window e.scaling seg)) e tick q seg c
+    (window_taken e.tx (place_of_ack e seg) q (seg_len seg) (offered_window e.scaling seg)
     (same_moves e.tx (place_of_ack e seg) q c.not_old at le))
 
 pub older_is_not : (e : Endpoint) (tick q : ℕ) (seg : Seg) → IsCurrent e seg q → q < e.tx.wl1
     → WindowOf e.tx.wl1 e.tx.wl2 e.tx.window (rx e tick seg).state.tx
 older_is_not e tick q seg c older =
     after_rules (WindowOf e.tx.wl1 e.tx.wl2 e.tx.window) e tick q seg c
-    (window_kept e.tx (place_of_ack e seg) q (seg_len seg) seg.head.window
+    (window_kept e.tx (place_of_ack e seg) q (seg_len seg) (offered_window e.scaling seg)
     (older_keeps e.tx (place_of_ack e seg) q c.past_opening older))
 
 pub older_ack_is_not : (e : Endpoint) (tick q : ℕ) (seg : Seg) → IsCurrent e seg q → q ≡ e.tx.wl1
     → place_of_ack e seg < e.tx.wl2 → WindowOf e.tx.wl1 e.tx.wl2 e.tx.window (rx e tick seg).state.tx
 older_ack_is_not e tick q seg c at less =
     after_rules (WindowOf e.tx.wl1 e.tx.wl2 e.tx.window) e tick q seg c
-    (window_kept e.tx (place_of_ack e seg) q (seg_len seg) seg.head.window
+    (window_kept e.tx (place_of_ack e seg) q (seg_len seg) (offered_window e.scaling seg)
     (same_keeps e.tx (place_of_ack e seg) q c.past_opening at less))

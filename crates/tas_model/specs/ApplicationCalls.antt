@@ -1,6 +1,6 @@
 -- What an application's calls do (RFC 9293, section 3.10).
 use Rattle.std.specs.Prelude.{ℕ, ◌+◌, ◌/◌, ◌==◌, ◌&&◌, not, Bool, true, false, List, ◌++◌, length, take, drop, nat_lt}
-use Rattle.std.specs.Prelude.{nat_le, min, Option, Some, None, if◌then◌else◌}
+use Rattle.std.specs.Prelude.{◌^◌, nat_le, min, max, Option, Some, None, if◌then◌else◌}
 use Rattle.tas_model.specs.declared.entry.Phase.{Phase}
 use Rattle.tas_model.specs.declared.entry.Phase.TheVariants as phases
 use Rattle.tas_model.specs.declared.entry.Reason.{Reason}
@@ -56,11 +56,15 @@ send_in Running e offered bytes =
     else None
 
 -- ----- Recv (section 3.10.3)
--- The update that opens the window again (section 3.8.6.2.2): where free room grows past the lesser of a segment and
--- half the ring.
+-- The room from which on the window is opened again (section 3.8.6.2.2): a segment or half the ring, whichever is less,
+-- and never less than a window field can show.
+abbrev pub least_update : Endpoint → ℕ
+least_update e = max (2 ^ e.scaling.rs) (min e.params.mss (e.params.ring / 2))
+
+-- The update that opens it: where free room grows past that.
 abbrev pub update_of : (before after : Endpoint) → Option Head
 update_of before after =
-    let m : ℕ = min before.params.mss (before.params.ring / 2) in
+    let m : ℕ = least_update before in
     if not before.rx.ended && nat_lt (free before) m && nat_le m (free after) then Some (ack_head after) else None
 
 abbrev pub after_recv : Endpoint → (n : ℕ) → Endpoint
@@ -123,7 +127,14 @@ abbrev pub abort_reply : Endpoint → Reply
 abort_reply e =
     if tells_abort (phase e)
     then replies.Sent
-    (bare (record { flags = 4; seq = seq_of e e.tx.max; ack = record { 0 = 0 }; window = 0; mss = None }))
+    (bare (record {
+      flags = 4;
+      seq = seq_of e e.tx.max;
+      ack = record { 0 = 0 };
+      window = 0;
+      mss = None;
+      scale = None;
+    }))
     else replies.Nothing
 
 abbrev pub abort_in : Column → Endpoint → Outcome

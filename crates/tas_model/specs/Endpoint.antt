@@ -1,6 +1,7 @@
 -- What an endpoint is, the phase that it is in, and the endpoint that a connection begins with (RFC 9293, sections 3.3
--- and 3.4).
-use Rattle.std.specs.Prelude.{ℕ, ◌+◌, ◌-◌, ◌*◌, ◌^◌, ◌==◌, not, ◌&&◌, Bool, false, List, [], length, nat_lt, min, max}
+-- and 3.4; RFC 7323, section 2).
+use Rattle.std.specs.Prelude.{ℕ, ◌+◌, ◌-◌, ◌*◌, ◌/◌, ◌^◌, ◌==◌, not, ◌&&◌, Bool, true, false, List, [], length, nat_lt}
+use Rattle.std.specs.Prelude.{min, max}
 use Rattle.std.specs.Prelude.{Option, Some, None, is_some, unwrap_or, if◌then◌else◌}
 use Rattle.tas_num.specs.Control.{refill}
 use Rattle.tas_model.specs.declared.entry.HostParams.{HostParams}
@@ -20,7 +21,7 @@ pub record Sending : Type 0 where
   pub nxt : ℕ  -- SND.NXT: the place that is sent next
   pub max : ℕ  -- one past the highest place ever sent
   pub shut : Bool  -- the application ended the stream: a FIN follows the last byte
-  pub window : ℕ  -- SND.WND: bytes that the peer has room for
+  pub window : ℕ  -- SND.WND: bytes that the peer has room for, its shift included
   pub wl1 : ℕ  -- SND.WL1: the place of the segment that the window is from
   pub wl2 : ℕ  -- SND.WL2: the place that this segment acknowledged
   pub dup : ℕ  -- duplicate acknowledgements since the last advance (RFC 5681, section 2), 3 at most
@@ -53,10 +54,17 @@ pub record Rate : Type 0 where
   pub fast : ℕ  -- fast retransmissions since then, a count
   pub timeouts : ℕ  -- timeouts since then, a count
 
+-- How windows are scaled (RFC 7323, sections 2.2 and 2.3): not at all, unless both SYN segments bore the option.
+pub record Scaling : Type 0 where
+  pub agreed : Bool  -- both SYN segments bore it
+  pub ss : ℕ  -- Snd.Wind.Shift: a window that comes counts units of 2^ss bytes
+  pub rs : ℕ  -- Rcv.Wind.Shift: a window that goes counts units of 2^rs bytes
+
 pub record Endpoint : Type 0 where
   pub params : HostParams
   pub iss : ℕ  -- its own first sequence number
   pub peer : Option ℕ  -- the peer's first sequence number, once its SYN was taken
+  pub scaling : Scaling
   pub tx : Sending
   pub rx : Receiving
   pub rate : Rate
@@ -104,9 +112,17 @@ unread rx = length rx.got - rx.read
 abbrev pub free : Endpoint → ℕ
 free e = e.params.ring - unread e.rx
 
--- RCV.WND, the window that is advertised: what fits into a header's 16 bits
+-- RCV.WND, the window in which bytes are taken: no more than the 16 bits of a header can show, by the own shift
 abbrev pub wnd : Endpoint → ℕ
-wnd e = min (free e) 65535
+wnd e = min (free e) (65535 * 2 ^ e.scaling.rs)
+
+-- The window as a header shows it: in units of 2^rs bytes, rounded down, so that no more is offered than there is (RFC
+-- 7323, section 2.3). In a SYN it is never scaled (section 2.2).
+abbrev pub window_field : Endpoint → ℕ
+window_field e = wnd e / 2 ^ e.scaling.rs
+
+abbrev pub syn_window_field : Endpoint → ℕ
+syn_window_field e = min (free e) 65535
 
 -- RCV.NXT, the next place that is expected of the peer
 abbrev pub next_place : Receiving → ℕ
@@ -119,6 +135,16 @@ unacked tx = length tx.out - (tx.una - 1)
 -- room for more bytes to send
 abbrev pub send_room : Endpoint → ℕ
 send_room e = e.params.ring - unacked e.tx
+
+-- ----- the scaling of windows
+abbrev pub unscaled : Scaling
+unscaled = record { agreed = false; ss = 0; rs = 0 }
+
+-- The shifts once the peer's SYN is taken: where it bore the option, and this side's does too, each side's windows have
+-- its own shift (RFC 7323, section 2.2). A shift above 14 is read as 14 (section 2.3).
+abbrev pub agreed_scaling : (own theirs : Option ℕ) → Scaling
+agreed_scaling (Some own) (Some theirs) = record { agreed = true; ss = min theirs 14; rs = own }
+agreed_scaling _ _ = unscaled
 
 -- ----- the opened endpoint
 -- Nothing was sent or received.
@@ -161,6 +187,7 @@ fresh params iss = record {
   params = params;
   iss = iss;
   peer = None;
+  scaling = unscaled;
   tx = fresh_sending;
   rx = fresh_receiving;
   rate = fresh_rate;

@@ -9,7 +9,7 @@ use Rattle.tas_model.specs.declared.entry.Call.{Call}
 use Rattle.tas_model.specs.declared.entry.Call.TheVariants as calls
 use Rattle.tas_model.specs.declared.entry.Reply.{Reply}
 use Rattle.tas_model.specs.declared.entry.Reply.TheVariants as replies
-use Rattle.tas_model.specs.Endpoint.{Endpoint, fresh, first_rate, send_room}
+use Rattle.tas_model.specs.Endpoint.{Endpoint, fresh, first_rate, agreed_scaling, send_room}
 use Rattle.tas_model.specs.Segments.{Outcome}
 use Rattle.tas_model.specs.Receive.{rx}
 use Rattle.tas_model.specs.ApplicationCalls.{Column, Opening, Over, Running, column, accept_in, ready_in, send_in}
@@ -18,14 +18,15 @@ use Rattle.tas_model.specs.NextSegment.{going, emitted}
 use Rattle.tas_model.specs.Timers.{ticks, control}
 
 -- ----- the opened endpoint (RFC 9293, sections 3.10.1 and 3.10.7.2)
--- Connect begins one, and Passive one that has taken the peer's SYN: its number, window and MSS, and nothing else of
--- that segment.
+-- Connect begins one, and Passive one that has taken the peer's SYN: its number, window, MSS and shift, and nothing
+-- else of that segment.
 abbrev pub opened : HostParams → Call → Endpoint
 opened params (calls.Connect iss) = fresh params iss.0
 opened params (calls.Passive frame iss seg) =
     let e : Endpoint = fresh params iss.0 in
     record e {
       peer = Some seg.head.seq.0;
+      scaling = agreed_scaling params.scale seg.head.scale;
       tx = record (e.tx) { window = seg.head.window };
       rate = first_rate params seg.head.mss;
     }

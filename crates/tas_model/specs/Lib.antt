@@ -8,6 +8,10 @@ pub mod Timers
 pub mod LegalHistory
 pub mod OneStream
 pub mod Outputs
+pub mod OfferedWindow
+pub mod Shifts
+pub mod Fields
+pub mod WorkedScaling
 pub mod Valid
 pub mod BucketLaw
 pub mod BadSegment

@@ -4,26 +4,29 @@ use Rattle.std.specs.Prelude.{if◌then◌else◌}
 use Rattle.tas_model.specs.declared.entry.Head.{Head}
 use Rattle.tas_model.specs.declared.entry.Seg.{Seg}
 use Rattle.tas_model.specs.declared.entry.Reply.TheVariants as replies
-use Rattle.tas_model.specs.Endpoint.{Endpoint, Sending, wnd}
+use Rattle.tas_model.specs.Endpoint.{Endpoint, Sending, window_field, syn_window_field}
 use Rattle.tas_model.specs.Segments.{Outcome, bare, seq_of, ack_of}
 use Rattle.tas_model.specs.ApplicationCalls.{Column, Opening, Over, Running, column}
 
 -- ----- the segments
--- The SYN, or SYN and ACK once the peer's was taken: with the own MSS (section 3.7.1).
+-- The SYN, or SYN and ACK once the peer's was taken: with the own MSS (section 3.7.1), and the own shift where it is
+-- given. The second bears it only where the first did (RFC 7323, section 2.2).
 abbrev pub syn_head : Endpoint → (peer : Option ℕ) → Head
 syn_head e None = record {
   flags = 2;
   seq = seq_of e 0;
   ack = record { 0 = 0 };
-  window = wnd e;
+  window = syn_window_field e;
   mss = Some e.params.mss;
+  scale = e.params.scale;
 }
 syn_head e (Some first) = record {
   flags = 18;
   seq = seq_of e 0;
   ack = ack_of e;
-  window = wnd e;
+  window = syn_window_field e;
   mss = Some e.params.mss;
+  scale = if e.scaling.agreed then e.params.scale else None;
 }
 
 -- bytes that wait to be sent, from the next place on
@@ -44,14 +47,22 @@ data_seg e n =
         flags = if n == waiting e.tx then 24 else 16;
         seq = seq_of e e.tx.nxt;
         ack = ack_of e;
-        window = wnd e;
+        window = window_field e;
         mss = None;
+        scale = None;
       };
       bytes = take n (drop (e.tx.nxt - 1) e.tx.out);
     }
 
 abbrev pub fin_seg : Endpoint → Seg
-fin_seg e = bare (record { flags = 17; seq = seq_of e e.tx.nxt; ack = ack_of e; window = wnd e; mss = None })
+fin_seg e = bare (record {
+  flags = 17;
+  seq = seq_of e e.tx.nxt;
+  ack = ack_of e;
+  window = window_field e;
+  mss = None;
+  scale = None;
+})
 
 -- ----- what goes
 -- the segment, and the endpoint after it

@@ -1,4 +1,8 @@
--- What a received segment does (RFC 9293, section 3.10.7; RFC 5681, section 2).
+-- What a received segment does (RFC 9293, section 3.10.7; RFC 5681, section 2; RFC 7323, section 2).
+--
+-- Past SYN-SENT its checks are those of section 3.10.7.4, in their order and named by their numbers there: first the
+-- sequence number, second RST, fourth SYN, fifth ACK, seventh the text, eighth FIN. The third, security, and the sixth,
+-- URG, are left out of this profile.
 use Rattle.std.specs.Prelude.{ℕ, ◌+◌, ◌-◌, ◌%◌, ◌^◌, ◌==◌, ◌&&◌, ◌||◌, not, Bool, true, false, length, nat_lt, nat_le}
 use Rattle.std.specs.Prelude.{min, max, Option, Some, None, unwrap_or, if◌then◌else◌}
 use Rattle.tas_num.specs.Places.{nearest}
@@ -8,9 +12,9 @@ use Rattle.tas_model.specs.declared.entry.Reason.TheVariants as reasons
 use Rattle.tas_model.specs.declared.entry.Seg.{Seg}
 use Rattle.tas_model.specs.declared.entry.Reply.TheVariants as replies
 use Rattle.tas_model.specs.Endpoint.{Endpoint, Sending, Receiving, Rate, phase, wnd, next_place, is_fin_acked, counted}
-use Rattle.tas_model.specs.Endpoint.{uncounted, first_rate}
+use Rattle.tas_model.specs.Endpoint.{uncounted, first_rate, agreed_scaling}
 use Rattle.tas_model.specs.Segments.{Outcome, unchanged, is_fin, is_syn, is_rst, is_ack, seg_len, peer_first, acks}
-use Rattle.tas_model.specs.Segments.{resets, stray_reply}
+use Rattle.tas_model.specs.Segments.{resets, stray_reply, offered_window}
 use Rattle.tas_model.specs.Reassembly.{with_data}
 
 -- ----- places
@@ -23,7 +27,7 @@ place_of_seq e seg = nearest (next_place e.rx) ((seg.head.seq.0 + (2 ^ 32 - peer
 abbrev pub place_of_ack : Endpoint → Seg → ℕ
 place_of_ack e seg = unwrap_or (nearest e.tx.max ((seg.head.ack.0 + (2 ^ 32 - e.iss)) % 2 ^ 32)) 0
 
--- ----- rules 1 to 4: which segments are heard (section 3.10.7.4, first to fifth)
+-- ----- first, second and fourth, and the first half of the fifth: which segments are heard
 pub data Verdict : Type 0 where
   Dropped : Verdict  -- nothing changes, and there is no reply
   Answered : Verdict  -- nothing changes, and an ACK is the reply
@@ -35,8 +39,8 @@ pub data Verdict : Type 0 where
 abbrev pub is_within : (r window q : ℕ) → Bool
 is_within r window q = nat_le r q && nat_lt q (r + window)
 
--- The segment that takes `len` places from q on is acceptable: one of its ends lies in the window (section 3.10.7.4,
--- the table).
+-- First: the segment that takes `len` places from q on is acceptable where one of its ends lies in the window
+-- (section 3.10.7.4, the table).
 abbrev pub is_acceptable : (r window q len : ℕ) → Bool
 is_acceptable r window q len =
     if len == 0 then (if window == 0 then q == r else is_within r window q)
@@ -46,8 +50,8 @@ is_acceptable r window q len =
 abbrev pub refused : Seg → Verdict
 refused seg = if is_rst seg then Dropped else Answered
 
--- Rule 1: acceptable, but for one that comes to a window of 0 in order. Rule 2: a reset exactly at r resets, another
--- one in the window is asked for again (RFC 5961). Rule 3: a SYN is answered by an ACK. Rule 4: without ACK it is
+-- First: it is acceptable, or one that comes to a window of 0 in order. Second: a reset exactly at r resets, another
+-- one in the window is asked for again (RFC 5961). Fourth: a SYN is answered by an ACK. Fifth: without ACK it is
 -- dropped.
 abbrev pub verdict_at : (r window q : ℕ) → Seg → Verdict
 verdict_at r window q seg =
@@ -66,7 +70,7 @@ verdict_of_place (Some q) r window seg = verdict_at r window q seg
 abbrev pub verdict : Endpoint → Seg → Verdict
 verdict e seg = verdict_of_place (place_of_seq e seg) (next_place e.rx) (wnd e) seg
 
--- ----- rule 5: the place that is acknowledged (section 3.10.7.4, fifth)
+-- ----- fifth: the place that is acknowledged
 pub data AckVerdict : Type 0 where
   Stray : AckVerdict  -- a reset is the reply, and nothing changes
   TooFar : AckVerdict  -- an ACK is the reply, and nothing changes
@@ -115,13 +119,13 @@ with_window tx a q window =
       tries = if window == 0 then 0 else tx.tries;
     }
 
--- Rule 5 on what is sent: duplicate, advance, window, in this order.
+-- Fifth, on what is sent: duplicate, advance, window, in this order.
 abbrev pub sending_after : Sending → (a q len window : ℕ) → Sending
 sending_after tx a q len window =
     let moved : Sending = after_advance (after_duplicate tx a len window) a in
     if moves_window tx a q then with_window moved a q window else moved
 
--- Rule 5 on the counters: the place of the SYN is not counted.
+-- Fifth, on the counters: the place of the SYN is not counted.
 abbrev pub rate_after : Rate → Sending → (a len window : ℕ) → Rate
 rate_after r tx a len window =
     if tx.una == 0 then uncounted r
@@ -140,7 +144,7 @@ abbrev pub begins_wait : Phase → Sending → Bool
 begins_wait phases.Closing tx = is_fin_acked tx
 begins_wait _ tx = false
 
--- Rule 5 whole.
+-- The fifth check whole.
 abbrev pub after_ack : Endpoint → (tick a q len window : ℕ) → Endpoint
 after_ack e tick a q len window =
     let tx : Sending = sending_after e.tx a q len window in
@@ -151,8 +155,8 @@ after_ack e tick a q len window =
       entered = if begins_wait (phase e) tx then tick else e.entered;
     }
 
--- ----- rule 7: the FIN (section 3.10.7.4, eighth)
--- It is taken where the whole payload fitted and it stands at the next place after rule 6.
+-- ----- eighth: the FIN
+-- It is taken where the whole payload fitted and it stands at the next place after the text was taken.
 abbrev pub takes_fin : (before after : Receiving) → (window q len : ℕ) → (fin : Bool) → Bool
 takes_fin before after window q len fin =
     fin && not before.ended && nat_le (q + len) (next_place before + window) && q + len == 1 + length after.got
@@ -164,7 +168,7 @@ abbrev pub is_fin_wait_2 : Phase → Bool
 is_fin_wait_2 phases.FinWait2 = true
 is_fin_wait_2 _ = false
 
--- Rules 6 and 7. The FIN turns FIN-WAIT-2 into TIME-WAIT.
+-- Seventh and eighth. The FIN turns FIN-WAIT-2 into TIME-WAIT.
 abbrev pub after_data : Endpoint → (tick window q : ℕ) → Seg → Endpoint
 after_data e tick window q seg =
     let rx : Receiving = with_data e.rx window q seg.bytes in
@@ -172,26 +176,27 @@ after_data e tick window q seg =
     then record e { rx = with_fin rx e.tx.shut; entered = if is_fin_wait_2 (phase e) then tick else e.entered }
     else record e { rx = rx }
 
--- ----- all rules
+-- ----- all checks
 -- the segment has payload or FIN, and so gets an answer
 abbrev pub is_heard : Seg → Bool
 is_heard seg = nat_lt 0 (length seg.bytes) || is_fin seg
 
--- rules 5 to 7
+-- fifth, seventh and eighth
 abbrev pub taken : Endpoint → (tick q : ℕ) → Seg → AckVerdict → Outcome
 taken e tick q seg Stray = unchanged e (resets seg.head.ack)
 taken e tick q seg TooFar = unchanged e (acks e)
 taken e tick q seg Good =
-    let after : Endpoint = after_data (after_ack e tick (place_of_ack e seg) q (seg_len seg) seg.head.window) tick
-    (wnd e) q seg in
+    let acked : Endpoint = after_ack e tick (place_of_ack e seg) q (seg_len seg) (offered_window e.scaling seg) in
+    let after : Endpoint = after_data acked tick (wnd e) q seg in
     record { state = after; reply = if is_heard seg then acks after else replies.Nothing }
 
--- Rule 5 alone, of a segment that a window of 0 has no room for. Its own length counts, so that it is no duplicate.
+-- The fifth alone, of a segment that a window of 0 has no room for. Its own length counts, so that it is no duplicate.
 abbrev pub bare_ack : Endpoint → (tick : ℕ) → Seg → AckVerdict → Outcome
 bare_ack e tick seg Stray = unchanged e (resets seg.head.ack)
 bare_ack e tick seg TooFar = unchanged e (acks e)
 bare_ack e tick seg Good =
-    let after : Endpoint = after_ack e tick (place_of_ack e seg) (next_place e.rx) (seg_len seg) seg.head.window in
+    let after : Endpoint = after_ack e tick (place_of_ack e seg) (next_place e.rx) (seg_len seg)
+    (offered_window e.scaling seg) in
     record { state = after; reply = acks after }
 
 abbrev pub by_verdict : Endpoint → (tick : ℕ) → Seg → Verdict → Outcome
@@ -207,15 +212,16 @@ unfoldable pub rx_later : Endpoint → (tick : ℕ) → Seg → Outcome
 rx_later e tick seg = by_verdict e tick seg (verdict e seg)
 
 -- ----- SYN-SENT (section 3.10.7.3)
--- The peer's SYN, which acknowledges this side's; its payload and FIN are ignored.
+-- The peer's SYN, which acknowledges this side's; its payload and FIN are ignored. Its own window is never scaled.
 abbrev pub connected : Endpoint → Seg → Endpoint
 connected e seg =
     record e {
       peer = Some seg.head.seq.0;
+      scaling = agreed_scaling e.params.scale seg.head.scale;
       tx = record (e.tx) {
         una = 1;
         nxt = max e.tx.nxt 1;
-        window = seg.head.window;
+        window = offered_window e.scaling seg;
         wl1 = 0;
         wl2 = 1;
         age = 0;

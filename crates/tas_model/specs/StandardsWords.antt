@@ -5,7 +5,7 @@ use Rattle.tas_model.specs.declared.entry.Seg.{Seg}
 use Rattle.tas_model.specs.declared.entry.Reply.{Reply}
 use Rattle.tas_model.specs.declared.entry.Reply.TheVariants as replies
 use Rattle.tas_model.specs.Endpoint.{Endpoint, Sending, phase}
-use Rattle.tas_model.specs.Segments.{is_rst, seg_len}
+use Rattle.tas_model.specs.Segments.{is_rst, seg_len, offered_window}
 use Rattle.tas_model.specs.Receive.{place_of_ack, verdict, ack_verdict, Taken, Good}
 use Rattle.tas_model.specs.OneStream.{IsSynchronized}
 
@@ -15,7 +15,7 @@ pub record RepeatsAcknowledgement (e : Endpoint) (seg : Seg) : Type 0 where
   pub outstanding : e.tx.una < e.tx.max
   pub empty : seg_len seg ≡ 0
   pub place : place_of_ack e seg ≡ e.tx.una
-  pub window : seg.head.window ≡ e.tx.window
+  pub window : offered_window e.scaling seg ≡ e.tx.window
 
 -- The reply is no reset.
 abbrev pub IsNoReset : Reply → Type 0

@@ -1,18 +1,20 @@
 -- What holds of every endpoint that a history leads to.
-use Rattle.std.specs.Prelude.{ℕ, ◌≡◌, ◌+◌, ◌<◌, ◌≤◌, false, length, Option, Some, None, if◌then◌else◌, ⊤}
+use Rattle.std.specs.Prelude.{ℕ, ◌≡◌, ◌+◌, ◌<◌, ◌≤◌, true, false, length, Option, Some, None, IfSome, if◌then◌else◌, ⊤}
 use Rattle.tas_model.specs.declared.entry.HostParams.{HostParams}
 use Rattle.tas_model.specs.declared.entry.Reason.{Reason}
 use Rattle.tas_model.specs.Segments.{Outcome}
-use Rattle.tas_model.specs.Endpoint.{Endpoint, Sending, Receiving, Rate, Island, unacked, next_place}
+use Rattle.tas_model.specs.Endpoint.{Endpoint, Scaling, Sending, Receiving, Rate, Island, unacked, next_place}
+use Rattle.tas_model.specs.Endpoint.{unscaled}
 
 -- ----- the parameters
 -- Each lies in its range.
 pub record InRange (p : HostParams) : Type 0 where
-  pub ring : (256 ≤ p.ring) × (p.ring ≤ 65535)
+  pub ring : (256 ≤ p.ring) × (p.ring ≤ 1048576)
   pub mss : (64 ≤ p.mss) × (p.mss ≤ 8960)
   pub rto : (1 ≤ p.rto) × (p.rto ≤ 1000)
   pub slots : (1 ≤ p.slots) × (p.slots ≤ 1024)
   pub backlog : (1 ≤ p.backlog) × (p.backlog ≤ 1024)
+  pub scale : IfSome p.scale (λ shift. shift ≤ 14)
 
 -- ----- what is sent
 -- SND.UNA =< SND.NXT =< the highest sent, which is at most the FIN's place and no FIN goes before the stream ended.
@@ -67,10 +69,21 @@ abbrev pub IsPaced : (peer : Option ℕ) → Rate → Type 0
 IsPaced None r = ⊤
 IsPaced (Some first) r = Paced r
 
+-- ----- the scaling of windows
+-- No shift is above 14 (RFC 7323, section 2.3). Windows are not scaled before the peer's SYN was taken, nor where
+-- either SYN lacked the option; where they are, the own ones have the shift of the parameters.
+pub record ValidScaling (p : HostParams) (peer : Option ℕ) (s : Scaling) : Type 0 where
+  pub ss : s.ss ≤ 14
+  pub rs : s.rs ≤ 14
+  pub early : peer ≡ None → s ≡ unscaled
+  pub alone : s.agreed ≡ false → s ≡ unscaled
+  pub own : s.agreed ≡ true → p.scale ≡ Some s.rs
+
 -- ----- all of it
 pub record Valid (e : Endpoint) : Type 0 where
   pub fits : InRange e.params
   pub unopened : IsUnopened e.peer e.tx.una
+  pub scaling : ValidScaling e.params e.peer e.scaling
   pub tx : ValidSending e.params.ring e.tx
   pub rx : ValidReceiving e.params.ring e.rx
   pub rate : ValidRate e.rate

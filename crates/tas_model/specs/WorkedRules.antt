@@ -16,7 +16,17 @@ use Rattle.tas_model.specs.WorkedHistories.{sent_frame, segment, entry}
 -- The timeout is one tick, and half the ring is less than a segment.
 abbrev pub brief_params : HostParams
 brief_params =
-    record { addr = 167772161; iss = 1000; ring = 256; mss = 200; rto = 1; slots = 16; backlog = 16; fixed = false }
+    record {
+      addr = 167772161;
+      iss = 1000;
+      ring = 256;
+      mss = 200;
+      rto = 1;
+      slots = 16;
+      backlog = 16;
+      fixed = false;
+      scale = None;
+    }
 
 -- a frame of the peer; nothing asks which
 abbrev pub peers : FrameId

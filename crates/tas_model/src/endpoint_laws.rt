@@ -3,7 +3,7 @@ ghost use Rattle.tas_model.specs.declared.entry.Call.TheVariants as calls;
 ghost use Rattle.tas_model.specs.declared.entry.Reply.TheVariants as replies;
 ghost use Rattle.tas_model.specs.declared.entry.Seg.{Seg};
 ghost use Rattle.tas_model.specs.Endpoint.{Endpoint, first_cwnd};
-ghost use Rattle.tas_model.specs.Segments.{is_rst};
+ghost use Rattle.tas_model.specs.Segments.{is_rst, offered_window};
 ghost use Rattle.tas_model.specs.Receive.{rx, place_of_ack};
 ghost use Rattle.tas_model.specs.LegalHistory.{step, replay, Legal};
 ghost use Rattle.tas_model.specs.StandardsWords.{IsCurrent, IsNoReset, RepeatsAcknowledgement, WindowOf};
@@ -45,10 +45,10 @@ pub fn only_the_third_duplicate_goes_back()
 /// (RFC 9293, section 3.10.7.4, fifth).
 pub fn window_is_the_newest()
     ensures newer { (e : Endpoint) (tick q : ℕ) (seg : Seg) → IsCurrent e seg q → e.tx.wl1 < q
-        → WindowOf q (place_of_ack e seg) seg.head.window (rx e tick seg).state.tx }
+        → WindowOf q (place_of_ack e seg) (offered_window e.scaling seg) (rx e tick seg).state.tx }
     ensures as_new { (e : Endpoint) (tick q : ℕ) (seg : Seg) → IsCurrent e seg q → q ≡ e.tx.wl1
         → e.tx.wl2 ≤ place_of_ack e seg
-        → WindowOf q (place_of_ack e seg) seg.head.window (rx e tick seg).state.tx }
+        → WindowOf q (place_of_ack e seg) (offered_window e.scaling seg) (rx e tick seg).state.tx }
     ensures older { (e : Endpoint) (tick q : ℕ) (seg : Seg) → IsCurrent e seg q → q < e.tx.wl1
         → WindowOf e.tx.wl1 e.tx.wl2 e.tx.window (rx e tick seg).state.tx }
     ensures acknowledges_less { (e : Endpoint) (tick q : ℕ) (seg : Seg) → IsCurrent e seg q → q ≡ e.tx.wl1

@@ -36,7 +36,8 @@ pub struct FrameId {
 }
 
 /// The fields of a TCP header that an endpoint makes or reads (RFC 9293, section 3.1), ports apart. `window` is in
-/// bytes. `mss` is the option of that name (section 3.7.1), in bytes.
+/// bytes, or in units of a power of two where both sides agreed to scale windows. `mss` is the option of that name
+/// (section 3.7.1), in bytes, and `scale` the shift of the option Window Scale (RFC 7323, section 2.2).
 #[derive(Clone, Copy, PartialEq, Eq, Debug)]
 pub struct Head {
     pub flags: u8,
@@ -44,6 +45,7 @@ pub struct Head {
     pub ack: Seq,
     pub window: u16,
     pub mss: Option<u16>,
+    pub scale: Option<u8>,
 }
 
 /// A segment: its header and its payload.
@@ -170,10 +172,11 @@ pub struct Entry {
 }
 
 /// What a host gives its endpoints. `addr` is its address, `iss` the first sequence number of its first flow. `ring` is
-/// the room for bytes of each direction of a flow, from 256 to 65,535. `mss` is the largest payload that it wants to
+/// the room for bytes of each direction of a flow, from 256 to 1,048,576. `mss` is the largest payload that it wants to
 /// receive, from 64 to 8,960 bytes. `rto` is the retransmission timeout, from 1 to 1,000 ticks. `slots` and `backlog`,
 /// from 1 to 1,024, bound its flows and those that wait for Accept. `fixed` is true in replays alone: the congestion
-/// window then begins at its largest value.
+/// window then begins at its largest value. `scale` is the shift of the windows that it advertises, from 0 to 14, where
+/// it offers to scale them (RFC 7323, section 2).
 #[derive(Clone, Copy, PartialEq, Eq, Debug)]
 pub struct HostParams {
     pub addr: u32,
@@ -184,4 +187,5 @@ pub struct HostParams {
     pub slots: u32,
     pub backlog: u32,
     pub fixed: bool,
+    pub scale: Option<u8>,
 }

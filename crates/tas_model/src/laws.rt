@@ -44,10 +44,11 @@ pub fn endpoints_are_valid()
     ensures { (params : HostParams) (h : List Entry) → InRange params → Legal params h → Valid (replay params h) }
 {}
 
-/// No place passes 65,536 times one more than the entries: each entry adds at most a ring of bytes to either direction.
+/// No place passes 1,048,577 times one more than the entries: each entry adds at most a ring of bytes to either
+/// direction.
 pub fn places_grow_slowly()
     ensures { (params : HostParams) (h : List Entry) → InRange params → Legal params h
-        → PlacesWithin (65536 * (length h + 1)) (replay params h) }
+        → PlacesWithin (1048577 * (length h + 1)) (replay params h) }
 {}
 
 /// Where the peer sends one stream, what was received in order is its beginning, and all of it where the peer ended.

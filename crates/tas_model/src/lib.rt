@@ -6,6 +6,7 @@ mod endpoint_laws;
 mod entry;
 mod laws;
 mod recorded;
+mod scaling_laws;
 
 pub use bytes::Bytes;
 pub use endpoint_laws::{
@@ -23,3 +24,7 @@ pub use laws::{
     what_is_said_is_heard, worked_histories_are_legal,
 };
 pub use recorded::Recorded;
+pub use scaling_laws::{
+    peers_window_is_bounded, shifts_are_agreed, window_is_never_taken_back, without_scale_windows_are_as_before,
+    worked_scaling_is_legal,
+};

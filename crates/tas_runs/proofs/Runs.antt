@@ -31,6 +31,7 @@ params_fit local =
       rto = (omega arith, omega arith);
       slots = (omega arith, omega arith);
       backlog = (omega arith, omega arith);
+      scale = tt;
     }
 
 -- ----- a run of these records

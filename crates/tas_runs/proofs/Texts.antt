@@ -6,4 +6,4 @@ use Rattle.segment_fields.specs.Text.{IsText, fields_in}
 
 -- a segment that was read has the fields that the packet spells
 pub text_fields : (b : List ℕ) (s : Segment) → IsText b s → ◌≡◌ {A = Fields} (fields_of s) (fields_in b)
-text_fields b s t = cc (t.src, t.dst, t.sport, t.dport, t.seq, t.ack, t.flags, t.window, t.mss, t.payload)
+text_fields b s t = cc (t.src, t.dst, t.sport, t.dport, t.seq, t.ack, t.flags, t.window, t.mss, t.scale, t.payload)

@@ -32,6 +32,7 @@ segment_of f = record {
     ack = record { 0 = f.ack };
     window = f.window;
     mss = f.mss;
+    scale = f.scale;
   };
   bytes = f.payload;
 }

@@ -1,6 +1,6 @@
 -- Which logs are those of a replay: the run of a capture on the one host whose address is local.
 use Rattle.std.specs.Prelude.{◌≡◌, ℕ, ◌-◌, Bool, true, false, List, [], ◌∷◌, length, count_by, map, codes, Result, Ok}
-use Rattle.std.specs.Prelude.{Err}
+use Rattle.std.specs.Prelude.{Err, None}
 use Rattle.tas_num.specs.Captures.{Fault, Capture, capture_of}
 use Rattle.tas_model.specs.declared.entry.HostParams.{HostParams}
 use Rattle.host_rounds.specs.Logs.{RunLog}
@@ -32,6 +32,7 @@ replay_params local = record {
   slots = 1024;
   backlog = 16;
   fixed = true;
+  scale = None;
 }
 
 -- a replay begins without flows and with an empty log, and nothing was shown

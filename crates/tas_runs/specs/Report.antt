@@ -62,10 +62,14 @@ abbrev pub mss_text : Option ℕ → List ℕ
 mss_text None = []
 mss_text (Some mss) = codes " mss " ++ decimal mss
 
+abbrev pub scale_text : Option ℕ → List ℕ
+scale_text None = []
+scale_text (Some shift) = codes " ws " ++ decimal shift
+
 -- a segment without its payload
 abbrev pub head_text : Head → List ℕ
 head_text h = flags_text h.flags ++ codes " seq " ++ decimal h.seq.0 ++ codes " ack " ++ decimal h.ack.0
-    ++ codes " win " ++ decimal h.window ++ mss_text h.mss
+    ++ codes " win " ++ decimal h.window ++ mss_text h.mss ++ scale_text h.scale
 
 -- a segment
 abbrev pub seg_text : Seg → List ℕ

@@ -29,6 +29,7 @@ sent_fields tuple seg =
       flags = seg.head.flags;
       window = seg.head.window;
       mss = seg.head.mss;
+      scale = seg.head.scale;
       payload = seg.bytes;
     }
 

@@ -263,7 +263,7 @@ module _ (s : Scenario) (end : End) (fits : AreInRange s.hosts) (low : s.limit �
   hears : (h : Flow) → IsKnown s.limit h × ((o : Other h) → Took h o.0 h) → HearsOtherEnd hosts h
   hears h both g one =
       let other : IsKnown s.limit g = other_known h (g, one) in
-      let most : length (accepted g.entries) ≤ 65536 * (ticks_in g.entries + 2) =
+      let most : length (accepted g.entries) ≤ 65536 * (ticks_in g.entries + 17) =
       time_bounds g.params g.entries other.fits other.legal in
       let short : length (accepted g.entries) + 2 < 2 ^ 31 = omega (arith, most, other.ticks, low) in
       taken_is h.params (replay g.params g.entries).iss (accepted g.entries) h.entries both.0.legal short

@@ -3,7 +3,7 @@ use Rattle.std.proofs.Common.{◌≡◌, [], ◌∷◌, refl}
 use Rattle.std.specs.Fmt.{digits}
 use Rattle.tas_num.specs.Places.{nearest}
 use Rattle.segment_fields.specs.Canon.{ip_header, tcp_fixed}
-use Rattle.segment_fields.specs.Text.{refusal, mss_of}
+use Rattle.segment_fields.specs.Text.{refusal, mss_of, scale_of}
 use Rattle.tas_model.specs.Receive.{rx, rx_later, rx_syn_sent}
 use Rattle.tas_model.specs.NextSegment.{going}
 use Rattle.tas_model.specs.Timers.{ticks, control}
@@ -17,11 +17,11 @@ use Rattle.worked_scenarios.specs.WorkedLinks.{own_host}
 use Rattle.two_ends.specs.WorkedEnds.{other_end_counts}
 
 pub hello_has : other_end_counts hello ≡ 1 ∷ 1 ∷ []
-unfolding reads reading digits nearest ip_header tcp_fixed refusal mss_of rx rx_later rx_syn_sent going
+unfolding reads reading digits nearest ip_header tcp_fixed refusal mss_of scale_of rx rx_later rx_syn_sent going
     ticks control step replay serial_tick serial_world serial_from
 hello_has = refl
 
 pub own_host_has : other_end_counts own_host ≡ 1 ∷ 1 ∷ []
-unfolding reads reading digits nearest ip_header tcp_fixed refusal mss_of rx rx_later rx_syn_sent going
+unfolding reads reading digits nearest ip_header tcp_fixed refusal mss_of scale_of rx rx_later rx_syn_sent going
     ticks control step replay serial_tick serial_world serial_from
 own_host_has = refl

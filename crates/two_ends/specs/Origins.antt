@@ -1,5 +1,7 @@
 -- Where the segments that a flow took came from.
 use Rattle.std.specs.Prelude.{◌≡◌, true, false, List, [], ◌∷◌, ◌++◌, Some, None, Contains, if◌then◌else◌, ⊤}
+use Rattle.std.specs.Option.{option_map}
+use Rattle.segment_fields.specs.Options.{read_shift}
 use Rattle.tas_model.specs.declared.entry.FourTuple.{FourTuple}
 use Rattle.tas_model.specs.declared.entry.Call.{Call}
 use Rattle.tas_model.specs.declared.entry.Call.TheVariants as calls
@@ -15,9 +17,14 @@ use Rattle.host_rounds.specs.Logs.{Flow, HostRun}
 use Rattle.scenario_runs.specs.Worlds.{answer_on}
 use Rattle.two_ends.specs.Ends.{reversed, flows_in}
 
--- A segment as it is read: an MSS counts in a SYN alone.
+-- A segment as it is read: an MSS and a shift count in a SYN alone, and a shift above 14 is read as 14.
 abbrev pub as_read : Seg → Seg
-as_read seg = record seg { head = record (seg.head) { mss = if is_syn seg then seg.head.mss else None } }
+as_read seg = record seg {
+  head = record (seg.head) {
+    mss = if is_syn seg then seg.head.mss else None;
+    scale = option_map read_shift (if is_syn seg then seg.head.scale else None);
+  };
+}
 
 -- A reset without payload and FIN.
 abbrev pub IsReset : Seg → Type 0

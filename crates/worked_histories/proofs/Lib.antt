@@ -2,3 +2,4 @@ pub mod WorkedProgress
 pub mod WorkedReceiving
 pub mod WorkedEndings
 pub mod WorkedReading
+pub mod WorkedShifts

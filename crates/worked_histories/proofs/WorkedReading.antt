@@ -4,7 +4,7 @@ use Rattle.std.proofs.Common.{refl}
 use Rattle.std.specs.Fmt.{digits}
 use Rattle.tas_num.specs.Places.{nearest}
 use Rattle.tas_num.specs.Captures.{form_of, first_record, capture_of}
-use Rattle.segment_fields.specs.Text.{refusal, mss_of}
+use Rattle.segment_fields.specs.Text.{refusal, mss_of, scale_of}
 use Rattle.tas_model.specs.declared.entry.Caller.TheVariants.{Slow}
 use Rattle.tas_model.specs.Receive.{rx, rx_later, rx_syn_sent}
 use Rattle.tas_model.specs.NextSegment.{going}
@@ -32,6 +32,6 @@ pub letters_are : map flags_text all_flags ≡ all_letters
 letters_are = refl
 
 pub broken_are : replayed host_address broken_capture false ≡ broken_report
-unfolding digits nearest refusal mss_of rx rx_later rx_syn_sent going ticks control step replay form_of first_record
-    capture_of items_of batches_of first_number serial_tick serial_ticks serial_replay report
+unfolding digits nearest refusal mss_of scale_of rx rx_later rx_syn_sent going ticks control step replay form_of
+    first_record capture_of items_of batches_of first_number serial_tick serial_ticks serial_replay report
 broken_are = refl

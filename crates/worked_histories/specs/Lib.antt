@@ -3,3 +3,4 @@ pub mod WorkedProgress
 pub mod WorkedReceiving
 pub mod WorkedEndings
 pub mod WorkedReading
+pub mod WorkedShifts

@@ -3,4 +3,4 @@
 
 mod worked;
 
-pub use worked::{worked_endings, worked_progress, worked_reading, worked_receiving};
+pub use worked::{worked_endings, worked_progress, worked_reading, worked_receiving, worked_shifts};

@@ -19,6 +19,7 @@ ghost use Rattle.worked_histories.specs.WorkedEndings.{bucket_is_filled_by_ticks
 ghost use Rattle.worked_histories.specs.WorkedEndings.{wait_after_closing, fin_has_a_place};
 ghost use Rattle.worked_histories.specs.WorkedEndings.{shut_twice, close_in_syn_sent};
 ghost use Rattle.worked_histories.specs.WorkedEndings.{close_in_syn_received};
+ghost use Rattle.worked_histories.specs.WorkedShifts.{large_params, shift_of_15};
 ghost use Rattle.worked_histories.specs.WorkedReading.{takers, while_open, by_the_fast_path, while_not_open};
 ghost use Rattle.worked_histories.specs.WorkedReading.{all_flags, all_letters, broken_capture, broken_report};
 
@@ -75,6 +76,13 @@ pub fn worked_endings()
     // Who leaves in the opening gives the connection up (RFC 9293, section 3.10.4).
     ensures close_in_syn_sent { Legal patient_params close_in_syn_sent }
     ensures close_in_syn_received { Legal patient_params close_in_syn_received }
+{}
+
+/// A shift above 14 is read as 14 (RFC 7323, section 2.3).
+pub fn worked_shifts()
+    ensures shift_of_15 { Legal large_params shift_of_15 }
+    // The window of one unit has 16,384 bytes: no more goes.
+    ensures no_more_goes { step (replay large_params shift_of_15) 0 calls.Emit replies.Ok ≡ None }
 {}
 
 /// Which segments the fast path takes, the letters of flags, and what becomes of packets that break a rule of reading.

@@ -4,7 +4,7 @@ use Rattle.std.proofs.Common.{refl}
 use Rattle.std.specs.Fmt.{digits}
 use Rattle.tas_num.specs.Places.{nearest}
 use Rattle.segment_fields.specs.Canon.{ip_header, tcp_fixed}
-use Rattle.segment_fields.specs.Text.{refusal, mss_of}
+use Rattle.segment_fields.specs.Text.{refusal, mss_of, scale_of}
 use Rattle.tas_model.specs.Receive.{rx, rx_later, rx_syn_sent}
 use Rattle.tas_model.specs.NextSegment.{going}
 use Rattle.tas_model.specs.Timers.{ticks, control}
@@ -23,46 +23,46 @@ use Rattle.worked_scenarios.specs.WorkedEnds.{stalled_report, cut_short, cut_sho
 use Rattle.worked_scenarios.specs.WorkedEnds.{open_flows_report, no_such_byte, all_steps, all_steps_report}
 
 pub unanswered_is : reported unanswered ≡ nobody_report
-unfolding reads reading digits nearest ip_header tcp_fixed refusal mss_of rx rx_later rx_syn_sent going ticks control
-    step replay serial_tick report serial_world serial_from
+unfolding reads reading digits nearest ip_header tcp_fixed refusal mss_of scale_of rx rx_later rx_syn_sent going ticks
+    control step replay serial_tick report serial_world serial_from
 unanswered_is = refl
 
 pub killed_late_is : reported killed_late ≡ killed_late_report
-unfolding reads reading digits nearest ip_header tcp_fixed refusal mss_of rx rx_later rx_syn_sent going ticks control
-    step replay serial_tick report serial_world serial_from
+unfolding reads reading digits nearest ip_header tcp_fixed refusal mss_of scale_of rx rx_later rx_syn_sent going ticks
+    control step replay serial_tick report serial_world serial_from
 killed_late_is = refl
 
 pub killed_after_is : reported killed_after ≡ hello_report
-unfolding reads reading digits nearest ip_header tcp_fixed refusal mss_of rx rx_later rx_syn_sent going ticks control
-    step replay serial_tick report serial_world serial_from
+unfolding reads reading digits nearest ip_header tcp_fixed refusal mss_of scale_of rx rx_later rx_syn_sent going ticks
+    control step replay serial_tick report serial_world serial_from
 killed_after_is = refl
 
 pub slot_kept_is : reported slot_kept ≡ slot_kept_report
-unfolding reads reading digits nearest ip_header tcp_fixed refusal mss_of rx rx_later rx_syn_sent going ticks control
-    step replay serial_tick report serial_world serial_from
+unfolding reads reading digits nearest ip_header tcp_fixed refusal mss_of scale_of rx rx_later rx_syn_sent going ticks
+    control step replay serial_tick report serial_world serial_from
 slot_kept_is = refl
 
 pub stalled_is : reported stalled ≡ stalled_report
-unfolding reads reading digits nearest ip_header tcp_fixed refusal mss_of rx rx_later rx_syn_sent going ticks control
-    step replay serial_tick report serial_world serial_from
+unfolding reads reading digits nearest ip_header tcp_fixed refusal mss_of scale_of rx rx_later rx_syn_sent going ticks
+    control step replay serial_tick report serial_world serial_from
 stalled_is = refl
 
 pub cut_short_is : reported cut_short ≡ cut_short_report
-unfolding reads reading digits nearest ip_header tcp_fixed refusal mss_of rx rx_later rx_syn_sent going ticks control
-    step replay serial_tick report serial_world serial_from
+unfolding reads reading digits nearest ip_header tcp_fixed refusal mss_of scale_of rx rx_later rx_syn_sent going ticks
+    control step replay serial_tick report serial_world serial_from
 cut_short_is = refl
 
 pub open_flows_is : reported open_flows ≡ open_flows_report
-unfolding reads reading digits nearest ip_header tcp_fixed refusal mss_of rx rx_later rx_syn_sent going ticks control
-    step replay serial_tick report serial_world serial_from
+unfolding reads reading digits nearest ip_header tcp_fixed refusal mss_of scale_of rx rx_later rx_syn_sent going ticks
+    control step replay serial_tick report serial_world serial_from
 open_flows_is = refl
 
 pub no_such_byte_is : reported no_such_byte ≡ hello_report
-unfolding reads reading digits nearest ip_header tcp_fixed refusal mss_of rx rx_later rx_syn_sent going ticks control
-    step replay serial_tick report serial_world serial_from
+unfolding reads reading digits nearest ip_header tcp_fixed refusal mss_of scale_of rx rx_later rx_syn_sent going ticks
+    control step replay serial_tick report serial_world serial_from
 no_such_byte_is = refl
 
 pub all_steps_is : reported all_steps ≡ all_steps_report
-unfolding reads reading digits nearest ip_header tcp_fixed refusal mss_of rx rx_later rx_syn_sent going ticks control
-    step replay serial_tick report serial_world serial_from
+unfolding reads reading digits nearest ip_header tcp_fixed refusal mss_of scale_of rx rx_later rx_syn_sent going ticks
+    control step replay serial_tick report serial_world serial_from
 all_steps_is = refl

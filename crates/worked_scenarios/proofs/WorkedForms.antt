@@ -4,7 +4,7 @@ use Rattle.std.proofs.Common.{refl}
 use Rattle.std.specs.Fmt.{digits}
 use Rattle.tas_num.specs.Places.{nearest}
 use Rattle.segment_fields.specs.Canon.{ip_header, tcp_fixed}
-use Rattle.segment_fields.specs.Text.{refusal, mss_of}
+use Rattle.segment_fields.specs.Text.{refusal, mss_of, scale_of}
 use Rattle.tas_model.specs.Receive.{rx, rx_later, rx_syn_sent}
 use Rattle.tas_model.specs.NextSegment.{going}
 use Rattle.tas_model.specs.Timers.{ticks, control}
@@ -23,28 +23,28 @@ use Rattle.worked_scenarios.specs.WorkedForms.{killed_at_once, strange_byte, bar
 use Rattle.worked_scenarios.specs.WorkedForms.{wrong_name, unknown_name, many_options, unknown_option, half_option}
 
 pub spaced_text_is : reported spaced_text ≡ spaced_text_report
-unfolding reads reading digits nearest ip_header tcp_fixed refusal mss_of rx rx_later rx_syn_sent going ticks control
-    step replay serial_tick report serial_world serial_from
+unfolding reads reading digits nearest ip_header tcp_fixed refusal mss_of scale_of rx rx_later rx_syn_sent going ticks
+    control step replay serial_tick report serial_world serial_from
 spaced_text_is = refl
 
 pub spaced_lines_is : reported spaced_lines ≡ idle_report
-unfolding reads reading digits nearest ip_header tcp_fixed refusal mss_of rx rx_later rx_syn_sent going ticks control
-    step replay serial_tick report serial_world serial_from
+unfolding reads reading digits nearest ip_header tcp_fixed refusal mss_of scale_of rx rx_later rx_syn_sent going ticks
+    control step replay serial_tick report serial_world serial_from
 spaced_lines_is = refl
 
 pub between_steps_is : reported between_steps ≡ hello_report
-unfolding reads reading digits nearest ip_header tcp_fixed refusal mss_of rx rx_later rx_syn_sent going ticks control
-    step replay serial_tick report serial_world serial_from
+unfolding reads reading digits nearest ip_header tcp_fixed refusal mss_of scale_of rx rx_later rx_syn_sent going ticks
+    control step replay serial_tick report serial_world serial_from
 between_steps_is = refl
 
 pub blank_text_is : reported blank_text ≡ blank_text_report
-unfolding reads reading digits nearest ip_header tcp_fixed refusal mss_of rx rx_later rx_syn_sent going ticks control
-    step replay serial_tick report serial_world serial_from
+unfolding reads reading digits nearest ip_header tcp_fixed refusal mss_of scale_of rx rx_later rx_syn_sent going ticks
+    control step replay serial_tick report serial_world serial_from
 blank_text_is = refl
 
 pub killed_at_once_is : reported killed_at_once ≡ idle_report
-unfolding reads reading digits nearest ip_header tcp_fixed refusal mss_of rx rx_later rx_syn_sent going ticks control
-    step replay serial_tick report serial_world serial_from
+unfolding reads reading digits nearest ip_header tcp_fixed refusal mss_of scale_of rx rx_later rx_syn_sent going ticks
+    control step replay serial_tick report serial_world serial_from
 killed_at_once_is = refl
 
 pub strange_byte_is : reads strange_byte ≡ Err (Refused 2 2)

@@ -4,7 +4,7 @@ use Rattle.std.proofs.Common.{refl}
 use Rattle.std.specs.Fmt.{digits}
 use Rattle.tas_num.specs.Places.{nearest}
 use Rattle.segment_fields.specs.Canon.{ip_header, tcp_fixed}
-use Rattle.segment_fields.specs.Text.{refusal, mss_of}
+use Rattle.segment_fields.specs.Text.{refusal, mss_of, scale_of}
 use Rattle.tas_model.specs.Receive.{rx, rx_later, rx_syn_sent}
 use Rattle.tas_model.specs.NextSegment.{going}
 use Rattle.tas_model.specs.Timers.{ticks, control}
@@ -19,16 +19,16 @@ use Rattle.worked_scenarios.specs.WorkedLinks.{own_host, own_host_report, silent
 use Rattle.worked_scenarios.specs.WorkedLinks.{one_waits_report}
 
 pub own_host_is : reported own_host ≡ own_host_report
-unfolding reads reading digits nearest ip_header tcp_fixed refusal mss_of rx rx_later rx_syn_sent going ticks control
-    step replay serial_tick report serial_world serial_from
+unfolding reads reading digits nearest ip_header tcp_fixed refusal mss_of scale_of rx rx_later rx_syn_sent going ticks
+    control step replay serial_tick report serial_world serial_from
 own_host_is = refl
 
 pub silent_is : reported silent ≡ silent_report
-unfolding reads reading digits nearest ip_header tcp_fixed refusal mss_of rx rx_later rx_syn_sent going ticks control
-    step replay serial_tick report serial_world serial_from
+unfolding reads reading digits nearest ip_header tcp_fixed refusal mss_of scale_of rx rx_later rx_syn_sent going ticks
+    control step replay serial_tick report serial_world serial_from
 silent_is = refl
 
 pub one_waits_is : reported one_waits ≡ one_waits_report
-unfolding reads reading digits nearest ip_header tcp_fixed refusal mss_of rx rx_later rx_syn_sent going ticks control
-    step replay serial_tick report serial_world serial_from
+unfolding reads reading digits nearest ip_header tcp_fixed refusal mss_of scale_of rx rx_later rx_syn_sent going ticks
+    control step replay serial_tick report serial_world serial_from
 one_waits_is = refl

@@ -3,3 +3,4 @@ pub mod WorkedEnds
 pub mod WorkedLinks
 pub mod WorkedHoles
 pub mod WorkedForms
+pub mod WorkedScaling

@@ -259,7 +259,7 @@ unknown_name = lines (codes "host a 10.0.0.1" ∷ codes "app a x" ∷ codes "sen
 
 -- More pairs of words than there are options.
 abbrev pub many_options : List ℕ
-many_options = lines (codes "host a 10.0.0.1 iss 1 iss 1 iss 1 iss 1 iss 1 iss 1 iss 1" ∷ [])
+many_options = lines (codes "host a 10.0.0.1 iss 1 iss 1 iss 1 iss 1 iss 1 iss 1 iss 1 iss 1" ∷ [])
 
 -- Another word in the place of an option's name, in the second line.
 abbrev pub unknown_option : List ℕ

@@ -3,4 +3,4 @@
 
 mod worked;
 
-pub use worked::{worked_ends, worked_forms, worked_links, worked_talks};
+pub use worked::{worked_ends, worked_forms, worked_links, worked_scaling, worked_talks};

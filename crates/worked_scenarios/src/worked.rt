@@ -15,6 +15,8 @@ ghost use Rattle.worked_scenarios.specs.WorkedForms.{idle_report, between_steps}
 ghost use Rattle.worked_scenarios.specs.WorkedForms.{blank_text, blank_text_report, killed_at_once};
 ghost use Rattle.worked_scenarios.specs.WorkedForms.{strange_byte, bare_return, wrong_name};
 ghost use Rattle.worked_scenarios.specs.WorkedForms.{unknown_name, many_options, unknown_option, half_option};
+ghost use Rattle.worked_scenarios.specs.WorkedScaling.{both_scale, both_scale_report, one_scales, one_scales_report};
+ghost use Rattle.worked_scenarios.specs.WorkedScaling.{coarse_for_ring, large_for_slots};
 ghost use Rattle.scenario_text.specs.declared.reading.ScenarioFault.TheVariants.{Refused};
 ghost use Rattle.scenario_text.specs.Reads.{reads};
 
@@ -65,4 +67,13 @@ pub fn worked_forms()
     ensures many_options { reads many_options ≡ Err (Refused 1 4) }
     ensures unknown_option { reads unknown_option ≡ Err (Refused 2 6) }
     ensures half_option { reads half_option ≡ Err (Refused 2 4) }
+{}
+
+/// The same of hosts that scale their windows, and the first refused line of two texts whose rings are out of their
+/// limits, with its kind.
+pub fn worked_scaling()
+    ensures both_scale { reported both_scale ≡ both_scale_report }
+    ensures one_scales { reported one_scales ≡ one_scales_report }
+    ensures coarse_for_ring { reads coarse_for_ring ≡ Err (Refused 1 8) }
+    ensures large_for_slots { reads large_for_slots ≡ Err (Refused 1 8) }
 {}

@@ -12,5 +12,5 @@ returns g c =
 pub returns-then-frame-ticks : goal.returns-then-frame-ticks
 returns-then-frame-ticks g c =
     let f = c.args.frame.now in
-    let out : (c.args.ticks ≤ f.tick) ⊎ (65491 < length f.seg.bytes.now) = search rules in
+    let out : (c.args.ticks ≤ f.tick) ⊎ (65487 < length f.seg.bytes.now) = search rules in
     wrote_as _ _ _ _ _ (no_record c.args.ticks f out) (wrote_nothing _ _)

@@ -10,7 +10,7 @@ no_frame = record {
   tick = 0;
   tuple = record { laddr = 0; lport = 0; raddr = 0; rport = 0 };
   seg = record {
-    head = record { flags = 0; seq = record { 0 = 0 }; ack = record { 0 = 0 }; window = 0; mss = None };
+    head = record { flags = 0; seq = record { 0 = 0 }; ack = record { 0 = 0 }; window = 0; mss = None; scale = None };
     bytes = record { ref_ptr = (0, 0); now = [] };
   };
 }

@@ -2,7 +2,7 @@ use Rattle.std.proofs.Common.{◌≡◌, ℕ, ◌+◌, ◌%◌, ◌^◌, Option,
 use Rattle.std.proofs.Common.{unwrap_or}
 use Rattle.tas_model.specs.declared.entry.Phase.TheVariants as phases
 use Rattle.tas_num.specs.declared.seq.Seq.{Seq}
-use Rattle.tas_model.specs.Endpoint.{next_place, first_rate}
+use Rattle.tas_model.specs.Endpoint.{Scaling, next_place, first_rate, agreed_scaling}
 use Rattle.tas_model.specs.Valid.{IsUnopened}
 use Rattle.tas_model.proofs.ValidCalls.{unopened_peer}
 use Rattle.flow_state.specs.Stands.{Stands, IsPeer, acked_bytes}
@@ -17,8 +17,12 @@ returns-clause-stands c e v s is =
     let none : e.peer ≡ Option.None =
     unopened_peer e.reason e.peer e.tx.una e.tx.shut _ e.rx.ended e.rx.ended_first is in
     let una : e.tx.una ≡ 0 = subst (λ (o : Option ℕ). IsUnopened o e.tx.una) none v.unopened in
-    let b : Stands c.begin_rate.new.self (record e { rate = first_rate e.params c.args.seg.now.mss }) =
-    c.begin_rate.ensures.stands e s in
+    let agreed : Scaling = agreed_scaling e.params.scale c.args.seg.now.scale in
+    let b : Stands c.begin_rate.new.self (record e {
+      scaling = agreed;
+      rate = first_rate e.params c.args.seg.now.mss;
+    }) =
+    c.begin_rate.ensures.stands (record e { scaling = agreed }) (c.agree_scaling.ensures.stands e s) in
     let kept : acked_bytes e.tx ≡ acked_bytes (record (e.tx) { una = 1 }) = omega (arith, una) in
     let zero : unwrap_or e.peer 0 ≡ 0 = ap (λ (o : Option ℕ). unwrap_or o 0) none in
     let before : c.begin_rate.new.self.rcv.0 ≡ (unwrap_or e.peer 0 + next_place e.rx) % 2 ^ 32 =
@@ -48,7 +52,8 @@ returns-clause-stands c e v s is =
       rx = b.rx;
       rings = b.rings;
       island = b.island;
-      window = c.from-parts.ensures;
+      window = c.offered_window-window.ensures e v s;
+      scaling = b.scaling;
       wl1 = refl;
       wl2 = refl;
       dup = b.dup;
