@@ -1,4 +1,3 @@
-pub mod Numbering
 pub mod Sends
 pub mod Entries
 pub mod NoBytes

@@ -1,13 +1,12 @@
 -- What is known of a flow's history once it was judged.
 use Rattle.std.specs.Prelude.{◌≡◌, ℕ, List, [], ◌∷◌, length, Option, Some, None}
-use Rattle.tas_model.specs.declared.entry.Caller.{Caller}
 use Rattle.tas_model.specs.declared.entry.Entry.{Entry}
 use Rattle.tas_model.specs.declared.entry.HostParams.{HostParams}
-use Rattle.tas_model.specs.LegalHistory.{Legal, replay, next_number, last_tick, Opens}
+use Rattle.tas_model.specs.LegalHistory.{Legal, replay, last_tick, Opens}
 use Rattle.tas_model.specs.Outputs.{bytes_read}
 use Rattle.flow_state.specs.Flow.{Flow}
-use Rattle.flow_judge.specs.declared.numbers.CallerNumber.{CallerNumber}
-use Rattle.flow_judge.specs.Numbers.{next_in}
+use Rattle.flow_state.specs.declared.counts.CallerCount.{CallerCount}
+use Rattle.flow_state.specs.Counts.{AreCounts}
 
 -- What a judge keeps: the host's parameters, a history that leads to the same endpoint, the tick of the last entry, how
 -- many entries each caller made, and what was read.
@@ -15,7 +14,7 @@ pub record Judge : Type 0 where
   pub params : HostParams
   pub kept : List Entry
   pub last : ℕ
-  pub numbers : List CallerNumber
+  pub counts : List CallerCount
   pub read : List ℕ
 
 -- This history is legal, and the judge knows where it led.
@@ -25,7 +24,7 @@ pub record HasJudged (j : Judge) (h : List Entry) : Type 0 where
   pub kept : last_tick 0 j.kept ≡ j.last
   pub count : length j.kept ≡ length h
   pub last : j.last ≡ last_tick 0 h
-  pub numbers : (caller : Caller) → next_in caller j.numbers ≡ next_number caller h
+  pub counts : AreCounts j.counts h
   pub read : j.read ≡ bytes_read h
 
 -- The record begins with an entry that opens as this one does.

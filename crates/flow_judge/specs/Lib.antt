@@ -1,4 +1,3 @@
-pub mod Numbers
 pub mod Trials
 pub mod Making
 pub mod Judging

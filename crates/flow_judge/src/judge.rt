@@ -8,10 +8,9 @@ ghost use Rattle.tas_model.specs.declared.entry.Reply.TheVariants as replies;
 ghost use Rattle.report_lines.specs.Views.{seen_entry, seen_reply};
 ghost use Rattle.flow_judge.specs.Judging.{HasJudged, IsOpened};
 
-use crate::numbers::{CallerNumber, count, next_of};
 use crate::replies::{decoded, is_text, keep};
 use crate::trial::{confirms, segment_with};
-use flow_state::FlowRecord;
+use flow_state::{CallerCounts, FlowRecord};
 use report_lines::{CallLine, EntryLine, HexText, ReplyLine};
 use std::alloc::{AllocError, Global};
 use std::marker::Model;
@@ -24,7 +23,7 @@ pub struct FlowJudge {
     /// The tick of the last entry.
     last: u32,
     /// How many entries each caller made.
-    numbers: Vec<CallerNumber>,
+    counts: CallerCounts,
     /// What was read.
     read: Vec<u8>,
 }
@@ -38,7 +37,7 @@ impl Model for FlowJudge {
       params = j.record.params;
       kept = j.record.entries;
       last = j.last;
-      numbers = j.numbers.items;
+      counts = j.counts.counts;
       read = j.read.items;
     } };
 }
@@ -119,15 +118,11 @@ impl FlowJudge {
         let Some(record) = opened(alloc, id, tuple, params, entry)? else {
             return Ok(None);
         };
-        let mut numbers = Vec::new(alloc);
-        numbers.push(CallerNumber {
-            caller: entry.caller,
-            next: 1,
-        })?;
+        let counts = CallerCounts::of_first(alloc, entry.caller)?;
         Ok(Some(FlowJudge {
             record,
             last: entry.tick,
-            numbers,
+            counts,
             read: Vec::new(alloc),
         }))
     }
@@ -145,7 +140,7 @@ impl FlowJudge {
         if entry.tick < self.last {
             return Ok(false);
         }
-        if entry.number != next_of(&self.numbers, entry.caller) {
+        if entry.number != self.counts.number_of(entry.caller) {
             return Ok(false);
         }
         if !confirms(alloc, &mut self.record, entry)? {
@@ -156,7 +151,8 @@ impl FlowJudge {
             return Ok(false);
         }
         self.last = entry.tick;
-        count(&mut self.numbers, entry.caller)?;
+        self.counts.reserve(1)?;
+        self.counts.count_one(entry.caller);
         keep(&mut self.read, &entry.reply)?;
         Ok(true)
     }

@@ -3,7 +3,6 @@
 
 mod judge;
 mod making;
-mod numbers;
 mod replies;
 mod trial;
 

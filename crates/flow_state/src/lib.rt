@@ -28,6 +28,7 @@ mod view;
 
 pub use app::AppCalls;
 pub use call::{Answer, CallIn};
+pub use counts::CallerCounts;
 pub use engine::{Clock, Engine, cost, need};
 pub use history::FlowHistory;
 pub use paced::PacedRun;

@@ -1,21 +1,21 @@
 use Rattle.std.proofs.Common.{sym, ap, ◌∙◌}
 use Rattle.report_lines.specs.Views.{seen_entry}
-use Rattle.flow_judge.specs.Numbers.{next_in}
+use Rattle.flow_state.specs.Counts.{counted_for}
 use Rattle.flow_judge.specs.Judging.{Judge}
 use Rattle.flow_judge.proofs.Judged.{taken_next}
 use Rattle.flow_judge.proofs.judge.FlowJudge.take.Goals as goal
 
-pub returns-then-entry-next_of-clause-wrong : goal.returns-then-entry-next_of-clause-wrong
-returns-then-entry-next_of-clause-wrong c = λ same h judged may.
-    c.if-entry-next_of.true (may.number ∙ (sym (judged.numbers c.args.entry.now.caller)
-    ∙ (ap (λ (j : Judge). next_in c.args.entry.now.caller j.numbers) (sym c.self.view_is)
-    ∙ (sym (ap (next_in c.args.entry.now.caller) c.deref.ensures.value) ∙ sym c.next_of.ensures))))
+pub returns-then-entry-number_of-clause-wrong : goal.returns-then-entry-number_of-clause-wrong
+returns-then-entry-number_of-clause-wrong c = λ same h judged may.
+    c.if-entry-number_of.true (may.number ∙ (sym (judged.counts c.args.entry.now.caller)
+    ∙ (ap (λ (j : Judge). counted_for c.args.entry.now.caller j.counts) (sym c.self.view_is)
+    ∙ (sym (ap (counted_for c.args.entry.now.caller) c.deref.ensures.value) ∙ sym c.number_of.ensures))))
 
 pub returns-clause-right : goal.returns-clause-right
 returns-clause-right c = λ yes h judged.
     taken_next c.args.self.now c.self.inside.record c.confirms.new.flow c.self.inside.last
-    c.self.inside.numbers.items c.count.new.numbers.items c.self.inside.read.items c.keep.new.read.items
+    c.self.inside.counts.counts c.count_one.new.self.counts c.self.inside.read.items c.keep.new.read.items
     (seen_entry c.args.entry.now) h c.self.view_is (c.in_ok-confirms.ensures.right c.if-not-branch.false)
     c.in_ok-confirms.ensures.params c.if-entry-self.false
-    (c.if-entry-next_of.false ∙ (c.next_of.ensures ∙ ap (next_in c.args.entry.now.caller) c.deref.ensures.value))
-    c.in_ok-count.ensures c.in_ok-keep.ensures judged
+    (c.if-entry-number_of.false ∙ (c.number_of.ensures ∙ ap (counted_for c.args.entry.now.caller) c.deref.ensures.value))
+    c.count_one.ensures.counted c.in_ok-keep.ensures judged
