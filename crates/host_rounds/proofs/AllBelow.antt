@@ -12,8 +12,9 @@ use Rattle.tas_model.specs.declared.entry.Call.{Call}
 use Rattle.tas_model.specs.declared.entry.Call.TheVariants as calls
 use Rattle.tas_model.specs.NextSegment.{Going, going}
 use Rattle.tas_model.proofs.Tests.{on_cond}
+use Rattle.host_rounds.specs.declared.opening.Start.{Start}
 use Rattle.host_rounds.specs.Lists.{Each}
-use Rattle.host_rounds.specs.Hosts.{Live, Host, Start, Starts, next_start, endpoint, is_over, with_call, is_known}
+use Rattle.host_rounds.specs.Hosts.{Live, Host, Starts, next_start, endpoint, is_over, with_call, is_known}
 use Rattle.host_rounds.specs.Hosts.{is_indexed_as, is_listening, is_full, lowest_free, flows_of}
 use Rattle.host_rounds.specs.Upkeep.{swept, all_swept, controlled, timed_unless, timed, emits_where, emits}
 use Rattle.host_rounds.specs.Deliveries.{Packet, Damaged, Segment, received, opens, opened_by_syn, met_no_flow, arrived}

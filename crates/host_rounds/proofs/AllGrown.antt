@@ -7,9 +7,10 @@ use Rattle.tas_model.specs.declared.entry.Seg.{Seg}
 use Rattle.tas_model.specs.declared.entry.Caller.{Caller}
 use Rattle.tas_model.specs.declared.entry.Call.TheVariants as calls
 use Rattle.tas_model.specs.LegalHistory.{last_tick}
+use Rattle.host_rounds.specs.declared.opening.Start.{Start}
 use Rattle.host_rounds.specs.declared.log.LogEvent.{LogEvent}
 use Rattle.host_rounds.specs.Lists.{Each}
-use Rattle.host_rounds.specs.Hosts.{Live, Host, Start, Starts, next_start, with_call, logged, is_known, is_indexed_as}
+use Rattle.host_rounds.specs.Hosts.{Live, Host, Starts, next_start, with_call, logged, is_known, is_indexed_as}
 use Rattle.host_rounds.specs.Hosts.{is_listening, is_full, lowest_free}
 use Rattle.host_rounds.specs.Upkeep.{swept, all_swept, timed, emits}
 use Rattle.host_rounds.specs.Deliveries.{Packet, Damaged, Segment, received, opens, opened_by_syn, met_no_flow, arrived}

@@ -6,8 +6,9 @@ use Rattle.tas_model.specs.declared.entry.FrameId.{FrameId}
 use Rattle.tas_model.specs.declared.entry.Seg.{Seg}
 use Rattle.tas_model.specs.declared.entry.Caller.{Caller}
 use Rattle.tas_model.specs.declared.entry.Call.{Call}
+use Rattle.host_rounds.specs.declared.opening.Start.{Start}
 use Rattle.host_rounds.specs.Lists.{Each, change_first, change_at}
-use Rattle.host_rounds.specs.Hosts.{Live, Host, Start, Starts, next_start, is_known, is_indexed_as, is_listening}
+use Rattle.host_rounds.specs.Hosts.{Live, Host, Starts, next_start, is_known, is_indexed_as, is_listening}
 use Rattle.host_rounds.specs.Hosts.{is_full, lowest_free, with_call}
 use Rattle.host_rounds.specs.Upkeep.{swept, all_swept, timed, emits}
 use Rattle.host_rounds.specs.Deliveries.{Packet, Damaged, Segment, Arrival, received, opens, opened_by_syn, met_no_flow}

@@ -9,7 +9,8 @@ use Rattle.tas_model.specs.declared.entry.Seg.{Seg}
 use Rattle.tas_model.specs.declared.entry.Entry.{Entry}
 use Rattle.tas_model.specs.declared.entry.Caller.{Caller}
 use Rattle.tas_model.specs.declared.entry.Call.TheVariants as calls
-use Rattle.host_rounds.specs.Hosts.{Live, Host, Holder, Start, Starts, flow_params, next_start, with_call, at_flow}
+use Rattle.host_rounds.specs.declared.opening.Start.{Start}
+use Rattle.host_rounds.specs.Hosts.{Live, Host, Holder, Starts, flow_params, next_start, with_call, at_flow}
 use Rattle.host_rounds.specs.Hosts.{changed, is_known, is_indexed_as, same_tuple, is_listening, is_full, is_in_slot}
 use Rattle.host_rounds.specs.Hosts.{free_from, most_flows, lowest_free, opened_as, new_flow, opened_in}
 use Rattle.host_rounds.specs.Upkeep.{swept, all_swept, timed, emits}
@@ -76,7 +77,7 @@ same_start starts host tuple =
 opens_rightly : (starts : Starts) (p : HostParams) (host : Host) (slot : ℕ) (tuple : FourTuple) (holder : Holder)
     (x : Entry) → IsRight starts p host
     → AreLegal (opened_in host slot tuple (next_start starts host tuple).scale holder x) → lowest_free host ≡ Some slot
-    → number_in x.call ≡ Some (next_start starts host tuple).number
+    → number_in x.call ≡ Some (next_start starts host tuple).number.0
     → IsRight starts p (opened_in host slot tuple (next_start starts host tuple).scale holder x)
 opens_rightly starts p host slot tuple holder x right legal free number =
     let scale : Option ℕ = (next_start starts host tuple).scale in
@@ -100,7 +101,7 @@ opens_rightly starts p host slot tuple holder x right legal free number =
                 ∙ ap (λ (s : Start). flow_params p s.scale) (sym same);
             slot = subst (λ (q : HostParams). slot < q.slots) right.params inside;
             generation = ap (λ (n : ℕ). 1 + n) (sym (count_is (λ (o : Opening). o.id.slot == slot) host.flows));
-            number = number ∙ ap (λ (s : Start). Some s.number) (sym same);
+            number = number ∙ ap (λ (s : Start). Some s.number.0) (sym same);
           }));
     }
 

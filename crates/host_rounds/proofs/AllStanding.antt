@@ -5,7 +5,8 @@ use Rattle.tas_model.specs.declared.entry.FourTuple.{FourTuple}
 use Rattle.tas_model.specs.declared.entry.FrameId.{FrameId}
 use Rattle.tas_model.specs.declared.entry.Seg.{Seg}
 use Rattle.tas_model.specs.declared.entry.Caller.{Caller}
-use Rattle.host_rounds.specs.Hosts.{Live, Host, Start, Starts, next_start, with_call, is_known, is_indexed_as}
+use Rattle.host_rounds.specs.declared.opening.Start.{Start}
+use Rattle.host_rounds.specs.Hosts.{Live, Host, Starts, next_start, with_call, is_known, is_indexed_as}
 use Rattle.host_rounds.specs.Hosts.{is_listening, is_full, lowest_free}
 use Rattle.host_rounds.specs.Upkeep.{swept, all_swept, timed, emits}
 use Rattle.host_rounds.specs.Deliveries.{Packet, Damaged, Segment, received, opens, opened_by_syn, met_no_flow, arrived}

@@ -6,8 +6,9 @@ use Rattle.tas_model.specs.declared.entry.FrameId.{FrameId}
 use Rattle.tas_model.specs.declared.entry.Seg.{Seg}
 use Rattle.tas_model.specs.declared.entry.Caller.{Caller}
 use Rattle.tas_model.specs.declared.entry.Caller.TheVariants.{Slow, Core}
+use Rattle.host_rounds.specs.declared.opening.Start.{Start}
 use Rattle.host_rounds.specs.Lists.{Each, change_first, change_at}
-use Rattle.host_rounds.specs.Hosts.{Live, Host, Start, Starts, next_start, endpoint, is_known, is_indexed_as}
+use Rattle.host_rounds.specs.Hosts.{Live, Host, Starts, next_start, endpoint, is_known, is_indexed_as}
 use Rattle.host_rounds.specs.Upkeep.{timed}
 use Rattle.host_rounds.specs.Deliveries.{Packet, Damaged, Segment, Arrival, received, received_serially, rx_caller}
 use Rattle.host_rounds.specs.Deliveries.{is_fast, arrived, delivered_packet, delivered}

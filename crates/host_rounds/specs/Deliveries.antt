@@ -15,7 +15,8 @@ use Rattle.tas_model.specs.declared.entry.Call.TheVariants as calls
 use Rattle.tas_model.specs.Endpoint.{Endpoint, phase}
 use Rattle.tas_model.specs.Segments.{has, is_fin, is_syn, is_rst, is_ack, resets, stray_reply}
 use Rattle.host_rounds.specs.declared.log.LogEvent.TheVariants as events
-use Rattle.host_rounds.specs.Hosts.{Live, Host, Waiting, Start, Starts, next_start, endpoint, with_call, logged}
+use Rattle.host_rounds.specs.declared.opening.Start.{Start}
+use Rattle.host_rounds.specs.Hosts.{Live, Host, Waiting, Starts, next_start, endpoint, with_call, logged}
 use Rattle.host_rounds.specs.Hosts.{is_known, changed, is_listening, is_full, lowest_free, first_entry, opened_in}
 
 -- ----- frames
@@ -84,7 +85,7 @@ opened_by_syn true free start t host frame tuple seg = logged host t (events.Dro
 opened_by_syn false None start t host frame tuple seg = logged host t (events.Dropped frame false)
 opened_by_syn false (Some slot) start t host frame tuple seg =
     opened_in host slot tuple start.scale Waiting
-    (first_entry Slow t (calls.Passive frame (record { 0 = start.number }) seg))
+    (first_entry Slow t (calls.Passive frame start.number seg))
 
 abbrev pub met_no_flow : (opening listening : Bool) → (start : Start) (tick : ℕ)
     → Host → FrameId → FourTuple → Seg → Host

@@ -14,6 +14,7 @@ use Rattle.tas_model.specs.ApplicationCalls.{Opening, Running, column}
 use Rattle.tas_model.specs.LegalHistory.{replay, extended_by}
 use Rattle.host_rounds.specs.declared.log.LogLine.{LogLine}
 use Rattle.host_rounds.specs.declared.log.LogEvent.{LogEvent}
+use Rattle.host_rounds.specs.declared.opening.Start.{Start}
 use Rattle.host_rounds.specs.Logs.{Flow, HostRun}
 use Rattle.host_rounds.specs.Lists.{change_first, change_at}
 
@@ -174,17 +175,11 @@ ports_given host = count_by (λ (l : Live). nat_le first_port l.flow.tuple.lport
 abbrev pub opened_as : FourTuple → List Live → ℕ
 opened_as tuple flows = count_by (λ (l : Live). same_tuple tuple l.flow.tuple) flows
 
--- What a host gives a flow at its opening: its first sequence number, and a window scale of its own where it has one
--- (RFC 7323, section 2).
-pub record Start : Type 0 where
-  pub number : ℕ
-  pub scale : Option ℕ
-
--- The starts of a host's flows: that of a flow of which k of its four-tuple were opened before, and n of the host.
+-- What a host gives its flows: to a flow of which k of its four-tuple were opened before, and n of the host.
 abbrev pub Starts : Type 0
 Starts = FourTuple → (k n : ℕ) → Start
 
--- that of a flow of this four-tuple that is opened now
+-- what it gives to a flow of this four-tuple that is opened now
 abbrev pub next_start : Starts → Host → FourTuple → Start
 next_start starts host tuple = starts tuple (opened_as tuple host.flows) (length host.flows)
 

@@ -8,7 +8,8 @@ use Rattle.tas_model.specs.declared.entry.Call.TheVariants as calls
 use Rattle.tas_model.specs.LegalHistory.{Offers, shown, step}
 use Rattle.host_rounds.specs.declared.log.LogEvent.{LogEvent}
 use Rattle.host_rounds.specs.declared.log.LogEvent.TheVariants as events
-use Rattle.host_rounds.specs.Hosts.{Live, Host, Holder, Application, Listener, Start, Starts, next_start, endpoint}
+use Rattle.host_rounds.specs.declared.opening.Start.{Start}
+use Rattle.host_rounds.specs.Hosts.{Live, Host, Holder, Application, Listener, Starts, next_start, endpoint}
 use Rattle.host_rounds.specs.Hosts.{with_call, logged, at_flow, lowest_free, first_entry, opened_in}
 use Rattle.host_rounds.specs.Lists.{Each}
 use Rattle.host_rounds.specs.Histories.{HasHistory}
@@ -26,8 +27,7 @@ abbrev pub moved : Starts → (tick : ℕ) → Host → Move → Host
 moved starts t host (Calls n by call offer) = at_flow n (λ (l : Live). with_call l by t call offer) host
 moved starts t host (Opens slot tuple app) =
     let start : Start = next_start starts host tuple in
-    opened_in host slot tuple start.scale (Application app)
-    (first_entry (App app) t (calls.Connect (record { 0 = start.number })))
+    opened_in host slot tuple start.scale (Application app) (first_entry (App app) t (calls.Connect start.number))
 moved starts t host (Notes event) = logged host t event
 moved starts t host (Holds n holder) = at_flow n (λ (l : Live). record l { holder = holder }) host
 moved starts t host (Listens listeners) = record host { listeners = listeners }

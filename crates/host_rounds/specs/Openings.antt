@@ -7,8 +7,9 @@ use Rattle.tas_model.specs.declared.entry.FlowId.{FlowId}
 use Rattle.tas_model.specs.declared.entry.Entry.{Entry}
 use Rattle.tas_model.specs.declared.entry.Call.{Call}
 use Rattle.tas_model.specs.declared.entry.Call.TheVariants as calls
+use Rattle.host_rounds.specs.declared.opening.Start.{Start}
 use Rattle.host_rounds.specs.Logs.{Flow}
-use Rattle.host_rounds.specs.Hosts.{Start, Starts, flow_params, same_tuple}
+use Rattle.host_rounds.specs.Hosts.{Starts, flow_params, same_tuple}
 
 -- What a flow got when it was opened: its slot with a generation, its four-tuple, its parameters, and the first
 -- sequence number that its first entry shows.
@@ -54,7 +55,7 @@ pub record IsOpened (starts : Starts) (host : HostParams) (before : List Opening
   pub params : o.params ≡ flow_params host (start_after starts before o.tuple).scale
   pub slot : o.id.slot < host.slots
   pub generation : o.id.generation ≡ 1 + count_by (λ (earlier : Opening). earlier.id.slot == o.id.slot) before
-  pub number : o.number ≡ Some (start_after starts before o.tuple).number
+  pub number : o.number ≡ Some (start_after starts before o.tuple).number.0
 
 -- Each of these openings is right after those of `before` and those that stand in front of it.
 abbrev pub AreOpened : Starts → HostParams → (before openings : List Opening) → Type 0
