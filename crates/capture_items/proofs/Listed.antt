@@ -22,6 +22,10 @@ use Rattle.capture_items.specs.declared.starts.Known.{Known}
 use Rattle.capture_items.specs.declared.starts.Numbering.{Numbering}
 
 -- ----- a start is found
+-- a number alone
+abbrev pub numbered : ℕ → Start
+numbered n = record { number = record { 0 = n }; scale = None }
+
 pub start_found : (kept : List (Turn × Start)) (tuple : FourTuple) (k n : ℕ) (o : Option Start)
     → lookup (same_turn (record { tuple = tuple; place = k })) kept ≡ o → start_or n o ≡ kept_starts kept tuple k n
 start_found kept tuple k n o found = ap (start_or n) (sym found)
@@ -173,6 +177,33 @@ listed_more s r tuple t syn list more are = subst
     (λ (b : Bool). AreOf r t (if b then with_new list syn else list)) (sym (same_equal t tuple))
     (more_by s r tuple t syn list more are)
 
+-- what stays where a number is listed already
+pub record IsSame (s r : Numbering) : Type 0 where
+  pub counts : (q : FourTuple) → get equal_tuple r.counts q ≡ get equal_tuple s.counts q
+  pub known : (q : Known) → contains same_known r.known q ≡ contains same_known s.known q
+  pub syns : (q : Turn) → get same_turn r.syns q ≡ get same_turn s.syns q
+
+pub listed_again : (s r : Numbering) (tuple t : FourTuple) (syn : Start) (list : List Start) → IsSame s r
+    → contains same_known s.known (record { tuple = tuple; number = syn.number.0 }) ≡ true → AreOf s t list
+    → AreOf r t (if same_tuple t tuple then with_new list syn else list)
+listed_again s r tuple t syn list same known are =
+    subst (λ (b : Bool). AreOf r t (if b then with_new list syn else list)) (sym (same_equal t tuple))
+    (by_same (equal_tuple t tuple) refl) where
+      all : AreOf r t list
+      all = record {
+        counted = ap (λ (o : Option ℕ). unwrap_or o 0) (same.counts t) ∙ are.counted;
+        known = λ m. same.known (record { tuple = t; number = m }) ∙ are.known m;
+        syns = λ k. same.syns (record { tuple = t; place = k }) ∙ are.syns k;
+      }
+
+      by_same : (b : Bool) → equal_tuple t tuple ≡ b → AreOf r t (if b then with_new list syn else list)
+      by_same false e = all
+      by_same true e =
+          let listed : is_listed syn.number.0 list ≡ true = sym (are.known syn.number.0)
+          ∙ (ap (λ (q : FourTuple). contains same_known s.known (record { tuple = q; number = syn.number.0 }))
+          (tuple_exact t tuple e) ∙ known) in
+          rw listed all
+
 -- ----- one item more
 folded : (o : Option Start) (list : List Start) → fold with_new list (cons_option o []) ≡ with_one list o
 folded None list = refl
@@ -201,3 +232,7 @@ with_one_if false list syn = refl
 pub was_new : (b c : Bool) → b ≡ true → b ≡ not c → c ≡ false
 was_new b true is e = absurd (true≢false (sym is ∙ e))
 was_new b false is e = refl
+
+pub was_known : (b c : Bool) → b ≡ false → b ≡ not c → c ≡ true
+was_known b true is e = refl
+was_known b false is e = absurd (true≢false (sym e ∙ is))

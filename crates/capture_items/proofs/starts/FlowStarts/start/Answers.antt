@@ -1,14 +1,15 @@
-use Rattle.std.proofs.Common.{rules, ◌≡◌, ◌∙◌, ◌*◌, ◌%◌, ◌^◌, Some, None, arith}
+use Rattle.std.proofs.Common.{rules, ◌≡◌, ◌∙◌, ◌*◌, ◌%◌, ◌^◌, Some, None, ap, arith}
 use Rattle.std.specs.Map.{lookup}
 use Rattle.capture_items.specs.Starts.{same_turn}
-use Rattle.capture_items.proofs.Listed.{start_found, starts_are}
+use Rattle.capture_items.proofs.Listed.{numbered, start_found, starts_are}
 use Rattle.capture_items.proofs.starts.FlowStarts.start.Goals as goal
 
 pub returns-in-Some-clause-kept : goal.returns-in-Some-clause-kept
 returns-in-Some-clause-kept c =
     let found : lookup (same_turn (record { tuple = c.args.tuple; place = c.args.k })) c.args.self.now
     ≡ Some c.in-Some.syn.now = search rules in
-    start_found c.args.self.now c.args.tuple c.args.k c.args.n (Some c.in-Some.syn.now) found
+    c.limited.ensures.exact
+    ∙ start_found c.args.self.now c.args.tuple c.args.k c.args.n (Some c.in-Some.syn.now) found
 
 pub returns-in-Some-clause-items : goal.returns-in-Some-clause-items
 returns-in-Some-clause-items c = λ items are.
@@ -19,7 +20,7 @@ returns-in-None-clause-kept c =
     let found : lookup (same_turn (record { tuple = c.args.tuple; place = c.args.k })) c.args.self.now
     ≡ None = search rules in
     let number : c.args.n * 64000 % 2 ^ 32 ≡ 64000 * c.args.n % 2 ^ 32 = omega arith in
-    number ∙ start_found c.args.self.now c.args.tuple c.args.k c.args.n None found
+    ap numbered number ∙ start_found c.args.self.now c.args.tuple c.args.k c.args.n None found
 
 pub returns-in-None-clause-items : goal.returns-in-None-clause-items
 returns-in-None-clause-items c = λ items are.

@@ -1,6 +1,7 @@
-use Rattle.std.proofs.Common.{rules, ◌≡◌, ◌+◌, ◌<◌, ◌^◌, arith}
-use Rattle.capture_items.specs.Starts.{count_in}
-use Rattle.capture_items.proofs.Listed.{IsMore, listed_more, was_new}
+use Rattle.std.proofs.Common.{rules, ◌≡◌, ◌+◌, ◌<◌, ◌^◌, true, refl, arith}
+use Rattle.std.specs.HashSet.{contains}
+use Rattle.capture_items.specs.Starts.{same_known, count_in}
+use Rattle.capture_items.proofs.Listed.{IsMore, listed_more, listed_again, was_new, was_known}
 use Rattle.capture_items.proofs.starts.Numbering.note.Goals as goal
 
 pub overflow_add-count : goal.overflow_add-count
@@ -26,3 +27,16 @@ returns c =
     }
     in
     record { ok = λ t list are. listed_more c.args.self.now _ c.args.tuple t c.args.syn list more are }
+
+-- the number was known before
+pub returns-then-not-is_new : goal.returns-then-not-is_new
+returns-then-not-is_new c =
+    let same : c.insert.new.self.keys ≡ c.args.self.now.known.keys = search rules in
+    let known : contains same_known c.args.self.now.known (record {
+      tuple = c.args.tuple;
+      number = c.args.syn.number.0;
+    }) ≡ true = was_known _ _ c.if-not-is_new.true c.in_ok-is_new.ensures.added in
+    record {
+      ok = λ t list are. listed_again c.args.self.now _ c.args.tuple t c.args.syn list
+          (record { counts = λ q. refl; known = λ q. rw same refl; syns = λ q. refl }) known are;
+    }
