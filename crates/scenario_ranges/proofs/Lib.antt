@@ -1,4 +1,4 @@
-pub mod Numbers
+pub mod Starts
 pub mod HostOptions
 pub mod LineForms
 pub mod Readings
