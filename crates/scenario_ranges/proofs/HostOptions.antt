@@ -8,7 +8,7 @@ use Rattle.scenario_text.specs.declared.statement.OptionName.{OptionName}
 use Rattle.scenario_text.specs.declared.statement.OptionName.TheVariants as options
 use Rattle.scenario_text.specs.declared.statement.Given.{Given}
 use Rattle.scenario_ranges.specs.Ranges.{IsFrom, IsHostInRange}
-use Rattle.scenario_ranges.proofs.Starts.{number_from}
+use Rattle.scenario_ranges.proofs.Numbers.{number_from}
 
 -- The options that are given are in their ranges.
 pub record AreFrom (g : Given) : Type 0 where

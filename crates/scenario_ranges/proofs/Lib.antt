@@ -1,4 +1,4 @@
-pub mod Starts
+pub mod Numbers
 pub mod HostOptions
 pub mod LineForms
 pub mod Readings

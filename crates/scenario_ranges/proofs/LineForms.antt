@@ -20,7 +20,7 @@ use Rattle.scenario_text.specs.declared.statement.Statement.TheVariants as says
 use Rattle.scenario_text.specs.declared.statement.Reading.{Reading}
 use Rattle.scenario_text.specs.declared.statement.Reading.TheVariants.{Wrong, Says}
 use Rattle.scenario_ranges.specs.Ranges.{IsFrom, IsStepInRange}
-use Rattle.scenario_ranges.proofs.Starts.{number_from, text_shorter, some_bytes}
+use Rattle.scenario_ranges.proofs.Numbers.{number_from, text_shorter, some_bytes}
 use Rattle.scenario_ranges.proofs.HostOptions.{AreFrom, given_from, none_from}
 
 -- ----- what a line says is in its ranges
