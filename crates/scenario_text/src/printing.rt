@@ -235,7 +235,9 @@ fn put_params(
         b"backlog".as_slice(),
         backlog.format(params.backlog).as_bytes(),
         b"scale".as_slice(),
-        scale.format(u32::from(params.scale.unwrap_or(0))).as_bytes(),
+        scale
+            .format(u32::from(params.scale.unwrap_or(0)))
+            .as_bytes(),
     ];
     match params.scale {
         Some(_) => put_line(out, b"host", &words),

@@ -25,6 +25,6 @@ pub use laws::{
 };
 pub use recorded::Recorded;
 pub use scaling_laws::{
-    peers_window_is_bounded, shifts_are_agreed, window_is_never_taken_back, without_scale_windows_are_as_before,
-    worked_scaling_is_legal,
+    peers_window_is_bounded, shifts_are_agreed, window_is_never_taken_back,
+    without_scale_windows_are_as_before, worked_scaling_is_legal,
 };

@@ -3,4 +3,6 @@
 
 mod worked;
 
-pub use worked::{worked_endings, worked_progress, worked_reading, worked_receiving, worked_shifts};
+pub use worked::{
+    worked_endings, worked_progress, worked_reading, worked_receiving, worked_shifts,
+};
