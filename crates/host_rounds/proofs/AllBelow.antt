@@ -12,8 +12,9 @@ use Rattle.tas_model.specs.declared.entry.Call.{Call}
 use Rattle.tas_model.specs.declared.entry.Call.TheVariants as calls
 use Rattle.tas_model.specs.NextSegment.{Going, going}
 use Rattle.tas_model.proofs.Tests.{on_cond}
+use Rattle.host_rounds.specs.declared.opening.Start.{Start}
 use Rattle.host_rounds.specs.Lists.{Each}
-use Rattle.host_rounds.specs.Hosts.{Live, Host, Numbers, next_number, endpoint, is_over, with_call, is_known}
+use Rattle.host_rounds.specs.Hosts.{Live, Host, Starts, next_start, endpoint, is_over, with_call, is_known}
 use Rattle.host_rounds.specs.Hosts.{is_indexed_as, is_listening, is_full, lowest_free, flows_of}
 use Rattle.host_rounds.specs.Upkeep.{swept, all_swept, controlled, timed_unless, timed, emits_where, emits}
 use Rattle.host_rounds.specs.Deliveries.{Packet, Damaged, Segment, received, opens, opened_by_syn, met_no_flow, arrived}
@@ -74,33 +75,33 @@ module _ (n : ℕ) where
     by_going (Some g) = call_low by t calls.Emit [] is l all
 
   -- ----- frames
-  syn_low : (full : Bool) (free : Option ℕ) (number t : ℕ) (host : Host) (frame : FrameId) (tuple : FourTuple)
-      (seg : Seg) → AllBelow n host → AllBelow n (opened_by_syn full free number t host frame tuple seg)
-  syn_low true free number t host frame tuple seg all = all
-  syn_low false None number t host frame tuple seg all = all
-  syn_low false (Some slot) number t host frame tuple seg all = each_push Low host.flows _ all (tt, tt)
+  syn_low : (full : Bool) (free : Option ℕ) (start : Start) (t : ℕ) (host : Host) (frame : FrameId) (tuple : FourTuple)
+      (seg : Seg) → AllBelow n host → AllBelow n (opened_by_syn full free start t host frame tuple seg)
+  syn_low true free start t host frame tuple seg all = all
+  syn_low false None start t host frame tuple seg all = all
+  syn_low false (Some slot) start t host frame tuple seg all = each_push Low host.flows _ all (tt, tt)
 
-  no_flow_low : (opening listening : Bool) (number t : ℕ) (host : Host) (frame : FrameId) (tuple : FourTuple)
-      (seg : Seg) → AllBelow n host → AllBelow n (met_no_flow opening listening number t host frame tuple seg)
-  no_flow_low true listening number t host frame tuple seg all =
-      syn_low (is_full host tuple.lport) (lowest_free host) number t host frame tuple seg all
-  no_flow_low false listening number t host frame tuple seg all = all
+  no_flow_low : (opening listening : Bool) (start : Start) (t : ℕ) (host : Host) (frame : FrameId) (tuple : FourTuple)
+      (seg : Seg) → AllBelow n host → AllBelow n (met_no_flow opening listening start t host frame tuple seg)
+  no_flow_low true listening start t host frame tuple seg all =
+      syn_low (is_full host tuple.lport) (lowest_free host) start t host frame tuple seg all
+  no_flow_low false listening start t host frame tuple seg all = all
 
-  arrived_low : (known : Bool) (by : Caller) (number t : ℕ) (host : Host) (frame : FrameId) (tuple : FourTuple)
+  arrived_low : (known : Bool) (by : Caller) (start : Start) (t : ℕ) (host : Host) (frame : FrameId) (tuple : FourTuple)
       (seg : Seg) → IsBelow n by → AllBelow n host
-      → AllBelow n (arrived known (received by t frame seg) number t host frame tuple seg)
-  arrived_low true by number t host frame tuple seg is all =
+      → AllBelow n (arrived known (received by t frame seg) start t host frame tuple seg)
+  arrived_low true by start t host frame tuple seg is all =
       each_first Low (is_indexed_as tuple) (received by t frame seg) (call_low by t (calls.Rx frame seg) [] is)
       host.flows all
-  arrived_low false by number t host frame tuple seg is all =
-      no_flow_low (is_listening host tuple.lport && opens seg) (is_listening host tuple.lport) number t host frame
+  arrived_low false by start t host frame tuple seg is all =
+      no_flow_low (is_listening host tuple.lport && opens seg) (is_listening host tuple.lport) start t host frame
       tuple seg all
 
-  packet_low : (by : Caller) (numbers : Numbers) (t : ℕ) (host : Host) (frame : FrameId) (packet : Packet)
-      → IsBelow n by → AllBelow n host → AllBelow n (delivered_packet (received by) numbers t host frame packet)
-  packet_low by numbers t host frame (Damaged rule) is all = all
-  packet_low by numbers t host frame (Segment tuple seg) is all =
-      arrived_low (is_known host tuple) by (next_number numbers host tuple) t host frame tuple seg is all
+  packet_low : (by : Caller) (starts : Starts) (t : ℕ) (host : Host) (frame : FrameId) (packet : Packet)
+      → IsBelow n by → AllBelow n host → AllBelow n (delivered_packet (received by) starts t host frame packet)
+  packet_low by starts t host frame (Damaged rule) is all = all
+  packet_low by starts t host frame (Segment tuple seg) is all =
+      arrived_low (is_known host tuple) by (next_start starts host tuple) t host frame tuple seg is all
 
   -- ----- moves
   -- no core makes an application's call
@@ -109,17 +110,17 @@ module _ (n : ℕ) where
   app_low (Core k) call app = absurd app
   app_low (App k) call app = tt
 
-  move_low : (numbers : Numbers) (t : ℕ) (host : Host) (m : Move) → MayMove host m → AllBelow n host
-      → AllBelow n (moved numbers t host m)
-  move_low numbers t host (Calls k by call offer) may all =
-      call_cases (AllBelow n) numbers t host k by call offer may all
+  move_low : (starts : Starts) (t : ℕ) (host : Host) (m : Move) → MayMove host m → AllBelow n host
+      → AllBelow n (moved starts t host m)
+  move_low starts t host (Calls k by call offer) may all =
+      call_cases (AllBelow n) starts t host k by call offer may all
       (λ app. each_at Low k (λ (l : Live). with_call l by t call offer)
       (call_low by t call offer (app_low by call app)) host.flows all)
-  move_low numbers t host (Opens slot tuple app) may all = each_push Low host.flows _ all (tt, tt)
-  move_low numbers t host (Notes event) may all = all
-  move_low numbers t host (Holds k holder) may all =
+  move_low starts t host (Opens slot tuple app) may all = each_push Low host.flows _ all (tt, tt)
+  move_low starts t host (Notes event) may all = all
+  move_low starts t host (Holds k holder) may all =
       each_at Low k (λ (l : Live). record l { holder = holder }) (λ l low. low) host.flows all
-  move_low numbers t host (Listens listeners) may all = all
+  move_low starts t host (Listens listeners) may all = all
 
   -- ----- ticks
   done_low : {S A : Type 0} (scripts : Scripts S A) (t : ℕ) (site : Site S) (by : Caller) (action : Action A)
@@ -128,9 +129,9 @@ module _ (n : ℕ) where
   done_low scripts t site by (Timer k) by_moves legal is all =
       each_at Low k (timed by t) (timed_low by t is) site.host.flows all
   done_low scripts t site by (Frame x) by_moves legal is all =
-      packet_low by scripts.numbers t site.host x.frame x.packet is all
+      packet_low by scripts.starts t site.host x.frame x.packet is all
   done_low scripts t site by (Ask a) by_moves legal is all =
-      asked_keeps (AllBelow n) scripts t by_moves (λ host m each may low. move_low scripts.numbers t host m may low)
+      asked_keeps (AllBelow n) scripts t by_moves (λ host m each may low. move_low scripts.starts t host m may low)
       site a legal all
   done_low scripts t site by (Emission k) by_moves legal is all =
       each_at Low k (emits by t) (emits_low by t is) site.host.flows all

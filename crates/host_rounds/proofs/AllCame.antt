@@ -13,11 +13,12 @@ use Rattle.tas_model.specs.declared.entry.Call.{Call}
 use Rattle.tas_model.specs.declared.entry.Call.TheVariants as calls
 use Rattle.tas_model.specs.NextSegment.{Going, going}
 use Rattle.tas_model.proofs.Tests.{on_cond}
+use Rattle.host_rounds.specs.declared.opening.Start.{Start}
 use Rattle.host_rounds.specs.declared.log.LogEvent.{LogEvent}
 use Rattle.host_rounds.specs.declared.log.LogEvent.TheVariants as events
 use Rattle.host_rounds.specs.Lists.{Each, change_at, change_first}
-use Rattle.host_rounds.specs.Hosts.{Live, Host, Numbers, next_number, endpoint, is_over, with_call, logged, is_known}
-use Rattle.host_rounds.specs.Hosts.{same_tuple, is_indexed_as, is_listening, is_full, lowest_free}
+use Rattle.host_rounds.specs.Hosts.{Live, Host, Starts, next_start, endpoint, is_over, with_call, logged}
+use Rattle.host_rounds.specs.Hosts.{is_known, same_tuple, is_indexed_as, is_listening, is_full, lowest_free}
 use Rattle.host_rounds.specs.Upkeep.{swept, all_swept, controlled, timed_unless, timed, emits_where, emits}
 use Rattle.host_rounds.specs.Deliveries.{Packet, Damaged, Segment, received, opens, opened_by_syn, met_no_flow, arrived}
 use Rattle.host_rounds.specs.Deliveries.{Arrival, same_frame, delivered_packet}
@@ -154,20 +155,20 @@ at_came came n f host stays is = flows_came came host _ is (each_at (TookFrames 
 abbrev Comes : (came : Arrival → Bool) → FrameId → FourTuple → Seg → Type 0
 Comes came frame tuple seg = came (record { frame = frame; packet = Segment tuple seg }) ≡ true
 
-syn_came : (came : Arrival → Bool) (full : Bool) (free : Option ℕ) (number t : ℕ) (host : Host) (frame : FrameId)
-    (tuple : FourTuple) (seg : Seg) → Comes came frame tuple seg → IsOfFrames came host
-    → IsOfFrames came (opened_by_syn full free number t host frame tuple seg)
-syn_came came true free number t host frame tuple seg comes is = line_came came t host _ tt is
-syn_came came false None number t host frame tuple seg comes is = line_came came t host _ tt is
-syn_came came false (Some slot) number t host frame tuple seg comes is =
+syn_came : (came : Arrival → Bool) (full : Bool) (free : Option ℕ) (start : Start) (t : ℕ) (host : Host)
+    (frame : FrameId) (tuple : FourTuple) (seg : Seg) → Comes came frame tuple seg → IsOfFrames came host
+    → IsOfFrames came (opened_by_syn full free start t host frame tuple seg)
+syn_came came true free start t host frame tuple seg comes is = line_came came t host _ tt is
+syn_came came false None start t host frame tuple seg comes is = line_came came t host _ tt is
+syn_came came false (Some slot) start t host frame tuple seg comes is =
     flows_came came host _ is (each_push (TookFrames came) host.flows _ is.flows (comes, tt))
 
-no_flow_came : (came : Arrival → Bool) (opening listening : Bool) (number t : ℕ) (host : Host) (frame : FrameId)
-    (tuple : FourTuple) (seg : Seg) → Comes came frame tuple seg → IsOfFrames came host
-    → IsOfFrames came (met_no_flow opening listening number t host frame tuple seg)
-no_flow_came came true listening number t host frame tuple seg comes is =
-    syn_came came (is_full host tuple.lport) (lowest_free host) number t host frame tuple seg comes is
-no_flow_came came false listening number t host frame tuple seg comes is = line_came came t host _ comes is
+no_flow_came : (came : Arrival → Bool) (opening listening : Bool) (start : Start) (t : ℕ) (host : Host)
+    (frame : FrameId) (tuple : FourTuple) (seg : Seg) → Comes came frame tuple seg → IsOfFrames came host
+    → IsOfFrames came (met_no_flow opening listening start t host frame tuple seg)
+no_flow_came came true listening start t host frame tuple seg comes is =
+    syn_came came (is_full host tuple.lport) (lowest_free host) start t host frame tuple seg comes is
+no_flow_came came false listening start t host frame tuple seg comes is = line_came came t host _ comes is
 
 takes_stays : (came : Arrival → Bool) (by : Caller) (t : ℕ) (frame : FrameId) (tuple : FourTuple) (seg : Seg)
     → Comes came frame tuple seg → (l : Live) → is_indexed_as tuple l ≡ true → TookFrames came l
@@ -178,23 +179,23 @@ takes_stays came by t frame tuple seg comes l known all =
     call_stays came by t (calls.Rx frame seg) [] l
     (subst (λ (other : FourTuple). Comes came frame other seg) same comes) all
 
-arrived_came : (came : Arrival → Bool) (known : Bool) (by : Caller) (number t : ℕ) (host : Host) (frame : FrameId)
-    (tuple : FourTuple) (seg : Seg) → Comes came frame tuple seg → IsOfFrames came host
-    → IsOfFrames came (arrived known (received by t frame seg) number t host frame tuple seg)
-arrived_came came true by number t host frame tuple seg comes is =
+arrived_came : (came : Arrival → Bool) (known : Bool) (by : Caller) (start : Start) (t : ℕ) (host : Host)
+    (frame : FrameId) (tuple : FourTuple) (seg : Seg) → Comes came frame tuple seg → IsOfFrames came host
+    → IsOfFrames came (arrived known (received by t frame seg) start t host frame tuple seg)
+arrived_came came true by start t host frame tuple seg comes is =
     flows_came came host _ is
     (first_where (TookFrames came) (is_indexed_as tuple) (received by t frame seg)
     (takes_stays came by t frame tuple seg comes) host.flows is.flows)
-arrived_came came false by number t host frame tuple seg comes is =
+arrived_came came false by start t host frame tuple seg comes is =
     let listening : Bool = is_listening host tuple.lport in
-    no_flow_came came (listening && opens seg) listening number t host frame tuple seg comes is
+    no_flow_came came (listening && opens seg) listening start t host frame tuple seg comes is
 
-packet_came : (came : Arrival → Bool) (by : Caller) (numbers : Numbers) (t : ℕ) (host : Host) (frame : FrameId)
+packet_came : (came : Arrival → Bool) (by : Caller) (starts : Starts) (t : ℕ) (host : Host) (frame : FrameId)
     (packet : Packet) → came (record { frame = frame; packet = packet }) ≡ true → IsOfFrames came host
-    → IsOfFrames came (delivered_packet (received by) numbers t host frame packet)
-packet_came came by numbers t host frame (Damaged rule) comes is = line_came came t host _ comes is
-packet_came came by numbers t host frame (Segment tuple seg) comes is =
-    arrived_came came (is_known host tuple) by (next_number numbers host tuple) t host frame tuple seg comes is
+    → IsOfFrames came (delivered_packet (received by) starts t host frame packet)
+packet_came came by starts t host frame (Damaged rule) comes is = line_came came t host _ comes is
+packet_came came by starts t host frame (Segment tuple seg) comes is =
+    arrived_came came (is_known host tuple) by (next_start starts host tuple) t host frame tuple seg comes is
 
 -- ----- moves
 -- an application's call takes no frame
@@ -214,18 +215,18 @@ note_came came (events.Stray frame tuple seg answer) may = absurd may
 note_came came (events.Refused frame rule) may = absurd may
 note_came came _ may = tt
 
-move_came : (came : Arrival → Bool) (numbers : Numbers) (t : ℕ) (host : Host) (m : Move) → MayMove host m
-    → IsOfFrames came host → IsOfFrames came (moved numbers t host m)
-move_came came numbers t host (Calls n by call offer) may is =
-    call_cases (IsOfFrames came) numbers t host n by call offer may is
+move_came : (came : Arrival → Bool) (starts : Starts) (t : ℕ) (host : Host) (m : Move) → MayMove host m
+    → IsOfFrames came host → IsOfFrames came (moved starts t host m)
+move_came came starts t host (Calls n by call offer) may is =
+    call_cases (IsOfFrames came) starts t host n by call offer may is
     (λ app. at_came came n (λ (l : Live). with_call l by t call offer) host
     (λ l all. call_stays came by t call offer l (app_takes_not came l.flow.tuple by call app) all) is)
-move_came came numbers t host (Opens slot tuple app) may is =
+move_came came starts t host (Opens slot tuple app) may is =
     flows_came came host _ is (each_push (TookFrames came) host.flows _ is.flows (tt, tt))
-move_came came numbers t host (Notes event) may is = line_came came t host event (note_came came event may) is
-move_came came numbers t host (Holds n holder) may is =
+move_came came starts t host (Notes event) may is = line_came came t host event (note_came came event may) is
+move_came came starts t host (Holds n holder) may is =
     at_came came n (λ (l : Live). record l { holder = holder }) host (λ l all. all) is
-move_came came numbers t host (Listens listeners) may is = record { flows = is.flows; lines = is.lines }
+move_came came starts t host (Listens listeners) may is = record { flows = is.flows; lines = is.lines }
 
 -- ----- ticks
 -- the frame of an action came
@@ -239,10 +240,10 @@ done_came : {S A : Type 0} (came : Arrival → Bool) (scripts : Scripts S A) (t 
 done_came came scripts t site by (Timer n) comes by_moves legal is =
     at_came came n (timed by t) site.host (timed_stays came by t) is
 done_came came scripts t site by (Frame x) comes by_moves legal is =
-    packet_came came by scripts.numbers t site.host x.frame x.packet comes is
+    packet_came came by scripts.starts t site.host x.frame x.packet comes is
 done_came came scripts t site by (Ask a) comes by_moves legal is =
     asked_keeps (IsOfFrames came) scripts t by_moves
-    (λ host m each may one. move_came came scripts.numbers t host m may one) site a legal is
+    (λ host m each may one. move_came came scripts.starts t host m may one) site a legal is
 done_came came scripts t site by (Emission n) comes by_moves legal is =
     at_came came n (emits by t) site.host (emits_stays came by t) is
 

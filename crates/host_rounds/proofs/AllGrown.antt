@@ -7,9 +7,10 @@ use Rattle.tas_model.specs.declared.entry.Seg.{Seg}
 use Rattle.tas_model.specs.declared.entry.Caller.{Caller}
 use Rattle.tas_model.specs.declared.entry.Call.TheVariants as calls
 use Rattle.tas_model.specs.LegalHistory.{last_tick}
+use Rattle.host_rounds.specs.declared.opening.Start.{Start}
 use Rattle.host_rounds.specs.declared.log.LogEvent.{LogEvent}
 use Rattle.host_rounds.specs.Lists.{Each}
-use Rattle.host_rounds.specs.Hosts.{Live, Host, Numbers, next_number, with_call, logged, is_known, is_indexed_as}
+use Rattle.host_rounds.specs.Hosts.{Live, Host, Starts, next_start, with_call, logged, is_known, is_indexed_as}
 use Rattle.host_rounds.specs.Hosts.{is_listening, is_full, lowest_free}
 use Rattle.host_rounds.specs.Upkeep.{swept, all_swept, timed, emits}
 use Rattle.host_rounds.specs.Deliveries.{Packet, Damaged, Segment, received, opens, opened_by_syn, met_no_flow, arrived}
@@ -45,55 +46,56 @@ went_both t host mid after a b = record {
 }
 
 -- ----- frames
-syn_went : (full : Bool) (free : Option ℕ) (number t : ℕ) (host : Host) (frame : FrameId) (tuple : FourTuple)
+syn_went : (full : Bool) (free : Option ℕ) (start : Start) (t : ℕ) (host : Host) (frame : FrameId) (tuple : FourTuple)
     (seg : Seg)
-    → Went t host (opened_by_syn full free number t host frame tuple seg)
-syn_went true free number t host frame tuple seg = went_line t host _
-syn_went false None number t host frame tuple seg = went_line t host _
-syn_went false (Some slot) number t host frame tuple seg =
+    → Went t host (opened_by_syn full free start t host frame tuple seg)
+syn_went true free start t host frame tuple seg = went_line t host _
+syn_went false None start t host frame tuple seg = went_line t host _
+syn_went false (Some slot) start t host frame tuple seg =
     went_flows t host _ (push_grows t host.flows _ (_, refl, (refl, tt)))
 
-no_flow_went : (opening listening : Bool) (number t : ℕ) (host : Host) (frame : FrameId) (tuple : FourTuple) (seg : Seg)
-    → Went t host (met_no_flow opening listening number t host frame tuple seg)
-no_flow_went true listening number t host frame tuple seg =
-    syn_went (is_full host tuple.lport) (lowest_free host) number t host frame tuple seg
-no_flow_went false listening number t host frame tuple seg = went_line t host _
+no_flow_went : (opening listening : Bool) (start : Start) (t : ℕ) (host : Host) (frame : FrameId) (tuple : FourTuple)
+    (seg : Seg)
+    → Went t host (met_no_flow opening listening start t host frame tuple seg)
+no_flow_went true listening start t host frame tuple seg =
+    syn_went (is_full host tuple.lport) (lowest_free host) start t host frame tuple seg
+no_flow_went false listening start t host frame tuple seg = went_line t host _
 
-arrived_went : (known : Bool) (by : Caller) (number t : ℕ) (host : Host) (frame : FrameId) (tuple : FourTuple)
+arrived_went : (known : Bool) (by : Caller) (start : Start) (t : ℕ) (host : Host) (frame : FrameId) (tuple : FourTuple)
     (seg : Seg) → UpTo t host
-    → Went t host (arrived known (received by t frame seg) number t host frame tuple seg)
-arrived_went true by number t host frame tuple seg low =
+    → Went t host (arrived known (received by t frame seg) start t host frame tuple seg)
+arrived_went true by start t host frame tuple seg low =
     went_flows t host _ (first_grows t (is_indexed_as tuple) (received by t frame seg)
     (call_grows by t (calls.Rx frame seg) []) host.flows low)
-arrived_went false by number t host frame tuple seg low =
+arrived_went false by start t host frame tuple seg low =
     no_flow_went (is_listening host tuple.lport && opens seg)
-    (is_listening host tuple.lport) number t host frame tuple seg
+    (is_listening host tuple.lport) start t host frame tuple seg
 
-packet_went : (by : Caller) (numbers : Numbers) (t : ℕ) (host : Host) (frame : FrameId) (packet : Packet) → UpTo t host
-    → Went t host (delivered_packet (received by) numbers t host frame packet)
-packet_went by numbers t host frame (Damaged rule) low = went_line t host _
-packet_went by numbers t host frame (Segment tuple seg) low =
-    arrived_went (is_known host tuple) by (next_number numbers host tuple) t host frame tuple seg low
+packet_went : (by : Caller) (starts : Starts) (t : ℕ) (host : Host) (frame : FrameId) (packet : Packet) → UpTo t host
+    → Went t host (delivered_packet (received by) starts t host frame packet)
+packet_went by starts t host frame (Damaged rule) low = went_line t host _
+packet_went by starts t host frame (Segment tuple seg) low =
+    arrived_went (is_known host tuple) by (next_start starts host tuple) t host frame tuple seg low
 
 -- ----- moves
-move_went : (numbers : Numbers) (t : ℕ) (host : Host) (m : Move) → UpTo t host → Went t host (moved numbers t host m)
-move_went numbers t host (Calls n by call offer) low =
+move_went : (starts : Starts) (t : ℕ) (host : Host) (m : Move) → UpTo t host → Went t host (moved starts t host m)
+move_went starts t host (Calls n by call offer) low =
     went_flows t host _ (at_grows t n (λ (l : Live). with_call l by t call offer)
     (call_grows by t call offer) host.flows low)
-move_went numbers t host (Opens slot tuple app) low =
+move_went starts t host (Opens slot tuple app) low =
     went_flows t host _ (push_grows t host.flows _ (_, refl, (refl, tt)))
-move_went numbers t host (Notes event) low = went_line t host event
-move_went numbers t host (Holds n holder) low =
+move_went starts t host (Notes event) low = went_line t host event
+move_went starts t host (Holds n holder) low =
     went_flows t host _ (at_grows t n (λ (l : Live). record l { holder = holder }) (λ l. stays t l) host.flows low)
-move_went numbers t host (Listens listeners) low = record { log = log_none t host.log; flows = all_stay t host.flows }
+move_went starts t host (Listens listeners) low = record { log = log_none t host.log; flows = all_stay t host.flows }
 
 asked_went : {S A : Type 0} (scripts : Scripts S A) (t : ℕ) (site : Site S) (a : A) → AreByMoves scripts
     → AreLegal site.host → UpTo t site.host
     → Went t site.host (scripts.asked t site a).host
 asked_went scripts t site a by_moves legal low =
     asked_keeps (Went t site.host) scripts t by_moves
-    (λ host m each may went. went_both t site.host host (moved scripts.numbers t host m) went
-    (move_went scripts.numbers t host m (low_after t site.host.flows host.flows low went.flows)))
+    (λ host m each may went. went_both t site.host host (moved scripts.starts t host m) went
+    (move_went scripts.starts t host m (low_after t site.host.flows host.flows low went.flows)))
     site a legal (went_none t site.host)
 
 -- ----- ticks
@@ -103,7 +105,7 @@ done_went : {S A : Type 0} (scripts : Scripts S A) (t : ℕ) (site : Site S) (by
 done_went scripts t site by (Timer n) by_moves legal low =
     went_flows t site.host _ (at_grows t n (timed by t) (timed_grows by t) site.host.flows low)
 done_went scripts t site by (Frame x) by_moves legal low =
-    packet_went by scripts.numbers t site.host x.frame x.packet low
+    packet_went by scripts.starts t site.host x.frame x.packet low
 done_went scripts t site by (Ask a) by_moves legal low = asked_went scripts t site a by_moves legal low
 done_went scripts t site by (Emission n) by_moves legal low =
     went_flows t site.host _ (at_grows t n (emits by t) (emits_grows by t) site.host.flows low)

@@ -6,9 +6,10 @@ use Rattle.tas_model.specs.declared.entry.FrameId.{FrameId}
 use Rattle.tas_model.specs.declared.entry.Seg.{Seg}
 use Rattle.tas_model.specs.declared.entry.Caller.{Caller}
 use Rattle.tas_model.specs.declared.entry.Call.{Call}
+use Rattle.host_rounds.specs.declared.opening.Start.{Start}
 use Rattle.host_rounds.specs.Lists.{Each, change_first, change_at}
-use Rattle.host_rounds.specs.Hosts.{Live, Host, Numbers, next_number, is_known, is_indexed_as, is_listening, is_full}
-use Rattle.host_rounds.specs.Hosts.{lowest_free, with_call}
+use Rattle.host_rounds.specs.Hosts.{Live, Host, Starts, next_start, is_known, is_indexed_as, is_listening}
+use Rattle.host_rounds.specs.Hosts.{is_full, lowest_free, with_call}
 use Rattle.host_rounds.specs.Upkeep.{swept, all_swept, timed, emits}
 use Rattle.host_rounds.specs.Deliveries.{Packet, Damaged, Segment, Arrival, received, opens, opened_by_syn, met_no_flow}
 use Rattle.host_rounds.specs.Deliveries.{arrived, delivered_packet, delivered}
@@ -63,41 +64,42 @@ none_there zero f (x ∷ xs) h = absurd (cc (h))
 none_there {X} (suc n) f (x ∷ xs) h = ap (λ (zs : List X). x ∷ zs) (none_there n f xs h)
 
 -- ----- frames
-syn_kept : (full : Bool) (free : Option ℕ) (number t : ℕ) (host : Host) (frame : FrameId) (tuple : FourTuple)
+syn_kept : (full : Bool) (free : Option ℕ) (start : Start) (t : ℕ) (host : Host) (frame : FrameId) (tuple : FourTuple)
     (seg : Seg) → AreLegal host
-    → AreLegal (opened_by_syn full free number t host frame tuple seg)
-syn_kept true free number t host frame tuple seg each = each
-syn_kept false None number t host frame tuple seg each = each
-syn_kept false (Some slot) number t host frame tuple seg each =
+    → AreLegal (opened_by_syn full free start t host frame tuple seg)
+syn_kept true free start t host frame tuple seg each = each
+syn_kept false None start t host frame tuple seg each = each
+syn_kept false (Some slot) start t host frame tuple seg each =
     each_push HasHistory host.flows _ each (record { opens = tt; reply = refl; number = refl }, tt)
 
-no_flow_kept : (opening listening : Bool) (number t : ℕ) (host : Host) (frame : FrameId) (tuple : FourTuple) (seg : Seg)
+no_flow_kept : (opening listening : Bool) (start : Start) (t : ℕ) (host : Host) (frame : FrameId) (tuple : FourTuple)
+    (seg : Seg)
     → AreLegal host
-    → AreLegal (met_no_flow opening listening number t host frame tuple seg)
-no_flow_kept true listening number t host frame tuple seg each =
-    syn_kept (is_full host tuple.lport) (lowest_free host) number t host frame tuple seg each
-no_flow_kept false listening number t host frame tuple seg each = each
+    → AreLegal (met_no_flow opening listening start t host frame tuple seg)
+no_flow_kept true listening start t host frame tuple seg each =
+    syn_kept (is_full host tuple.lport) (lowest_free host) start t host frame tuple seg each
+no_flow_kept false listening start t host frame tuple seg each = each
 
 arrived_kept : (known : Bool) (take_in : Live → Live) → ((l : Live) → HasHistory l → HasHistory (take_in l))
-    → (number t : ℕ) (host : Host) (frame : FrameId) (tuple : FourTuple) (seg : Seg) → AreLegal host
-    → AreLegal (arrived known take_in number t host frame tuple seg)
-arrived_kept true take_in kept number t host frame tuple seg each =
+    → (start : Start) (t : ℕ) (host : Host) (frame : FrameId) (tuple : FourTuple) (seg : Seg) → AreLegal host
+    → AreLegal (arrived known take_in start t host frame tuple seg)
+arrived_kept true take_in kept start t host frame tuple seg each =
     each_first HasHistory (is_indexed_as tuple) take_in kept host.flows each
-arrived_kept false take_in kept number t host frame tuple seg each =
+arrived_kept false take_in kept start t host frame tuple seg each =
     no_flow_kept (is_listening host tuple.lport && opens seg)
-    (is_listening host tuple.lport) number t host frame tuple seg each
+    (is_listening host tuple.lport) start t host frame tuple seg each
 
-packet_kept : (by : Caller) (numbers : Numbers) (t : ℕ) (host : Host) (frame : FrameId) (packet : Packet)
+packet_kept : (by : Caller) (starts : Starts) (t : ℕ) (host : Host) (frame : FrameId) (packet : Packet)
     → AreLegal host
-    → AreLegal (delivered_packet (received by) numbers t host frame packet)
-packet_kept by numbers t host frame (Damaged rule) each = each
-packet_kept by numbers t host frame (Segment tuple seg) each =
+    → AreLegal (delivered_packet (received by) starts t host frame packet)
+packet_kept by starts t host frame (Damaged rule) each = each
+packet_kept by starts t host frame (Segment tuple seg) each =
     arrived_kept (is_known host tuple) (received by t frame seg) (received_kept by t frame seg)
-    (next_number numbers host tuple) t host frame tuple seg each
+    (next_start starts host tuple) t host frame tuple seg each
 
-pub delivered_kept : (by : Caller) (numbers : Numbers) (t : ℕ) (host : Host) (x : Arrival) → AreLegal host
-    → AreLegal (delivered (received by) numbers t host x)
-delivered_kept by numbers t host x each = packet_kept by numbers t host x.frame x.packet each
+pub delivered_kept : (by : Caller) (starts : Starts) (t : ℕ) (host : Host) (x : Arrival) → AreLegal host
+    → AreLegal (delivered (received by) starts t host x)
+delivered_kept by starts t host x each = packet_kept by starts t host x.frame x.packet each
 
 -- ----- moves
 may_call_kept : (by : Caller) (t : ℕ) (call : Call) (offer : List ℕ) (o : Option Live)
@@ -106,51 +108,51 @@ may_call_kept : (by : Caller) (t : ℕ) (call : Call) (offer : List ℕ) (o : Op
 may_call_kept by t call offer None may = tt
 may_call_kept by t call offer (Some l) may = λ legal. call_kept l by t call offer legal may.offers may.steps
 
-pub move_kept : (numbers : Numbers) (t : ℕ) (host : Host) (m : Move) → MayMove host m → AreLegal host
-    → AreLegal (moved numbers t host m)
-move_kept numbers t host (Calls n by call offer) may each =
+pub move_kept : (starts : Starts) (t : ℕ) (host : Host) (m : Move) → MayMove host m → AreLegal host
+    → AreLegal (moved starts t host m)
+move_kept starts t host (Calls n by call offer) may each =
     each_there HasHistory n (λ (l : Live). with_call l by t call offer) host.flows
     (may_call_kept by t call offer (slice_get host.flows n) may) each
-move_kept numbers t host (Opens slot tuple app) may each =
+move_kept starts t host (Opens slot tuple app) may each =
     each_push HasHistory host.flows _ each (record { opens = tt; reply = refl; number = refl }, tt)
-move_kept numbers t host (Notes event) may each = each
-move_kept numbers t host (Holds n holder) may each =
+move_kept starts t host (Notes event) may each = each
+move_kept starts t host (Holds n holder) may each =
     each_at HasHistory n (λ (l : Live). record l { holder = holder }) (λ l legal. legal) host.flows each
-move_kept numbers t host (Listens listeners) may each = each
+move_kept starts t host (Listens listeners) may each = each
 
 -- What each move keeps of a host with legal histories, a row of moves keeps,
-pub moves_keep : (P : Host → Type 0) (numbers : Numbers) (t : ℕ)
-    → ((host : Host) (m : Move) → AreLegal host → MayMove host m → P host → P (moved numbers t host m))
-    → (ms : List Move) (before after : Host) → AreMoves numbers t before ms after → AreLegal before → P before → P after
-moves_keep P numbers t each [] before after same legal p = subst P same p
-moves_keep P numbers t each (m ∷ ms) before after may legal p =
-    moves_keep P numbers t each ms (moved numbers t before m) after may.1 (move_kept numbers t before m may.0 legal)
+pub moves_keep : (P : Host → Type 0) (starts : Starts) (t : ℕ)
+    → ((host : Host) (m : Move) → AreLegal host → MayMove host m → P host → P (moved starts t host m))
+    → (ms : List Move) (before after : Host) → AreMoves starts t before ms after → AreLegal before → P before → P after
+moves_keep P starts t each [] before after same legal p = subst P same p
+moves_keep P starts t each (m ∷ ms) before after may legal p =
+    moves_keep P starts t each ms (moved starts t before m) after may.1 (move_kept starts t before m may.0 legal)
     (each before m legal may.0 p)
 
 -- and so does all that scripts ask.
 pub asked_keeps : {S A : Type 0} (P : Host → Type 0) (scripts : Scripts S A) (t : ℕ) → AreByMoves scripts
-    → ((host : Host) (m : Move) → AreLegal host → MayMove host m → P host → P (moved scripts.numbers t host m))
+    → ((host : Host) (m : Move) → AreLegal host → MayMove host m → P host → P (moved scripts.starts t host m))
     → (site : Site S) (a : A) → AreLegal site.host → P site.host → P (scripts.asked t site a).host
 asked_keeps P scripts t by_moves each site a legal p =
     let row = by_moves t site a legal in
-    moves_keep P scripts.numbers t each row.0 site.host (scripts.asked t site a).host row.1 legal p
+    moves_keep P scripts.starts t each row.0 site.host (scripts.asked t site a).host row.1 legal p
 
 pub asked_kept : {S A : Type 0} (scripts : Scripts S A) (t : ℕ) (site : Site S) (a : A) → AreByMoves scripts
     → AreLegal site.host
     → AreLegal (scripts.asked t site a).host
 asked_kept scripts t site a by_moves legal =
     asked_keeps AreLegal scripts t by_moves (λ host m each may p.
-    move_kept scripts.numbers t host m may each) site a legal legal
+    move_kept scripts.starts t host m may each) site a legal legal
 
 -- A call is one of an application, or its flow does not stand and nothing changes.
-pub call_cases : (P : Host → Type 0) (numbers : Numbers) (t : ℕ) (host : Host) (n : ℕ) (by : Caller) (call : Call)
+pub call_cases : (P : Host → Type 0) (starts : Starts) (t : ℕ) (host : Host) (n : ℕ) (by : Caller) (call : Call)
     (offer : List ℕ)
     → MayMove host (Calls n by call offer) → P host
-    → (IsAppCall by call → P (moved numbers t host (Calls n by call offer)))
-    → P (moved numbers t host (Calls n by call offer))
-call_cases P numbers t host n by call offer may p stands = by_place (slice_get host.flows n) refl may where
+    → (IsAppCall by call → P (moved starts t host (Calls n by call offer)))
+    → P (moved starts t host (Calls n by call offer))
+call_cases P starts t host n by call offer may p stands = by_place (slice_get host.flows n) refl may where
   by_place : (o : Option Live) → slice_get host.flows n ≡ o → IfSome o (λ l. MayCall l by call offer)
-      → P (moved numbers t host (Calls n by call offer))
+      → P (moved starts t host (Calls n by call offer))
   by_place None h may = subst (λ (ls : List Live). P (record host { flows = ls }))
       (sym (none_there n (λ (l : Live). with_call l by t call offer) host.flows h)) p
   by_place (Some l) h may = stands may.kind
@@ -161,7 +163,7 @@ pub done_kept : {S A : Type 0} (scripts : Scripts S A) (t : ℕ) (site : Site S)
     → AreLegal site.host → AreLegal (done_by scripts t site by action).host
 done_kept scripts t site by (Timer n) by_moves each =
     each_at HasHistory n (timed by t) (timed_kept by t) site.host.flows each
-done_kept scripts t site by (Frame x) by_moves each = delivered_kept by scripts.numbers t site.host x each
+done_kept scripts t site by (Frame x) by_moves each = delivered_kept by scripts.starts t site.host x each
 done_kept scripts t site by (Ask a) by_moves each = asked_kept scripts t site a by_moves each
 done_kept scripts t site by (Emission n) by_moves each =
     each_at HasHistory n (emits by t) (emits_kept by t) site.host.flows each

@@ -15,11 +15,12 @@ use Rattle.tas_model.specs.declared.entry.Call.TheVariants as calls
 use Rattle.tas_model.specs.Segments.{is_syn, is_rst, is_ack}
 use Rattle.tas_model.specs.NextSegment.{Going, going}
 use Rattle.tas_model.proofs.Tests.{on_cond}
+use Rattle.host_rounds.specs.declared.opening.Start.{Start}
 use Rattle.host_rounds.specs.declared.log.LogEvent.{LogEvent}
 use Rattle.host_rounds.specs.declared.log.LogEvent.TheVariants as events
 use Rattle.host_rounds.specs.Lists.{Each, change_at}
-use Rattle.host_rounds.specs.Hosts.{Live, Host, Numbers, next_number, endpoint, is_over, with_call, logged, is_known}
-use Rattle.host_rounds.specs.Hosts.{is_indexed_as, is_listening, is_full, lowest_free}
+use Rattle.host_rounds.specs.Hosts.{Live, Host, Starts, next_start, endpoint, is_over, with_call, logged}
+use Rattle.host_rounds.specs.Hosts.{is_known, is_indexed_as, is_listening, is_full, lowest_free}
 use Rattle.host_rounds.specs.Upkeep.{swept, all_swept, controlled, timed_unless, timed, emits_where, emits}
 use Rattle.host_rounds.specs.Deliveries.{Packet, Damaged, Segment, received, opens, opened_by_syn, met_no_flow, arrived}
 use Rattle.host_rounds.specs.Deliveries.{delivered_packet, answer_in, stray_answer}
@@ -115,37 +116,39 @@ at_met : (n : ℕ) (f : Live → Live) (host : Host) → Stays f → IsMetRightl
 at_met n f host stays met = flows_met host _ met (each_at IsOpenedBySyn n f stays host.flows met.openings)
 
 -- ----- frames
-syn_met : (full : Bool) (free : Option ℕ) (number t : ℕ) (host : Host) (frame : FrameId) (tuple : FourTuple) (seg : Seg)
-    → IsOpeningSyn seg → IsMetRightly host → IsMetRightly (opened_by_syn full free number t host frame tuple seg)
-syn_met true free number t host frame tuple seg syn met = line_met t host _ tt met
-syn_met false None number t host frame tuple seg syn met = line_met t host _ tt met
-syn_met false (Some slot) number t host frame tuple seg syn met =
+syn_met : (full : Bool) (free : Option ℕ) (start : Start) (t : ℕ) (host : Host) (frame : FrameId) (tuple : FourTuple)
+    (seg : Seg)
+    → IsOpeningSyn seg → IsMetRightly host → IsMetRightly (opened_by_syn full free start t host frame tuple seg)
+syn_met true free start t host frame tuple seg syn met = line_met t host _ tt met
+syn_met false None start t host frame tuple seg syn met = line_met t host _ tt met
+syn_met false (Some slot) start t host frame tuple seg syn met =
     flows_met host _ met (each_push IsOpenedBySyn host.flows _ met.openings (syn, tt))
 
-no_flow_met : (opening listening : Bool) (number t : ℕ) (host : Host) (frame : FrameId) (tuple : FourTuple) (seg : Seg)
+no_flow_met : (opening listening : Bool) (start : Start) (t : ℕ) (host : Host) (frame : FrameId) (tuple : FourTuple)
+    (seg : Seg)
     → (opening ≡ true → IsOpeningSyn seg) → IsMetRightly host
-    → IsMetRightly (met_no_flow opening listening number t host frame tuple seg)
-no_flow_met true listening number t host frame tuple seg syn met =
-    syn_met (is_full host tuple.lport) (lowest_free host) number t host frame tuple seg (syn refl) met
-no_flow_met false listening number t host frame tuple seg syn met = line_met t host _ (answered listening seg) met
+    → IsMetRightly (met_no_flow opening listening start t host frame tuple seg)
+no_flow_met true listening start t host frame tuple seg syn met =
+    syn_met (is_full host tuple.lport) (lowest_free host) start t host frame tuple seg (syn refl) met
+no_flow_met false listening start t host frame tuple seg syn met = line_met t host _ (answered listening seg) met
 
-arrived_met : (known : Bool) (by : Caller) (number t : ℕ) (host : Host) (frame : FrameId) (tuple : FourTuple)
+arrived_met : (known : Bool) (by : Caller) (start : Start) (t : ℕ) (host : Host) (frame : FrameId) (tuple : FourTuple)
     (seg : Seg) → IsMetRightly host
-    → IsMetRightly (arrived known (received by t frame seg) number t host frame tuple seg)
-arrived_met true by number t host frame tuple seg met =
+    → IsMetRightly (arrived known (received by t frame seg) start t host frame tuple seg)
+arrived_met true by start t host frame tuple seg met =
     flows_met host _ met
     (each_first IsOpenedBySyn (is_indexed_as tuple) (received by t frame seg)
     (call_stays by t (calls.Rx frame seg) [] tt) host.flows met.openings)
-arrived_met false by number t host frame tuple seg met =
+arrived_met false by start t host frame tuple seg met =
     let listening : Bool = is_listening host tuple.lport in
-    no_flow_met (listening && opens seg) listening number t host frame tuple seg
+    no_flow_met (listening && opens seg) listening start t host frame tuple seg
     (λ h. opening_syn seg (and_right listening (opens seg) h)) met
 
-packet_met : (by : Caller) (numbers : Numbers) (t : ℕ) (host : Host) (frame : FrameId) (packet : Packet)
-    → IsMetRightly host → IsMetRightly (delivered_packet (received by) numbers t host frame packet)
-packet_met by numbers t host frame (Damaged rule) met = line_met t host _ tt met
-packet_met by numbers t host frame (Segment tuple seg) met =
-    arrived_met (is_known host tuple) by (next_number numbers host tuple) t host frame tuple seg met
+packet_met : (by : Caller) (starts : Starts) (t : ℕ) (host : Host) (frame : FrameId) (packet : Packet)
+    → IsMetRightly host → IsMetRightly (delivered_packet (received by) starts t host frame packet)
+packet_met by starts t host frame (Damaged rule) met = line_met t host _ tt met
+packet_met by starts t host frame (Segment tuple seg) met =
+    arrived_met (is_known host tuple) by (next_start starts host tuple) t host frame tuple seg met
 
 -- ----- moves
 app_opens_not : (by : Caller) (call : Call) → IsAppCall by call → OpensBySyn call
@@ -159,27 +162,27 @@ note_met : (event : LogEvent) → IsCallLine event → AnswersRightly event
 note_met (events.Stray frame tuple seg answer) may = absurd may
 note_met _ may = tt
 
-move_met : (numbers : Numbers) (t : ℕ) (host : Host) (m : Move) → MayMove host m → IsMetRightly host
-    → IsMetRightly (moved numbers t host m)
-move_met numbers t host (Calls n by call offer) may met =
-    call_cases IsMetRightly numbers t host n by call offer may met
+move_met : (starts : Starts) (t : ℕ) (host : Host) (m : Move) → MayMove host m → IsMetRightly host
+    → IsMetRightly (moved starts t host m)
+move_met starts t host (Calls n by call offer) may met =
+    call_cases IsMetRightly starts t host n by call offer may met
     (λ app. at_met n (λ (l : Live). with_call l by t call offer) host
     (call_stays by t call offer (app_opens_not by call app)) met)
-move_met numbers t host (Opens slot tuple app) may met =
+move_met starts t host (Opens slot tuple app) may met =
     flows_met host _ met (each_push IsOpenedBySyn host.flows _ met.openings (tt, tt))
-move_met numbers t host (Notes event) may met = line_met t host event (note_met event may) met
-move_met numbers t host (Holds n holder) may met =
+move_met starts t host (Notes event) may met = line_met t host event (note_met event may) met
+move_met starts t host (Holds n holder) may met =
     at_met n (λ (l : Live). record l { holder = holder }) host (λ l all. all) met
-move_met numbers t host (Listens listeners) may met = record { answers = met.answers; openings = met.openings }
+move_met starts t host (Listens listeners) may met = record { answers = met.answers; openings = met.openings }
 
 -- ----- ticks
 done_met : {S A : Type 0} (scripts : Scripts S A) (t : ℕ) (site : Site S) (by : Caller) (action : Action A)
     → AreByMoves scripts → AreLegal site.host → IsMetRightly site.host
     → IsMetRightly (done_by scripts t site by action).host
 done_met scripts t site by (Timer n) by_moves legal met = at_met n (timed by t) site.host (timed_stays by t) met
-done_met scripts t site by (Frame x) by_moves legal met = packet_met by scripts.numbers t site.host x.frame x.packet met
+done_met scripts t site by (Frame x) by_moves legal met = packet_met by scripts.starts t site.host x.frame x.packet met
 done_met scripts t site by (Ask a) by_moves legal met =
-    asked_keeps IsMetRightly scripts t by_moves (λ host m each may m0. move_met scripts.numbers t host m may m0)
+    asked_keeps IsMetRightly scripts t by_moves (λ host m each may m0. move_met scripts.starts t host m may m0)
     site a legal met
 done_met scripts t site by (Emission n) by_moves legal met = at_met n (emits by t) site.host (emits_stays by t) met
 

@@ -5,8 +5,9 @@ use Rattle.tas_model.specs.declared.entry.FourTuple.{FourTuple}
 use Rattle.tas_model.specs.declared.entry.FrameId.{FrameId}
 use Rattle.tas_model.specs.declared.entry.Seg.{Seg}
 use Rattle.tas_model.specs.declared.entry.Caller.{Caller}
-use Rattle.host_rounds.specs.Hosts.{Live, Host, Numbers, next_number, with_call, is_known, is_indexed_as, is_listening}
-use Rattle.host_rounds.specs.Hosts.{is_full, lowest_free}
+use Rattle.host_rounds.specs.declared.opening.Start.{Start}
+use Rattle.host_rounds.specs.Hosts.{Live, Host, Starts, next_start, with_call, is_known, is_indexed_as}
+use Rattle.host_rounds.specs.Hosts.{is_listening, is_full, lowest_free}
 use Rattle.host_rounds.specs.Upkeep.{swept, all_swept, timed, emits}
 use Rattle.host_rounds.specs.Deliveries.{Packet, Damaged, Segment, received, opens, opened_by_syn, met_no_flow, arrived}
 use Rattle.host_rounds.specs.Deliveries.{delivered_packet}
@@ -19,53 +20,53 @@ use Rattle.host_rounds.proofs.Standing.{timed_place, emits_place, Stands, stands
 use Rattle.host_rounds.proofs.Standing.{push_stands, swept_apart, filed_by_sweep}
 
 -- ----- frames
-syn_stands : (full : Bool) (free : Option ℕ) (number t : ℕ) (host : Host) (frame : FrameId) (tuple : FourTuple)
+syn_stands : (full : Bool) (free : Option ℕ) (start : Start) (t : ℕ) (host : Host) (frame : FrameId) (tuple : FourTuple)
     (seg : Seg) → lowest_free host ≡ free
-    → Stands host.flows (opened_by_syn full free number t host frame tuple seg).flows
-syn_stands true free number t host frame tuple seg found = stands host.flows
-syn_stands false None number t host frame tuple seg found = stands host.flows
-syn_stands false (Some slot) number t host frame tuple seg found = push_stands host.params.slots host.flows _ found refl
+    → Stands host.flows (opened_by_syn full free start t host frame tuple seg).flows
+syn_stands true free start t host frame tuple seg found = stands host.flows
+syn_stands false None start t host frame tuple seg found = stands host.flows
+syn_stands false (Some slot) start t host frame tuple seg found = push_stands host.params.slots host.flows _ found refl
 
-no_flow_stands : (opening listening : Bool) (number t : ℕ) (host : Host) (frame : FrameId) (tuple : FourTuple)
+no_flow_stands : (opening listening : Bool) (start : Start) (t : ℕ) (host : Host) (frame : FrameId) (tuple : FourTuple)
     (seg : Seg)
-    → Stands host.flows (met_no_flow opening listening number t host frame tuple seg).flows
-no_flow_stands true listening number t host frame tuple seg =
-    syn_stands (is_full host tuple.lport) (lowest_free host) number t host frame tuple seg refl
-no_flow_stands false listening number t host frame tuple seg = stands host.flows
+    → Stands host.flows (met_no_flow opening listening start t host frame tuple seg).flows
+no_flow_stands true listening start t host frame tuple seg =
+    syn_stands (is_full host tuple.lport) (lowest_free host) start t host frame tuple seg refl
+no_flow_stands false listening start t host frame tuple seg = stands host.flows
 
-arrived_stands : (known : Bool) (by : Caller) (number t : ℕ) (host : Host) (frame : FrameId) (tuple : FourTuple)
-    (seg : Seg)
-    → Stands host.flows (arrived known (received by t frame seg) number t host frame tuple seg).flows
-arrived_stands true by number t host frame tuple seg =
+arrived_stands : (known : Bool) (by : Caller) (start : Start) (t : ℕ) (host : Host) (frame : FrameId)
+    (tuple : FourTuple) (seg : Seg)
+    → Stands host.flows (arrived known (received by t frame seg) start t host frame tuple seg).flows
+arrived_stands true by start t host frame tuple seg =
     first_stands (is_indexed_as tuple) (received by t frame seg) (λ l. (refl, refl)) host.flows
-arrived_stands false by number t host frame tuple seg =
+arrived_stands false by start t host frame tuple seg =
     no_flow_stands (is_listening host tuple.lport && opens seg)
-    (is_listening host tuple.lport) number t host frame tuple seg
+    (is_listening host tuple.lport) start t host frame tuple seg
 
-packet_stands : (by : Caller) (numbers : Numbers) (t : ℕ) (host : Host) (frame : FrameId) (packet : Packet)
-    → Stands host.flows (delivered_packet (received by) numbers t host frame packet).flows
-packet_stands by numbers t host frame (Damaged rule) = stands host.flows
-packet_stands by numbers t host frame (Segment tuple seg) =
-    arrived_stands (is_known host tuple) by (next_number numbers host tuple) t host frame tuple seg
+packet_stands : (by : Caller) (starts : Starts) (t : ℕ) (host : Host) (frame : FrameId) (packet : Packet)
+    → Stands host.flows (delivered_packet (received by) starts t host frame packet).flows
+packet_stands by starts t host frame (Damaged rule) = stands host.flows
+packet_stands by starts t host frame (Segment tuple seg) =
+    arrived_stands (is_known host tuple) by (next_start starts host tuple) t host frame tuple seg
 
 -- ----- moves
-move_stands : (numbers : Numbers) (t : ℕ) (host : Host) (m : Move) → MayMove host m
-    → Stands host.flows (moved numbers t host m).flows
-move_stands numbers t host (Calls n by call offer) may =
+move_stands : (starts : Starts) (t : ℕ) (host : Host) (m : Move) → MayMove host m
+    → Stands host.flows (moved starts t host m).flows
+move_stands starts t host (Calls n by call offer) may =
     at_stands n (λ (l : Live). with_call l by t call offer) (λ l. (refl, refl)) host.flows
-move_stands numbers t host (Opens slot tuple app) may = push_stands host.params.slots host.flows _ may refl
-move_stands numbers t host (Notes event) may = stands host.flows
-move_stands numbers t host (Holds n holder) may =
+move_stands starts t host (Opens slot tuple app) may = push_stands host.params.slots host.flows _ may refl
+move_stands starts t host (Notes event) may = stands host.flows
+move_stands starts t host (Holds n holder) may =
     at_stands n (λ (l : Live). record l { holder = holder }) (λ l. (refl, refl)) host.flows
-move_stands numbers t host (Listens listeners) may = stands host.flows
+move_stands starts t host (Listens listeners) may = stands host.flows
 
 asked_stands : {S A : Type 0} (scripts : Scripts S A) (t : ℕ) (site : Site S) (a : A) → AreByMoves scripts
     → AreLegal site.host
     → Stands site.host.flows (scripts.asked t site a).host.flows
 asked_stands scripts t site a by_moves legal =
     asked_keeps (λ (h : Host). Stands site.host.flows h.flows) scripts t by_moves
-    (λ host m each may so_far. stands_both site.host.flows host.flows (moved scripts.numbers t host m).flows so_far
-    (move_stands scripts.numbers t host m may))
+    (λ host m each may so_far. stands_both site.host.flows host.flows (moved scripts.starts t host m).flows so_far
+    (move_stands scripts.starts t host m may))
     site a legal (stands site.host.flows)
 
 -- ----- ticks
@@ -73,7 +74,7 @@ done_stands : {S A : Type 0} (scripts : Scripts S A) (t : ℕ) (site : Site S) (
     → AreByMoves scripts → AreLegal site.host
     → Stands site.host.flows (done_by scripts t site by action).host.flows
 done_stands scripts t site by (Timer n) by_moves legal = at_stands n (timed by t) (timed_place by t) site.host.flows
-done_stands scripts t site by (Frame x) by_moves legal = packet_stands by scripts.numbers t site.host x.frame x.packet
+done_stands scripts t site by (Frame x) by_moves legal = packet_stands by scripts.starts t site.host x.frame x.packet
 done_stands scripts t site by (Ask a) by_moves legal = asked_stands scripts t site a by_moves legal
 done_stands scripts t site by (Emission n) by_moves legal = at_stands n (emits by t) (emits_place by t) site.host.flows
 

@@ -7,9 +7,10 @@ use Rattle.tas_model.specs.declared.entry.Seg.{Seg}
 use Rattle.tas_model.specs.declared.entry.Caller.{Caller}
 use Rattle.tas_model.specs.declared.entry.Call.TheVariants as calls
 use Rattle.tas_model.specs.Segments.{one_if}
+use Rattle.host_rounds.specs.declared.opening.Start.{Start}
 use Rattle.host_rounds.specs.Lists.{Each}
-use Rattle.host_rounds.specs.Hosts.{Live, Host, Numbers, next_number, with_call, is_known, is_indexed_as, is_listening}
-use Rattle.host_rounds.specs.Hosts.{is_full, lowest_free}
+use Rattle.host_rounds.specs.Hosts.{Live, Host, Starts, next_start, with_call, is_known, is_indexed_as}
+use Rattle.host_rounds.specs.Hosts.{is_listening, is_full, lowest_free}
 use Rattle.host_rounds.specs.Upkeep.{swept, all_swept, timed, emits}
 use Rattle.host_rounds.specs.Deliveries.{Packet, Damaged, Segment, received, opens, opened_by_syn, met_no_flow, arrived}
 use Rattle.host_rounds.specs.Deliveries.{delivered_packet}
@@ -25,52 +26,52 @@ use Rattle.host_rounds.proofs.Advances.{holder_advances, AllAdvance, none, sum_o
 use Rattle.host_rounds.proofs.Advances.{first_advances, at_advances, timer_advances, push_advances}
 
 -- ----- frames
-syn_advances : (full : Bool) (free : Option ℕ) (number t : ℕ) (host : Host) (frame : FrameId) (tuple : FourTuple)
-    (seg : Seg)
-    → AllAdvance none host.flows (opened_by_syn full free number t host frame tuple seg).flows
-syn_advances true free number t host frame tuple seg = all_stay host.flows
-syn_advances false None number t host frame tuple seg = all_stay host.flows
-syn_advances false (Some slot) number t host frame tuple seg = push_advances host.flows _ refl
+syn_advances : (full : Bool) (free : Option ℕ) (start : Start) (t : ℕ) (host : Host) (frame : FrameId)
+    (tuple : FourTuple) (seg : Seg)
+    → AllAdvance none host.flows (opened_by_syn full free start t host frame tuple seg).flows
+syn_advances true free start t host frame tuple seg = all_stay host.flows
+syn_advances false None start t host frame tuple seg = all_stay host.flows
+syn_advances false (Some slot) start t host frame tuple seg = push_advances host.flows _ refl
 
-no_flow_advances : (opening listening : Bool) (number t : ℕ) (host : Host) (frame : FrameId) (tuple : FourTuple)
-    (seg : Seg)
-    → AllAdvance none host.flows (met_no_flow opening listening number t host frame tuple seg).flows
-no_flow_advances true listening number t host frame tuple seg =
-    syn_advances (is_full host tuple.lport) (lowest_free host) number t host frame tuple seg
-no_flow_advances false listening number t host frame tuple seg = all_stay host.flows
+no_flow_advances : (opening listening : Bool) (start : Start) (t : ℕ) (host : Host) (frame : FrameId)
+    (tuple : FourTuple) (seg : Seg)
+    → AllAdvance none host.flows (met_no_flow opening listening start t host frame tuple seg).flows
+no_flow_advances true listening start t host frame tuple seg =
+    syn_advances (is_full host tuple.lport) (lowest_free host) start t host frame tuple seg
+no_flow_advances false listening start t host frame tuple seg = all_stay host.flows
 
-arrived_advances : (known : Bool) (by : Caller) (number t : ℕ) (host : Host) (frame : FrameId) (tuple : FourTuple)
-    (seg : Seg) → AreLegal host
-    → AllAdvance none host.flows (arrived known (received by t frame seg) number t host frame tuple seg).flows
-arrived_advances true by number t host frame tuple seg legal =
+arrived_advances : (known : Bool) (by : Caller) (start : Start) (t : ℕ) (host : Host) (frame : FrameId)
+    (tuple : FourTuple) (seg : Seg) → AreLegal host
+    → AllAdvance none host.flows (arrived known (received by t frame seg) start t host frame tuple seg).flows
+arrived_advances true by start t host frame tuple seg legal =
     first_advances (is_indexed_as tuple) (received by t frame seg)
     (λ l one. call_advances by t (calls.Rx frame seg) [] l one refl) host.flows legal
-arrived_advances false by number t host frame tuple seg legal =
+arrived_advances false by start t host frame tuple seg legal =
     no_flow_advances (is_listening host tuple.lport && opens seg)
-    (is_listening host tuple.lport) number t host frame tuple seg
+    (is_listening host tuple.lport) start t host frame tuple seg
 
-packet_advances : (by : Caller) (numbers : Numbers) (t : ℕ) (host : Host) (frame : FrameId) (packet : Packet)
+packet_advances : (by : Caller) (starts : Starts) (t : ℕ) (host : Host) (frame : FrameId) (packet : Packet)
     → AreLegal host
-    → AllAdvance none host.flows (delivered_packet (received by) numbers t host frame packet).flows
-packet_advances by numbers t host frame (Damaged rule) legal = all_stay host.flows
-packet_advances by numbers t host frame (Segment tuple seg) legal =
-    arrived_advances (is_known host tuple) by (next_number numbers host tuple) t host frame tuple seg legal
+    → AllAdvance none host.flows (delivered_packet (received by) starts t host frame packet).flows
+packet_advances by starts t host frame (Damaged rule) legal = all_stay host.flows
+packet_advances by starts t host frame (Segment tuple seg) legal =
+    arrived_advances (is_known host tuple) by (next_start starts host tuple) t host frame tuple seg legal
 
 -- ----- moves
 abbrev Stay : Host → Host → Type 0
 Stay before after = AllAdvance none before.flows after.flows
 
-move_advances : (numbers : Numbers) (t : ℕ) (host : Host) (m : Move) → AreLegal host → MayMove host m
-    → Stay host (moved numbers t host m)
-move_advances numbers t host (Calls n by call offer) legal may =
-    call_cases (Stay host) numbers t host n by call offer may (all_stay host.flows)
+move_advances : (starts : Starts) (t : ℕ) (host : Host) (m : Move) → AreLegal host → MayMove host m
+    → Stay host (moved starts t host m)
+move_advances starts t host (Calls n by call offer) legal may =
+    call_cases (Stay host) starts t host n by call offer may (all_stay host.flows)
     (λ app. at_advances n (λ (l : Live). with_call l by t call offer)
     (λ l one. call_advances by t call offer l one (app_ticks_not by call app)) host.flows legal)
-move_advances numbers t host (Opens slot tuple app) legal may = push_advances host.flows _ refl
-move_advances numbers t host (Notes event) legal may = all_stay host.flows
-move_advances numbers t host (Holds n holder) legal may =
+move_advances starts t host (Opens slot tuple app) legal may = push_advances host.flows _ refl
+move_advances starts t host (Notes event) legal may = all_stay host.flows
+move_advances starts t host (Holds n holder) legal may =
     at_advances n (λ (l : Live). record l { holder = holder }) (λ l one. holder_advances l holder) host.flows legal
-move_advances numbers t host (Listens listeners) legal may = all_stay host.flows
+move_advances starts t host (Listens listeners) legal may = all_stay host.flows
 
 asked_advances : {S A : Type 0} (scripts : Scripts S A) (t : ℕ) (site : Site S) (a : A) → AreByMoves scripts
     → AreLegal site.host
@@ -78,8 +79,8 @@ asked_advances : {S A : Type 0} (scripts : Scripts S A) (t : ℕ) (site : Site S
 asked_advances scripts t site a by_moves legal =
     asked_keeps (Stay site.host) scripts t by_moves
     (λ host m each may so_far. all_both none none site.host.flows host.flows
-    (moved scripts.numbers t host m).flows so_far
-    (move_advances scripts.numbers t host m each may))
+    (moved scripts.starts t host m).flows so_far
+    (move_advances scripts.starts t host m each may))
     site a legal (all_stay site.host.flows)
 
 -- ----- actions
@@ -98,7 +99,7 @@ done_advances : {S A : Type 0} (scripts : Scripts S A) (t : ℕ) (site : Site S)
 done_advances scripts t site by (Timer n) by_moves legal =
     timer_advances n (timed by t) (timed_advances by t) (turn_in scripts (Timer n)) (λ i. refl) site.host.flows legal
 done_advances scripts t site by (Frame x) by_moves legal =
-    packet_advances by scripts.numbers t site.host x.frame x.packet legal
+    packet_advances by scripts.starts t site.host x.frame x.packet legal
 done_advances scripts t site by (Ask a) by_moves legal = asked_advances scripts t site a by_moves legal
 done_advances scripts t site by (Emission n) by_moves legal =
     at_advances n (emits by t) (emits_advances by t) site.host.flows legal

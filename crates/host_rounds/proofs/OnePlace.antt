@@ -7,9 +7,10 @@ use Rattle.tas_model.specs.declared.entry.Seg.{Seg}
 use Rattle.tas_model.specs.declared.entry.Caller.{Caller}
 use Rattle.tas_model.specs.declared.entry.Call.TheVariants as calls
 use Rattle.tas_model.specs.Segments.{one_if}
+use Rattle.host_rounds.specs.declared.opening.Start.{Start}
 use Rattle.host_rounds.specs.Lists.{change_first}
-use Rattle.host_rounds.specs.Hosts.{Live, Host, Numbers, next_number, with_call, is_known, is_indexed_as, is_listening}
-use Rattle.host_rounds.specs.Hosts.{is_full, lowest_free}
+use Rattle.host_rounds.specs.Hosts.{Live, Host, Starts, next_start, with_call, is_known, is_indexed_as}
+use Rattle.host_rounds.specs.Hosts.{is_listening, is_full, lowest_free}
 use Rattle.host_rounds.specs.Upkeep.{swept, all_swept, timed, emits}
 use Rattle.host_rounds.specs.Deliveries.{Packet, Damaged, Segment, Arrival, same_frame, received, opens, opened_by_syn}
 use Rattle.host_rounds.specs.Deliveries.{met_no_flow, arrived, delivered_packet}
@@ -24,69 +25,69 @@ use Rattle.host_rounds.proofs.Uses.{flows_push, line_adds, first_adds, map_same,
 use Rattle.host_rounds.proofs.Uses.{swept_adds, timed_adds, emits_adds}
 
 -- ----- frames
-syn_adds : (f : FrameId) (full : Bool) (free : Option ℕ) (number t : ℕ) (host : Host) (frame : FrameId)
+syn_adds : (f : FrameId) (full : Bool) (free : Option ℕ) (start : Start) (t : ℕ) (host : Host) (frame : FrameId)
     (tuple : FourTuple) (seg : Seg)
-    → uses f (opened_by_syn full free number t host frame tuple seg) ≡ uses f host + one_if (same_frame f frame)
-syn_adds f true free number t host frame tuple seg = line_adds f host t _
-syn_adds f false None number t host frame tuple seg = line_adds f host t _
-syn_adds f false (Some slot) number t host frame tuple seg =
-    let one : uses_live f (opened_by_syn false (Some slot) number t host frame tuple seg).flows
+    → uses f (opened_by_syn full free start t host frame tuple seg) ≡ uses f host + one_if (same_frame f frame)
+syn_adds f true free start t host frame tuple seg = line_adds f host t _
+syn_adds f false None start t host frame tuple seg = line_adds f host t _
+syn_adds f false (Some slot) start t host frame tuple seg =
+    let one : uses_live f (opened_by_syn false (Some slot) start t host frame tuple seg).flows
     ≡ uses_live f host.flows + (one_if (same_frame f frame) + 0) =
     flows_push f host.flows _ in
     omega arith
 
-no_flow_adds : (f : FrameId) (opening listening : Bool) (number t : ℕ) (host : Host) (frame : FrameId)
+no_flow_adds : (f : FrameId) (opening listening : Bool) (start : Start) (t : ℕ) (host : Host) (frame : FrameId)
     (tuple : FourTuple) (seg : Seg)
-    → uses f (met_no_flow opening listening number t host frame tuple seg) ≡ uses f host + one_if (same_frame f frame)
-no_flow_adds f true listening number t host frame tuple seg =
-    syn_adds f (is_full host tuple.lport) (lowest_free host) number t host frame tuple seg
-no_flow_adds f false listening number t host frame tuple seg = line_adds f host t _
+    → uses f (met_no_flow opening listening start t host frame tuple seg) ≡ uses f host + one_if (same_frame f frame)
+no_flow_adds f true listening start t host frame tuple seg =
+    syn_adds f (is_full host tuple.lport) (lowest_free host) start t host frame tuple seg
+no_flow_adds f false listening start t host frame tuple seg = line_adds f host t _
 
-arrived_adds : (f : FrameId) (known : Bool) (by : Caller) (number t : ℕ) (host : Host) (frame : FrameId)
+arrived_adds : (f : FrameId) (known : Bool) (by : Caller) (start : Start) (t : ℕ) (host : Host) (frame : FrameId)
     (tuple : FourTuple) (seg : Seg)
     → is_known host tuple ≡ known
-    → uses f (arrived known (received by t frame seg) number t host frame tuple seg)
+    → uses f (arrived known (received by t frame seg) start t host frame tuple seg)
     ≡ uses f host + one_if (same_frame f frame)
-arrived_adds f true by number t host frame tuple seg known =
+arrived_adds f true by start t host frame tuple seg known =
     let one : uses_live f (change_first (is_indexed_as tuple) (received by t frame seg) host.flows)
     ≡ uses_live f host.flows + one_if (same_frame f frame) =
     first_adds f (one_if (same_frame f frame)) (is_indexed_as tuple) (received by t frame seg)
     (λ l. call_adds f by t (calls.Rx frame seg) [] l) host.flows known in
     omega arith
-arrived_adds f false by number t host frame tuple seg known =
+arrived_adds f false by start t host frame tuple seg known =
     no_flow_adds f (is_listening host tuple.lport && opens seg)
-    (is_listening host tuple.lport) number t host frame tuple seg
+    (is_listening host tuple.lport) start t host frame tuple seg
 
-packet_adds : (f : FrameId) (by : Caller) (numbers : Numbers) (t : ℕ) (host : Host) (frame : FrameId) (packet : Packet)
-    → uses f (delivered_packet (received by) numbers t host frame packet) ≡ uses f host + one_if (same_frame f frame)
-packet_adds f by numbers t host frame (Damaged rule) = line_adds f host t _
-packet_adds f by numbers t host frame (Segment tuple seg) =
-    arrived_adds f (is_known host tuple) by (next_number numbers host tuple) t host frame tuple seg refl
+packet_adds : (f : FrameId) (by : Caller) (starts : Starts) (t : ℕ) (host : Host) (frame : FrameId) (packet : Packet)
+    → uses f (delivered_packet (received by) starts t host frame packet) ≡ uses f host + one_if (same_frame f frame)
+packet_adds f by starts t host frame (Damaged rule) = line_adds f host t _
+packet_adds f by starts t host frame (Segment tuple seg) =
+    arrived_adds f (is_known host tuple) by (next_start starts host tuple) t host frame tuple seg refl
 
 -- ----- moves
-move_adds : (f : FrameId) (numbers : Numbers) (t : ℕ) (host : Host) (m : Move) → MayMove host m
-    → uses f (moved numbers t host m) ≡ uses f host + 0
-move_adds f numbers t host (Calls n by call offer) may =
-    call_cases (λ (h : Host). uses f h ≡ uses f host + 0) numbers t host n by call offer may (same_plus _)
+move_adds : (f : FrameId) (starts : Starts) (t : ℕ) (host : Host) (m : Move) → MayMove host m
+    → uses f (moved starts t host m) ≡ uses f host + 0
+move_adds f starts t host (Calls n by call offer) may =
+    call_cases (λ (h : Host). uses f h ≡ uses f host + 0) starts t host n by call offer may (same_plus _)
     (λ app. flow_adds f n host (λ (l : Live). with_call l by t call offer)
     (λ l. call_adds f by t call offer l
     ∙ ap (λ (b : Bool). uses_in f l.flow.entries + one_if b) (app_takes_none f by call app)))
-move_adds f numbers t host (Opens slot tuple app) may =
-    let one : uses_live f (moved numbers t host (Opens slot tuple app)).flows ≡ uses_live f host.flows + 0 =
+move_adds f starts t host (Opens slot tuple app) may =
+    let one : uses_live f (moved starts t host (Opens slot tuple app)).flows ≡ uses_live f host.flows + 0 =
     flows_push f host.flows _ in
     omega arith
-move_adds f numbers t host (Notes event) may =
+move_adds f starts t host (Notes event) may =
     line_adds f host t event ∙ ap (λ (b : Bool). uses f host + one_if b) (line_takes_none f event may)
-move_adds f numbers t host (Holds n holder) may =
+move_adds f starts t host (Holds n holder) may =
     flow_adds f n host (λ (l : Live). record l { holder = holder }) (λ l. same_plus _)
-move_adds f numbers t host (Listens listeners) may = same_plus _
+move_adds f starts t host (Listens listeners) may = same_plus _
 
 asked_adds : {S A : Type 0} (f : FrameId) (scripts : Scripts S A) (t : ℕ) (site : Site S) (a : A) → AreByMoves scripts
     → AreLegal site.host
     → uses f (scripts.asked t site a).host ≡ uses f site.host + 0
 asked_adds f scripts t site a by_moves legal =
     asked_keeps (λ (h : Host). uses f h ≡ uses f site.host + 0) scripts t by_moves
-    (λ host m each may same. move_adds f scripts.numbers t host m may
+    (λ host m each may same. move_adds f scripts.starts t host m may
     ∙ (sym (same_plus _) ∙ same)) site a legal (same_plus _)
 
 -- ----- actions
@@ -98,7 +99,7 @@ done_adds : {S A : Type 0} (f : FrameId) (scripts : Scripts S A) (t : ℕ) (site
     (action : Action A) → AreByMoves scripts
     → AreLegal site.host → uses f (done_by scripts t site by action).host ≡ uses f site.host + adds f action
 done_adds f scripts t site by (Timer i) by_moves legal = flow_adds f i site.host (timed by t) (timed_adds f by t)
-done_adds f scripts t site by (Frame x) by_moves legal = packet_adds f by scripts.numbers t site.host x.frame x.packet
+done_adds f scripts t site by (Frame x) by_moves legal = packet_adds f by scripts.starts t site.host x.frame x.packet
 done_adds f scripts t site by (Ask a) by_moves legal = asked_adds f scripts t site a by_moves legal
 done_adds f scripts t site by (Emission i) by_moves legal = flow_adds f i site.host (emits by t) (emits_adds f by t)
 

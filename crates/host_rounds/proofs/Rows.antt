@@ -2,7 +2,7 @@
 use Rattle.std.proofs.Common.{◌≡◌, ℕ, zero, suc, List, [], ◌∷◌, slice_get, Some, refl, sym, subst, ap}
 use Rattle.std.proofs.Common.{◌∙◌}
 use Rattle.host_rounds.specs.Lists.{change_at}
-use Rattle.host_rounds.specs.Hosts.{Live, Host, Numbers}
+use Rattle.host_rounds.specs.Hosts.{Live, Host, Starts}
 use Rattle.host_rounds.specs.Moves.{Move, moved, AreMoves}
 
 -- ----- lists
@@ -29,22 +29,22 @@ change_none zero (x ∷ xs) = refl
 change_none {X} (suc n) (x ∷ xs) = ap (λ (zs : List X). x ∷ zs) (change_none n xs)
 
 -- ----- rows of moves
-abbrev pub Row : Numbers → ℕ → Host → Host → Type 0
-Row numbers t before after = (moves : List Move) × AreMoves numbers t before moves after
+abbrev pub Row : Starts → ℕ → Host → Host → Type 0
+Row starts t before after = (moves : List Move) × AreMoves starts t before moves after
 
-pub none : (numbers : Numbers) (t : ℕ) (host : Host) → Row numbers t host host
-none numbers t host = ([], refl)
+pub none : (starts : Starts) (t : ℕ) (host : Host) → Row starts t host host
+none starts t host = ([], refl)
 
 abbrev pub with_flows : Host → List Live → Host
 with_flows host ls = record host { flows = ls }
 
 -- no move leads to what is the same
-pub same_row : (numbers : Numbers) (t : ℕ) (a b c : Host) → b ≡ c → Row numbers t a b → Row numbers t a c
-same_row numbers t a b c e row = subst (λ (h : Host). Row numbers t a h) e row
+pub same_row : (starts : Starts) (t : ℕ) (a b c : Host) → b ≡ c → Row starts t a b → Row starts t a c
+same_row starts t a b c e row = subst (λ (h : Host). Row starts t a h) e row
 
-pub joined : (numbers : Numbers) (t : ℕ) (a b c : Host) (ms : List Move) → AreMoves numbers t a ms b → Row numbers t b c
-    → Row numbers t a c
-joined numbers t a b c [] same row = subst (λ (h : Host). Row numbers t h c) (sym same) row
-joined numbers t a b c (m ∷ ms) are row =
-    let rest : Row numbers t (moved numbers t a m) c = joined numbers t (moved numbers t a m) b c ms are.1 row in
+pub joined : (starts : Starts) (t : ℕ) (a b c : Host) (ms : List Move) → AreMoves starts t a ms b → Row starts t b c
+    → Row starts t a c
+joined starts t a b c [] same row = subst (λ (h : Host). Row starts t h c) (sym same) row
+joined starts t a b c (m ∷ ms) are row =
+    let rest : Row starts t (moved starts t a m) c = joined starts t (moved starts t a m) b c ms are.1 row in
     (m ∷ rest.0, (are.0, rest.1))

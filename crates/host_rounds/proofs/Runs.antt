@@ -1,12 +1,13 @@
 -- What holds of every run: its flows are sound and have sent all, and how often each frame stands in it.
-use Rattle.std.proofs.Common.{◌≡◌, ℕ, ◌+◌, List, [], ◌∷◌, ◌++◌, refl, subst, sym, ap, arith}
+use Rattle.std.proofs.Common.{◌≡◌, ℕ, ◌+◌, ◌≤◌, List, [], ◌∷◌, ◌++◌, length, Option, Some, None, IfSome, refl, subst}
+use Rattle.std.proofs.Common.{sym, ap, arith}
 use Rattle.tas_model.specs.declared.entry.HostParams.{HostParams}
 use Rattle.tas_model.specs.declared.entry.FrameId.{FrameId}
 use Rattle.tas_model.specs.Valid.{InRange}
 use Rattle.host_rounds.specs.Lists.{Each}
-use Rattle.host_rounds.specs.Hosts.{Live, Numbers, flows_of}
+use Rattle.host_rounds.specs.Hosts.{Live, Starts, flow_params, flows_of}
 use Rattle.host_rounds.specs.Histories.{HasHistory, IsSound, HasSentAll}
-use Rattle.host_rounds.specs.Openings.{Opening, opening_of, AreOpened}
+use Rattle.host_rounds.specs.Openings.{Opening, opening_of, openings_as, HaveShifts, AreOpened}
 use Rattle.host_rounds.specs.Places.{uses, uses_live, uses_flows, coming}
 use Rattle.host_rounds.specs.Scripts.{Site, Scripts}
 use Rattle.host_rounds.specs.Moves.{AreByMoves}
@@ -17,13 +18,27 @@ use Rattle.host_rounds.proofs.OnePlace.{round_adds}
 use Rattle.host_rounds.proofs.Sound.{sound}
 
 -- ----- from a host to its flows
-pub flows_sound : (numbers : Numbers) (p : HostParams) (before : List Opening) (ls : List Live) → InRange p
-    → AreOpened numbers p before (openings ls)
-    → Each HasHistory ls → Each IsSound (flows_of ls)
-flows_sound numbers p before [] fits opened each = tt
-flows_sound numbers p before (l ∷ ls) fits opened each = (
-  sound l.flow (subst InRange (sym opened.0.params) fits) each.0,
-  flows_sound numbers p (before ++ opening_of l.flow ∷ []) ls fits opened.1 each.1,
+-- a flow's parameters are in their ranges, whatever shift it has of its own
+pub flow_in_range : (p : HostParams) (scale : Option ℕ) → InRange p → IfSome scale (λ shift. shift ≤ 14)
+    → InRange (flow_params p scale)
+flow_in_range p None fits low = fits
+flow_in_range p (Some shift) fits low = record {
+  ring = (omega arith, omega arith);
+  mss = fits.mss;
+  rto = fits.rto;
+  slots = fits.slots;
+  backlog = fits.backlog;
+  scale = low;
+}
+
+pub flows_sound : (starts : Starts) (p : HostParams) (before : List Opening) (ls : List Live) → InRange p
+    → HaveShifts starts → AreOpened starts p before (openings ls) → Each HasHistory ls → Each IsSound (flows_of ls)
+flows_sound starts p before [] fits shifts opened each = tt
+flows_sound starts p before (l ∷ ls) fits shifts opened each = (
+  sound l.flow
+      (subst InRange (sym opened.0.params)
+      (flow_in_range p _ fits (shifts l.flow.tuple (openings_as l.flow.tuple before) (length before)))) each.0,
+  flows_sound starts p (before ++ opening_of l.flow ∷ []) ls fits shifts opened.1 each.1,
 )
 
 pub flows_quiet : (ls : List Live) → Each IsQuiet ls → Each HasSentAll (flows_of ls)

@@ -6,8 +6,9 @@ use Rattle.tas_model.specs.declared.entry.FrameId.{FrameId}
 use Rattle.tas_model.specs.declared.entry.Seg.{Seg}
 use Rattle.tas_model.specs.declared.entry.Caller.{Caller}
 use Rattle.tas_model.specs.declared.entry.Caller.TheVariants.{Slow, Core}
+use Rattle.host_rounds.specs.declared.opening.Start.{Start}
 use Rattle.host_rounds.specs.Lists.{Each, change_first, change_at}
-use Rattle.host_rounds.specs.Hosts.{Live, Host, Numbers, next_number, endpoint, is_known, is_indexed_as}
+use Rattle.host_rounds.specs.Hosts.{Live, Host, Starts, next_start, endpoint, is_known, is_indexed_as}
 use Rattle.host_rounds.specs.Upkeep.{timed}
 use Rattle.host_rounds.specs.Deliveries.{Packet, Damaged, Segment, Arrival, received, received_serially, rx_caller}
 use Rattle.host_rounds.specs.Deliveries.{is_fast, arrived, delivered_packet, delivered}
@@ -76,43 +77,43 @@ first_change test t frame seg (l ∷ ls) =
       by_test false by k h = ap (λ (c : Caller). l ∷ change_first test (received c t frame seg) ls) k
           ∙ ap (λ (zs : List Live). l ∷ zs) h
 
-arrived_same : (known : Bool) (number t : ℕ) (host : Host) (frame : FrameId) (tuple : FourTuple) (seg : Seg)
-    → arrived known (received (first_caller (is_indexed_as tuple) seg host.flows) t frame seg) number t host frame tuple
+arrived_same : (known : Bool) (start : Start) (t : ℕ) (host : Host) (frame : FrameId) (tuple : FourTuple) (seg : Seg)
+    → arrived known (received (first_caller (is_indexed_as tuple) seg host.flows) t frame seg) start t host frame tuple
     seg
-    ≡ arrived known (received_serially t frame seg) number t host frame tuple seg
-arrived_same true number t host frame tuple seg =
+    ≡ arrived known (received_serially t frame seg) start t host frame tuple seg
+arrived_same true start t host frame tuple seg =
     ap (λ (zs : List Live). record host { flows = zs }) (first_change (is_indexed_as tuple) t frame seg host.flows)
-arrived_same false number t host frame tuple seg = refl
+arrived_same false start t host frame tuple seg = refl
 
-packet_same : (numbers : Numbers) (t : ℕ) (host : Host) (frame : FrameId) (packet : Packet)
-    → delivered_packet (received (caller_of host.flows packet)) numbers t host frame packet
-    ≡ delivered_packet received_serially numbers t host frame packet
-packet_same numbers t host frame (Damaged rule) = refl
-packet_same numbers t host frame (Segment tuple seg) =
-    arrived_same (is_known host tuple) (next_number numbers host tuple) t host frame tuple seg
+packet_same : (starts : Starts) (t : ℕ) (host : Host) (frame : FrameId) (packet : Packet)
+    → delivered_packet (received (caller_of host.flows packet)) starts t host frame packet
+    ≡ delivered_packet received_serially starts t host frame packet
+packet_same starts t host frame (Damaged rule) = refl
+packet_same starts t host frame (Segment tuple seg) =
+    arrived_same (is_known host tuple) (next_start starts host tuple) t host frame tuple seg
 
-abbrev pub frames_made : {A : Type 0} → Numbers → ℕ → Host → List Arrival → List (Deed A)
-frames_made numbers t host [] = []
-frames_made numbers t host (x ∷ xs) =
+abbrev pub frames_made : {A : Type 0} → Starts → ℕ → Host → List Arrival → List (Deed A)
+frames_made starts t host [] = []
+frames_made starts t host (x ∷ xs) =
     (record { by = caller_of host.flows x.packet; action = Frame x })
-    ∷ frames_made numbers t (delivered received_serially numbers t host x) xs
+    ∷ frames_made starts t (delivered received_serially starts t host x) xs
 
 pub frames_fold : {S A : Type 0} (scripts : Scripts S A) (t : ℕ) (site : Site S) (frames : List Arrival)
-    → fold (does scripts t) site (frames_made scripts.numbers t site.host frames)
-    ≡ on_host (λ (host : Host). fold (delivered received_serially scripts.numbers t) host frames) site
+    → fold (does scripts t) site (frames_made scripts.starts t site.host frames)
+    ≡ on_host (λ (host : Host). fold (delivered received_serially scripts.starts t) host frames) site
 frames_fold scripts t site [] = refl
 frames_fold scripts t site (x ∷ xs) =
-    let next : Host = delivered received_serially scripts.numbers t site.host x in
-    ap (λ (h : Host). fold (does scripts t) (record site { host = h }) (frames_made scripts.numbers t next xs))
-    (packet_same scripts.numbers t site.host x.frame x.packet)
+    let next : Host = delivered received_serially scripts.starts t site.host x in
+    ap (λ (h : Host). fold (does scripts t) (record site { host = h }) (frames_made scripts.starts t next xs))
+    (packet_same scripts.starts t site.host x.frame x.packet)
     ∙ frames_fold scripts t (record site { host = next }) xs
 
-pub frames_actions : {A : Type 0} (numbers : Numbers) (t : ℕ) (host : Host) (frames : List Arrival)
-    → actions_of (frames_made {A = A} numbers t host frames) ≡ map Frame frames
-frames_actions numbers t host [] = refl
-frames_actions {A} numbers t host (x ∷ xs) =
+pub frames_actions : {A : Type 0} (starts : Starts) (t : ℕ) (host : Host) (frames : List Arrival)
+    → actions_of (frames_made {A = A} starts t host frames) ≡ map Frame frames
+frames_actions starts t host [] = refl
+frames_actions {A} starts t host (x ∷ xs) =
     ap (λ (zs : List (Action A)). Frame x ∷ zs)
-    (frames_actions numbers t (delivered received_serially numbers t host x) xs)
+    (frames_actions starts t (delivered received_serially starts t host x) xs)
 
 module _ (W : Caller → Type 0) (slow : W Slow) (core : W (Core 0)) where
   rx_worker : (b : Bool) → W (if b then Core 0 else Slow)
@@ -131,11 +132,11 @@ module _ (W : Caller → Type 0) (slow : W Slow) (core : W (Core 0)) where
   packet_worker ls (Damaged rule) = slow
   packet_worker ls (Segment tuple seg) = first_worker (is_indexed_as tuple) seg ls
 
-  pub frames_workers : (A : Type 0) (numbers : Numbers) (t : ℕ) (host : Host) (frames : List Arrival)
-      → Each (λ (m : Deed A). W m.by) (frames_made numbers t host frames)
-  frames_workers A numbers t host [] = tt
-  frames_workers A numbers t host (x ∷ xs) =
-      (packet_worker host.flows x.packet, frames_workers A numbers t (delivered received_serially numbers t host x) xs)
+  pub frames_workers : (A : Type 0) (starts : Starts) (t : ℕ) (host : Host) (frames : List Arrival)
+      → Each (λ (m : Deed A). W m.by) (frames_made starts t host frames)
+  frames_workers A starts t host [] = tt
+  frames_workers A starts t host (x ∷ xs) =
+      (packet_worker host.flows x.packet, frames_workers A starts t (delivered received_serially starts t host x) xs)
 
 -- ----- what the applications ask
 pub asks_fold : {S A : Type 0} (scripts : Scripts S A) (t : ℕ) (site : Site S) (asks : List A)

@@ -32,7 +32,7 @@ abbrev timers_due : {S A : Type 0} → Site S → List (Deed A)
 timers_due site = by_slow (timers_from 0 (map swept site.host.flows))
 
 abbrev frames_due : {S A : Type 0} → Scripts S A → ℕ → Site S → Due A → List (Deed A)
-frames_due scripts t site due = frames_made scripts.numbers t (slow_phase t site.host) due.frames
+frames_due scripts t site due = frames_made scripts.starts t (slow_phase t site.host) due.frames
 
 abbrev asks_due : {A : Type 0} → Due A → List (Deed A)
 asks_due due = by_slow (map Ask due.asks)
@@ -84,7 +84,7 @@ serial_actions {S} {A} scripts t site due =
     ∙ ap (λ (zs : List (Action A)). timers_from 0 site.host.flows ++ zs)
     (map_append act frames (asks ++ last)
     ∙ ap (λ (zs : List (Action A)). zs ++ actions_of (asks ++ last))
-    (frames_actions scripts.numbers t (slow_phase t site.host) due.frames)
+    (frames_actions scripts.starts t (slow_phase t site.host) due.frames)
     ∙ ap (λ (zs : List (Action A)). map Frame due.frames ++ zs)
     (map_append act asks last ∙ ap (λ (zs : List (Action A)). zs ++ actions_of last) (slow_actions (map Ask due.asks))))
 
@@ -116,7 +116,7 @@ serial_workers {S} {A} W slow core scripts t site due =
     let last : List (Deed A) = last_due scripts t site due in
     each_append By timers (frames ++ (asks ++ last)) (slow_workers W slow (timers_from 0 (map swept site.host.flows)))
     (each_append By frames (asks ++ last)
-    (frames_workers W slow core A scripts.numbers t (slow_phase t site.host) due.frames)
+    (frames_workers W slow core A scripts.starts t (slow_phase t site.host) due.frames)
     (each_append By asks last (slow_workers W slow (map Ask due.asks))
     (emissions_workers W core A t 0 (after_asks scripts t site due).host.flows)))
 

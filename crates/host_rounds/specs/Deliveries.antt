@@ -15,8 +15,9 @@ use Rattle.tas_model.specs.declared.entry.Call.TheVariants as calls
 use Rattle.tas_model.specs.Endpoint.{Endpoint, phase}
 use Rattle.tas_model.specs.Segments.{has, is_fin, is_syn, is_rst, is_ack, resets, stray_reply}
 use Rattle.host_rounds.specs.declared.log.LogEvent.TheVariants as events
-use Rattle.host_rounds.specs.Hosts.{Live, Host, Waiting, Numbers, next_number, endpoint, with_call, logged, is_known}
-use Rattle.host_rounds.specs.Hosts.{changed, is_listening, is_full, lowest_free, first_entry, opened_in}
+use Rattle.host_rounds.specs.declared.opening.Start.{Start}
+use Rattle.host_rounds.specs.Hosts.{Live, Host, Waiting, Starts, next_start, endpoint, with_call, logged}
+use Rattle.host_rounds.specs.Hosts.{is_known, changed, is_listening, is_full, lowest_free, first_entry, opened_in}
 
 -- ----- frames
 -- What comes in a frame: a packet that breaks a rule of reading, whose number stands here, or a segment with its
@@ -77,37 +78,40 @@ stray_answer true seg = answer_in (listener_reply seg)
 stray_answer false seg = answer_in (stray_reply seg)
 
 -- A SYN for a listener is dropped where as many flows wait as it takes, and then where no slot is free.
--- Else it opens a flow in the lowest free slot, by the slow path; `number` is its first number.
-abbrev pub opened_by_syn : (full : Bool) → (free : Option ℕ) → (number tick : ℕ)
+-- Else it opens a flow in the lowest free slot, by the slow path, with this start.
+abbrev pub opened_by_syn : (full : Bool) → (free : Option ℕ) → (start : Start) (tick : ℕ)
     → Host → FrameId → FourTuple → Seg → Host
-opened_by_syn true free number t host frame tuple seg = logged host t (events.Dropped frame true)
-opened_by_syn false None number t host frame tuple seg = logged host t (events.Dropped frame false)
-opened_by_syn false (Some slot) number t host frame tuple seg =
-    opened_in host slot tuple Waiting (first_entry Slow t (calls.Passive frame (record { 0 = number }) seg))
+opened_by_syn true free start t host frame tuple seg = logged host t (events.Dropped frame true)
+opened_by_syn false None start t host frame tuple seg = logged host t (events.Dropped frame false)
+opened_by_syn false (Some slot) start t host frame tuple seg =
+    opened_in host slot tuple start.scale Waiting
+    (first_entry Slow t (calls.Passive frame start.number seg))
 
-abbrev pub met_no_flow : (opening listening : Bool) → (number tick : ℕ) → Host → FrameId → FourTuple → Seg → Host
-met_no_flow true listening number t host frame tuple seg =
-    opened_by_syn (is_full host tuple.lport) (lowest_free host) number t host frame tuple seg
-met_no_flow false listening number t host frame tuple seg =
+abbrev pub met_no_flow : (opening listening : Bool) → (start : Start) (tick : ℕ)
+    → Host → FrameId → FourTuple → Seg → Host
+met_no_flow true listening start t host frame tuple seg =
+    opened_by_syn (is_full host tuple.lport) (lowest_free host) start t host frame tuple seg
+met_no_flow false listening start t host frame tuple seg =
     logged host t (events.Stray frame tuple seg (stray_answer listening seg))
 
 -- ----- one frame
-abbrev pub arrived : (known : Bool) → (Live → Live) → (number tick : ℕ) → Host → FrameId → FourTuple → Seg → Host
-arrived true take_in number t host frame tuple seg = changed host tuple take_in
-arrived false take_in number t host frame tuple seg =
+abbrev pub arrived : (known : Bool) → (Live → Live) → (start : Start) (tick : ℕ)
+    → Host → FrameId → FourTuple → Seg → Host
+arrived true take_in start t host frame tuple seg = changed host tuple take_in
+arrived false take_in start t host frame tuple seg =
     let listening : Bool = is_listening host tuple.lport in
-    met_no_flow (listening && opens seg) listening number t host frame tuple seg
+    met_no_flow (listening && opens seg) listening start t host frame tuple seg
 
 -- How a flow takes a segment: by which caller.
 abbrev pub Taking : Type 0
 Taking = (tick : ℕ) → FrameId → Seg → Live → Live
 
-abbrev pub delivered_packet : Taking → Numbers → (tick : ℕ) → Host → FrameId → Packet → Host
-delivered_packet take_in numbers t host frame (Damaged rule) = logged host t (events.Refused frame rule)
-delivered_packet take_in numbers t host frame (Segment tuple seg) =
-    arrived (is_known host tuple) (take_in t frame seg) (next_number numbers host tuple) t host frame tuple seg
+abbrev pub delivered_packet : Taking → Starts → (tick : ℕ) → Host → FrameId → Packet → Host
+delivered_packet take_in starts t host frame (Damaged rule) = logged host t (events.Refused frame rule)
+delivered_packet take_in starts t host frame (Segment tuple seg) =
+    arrived (is_known host tuple) (take_in t frame seg) (next_start starts host tuple) t host frame tuple seg
 
 -- A packet that breaks a rule of reading is a line of the log. A segment is taken by the flow that the index has under
 -- its four-tuple, also where that was closed in this tick, and else meets a listener, or none.
-abbrev pub delivered : Taking → Numbers → (tick : ℕ) → Host → Arrival → Host
-delivered take_in numbers t host x = delivered_packet take_in numbers t host x.frame x.packet
+abbrev pub delivered : Taking → Starts → (tick : ℕ) → Host → Arrival → Host
+delivered take_in starts t host x = delivered_packet take_in starts t host x.frame x.packet

@@ -14,6 +14,7 @@ use Rattle.tas_model.specs.ApplicationCalls.{Opening, Running, column}
 use Rattle.tas_model.specs.LegalHistory.{replay, extended_by}
 use Rattle.host_rounds.specs.declared.log.LogLine.{LogLine}
 use Rattle.host_rounds.specs.declared.log.LogEvent.{LogEvent}
+use Rattle.host_rounds.specs.declared.opening.Start.{Start}
 use Rattle.host_rounds.specs.Logs.{Flow, HostRun}
 use Rattle.host_rounds.specs.Lists.{change_first, change_at}
 
@@ -174,28 +175,33 @@ ports_given host = count_by (λ (l : Live). nat_le first_port l.flow.tuple.lport
 abbrev pub opened_as : FourTuple → List Live → ℕ
 opened_as tuple flows = count_by (λ (l : Live). same_tuple tuple l.flow.tuple) flows
 
--- The first numbers of a host's flows: that of a flow of which k of its four-tuple were opened before, and n of the
--- host.
-abbrev pub Numbers : Type 0
-Numbers = FourTuple → (k n : ℕ) → ℕ
+-- What a host gives its flows: to a flow of which k of its four-tuple were opened before, and n of the host.
+abbrev pub Starts : Type 0
+Starts = FourTuple → (k n : ℕ) → Start
 
--- the first number of a flow of this four-tuple that is opened now
-abbrev pub next_number : Numbers → Host → FourTuple → ℕ
-next_number numbers host tuple = numbers tuple (opened_as tuple host.flows) (length host.flows)
+-- what it gives to a flow of this four-tuple that is opened now
+abbrev pub next_start : Starts → Host → FourTuple → Start
+next_start starts host tuple = starts tuple (opened_as tuple host.flows) (length host.flows)
+
+-- The parameters of a flow: the host's, and where the flow has a scale of its own, that one and a ring of 262,144
+-- bytes.
+abbrev pub flow_params : HostParams → (scale : Option ℕ) → HostParams
+flow_params host None = host
+flow_params host (Some shift) = record host { scale = Some shift; ring = 262144 }
 
 -- the first entry of a flow
 abbrev pub first_entry : Caller → (tick : ℕ) → Call → Entry
 first_entry caller tick call = record { caller = caller; number = 0; tick = tick; call = call; reply = replies.Ok }
 
--- a flow that has just been opened in this slot, by this entry
-abbrev pub new_flow : Host → (slot : ℕ) → FourTuple → Holder → Entry → Live
-new_flow host slot tuple holder x =
+-- a flow that has just been opened in this slot, with this scale of its own, by this entry
+abbrev pub new_flow : Host → (slot : ℕ) → FourTuple → (scale : Option ℕ) → Holder → Entry → Live
+new_flow host slot tuple scale holder x =
     record {
       flow =
           record {
             id = record { slot = slot; generation = next_generation slot host.flows };
             tuple = tuple;
-            params = host.params;
+            params = flow_params host.params scale;
             entries = x ∷ [];
           };
       indexed = true;
@@ -203,8 +209,9 @@ new_flow host slot tuple holder x =
       filed = false;
     }
 
-abbrev pub opened_in : Host → (slot : ℕ) → FourTuple → Holder → Entry → Host
-opened_in host slot tuple holder x = record host { flows = host.flows ++ new_flow host slot tuple holder x ∷ [] }
+abbrev pub opened_in : Host → (slot : ℕ) → FourTuple → (scale : Option ℕ) → Holder → Entry → Host
+opened_in host slot tuple scale holder x =
+    record host { flows = host.flows ++ new_flow host slot tuple scale holder x ∷ [] }
 
 -- ----- what is left in the end
 abbrev pub flows_of : List Live → List Flow

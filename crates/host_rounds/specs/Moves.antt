@@ -8,7 +8,8 @@ use Rattle.tas_model.specs.declared.entry.Call.TheVariants as calls
 use Rattle.tas_model.specs.LegalHistory.{Offers, shown, step}
 use Rattle.host_rounds.specs.declared.log.LogEvent.{LogEvent}
 use Rattle.host_rounds.specs.declared.log.LogEvent.TheVariants as events
-use Rattle.host_rounds.specs.Hosts.{Live, Host, Holder, Application, Listener, Numbers, next_number, endpoint}
+use Rattle.host_rounds.specs.declared.opening.Start.{Start}
+use Rattle.host_rounds.specs.Hosts.{Live, Host, Holder, Application, Listener, Starts, next_start, endpoint}
 use Rattle.host_rounds.specs.Hosts.{with_call, logged, at_flow, lowest_free, first_entry, opened_in}
 use Rattle.host_rounds.specs.Lists.{Each}
 use Rattle.host_rounds.specs.Histories.{HasHistory}
@@ -22,14 +23,14 @@ pub data Move : Type 0 where
   Listens : List Listener → Move  -- its listeners come or go
 
 -- What a move leaves.
-abbrev pub moved : Numbers → (tick : ℕ) → Host → Move → Host
-moved numbers t host (Calls n by call offer) = at_flow n (λ (l : Live). with_call l by t call offer) host
-moved numbers t host (Opens slot tuple app) =
-    let number : ℕ = next_number numbers host tuple in
-    opened_in host slot tuple (Application app) (first_entry (App app) t (calls.Connect (record { 0 = number })))
-moved numbers t host (Notes event) = logged host t event
-moved numbers t host (Holds n holder) = at_flow n (λ (l : Live). record l { holder = holder }) host
-moved numbers t host (Listens listeners) = record host { listeners = listeners }
+abbrev pub moved : Starts → (tick : ℕ) → Host → Move → Host
+moved starts t host (Calls n by call offer) = at_flow n (λ (l : Live). with_call l by t call offer) host
+moved starts t host (Opens slot tuple app) =
+    let start : Start = next_start starts host tuple in
+    opened_in host slot tuple start.scale (Application app) (first_entry (App app) t (calls.Connect start.number))
+moved starts t host (Notes event) = logged host t event
+moved starts t host (Holds n holder) = at_flow n (λ (l : Live). record l { holder = holder }) host
+moved starts t host (Listens listeners) = record host { listeners = listeners }
 
 -- ----- which moves there are
 -- the calls of an application on a flow that stands; a flow of an application that is killed is aborted by the slow
@@ -66,12 +67,12 @@ MayMove host (Holds n holder) = ⊤
 MayMove host (Listens listeners) = ⊤
 
 -- these moves, one after the other, lead from one host to the other
-abbrev pub AreMoves : Numbers → (tick : ℕ) → (before : Host) → List Move → (after : Host) → Type 0
-AreMoves numbers t before [] after = before ≡ after
-AreMoves numbers t before (m ∷ ms) after = MayMove before m × AreMoves numbers t (moved numbers t before m) ms after
+abbrev pub AreMoves : Starts → (tick : ℕ) → (before : Host) → List Move → (after : Host) → Type 0
+AreMoves starts t before [] after = before ≡ after
+AreMoves starts t before (m ∷ ms) after = MayMove before m × AreMoves starts t (moved starts t before m) ms after
 
 -- Whatever these scripts ask is a row of such moves.
 abbrev pub AreByMoves : {S A : Type 0} → Scripts S A → Type 0
 AreByMoves {S} {A} scripts =
     (t : ℕ) (site : Site S) (a : A) → Each HasHistory site.host.flows
-    → (moves : List Move) × AreMoves scripts.numbers t site.host moves (scripts.asked t site a).host
+    → (moves : List Move) × AreMoves scripts.starts t site.host moves (scripts.asked t site a).host

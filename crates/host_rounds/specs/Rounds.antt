@@ -33,7 +33,7 @@ on_host f site = record site { host = f site.host }
 -- was closed before in the tick, say.
 abbrev pub done_by : {S A : Type 0} → Scripts S A → (tick : ℕ) → Site S → Caller → Action A → Site S
 done_by scripts t site by (Timer n) = on_host (at_flow n (timed by t)) site
-done_by scripts t site by (Frame x) = on_host (λ (host : Host). delivered (received by) scripts.numbers t host x) site
+done_by scripts t site by (Frame x) = on_host (λ (host : Host). delivered (received by) scripts.starts t host x) site
 done_by scripts t site by (Ask a) = scripts.asked t site a
 done_by scripts t site by (Emission n) = on_host (at_flow n (emits by t)) site
 

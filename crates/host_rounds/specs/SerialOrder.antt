@@ -13,7 +13,7 @@ slow_phase t host = record host { flows = map (timed Slow t) (all_swept host).fl
 
 -- The frames that come, in their order, each taken by the core or by the slow path.
 abbrev pub frame_phase : {S A : Type 0} → Scripts S A → (tick : ℕ) → Host → List Arrival → Host
-frame_phase scripts t host frames = fold (delivered received_serially scripts.numbers t) host frames
+frame_phase scripts t host frames = fold (delivered received_serially scripts.starts t) host frames
 
 -- What the applications ask, in its order.
 abbrev pub ask_phase : {S A : Type 0} → Scripts S A → (tick : ℕ) → Site S → List A → Site S

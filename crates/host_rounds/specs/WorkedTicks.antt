@@ -25,7 +25,8 @@ use Rattle.host_rounds.specs.SerialOrder.{serial_ticks}
 abbrev pub silent : Scripts ⊤ ⊤
 silent =
     record {
-      numbers = λ (tuple : FourTuple) (k n : ℕ). (100 + 64000 * n) % 2 ^ 32;
+      starts = λ (tuple : FourTuple) (k n : ℕ).
+          record { number = record { 0 = (100 + 64000 * n) % 2 ^ 32 }; scale = None };
       agent = λ (a : ⊤). 0;
       asked = λ (t : ℕ) (site : Site ⊤) (a : ⊤). site;
     }

@@ -47,12 +47,13 @@ pub fn frames_have_one_place<S, A>()
         uses frame after.host ≡ uses frame before.host + coming frame due.frames) }
 {}
 
-/// Every flow was opened with the host's parameters, in one of its slots, as that slot's next generation, and with its
-/// own first number; and fewer were opened before it than a host opens at most.
+/// Every flow was opened with the host's parameters and with its own window scale where it has one, in one of the
+/// host's slots, as that slot's next generation, and with its own first number; and fewer were opened before it than a
+/// host opens at most.
 pub fn flows_are_opened_rightly<S, A>()
     ensures { InEveryTick S A (λ scripts t due before after.
-        AreOpened scripts.numbers before.host.params [] (openings_of (flows_of before.host.flows))
-        → AreOpened scripts.numbers before.host.params [] (openings_of (flows_of after.host.flows))) }
+        AreOpened scripts.starts before.host.params [] (openings_of (flows_of before.host.flows))
+        → AreOpened scripts.starts before.host.params [] (openings_of (flows_of after.host.flows))) }
 {}
 
 /// In each tick every flow that was opened before has one Tick, which is wanting only where the flow was closed in the

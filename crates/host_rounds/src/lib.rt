@@ -5,9 +5,11 @@
 mod kept_seg;
 mod laws;
 mod log;
+mod opening;
 mod run_laws;
 mod worked;
 
 pub use kept_seg::KeptSeg;
 pub use log::{LogEvent, LogLine};
+pub use opening::Start;
 pub use worked::worked_ticks;
