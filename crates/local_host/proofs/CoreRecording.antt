@@ -6,7 +6,8 @@ use Rattle.std.specs.Option.{option_map}
 use Rattle.std.proofs.lemmas.List.{drop_more, take_more, map-append}
 use Rattle.std.proofs.lemmas.List.Elements.{filter_map-append}
 use Rattle.tas_model.specs.declared.entry.Caller.TheVariants.{Slow}
-use Rattle.host_rounds.specs.Hosts.{Host, Start, Starts, is_known}
+use Rattle.host_rounds.specs.declared.opening.Start.{Start}
+use Rattle.host_rounds.specs.Hosts.{Host, Starts, is_known}
 use Rattle.host_rounds.specs.Scripts.{Site}
 use Rattle.host_rounds.specs.Rounds.{on_host}
 use Rattle.host_rounds.specs.Deliveries.{Packet, Damaged, Segment, Arrival, Taking, received, arrived, delivered}

@@ -4,7 +4,6 @@ use Rattle.std.proofs.Common.{List, [], ◌∷◌, length, get_or, position, Opt
 use Rattle.std.proofs.Common.{ap, ◌∙◌, true≢false, arith, tests, nat_lt}
 use Rattle.std.specs.List.{list_any, position_or_len}
 use Rattle.std.proofs.lemmas.List.Sums.{fails_before_first}
-use Rattle.tas_num.specs.declared.seq.Seq.{Seq}
 use Rattle.tas_model.specs.declared.entry.FlowId.{FlowId}
 use Rattle.tas_model.specs.declared.entry.FrameId.{FrameId}
 use Rattle.tas_model.specs.declared.entry.FourTuple.{FourTuple}
@@ -13,10 +12,11 @@ use Rattle.tas_model.specs.declared.entry.Seg.{Seg}
 use Rattle.tas_model.specs.declared.entry.Entry.{Entry}
 use Rattle.tas_model.specs.declared.entry.Call.TheVariants as calls
 use Rattle.tas_model.specs.declared.entry.Caller.TheVariants.{Slow, App}
+use Rattle.host_rounds.specs.declared.opening.Start.{Start}
 use Rattle.host_rounds.specs.Lists.{change_at}
 use Rattle.host_rounds.specs.Hosts.{Live, Host, Holder, Waiting, Application, changed, is_known}
 use Rattle.host_rounds.specs.Hosts.{is_indexed_as, lowest_free, next_generation}
-use Rattle.host_rounds.specs.Hosts.{Start, Starts, flow_params, next_start, first_entry, opened_in}
+use Rattle.host_rounds.specs.Hosts.{Starts, flow_params, next_start, first_entry, opened_in}
 use Rattle.host_rounds.specs.Deliveries.{opened_by_syn}
 use Rattle.host_rounds.proofs.Loops.{none_found, known_found}
 use Rattle.tas_runs.specs.LocalScript.{connects, opened_by_connect, connected_where, connected}
@@ -77,21 +77,18 @@ opened_there host slot tuple scale holder x y params id flows is are same made =
     ∙ (ap (λ (p : HostParams). host.flows ++ opened_live next tuple p holder x ∷ []) are
     ∙ ap (λ (z : Entry). host.flows ++ opened_live next tuple (flow_params host.params scale) holder z ∷ []) same)))
 
-number_is : (iss : Seq) (n : ℕ) → iss.0 ≡ n → ◌≡◌ {A = Seq} iss (record { 0 = n })
-number_is iss n is = ap (λ (m : ℕ). record { 0 = m }) is
-
-pub syn_opened : (host : Host) (slot t : ℕ) (frame : FrameId) (tuple : FourTuple) (seg : Seg) (start : Start)
-    (iss : Seq) (params : HostParams) (id : FlowId) (flows : List Live)
+pub syn_opened : (host : Host) (slot t : ℕ) (frame : FrameId) (tuple : FourTuple) (seg : Seg) (start given : Start)
+    (params : HostParams) (id : FlowId) (flows : List Live)
     → lowest_free host ≡ Some slot → id ≡ record { slot = slot; generation = next_generation slot host.flows }
-    → params ≡ flow_params host.params start.scale → iss.0 ≡ start.number
+    → params ≡ flow_params host.params start.scale → given ≡ start
     → flows ≡ host.flows ++ opened_live id tuple params Waiting
-    (first_entry Slow t (calls.Passive frame iss seg)) ∷ []
+    (first_entry Slow t (calls.Passive frame given.number seg)) ∷ []
     → ◌≡◌ {A = Host} (record host { flows = flows })
     (opened_by_syn false (lowest_free host) start t host frame tuple seg)
-syn_opened host slot t frame tuple seg start iss params id flows free is are number made =
-    opened_there host slot tuple start.scale Waiting (first_entry Slow t (calls.Passive frame iss seg))
-    (first_entry Slow t (calls.Passive frame (record { 0 = start.number }) seg)) params id flows is are
-    (ap (λ (s : Seq). first_entry Slow t (calls.Passive frame s seg)) (number_is iss start.number number)) made
+syn_opened host slot t frame tuple seg start given params id flows free is are same made =
+    opened_there host slot tuple start.scale Waiting (first_entry Slow t (calls.Passive frame given.number seg))
+    (first_entry Slow t (calls.Passive frame start.number seg)) params id flows is are
+    (ap (λ (s : Start). first_entry Slow t (calls.Passive frame s.number seg)) same) made
     ∙ ap (λ (o : Option ℕ). opened_by_syn false o start t host frame tuple seg) (sym free)
 
 -- ----- a connect

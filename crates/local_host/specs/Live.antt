@@ -16,8 +16,9 @@ use Rattle.flow_state.specs.declared.call.Answer.TheVariants as answers
 use Rattle.flow_state.specs.Flow as records
 use Rattle.host_rounds.specs.Logs.{Flow}
 use Rattle.host_rounds.specs.Hosts.{Live, Host, Holder, Waiting, Application, GivenUp, endpoint, logged}
-use Rattle.host_rounds.specs.Hosts.{Start, first_entry, opened_in}
+use Rattle.host_rounds.specs.Hosts.{first_entry, opened_in}
 use Rattle.host_rounds.specs.declared.log.LogEvent.TheVariants as events
+use Rattle.host_rounds.specs.declared.opening.Start.{Start}
 use Rattle.host_rounds.specs.Upkeep.{quieted}
 use Rattle.local_host.specs.declared.live.Holder as code
 use Rattle.local_host.specs.declared.live.Holder.TheVariants as holders
@@ -70,4 +71,4 @@ abbrev pub connected_by : (app : ℕ) → (free : Option ℕ) → Start → (tic
 connected_by app None start t host tuple = logged host t (events.ConnectRefused app tuple.raddr tuple.rport false)
 connected_by app (Some slot) start t host tuple =
     opened_in host slot tuple start.scale (Application app)
-    (first_entry (App app) t (calls.Connect (record { 0 = start.number })))
+    (first_entry (App app) t (calls.Connect start.number))

@@ -9,6 +9,7 @@ use Rattle.tas_model.specs.Valid.{InRange}
 use Rattle.flow_state.specs.declared.call.CallIn.{CallIn}
 use Rattle.flow_state.specs.declared.call.CallIn.TheVariants as ins
 use Rattle.host_rounds.specs.declared.log.LogLine.{LogLine}
+use Rattle.host_rounds.specs.declared.opening.Start.{Start}
 use Rattle.host_rounds.specs.Lists.{Each}
 use Rattle.host_rounds.specs.Hosts.{Host, Live, Listener, Application, Starts, first_port, ports_given, is_running}
 use Rattle.host_rounds.specs.Hosts.{lowest_free, next_start, first_entry, opened_in}
@@ -46,9 +47,10 @@ IsConnecting starts t app raddr rport before after (Opened place) =
     let port : ℕ = first_port + ports_given before in
     let tuple : FourTuple =
     record { laddr = before.params.addr; lport = port; raddr = raddr; rport = rport } in
+    let start : Start = next_start starts before tuple in
     (slot : ℕ) × (lowest_free before ≡ Some slot) × (nat_lt port (2 ^ 16) ≡ true) × (place ≡ length before.flows)
-    × (after ≡ opened_in before slot tuple (next_start starts before tuple).scale (Application app)
-    (first_entry (App app) t (calls.Connect (record { 0 = (next_start starts before tuple).number }))))
+    × (after ≡ opened_in before slot tuple start.scale (Application app)
+    (first_entry (App app) t (calls.Connect start.number)))
 
 -- ----- calls
 -- the call may be made on this flow: Accept where it is past its opening and not closed, and any other in any phase

@@ -19,7 +19,6 @@ ghost use Rattle.host_rounds.specs.SerialOrder.{slow_phase, emit_phase};
 ghost use Rattle.core_rounds.specs.CoreTicks.{IsCoresPhase};
 ghost use Rattle.tas_runs.specs.Records.{Content, is_remote};
 ghost use Rattle.tas_runs.specs.LocalScript.{resets_here};
-ghost use Rattle.capture_items.specs.Numbers.{start_in};
 ghost use Rattle.local_host.specs.Arriving.{arrival_in, taking_in};
 ghost use Rattle.local_host.specs.Handing.{IsSteeredPhase};
 ghost use Rattle.local_host.specs.SideWork.{IsSidePhase};
@@ -37,8 +36,8 @@ use crate::flows::{FIRST_PORT, Flows};
 use crate::live::{Holder, LiveFlow};
 use crate::script::Shown;
 use crate::starts::{StartSource, flow_params};
-use capture_items::Start;
 use flow_state::{Answer, CallIn, FlowHistory};
+use host_rounds::Start;
 use segment_fields::Segment;
 use slow_handshake::stray;
 use std::alloc::{AllocError, Global};
@@ -420,7 +419,7 @@ impl LocalHost {
 
     /// What the next flow of this four-tuple begins with.
     fn next_start<S: StartSource>(&self, tuple: FourTuple, starts: &S) -> Start
-        ensures start { start_in result ≡ next_start (S.starts starts.now) self.now tuple }
+        ensures start { result ≡ next_start (S.starts starts.now) self.now tuple }
         ensures shift { IfSome result.scale (λ shift. shift ≤ 14) }
     {
         starts.start(tuple, self.flows.opened_as(&tuple), self.flows.len() as u32)

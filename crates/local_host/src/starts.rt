@@ -1,9 +1,9 @@
 ghost use Rattle.std.specs.Prelude.{◌≡◌, ◌≤◌, IfSome};
 ghost use Rattle.tas_model.specs.Valid.{InRange};
 ghost use Rattle.host_rounds.specs.Hosts.{flow_params as model_flow_params};
-ghost use Rattle.capture_items.specs.Numbers.{start_in};
 
-use capture_items::{FirstNumbers, Start};
+use capture_items::FirstNumbers;
+use host_rounds::Start;
 use tas_model::{FourTuple, HostParams};
 
 /// How large the rings of a flow with a window scale of its own are.
@@ -18,7 +18,7 @@ pub trait StartSource {
     /// What a flow of this four-tuple begins with, where `k` flows of the four-tuple were opened before it, and `n`
     /// flows of the host.
     fn start(&self, tuple: FourTuple, k: usize, n: u32) -> Start
-        ensures start { start_in result ≡ starts self.now tuple k n }
+        ensures start { result ≡ starts self.now tuple k n }
         ensures shift { IfSome result.scale (λ shift. shift ≤ 14) };
 }
 

@@ -6,7 +6,8 @@ use Rattle.flow_state.specs.Calls.{seg_of}
 use Rattle.tas_model.specs.declared.entry.Entry.{Entry}
 use Rattle.tas_model.specs.declared.entry.Caller.TheVariants.{Slow}
 use Rattle.tas_model.specs.declared.entry.Call.TheVariants as calls
-use Rattle.host_rounds.specs.Hosts.{Host, Live, Waiting, Start, is_full, lowest_free, flow_params, next_start}
+use Rattle.host_rounds.specs.declared.opening.Start.{Start}
+use Rattle.host_rounds.specs.Hosts.{Host, Live, Waiting, is_full, lowest_free, flow_params, next_start}
 use Rattle.host_rounds.specs.Hosts.{first_entry, first_port}
 use Rattle.host_rounds.specs.Deliveries.{opened_by_syn}
 use Rattle.local_host.specs.Live.{opened_live}
@@ -49,9 +50,9 @@ returns-in_ok-flow-in-Some-clause-made g c =
     ≡ opened_by_syn (is_full host c.args.tuple.lport) (lowest_free host) start c.args.tick host c.args.frame
     c.args.tuple seg)
     (sym c.self.view_is)
-    (syn_opened host c.in-Some.slot c.args.tick c.args.frame c.args.tuple seg start c.next_start-start.result.number
+    (syn_opened host c.in-Some.slot c.args.tick c.args.frame c.args.tuple seg start c.next_start-start.result
     c.flow_params-params.result c.next_id-id.result c.push.new.self free c.next_id-id.ensures params
-    (ap (λ (s : Start). s.number) c.next_start-start.ensures.start)
+    c.next_start-start.ensures.start
     (made
     ∙ (ap (λ (l : Live). c.self.inside.flows ++ l ∷ []) c.in_ok-flow-in-Some.ensures
     ∙ ap (λ (h : Host). h.flows ++ opened_live c.next_id-id.result c.args.tuple c.flow_params-params.result Waiting x

@@ -1,8 +1,9 @@
 use Rattle.std.proofs.Common.{◌≡◌, ℕ, Bool, false, sym, ap, subst, ◌∙◌}
 use Rattle.tas_model.specs.declared.entry.Seg.{Seg}
 use Rattle.flow_state.specs.Calls.{seg_of}
+use Rattle.host_rounds.specs.declared.opening.Start.{Start}
 use Rattle.host_rounds.specs.Lists.{change_at}
-use Rattle.host_rounds.specs.Hosts.{Live, Host, Start, is_known, next_start}
+use Rattle.host_rounds.specs.Hosts.{Live, Host, is_known, next_start}
 use Rattle.host_rounds.specs.Deliveries.{arrived}
 use Rattle.local_host.specs.Arriving.{taking_in}
 use Rattle.local_host.specs.Ports.{host_of}
