@@ -123,8 +123,11 @@ opens_goes true starts slot port t socket raddr rport x fine =
     let lasts : Lasts x.host after.host = lasts_opened x.host slot tuple start.scale (Application x.script.number) first in
     let bound : IsFit (length after.host.flows) (bind socket (ASocket (length x.host.flows)) x.script) =
     fit_bound (length after.host.flows) socket (ASocket (length x.host.flows)) x.script
-    (omega (arith, length-append x.host.flows (new_flow x.host slot tuple start.scale (Application x.script.number) first ∷
-    [])))
+    (omega (
+      arith,
+      length-append x.host.flows (new_flow x.host slot tuple start.scale (Application x.script.number) first ∷
+          []),
+    ))
     (fine_after x after.host lasts fine) in
     goes_with x after.host after.script lasts refl
     (record { steps = bound.steps; part = bound.part; names = bound.names })
