@@ -23,10 +23,10 @@ arrivals_of order = map (λ (x : Taken). x.arrival) order
 
 pub cores_fold : {S A : Type 0} (scripts : Scripts S A) (t : ℕ) (site : Site S) (order : List Taken)
     → fold (does scripts t) site (by_cores order)
-    ≡ on_host (λ (host : Host). taken_by_cores scripts.numbers t host order) site
+    ≡ on_host (λ (host : Host). taken_by_cores scripts.starts t host order) site
 cores_fold scripts t site [] = refl
 cores_fold scripts t site (x ∷ xs) =
-    let next : Host = delivered (received (Core x.core)) scripts.numbers t site.host x.arrival in
+    let next : Host = delivered (received (Core x.core)) scripts.starts t site.host x.arrival in
     cores_fold scripts t (record site { host = next }) xs
 
 pub cores_actions : {A : Type 0} (order : List Taken)

@@ -4,7 +4,7 @@ use Rattle.std.proofs.Common.{append_assoc, append-nil}
 use Rattle.tas_model.specs.declared.entry.Caller.{Caller}
 use Rattle.tas_model.specs.declared.entry.Caller.TheVariants.{Slow, Core}
 use Rattle.host_rounds.specs.Lists.{Each}
-use Rattle.host_rounds.specs.Hosts.{Live, Host, Numbers}
+use Rattle.host_rounds.specs.Hosts.{Live, Host, Starts}
 use Rattle.host_rounds.specs.Upkeep.{swept, all_swept}
 use Rattle.host_rounds.specs.Deliveries.{Arrival}
 use Rattle.host_rounds.specs.Scripts.{Site, Scripts}
@@ -60,7 +60,7 @@ order_of t site order tried rest later asked = order_to site order tried rest (a
 -- ----- what the order leaves
 to_rest : {S A : Type 0} (scripts : Scripts S A) (t : ℕ) (site : Site S) (middle : Host) (order : List Taken)
     (tried : List A) (rest : List Arrival) (more : List (Deed A))
-    → ((numbers : Numbers) → taken_by_cores numbers t (slow_phase t site.host) order ≡ middle)
+    → ((starts : Starts) → taken_by_cores starts t (slow_phase t site.host) order ≡ middle)
     → fold (does scripts t) (on_host all_swept site) (order_to site order tried rest more)
     ≡ fold (does scripts t) (after_rest scripts t site middle tried rest) more
 to_rest {S} {A} scripts t site middle order tried rest more made =
@@ -73,7 +73,7 @@ to_rest {S} {A} scripts t site middle order tried rest more made =
     (timers_fold scripts t 0 (on_host all_swept site) [] (map swept site.host.flows) refl)
     ∙ fold_append (does scripts t) (after_slow t site) cores (asks ++ (left ++ more))
     ∙ ap (λ (s : Site S). fold (does scripts t) s (asks ++ (left ++ more)))
-    (cores_fold scripts t (after_slow t site) order ∙ ap (λ (h : Host). after_cores site h) (made scripts.numbers))
+    (cores_fold scripts t (after_slow t site) order ∙ ap (λ (h : Host). after_cores site h) (made scripts.starts))
     ∙ fold_append (does scripts t) (after_cores site middle) asks (left ++ more)
     ∙ ap (λ (s : Site S). fold (does scripts t) s (left ++ more))
     (asks_fold scripts t (after_cores site middle) tried)
@@ -83,7 +83,7 @@ to_rest {S} {A} scripts t site middle order tried rest more made =
 
 cores_made : {S A : Type 0} (scripts : Scripts S A) (t : ℕ) (site : Site S) (middle : Host) (order : List Taken)
     (tried : List A) (rest : List Arrival) (later : List A)
-    → ((numbers : Numbers) → taken_by_cores numbers t (slow_phase t site.host) order ≡ middle)
+    → ((starts : Starts) → taken_by_cores starts t (slow_phase t site.host) order ≡ middle)
     → fold (does scripts t) (on_host all_swept site)
     (order_of t site order tried rest later (after_asks scripts t site middle tried rest later))
     ≡ on_host (emit_phase t) (after_asks scripts t site middle tried rest later)
@@ -201,7 +201,7 @@ any_cores (x ∷ xs) = (tt, any_cores xs)
 -- the histories before the last phase
 asks_legal : {S A : Type 0} (scripts : Scripts S A) (t : ℕ) (site : Site S) (middle : Host) (order : List Taken)
     (tried : List A) (rest : List Arrival) (later : List A)
-    → ((numbers : Numbers) → taken_by_cores numbers t (slow_phase t site.host) order ≡ middle) → AreByMoves scripts
+    → ((starts : Starts) → taken_by_cores starts t (slow_phase t site.host) order ≡ middle) → AreByMoves scripts
     → AreLegal site.host
     → AreLegal (after_asks scripts t site middle tried rest later).host
 asks_legal {S} {A} scripts t site middle order tried rest later made by_moves each =

@@ -4,7 +4,7 @@ use Rattle.std.specs.Prelude.{◌≡◌, ℕ, ◌<◌, ◌==◌, ◌++◌, Bool,
 use Rattle.tas_model.specs.declared.entry.FrameId.{FrameId}
 use Rattle.tas_model.specs.declared.entry.Caller.TheVariants.{Slow, Core}
 use Rattle.host_rounds.specs.Lists.{Each}
-use Rattle.host_rounds.specs.Hosts.{Host, Numbers}
+use Rattle.host_rounds.specs.Hosts.{Host, Starts}
 use Rattle.host_rounds.specs.Deliveries.{Arrival, same_frame, received, delivered}
 use Rattle.host_rounds.specs.Scripts.{Site, Scripts}
 use Rattle.host_rounds.specs.Rounds.{Due, on_host}
@@ -21,9 +21,9 @@ abbrev pub AreOfCores : (cores : ℕ) → List Taken → Type 0
 AreOfCores cores order = Each (λ (x : Taken). x.core < cores) order
 
 -- What is left when cores took these frames, one after the other.
-abbrev pub taken_by_cores : Numbers → (tick : ℕ) → Host → List Taken → Host
-taken_by_cores numbers t host order =
-    fold (λ (h : Host) (x : Taken). delivered (received (Core x.core)) numbers t h x.arrival) host order
+abbrev pub taken_by_cores : Starts → (tick : ℕ) → Host → List Taken → Host
+taken_by_cores starts t host order =
+    fold (λ (h : Host) (x : Taken). delivered (received (Core x.core)) starts t h x.arrival) host order
 
 abbrev pub is_frame : FrameId → Arrival → Bool
 is_frame frame x = same_frame frame x.frame
@@ -34,12 +34,12 @@ AreShared frames order rest =
     (frame : FrameId)
     → filter (is_frame frame) (map (λ (x : Taken). x.arrival) order ++ rest) ≡ filter (is_frame frame) frames
 
--- What cores did side by side is what one order of the frames that they took leaves. The first numbers of new flows
+-- What cores did side by side is what one order of the frames that they took leaves. The starts of new flows
 -- don't matter, since no core opens one.
 pub record IsCoresPhase (t : ℕ) (before : Host) (frames rest : List Arrival) (after : Host) : Type 0 where
   pub order : List Taken
   pub shared : AreShared frames order rest
-  pub made : (numbers : Numbers) → taken_by_cores numbers t before order ≡ after
+  pub made : (starts : Starts) → taken_by_cores starts t before order ≡ after
 
 -- ----- a tick
 -- What was asked beside the cores, and what is asked after them: for each who asks, together what is due of it, in its
@@ -50,7 +50,7 @@ AreTried {S} {A} scripts asks tried later =
 
 -- The frames that cores left, in their order, by the slow path.
 abbrev pub rest_phase : {S A : Type 0} → Scripts S A → (tick : ℕ) → Host → List Arrival → Host
-rest_phase scripts t host rest = fold (delivered (received Slow) scripts.numbers t) host rest
+rest_phase scripts t host rest = fold (delivered (received Slow) scripts.starts t) host rest
 
 -- What was asked beside the cores, as if after all their frames, and then the frames that they left.
 abbrev pub tried_and_rest : {S A : Type 0} → Scripts S A → (tick : ℕ) → Site S → (tried : List A) → List Arrival
