@@ -15,9 +15,10 @@ use Rattle.tas_model.specs.declared.entry.Caller.TheVariants.{Slow, Core, App}
 use Rattle.tas_model.specs.declared.entry.Call.{Call}
 use Rattle.tas_model.specs.declared.entry.Call.TheVariants as calls
 use Rattle.tas_model.specs.NextSegment.{Going, going}
+use Rattle.host_rounds.specs.declared.opening.Start.{Start}
 use Rattle.host_rounds.specs.Logs.{Flow}
 use Rattle.host_rounds.specs.Lists.{Each, change_first, change_at}
-use Rattle.host_rounds.specs.Hosts.{Live, Host, GivenUp, Numbers, next_number, endpoint, is_over, is_running, is_held}
+use Rattle.host_rounds.specs.Hosts.{Live, Host, GivenUp, Starts, next_start, endpoint, is_over, is_running, is_held}
 use Rattle.host_rounds.specs.Hosts.{with_call, is_known, is_indexed_as, is_listening, is_full, lowest_free, same_tuple}
 use Rattle.host_rounds.specs.Upkeep.{swept, is_control_tick, controlled, controlled_where, timed, timed_unless, emits}
 use Rattle.host_rounds.specs.Upkeep.{emits_where}
@@ -28,7 +29,7 @@ use Rattle.host_rounds.specs.Rounds.{Action, Timer, Frame, Ask, Emission, Deed, 
 use Rattle.host_rounds.specs.Rounds.{on_host}
 use Rattle.tas_runs.specs.Records.{Content, Damaged, Remote, Local, Item}
 use Rattle.tas_runs.specs.Batches.{tuple_of, is_of}
-use Rattle.tas_runs.specs.FirstNumbers.{first_number}
+use Rattle.tas_runs.specs.Starts.{first_start}
 use Rattle.tas_runs.specs.LocalScript.{Stage, Beginning, Accepting, Sending, Shutting, Aborting, Receiving, Leaving}
 use Rattle.tas_runs.specs.LocalScript.{Asking, Shown, nothing_shown, all_shown, connects, opened_by_connect}
 use Rattle.tas_runs.specs.LocalScript.{connected_where, connected, is_wanted, asked, asked_where, given_up, at_stage}
@@ -247,35 +248,36 @@ emits_follows by t l h = by_going (going (endpoint l)) where
   by_going None = stays none l
   by_going (Some g) = call_follows by t calls.Emit [] l h
 
-syn_follows : (full : Bool) (o : Option ℕ) (number t : ℕ) (host : Host) (frame : FrameId) (tuple : FourTuple)
+syn_follows : (full : Bool) (o : Option ℕ) (start : Start) (t : ℕ) (host : Host) (frame : FrameId) (tuple : FourTuple)
     (seg : Seg)
-    → AllFollow none host.flows (opened_by_syn full o number t host frame tuple seg).flows
-syn_follows true o number t host frame tuple seg = all_stay none host.flows
-syn_follows false None number t host frame tuple seg = all_stay none host.flows
-syn_follows false (Some slot) number t host frame tuple seg = push_follows none host.flows _ (λ a b low. (_, refl, low))
+    → AllFollow none host.flows (opened_by_syn full o start t host frame tuple seg).flows
+syn_follows true o start t host frame tuple seg = all_stay none host.flows
+syn_follows false None start t host frame tuple seg = all_stay none host.flows
+syn_follows false (Some slot) start t host frame tuple seg = push_follows none host.flows _ (λ a b low. (_, refl, low))
 
-met_follows : (b listening : Bool) (number t : ℕ) (host : Host) (frame : FrameId) (tuple : FourTuple) (seg : Seg)
-    → AllFollow none host.flows (met_no_flow b listening number t host frame tuple seg).flows
-met_follows true listening number t host frame tuple seg =
-    syn_follows (is_full host tuple.lport) (lowest_free host) number t host frame tuple seg
-met_follows false listening number t host frame tuple seg = all_stay none host.flows
+met_follows : (b listening : Bool) (start : Start) (t : ℕ) (host : Host) (frame : FrameId) (tuple : FourTuple)
+    (seg : Seg)
+    → AllFollow none host.flows (met_no_flow b listening start t host frame tuple seg).flows
+met_follows true listening start t host frame tuple seg =
+    syn_follows (is_full host tuple.lport) (lowest_free host) start t host frame tuple seg
+met_follows false listening start t host frame tuple seg = all_stay none host.flows
 
-arrived_follows : (b : Bool) (by : Caller) (number t : ℕ) (host : Host) (frame : FrameId) (tuple : FourTuple)
+arrived_follows : (b : Bool) (by : Caller) (start : Start) (t : ℕ) (host : Host) (frame : FrameId) (tuple : FourTuple)
     (seg : Seg) → is_app by ≡ false
-    → AllFollow none host.flows (arrived b (received by t frame seg) number t host frame tuple seg).flows
-arrived_follows true by number t host frame tuple seg h =
+    → AllFollow none host.flows (arrived b (received by t frame seg) start t host frame tuple seg).flows
+arrived_follows true by start t host frame tuple seg h =
     first_follows none (is_indexed_as tuple) (received by t frame seg)
     (λ l known. call_follows by t (calls.Rx frame seg) [] l h) host.flows
-arrived_follows false by number t host frame tuple seg h =
+arrived_follows false by start t host frame tuple seg h =
     met_follows (is_listening host tuple.lport && opens seg)
-    (is_listening host tuple.lport) number t host frame tuple seg
+    (is_listening host tuple.lport) start t host frame tuple seg
 
-delivered_follows : (by : Caller) (numbers : Numbers) (t : ℕ) (host : Host) (frame : FrameId) (packet : Packet)
+delivered_follows : (by : Caller) (starts : Starts) (t : ℕ) (host : Host) (frame : FrameId) (packet : Packet)
     → is_app by ≡ false
-    → AllFollow none host.flows (delivered_packet (received by) numbers t host frame packet).flows
-delivered_follows by numbers t host frame (damaged rule) h = all_stay none host.flows
-delivered_follows by numbers t host frame (segment tuple seg) h =
-    arrived_follows (is_known host tuple) by (next_number numbers host tuple) t host frame tuple seg h
+    → AllFollow none host.flows (delivered_packet (received by) starts t host frame packet).flows
+delivered_follows by starts t host frame (damaged rule) h = all_stay none host.flows
+delivered_follows by starts t host frame (segment tuple seg) h =
+    arrived_follows (is_known host tuple) by (next_start starts host tuple) t host frame tuple seg h
 
 -- ----- a stage of a script
 -- the stage that an action asks of the flows of a four-tuple
@@ -401,22 +403,22 @@ flow_follows : (stage : Stage) (x : Item) (tuple : FourTuple) (t : ℕ) (site : 
 flow_follows stage x tuple t site of =
     where_follows stage x tuple t site (position (is_indexed_as tuple) site.host.flows) of refl
 
-connect_follows : (o : Option ℕ) (x : Item) (tuple : FourTuple) (number t : ℕ) (host : Host)
+connect_follows : (o : Option ℕ) (x : Item) (tuple : FourTuple) (start : Start) (t : ℕ) (host : Host)
     → tuple_of x.content ≡ Some tuple
-    → AllFollow (asks Beginning x) host.flows (opened_by_connect o number t host tuple).flows
-connect_follows None x tuple number t host of = all_stay (asks Beginning x) host.flows
-connect_follows (Some slot) x tuple number t host of =
+    → AllFollow (asks Beginning x) host.flows (opened_by_connect o start t host tuple).flows
+connect_follows None x tuple start t host of = all_stay (asks Beginning x) host.flows
+connect_follows (Some slot) x tuple start t host of =
     push_follows (asks Beginning x) host.flows _
     (λ a b h. (_, refl, subst (λ (ss : List Stage). RisesWithin a b (stage_places ss)) own h))
   where
     own : asks Beginning x tuple ≡ Beginning ∷ []
     own = own_stage Beginning x.number x.content tuple of
 
-connected_follows : (b : Bool) (x : Item) (tuple : FourTuple) (number t : ℕ) (host : Host)
+connected_follows : (b : Bool) (x : Item) (tuple : FourTuple) (start : Start) (t : ℕ) (host : Host)
     → tuple_of x.content ≡ Some tuple
-    → AllFollow (asks Beginning x) host.flows (connected_where b number t host tuple).flows
-connected_follows true x tuple number t host of = connect_follows (lowest_free host) x tuple number t host of
-connected_follows false x tuple number t host of = all_stay (asks Beginning x) host.flows
+    → AllFollow (asks Beginning x) host.flows (connected_where b start t host tuple).flows
+connected_follows true x tuple start t host of = connect_follows (lowest_free host) x tuple start t host of
+connected_follows false x tuple start t host of = all_stay (asks Beginning x) host.flows
 
 -- the same of stages that are equal
 follows_as : (f g : FourTuple → List Stage) → ((tuple : FourTuple) → f tuple ≡ g tuple) → (ls ms : List Live)
@@ -448,32 +450,32 @@ shows_follows x tuple t site (Some n) = by_found (slice_get site.host.flows n) w
       at_follows none n (at_stage Beginning t x.content
       (get_or (all_shown site.host.flows site.scripts) n nothing_shown)) (λ m. stays none m) site.host.flows
 
-began_follows : (numbers : Numbers) (x : Item) (tuple : FourTuple) (seg : Seg) (t : ℕ) (site : Site (List Shown))
+began_follows : (starts : Starts) (x : Item) (tuple : FourTuple) (seg : Seg) (t : ℕ) (site : Site (List Shown))
     → tuple_of x.content ≡ Some tuple
     → AllFollow (asks Beginning x) site.host.flows
-    (served_flow Beginning t x.content tuple (on_host (connected numbers t tuple seg) site)).host.flows
-began_follows numbers x tuple seg t site of =
-    let mid : Site (List Shown) = on_host (connected numbers t tuple seg) site in
+    (served_flow Beginning t x.content tuple (on_host (connected starts t tuple seg) site)).host.flows
+began_follows starts x tuple seg t site of =
+    let mid : Site (List Shown) = on_host (connected starts t tuple seg) site in
     let last : Site (List Shown) = served_flow Beginning t x.content tuple mid in
     follows_as (joined (asks Beginning x) none) (asks Beginning x)
     (λ own. append-nil (asks Beginning x own)) site.host.flows last.host.flows
     (all_both (asks Beginning x) none site.host.flows mid.host.flows last.host.flows
     (connected_follows (connects seg && not (is_known site.host tuple)) x tuple
-    (next_number numbers site.host tuple) t site.host of)
+    (next_start starts site.host tuple) t site.host of)
     (shows_follows x tuple t mid (position (is_indexed_as tuple) mid.host.flows)))
 
-served_follows : (numbers : Numbers) (stage : Stage) (t : ℕ) (site : Site (List Shown)) (number : ℕ) (content : Content)
+served_follows : (starts : Starts) (stage : Stage) (t : ℕ) (site : Site (List Shown)) (number : ℕ) (content : Content)
     → AllFollow (asks stage (record { number = number; content = content })) site.host.flows
-    (served_content numbers stage t content site).host.flows
-served_follows numbers stage t site number (Damaged rule) =
+    (served_content starts stage t content site).host.flows
+served_follows starts stage t site number (Damaged rule) =
     all_stay (asks stage (record { number = number; content = Damaged rule })) site.host.flows
-served_follows numbers Beginning t site number (Remote tuple seg) =
+served_follows starts Beginning t site number (Remote tuple seg) =
     all_stay (asks Beginning (record { number = number; content = Remote tuple seg })) site.host.flows
-served_follows numbers Beginning t site number (Local tuple seg) =
-    began_follows numbers (record { number = number; content = Local tuple seg }) tuple seg t site refl
-served_follows numbers stage t site number (Remote tuple seg) =
+served_follows starts Beginning t site number (Local tuple seg) =
+    began_follows starts (record { number = number; content = Local tuple seg }) tuple seg t site refl
+served_follows starts stage t site number (Remote tuple seg) =
     flow_follows stage (record { number = number; content = Remote tuple seg }) tuple t site refl
-served_follows numbers stage t site number (Local tuple seg) =
+served_follows starts stage t site number (Local tuple seg) =
     flow_follows stage (record { number = number; content = Local tuple seg }) tuple t site refl
 
 -- ----- actions
@@ -483,8 +485,8 @@ stages_by a tuple = stage_for tuple a
 done_follows : (items : List Item) (t : ℕ) (site : Site (List Shown)) (by : Caller) (action : Act) → is_app by ≡ false
     → AllFollow (stages_by action) site.host.flows (done_by (capture_scripts items) t site by action).host.flows
 done_follows items t site by (Timer n) h = at_follows none n (timed by t) (λ l. timed_follows by t l h) site.host.flows
-done_follows items t site by (Frame x) h = delivered_follows by (first_number items) t site.host x.frame x.packet h
-done_follows items t site by (Ask a) h = served_follows (first_number items) a.stage t site a.item.number a.item.content
+done_follows items t site by (Frame x) h = delivered_follows by (first_start items) t site.host x.frame x.packet h
+done_follows items t site by (Ask a) h = served_follows (first_start items) a.stage t site a.item.number a.item.content
 done_follows items t site by (Emission n) h =
     at_follows none n (emits by t) (λ l. emits_follows by t l h) site.host.flows
 

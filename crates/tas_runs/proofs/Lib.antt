@@ -4,6 +4,7 @@ pub mod AllAsked
 pub mod SerialRun
 pub mod AllBatches
 pub mod OneRun
+pub mod Shifts
 pub mod Runs
 pub mod CaptureBatches
 pub mod Counts

@@ -5,9 +5,10 @@ use Rattle.std.proofs.lemmas.List.Elements.{filter_map-append}
 use Rattle.std.proofs.lemmas.List.Sums.{fold-append}
 use Rattle.tas_num.specs.Captures.{Form, Record}
 use Rattle.tas_model.specs.declared.entry.FourTuple.{FourTuple}
+use Rattle.host_rounds.specs.declared.opening.Start.{Start}
 use Rattle.tas_runs.specs.Records.{Item, item_of, items_of}
 use Rattle.tas_runs.specs.Batches.{Cut, cut_at}
-use Rattle.tas_runs.specs.FirstNumbers.{with_new, local_syn, local_numbers}
+use Rattle.tas_runs.specs.Starts.{with_new, local_syn, local_syns}
 
 -- the items of one record more
 pub items_push : (form : Form) (local : ℕ) (loose : Bool) (rs : List Record) (r : Record)
@@ -21,19 +22,19 @@ pub cut_push : (c : Cut) (items : List Item) (x : Item)
     → fold cut_at c (items ++ x ∷ []) ≡ cut_at (fold cut_at c items) x
 cut_push c items x = fold-append cut_at c items (x ∷ [])
 
--- the first numbers of one item more
-abbrev pub with_syn : List ℕ → Option ℕ → List ℕ
+-- the local SYN segments of one item more
+abbrev pub with_syn : List Start → Option Start → List Start
 with_syn known None = known
-with_syn known (Some n) = with_new known n
+with_syn known (Some syn) = with_new known syn
 
-one_more : (known : List ℕ) (o : Option ℕ) → fold with_new known (cons_option o []) ≡ with_syn known o
+one_more : (known : List Start) (o : Option Start) → fold with_new known (cons_option o []) ≡ with_syn known o
 one_more known None = refl
-one_more known (Some n) = refl
+one_more known (Some syn) = refl
 
-pub numbers_push : (items : List Item) (x : Item) (tuple : FourTuple)
-    → local_numbers (items ++ x ∷ []) tuple ≡ with_syn (local_numbers items tuple) (local_syn tuple x.content)
-numbers_push items x tuple =
-    let syn : Item → Option ℕ = λ y. local_syn tuple y.content in
+pub syns_push : (items : List Item) (x : Item) (tuple : FourTuple)
+    → local_syns (items ++ x ∷ []) tuple ≡ with_syn (local_syns items tuple) (local_syn tuple x.content)
+syns_push items x tuple =
+    let syn : Item → Option Start = λ y. local_syn tuple y.content in
     ap (fold with_new []) (filter_map-append syn items (x ∷ []))
     ∙ fold-append with_new [] (filter_map syn items) (cons_option (syn x) [])
     ∙ one_more (fold with_new [] (filter_map syn items)) (syn x)

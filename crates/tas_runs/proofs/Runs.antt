@@ -15,10 +15,11 @@ use Rattle.host_rounds.proofs.AllOpened.{IsRight, rounds_right}
 use Rattle.host_rounds.proofs.Runs.{flows_sound, flows_quiet, flows_uses, rounds_quiet, coming_in, rounds_add}
 use Rattle.tas_runs.specs.Records.{Item, items_of}
 use Rattle.tas_runs.specs.Batches.{batches_of}
-use Rattle.tas_runs.specs.FirstNumbers.{first_number}
+use Rattle.tas_runs.specs.Starts.{first_start}
 use Rattle.tas_runs.specs.LocalScript.{capture_scripts, arrivals_in, due_in}
 use Rattle.tas_runs.specs.Replays.{items_found, items_in, replay_params, at_start, IsReplayOf, IsReplayFound, Replay}
 use Rattle.tas_runs.proofs.ByMoves.{replays_by_moves}
+use Rattle.tas_runs.proofs.Shifts.{starts_fit}
 use Rattle.tas_runs.proofs.OneRun.{batches_whole, coming_flat, AreNumbered, AllNumbered, records_numbered, at_most_once}
 
 -- ----- from the host to its log
@@ -36,7 +37,7 @@ params_fit local =
 
 -- ----- a run of these records
 right_in : (local records : ℕ) (found : List Item) (log : RunLog) (run : IsReplayOf local records found log)
-    → IsRight (first_number found) (replay_params local) run.0.host
+    → IsRight (first_start found) (replay_params local) run.0.host
 right_in local records found log run =
     rounds_right (capture_scripts found) (replay_params local) 0 (map due_in (batches_of found)) (at_start local) run.0
     (replays_by_moves found) run.1 (record { params = refl; legal = tt; opened = tt })
@@ -44,15 +45,15 @@ right_in local records found log run =
 sound_in : (local records : ℕ) (found : List Item) (log : RunLog) → IsReplayOf local records found log
     → Each (λ (h : HostRun). Each IsSound h.flows) log.hosts
 sound_in local records found log run =
-    let right : IsRight (first_number found) (replay_params local) run.0.host = right_in local records found log run in
+    let right : IsRight (first_start found) (replay_params local) run.0.host = right_in local records found log run in
     subst (λ (r : RunLog). Each (λ (h : HostRun). Each IsSound h.flows) r.hosts) (sym run.2) (
-      flows_sound (first_number found) (replay_params local) [] run.0.host.flows
-          (params_fit local) right.opened right.legal,
+      flows_sound (first_start found) (replay_params local) [] run.0.host.flows
+          (params_fit local) (starts_fit found) right.opened right.legal,
       tt,
     )
 
 abbrev AllOpened : List Item → HostParams → HostRun → Type 0
-AllOpened items p h = AreOpened (first_number items) p [] (openings_of h.flows)
+AllOpened items p h = AreOpened (first_start items) p [] (openings_of h.flows)
 
 opened_in : (local records : ℕ) (found : List Item) (log : RunLog) → IsReplayOf local records found log
     → Each (AllOpened found (replay_params local)) log.hosts
@@ -104,7 +105,7 @@ replays_sound local bytes loose log =
     (λ records found run. sound_in local records found log run)
 
 pub replays_opened : (local : ℕ) (bytes : List ℕ) (loose : Bool) (log : RunLog) → Replay local bytes loose log
-    → Each (λ (h : HostRun). AreOpened (first_number (items_in local bytes loose)) (replay_params local) []
+    → Each (λ (h : HostRun). AreOpened (first_start (items_in local bytes loose)) (replay_params local) []
     (openings_of h.flows)) log.hosts
 replays_opened local bytes loose log =
     of_capture local bytes loose log (λ found. Each (AllOpened found (replay_params local)) log.hosts)

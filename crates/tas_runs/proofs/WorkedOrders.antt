@@ -13,7 +13,7 @@ use Rattle.tas_model.specs.Timers.{ticks, control}
 use Rattle.tas_model.specs.LegalHistory.{step, replay}
 use Rattle.tas_runs.specs.Records.{items_of}
 use Rattle.tas_runs.specs.Batches.{batches_of}
-use Rattle.tas_runs.specs.FirstNumbers.{first_number}
+use Rattle.tas_runs.specs.Starts.{first_start}
 use Rattle.host_rounds.specs.SerialOrder.{serial_tick, serial_ticks}
 use Rattle.tas_runs.specs.SerialOrder.{serial_replay}
 use Rattle.tas_runs.specs.Report.{report}
@@ -24,21 +24,21 @@ use Rattle.tas_runs.specs.WorkedOrders.{strays_last_sent}
 
 pub second_number_is : replayed host_address second_number_capture false ≡ second_number_report
 unfolding digits nearest refusal mss_of scale_of rx rx_later rx_syn_sent going ticks control step replay
-    form_of first_record capture_of items_of batches_of first_number serial_tick serial_ticks serial_replay report
+    form_of first_record capture_of items_of batches_of first_start serial_tick serial_ticks serial_replay report
 second_number_is = refl
 
 pub syn_with_data_is : replayed host_address syn_with_data_capture false ≡ syn_with_data_report
 unfolding digits nearest refusal mss_of scale_of rx rx_later rx_syn_sent going ticks control step replay
-    form_of first_record capture_of items_of batches_of first_number serial_tick serial_ticks serial_replay report
+    form_of first_record capture_of items_of batches_of first_start serial_tick serial_ticks serial_replay report
 syn_with_data_is = refl
 
 pub local_gap_is : replayed host_address local_gap_capture false ≡ local_gap_report
 unfolding digits nearest refusal mss_of scale_of rx rx_later rx_syn_sent going ticks control step replay
-    form_of first_record capture_of items_of batches_of first_number serial_tick serial_ticks serial_replay report
+    form_of first_record capture_of items_of batches_of first_start serial_tick serial_ticks serial_replay report
 local_gap_is = refl
 
 pub strays_last_is : capture_or_none (serial_replay host_address strays_last_capture false) ≡ strays_last_sent
 unfolding digits nearest refusal mss_of scale_of ip_header tcp_fixed rx rx_later rx_syn_sent going ticks control step
-    replay form_of first_record capture_of items_of batches_of first_number serial_tick serial_ticks serial_replay
+    replay form_of first_record capture_of items_of batches_of first_start serial_tick serial_ticks serial_replay
     capture
 strays_last_is = refl

@@ -13,7 +13,7 @@ use Rattle.tas_model.specs.Timers.{ticks, control}
 use Rattle.tas_model.specs.LegalHistory.{step, replay}
 use Rattle.tas_runs.specs.Records.{items_of}
 use Rattle.tas_runs.specs.Batches.{batches_of}
-use Rattle.tas_runs.specs.FirstNumbers.{first_number}
+use Rattle.tas_runs.specs.Starts.{first_start}
 use Rattle.host_rounds.specs.SerialOrder.{serial_tick, serial_ticks}
 use Rattle.tas_runs.specs.SerialOrder.{serial_replay}
 use Rattle.tas_runs.specs.Report.{report}
@@ -24,32 +24,32 @@ use Rattle.tas_runs.specs.WorkedReplays.{both_ends_report, resets_capture, reset
 
 pub hello_is : replayed host_address hello_capture false ≡ hello_report
 unfolding digits nearest refusal mss_of scale_of rx rx_later rx_syn_sent going ticks control step replay form_of
-    first_record capture_of items_of batches_of first_number serial_tick serial_ticks serial_replay report
+    first_record capture_of items_of batches_of first_start serial_tick serial_ticks serial_replay report
 hello_is = refl
 
 pub late_start_is : replayed host_address late_start_capture false ≡ late_start_report
 unfolding digits nearest refusal mss_of scale_of rx rx_later rx_syn_sent going ticks control step replay form_of
-    first_record capture_of items_of batches_of first_number serial_tick serial_ticks serial_replay report
+    first_record capture_of items_of batches_of first_start serial_tick serial_ticks serial_replay report
 late_start_is = refl
 
 pub sending_is : replayed host_address sending_capture false ≡ sending_report
 unfolding digits nearest refusal mss_of scale_of rx rx_later rx_syn_sent going ticks control step replay form_of
-    first_record capture_of items_of batches_of first_number serial_tick serial_ticks serial_replay report
+    first_record capture_of items_of batches_of first_start serial_tick serial_ticks serial_replay report
 sending_is = refl
 
 pub both_ends_is : replayed host_address both_ends_capture false ≡ both_ends_report
 unfolding digits nearest refusal mss_of scale_of rx rx_later rx_syn_sent going ticks control step replay form_of
-    first_record capture_of items_of batches_of first_number serial_tick serial_ticks serial_replay report
+    first_record capture_of items_of batches_of first_start serial_tick serial_ticks serial_replay report
 both_ends_is = refl
 
 pub resets_is : replayed host_address resets_capture false ≡ resets_report
 unfolding digits nearest refusal mss_of scale_of rx rx_later rx_syn_sent going ticks control step replay form_of
-    first_record capture_of items_of batches_of first_number serial_tick serial_ticks serial_replay report
+    first_record capture_of items_of batches_of first_start serial_tick serial_ticks serial_replay report
 resets_is = refl
 
 pub hello_sent_is : capture_or_none (serial_replay host_address hello_capture false) ≡ hello_sent
 unfolding digits nearest refusal mss_of scale_of ip_header tcp_fixed rx rx_later rx_syn_sent going ticks control step
-    replay form_of first_record capture_of items_of batches_of first_number serial_tick serial_ticks serial_replay
+    replay form_of first_record capture_of items_of batches_of first_start serial_tick serial_ticks serial_replay
     capture
 hello_sent_is = refl
 

@@ -1,6 +1,6 @@
 pub mod Records
 pub mod Batches
-pub mod FirstNumbers
+pub mod Starts
 pub mod LocalScript
 pub mod Replays
 pub mod SerialOrder

@@ -12,8 +12,9 @@ use Rattle.tas_model.specs.declared.entry.Caller.TheVariants.{App}
 use Rattle.tas_model.specs.declared.entry.Call.TheVariants as calls
 use Rattle.tas_model.specs.Segments.{is_fin, is_syn, is_rst, is_ack, one_if}
 use Rattle.host_rounds.specs.declared.log.LogEvent.TheVariants as events
+use Rattle.host_rounds.specs.declared.opening.Start.{Start}
 use Rattle.host_rounds.specs.Lists.{change_at}
-use Rattle.host_rounds.specs.Hosts.{Live, Host, Application, GivenUp, Numbers, next_number, endpoint, is_over}
+use Rattle.host_rounds.specs.Hosts.{Live, Host, Application, GivenUp, Starts, next_start, endpoint, is_over}
 use Rattle.host_rounds.specs.Hosts.{is_opening, is_running, is_held, with_call, logged, is_known, is_indexed_as}
 use Rattle.host_rounds.specs.Hosts.{at_flow, lowest_free, first_entry, opened_in}
 use Rattle.host_rounds.specs.Deliveries.{Arrival}
@@ -21,7 +22,7 @@ use Rattle.host_rounds.specs.Deliveries.{Damaged as damaged, Segment as segment}
 use Rattle.host_rounds.specs.Scripts.{Scripts, Site}
 use Rattle.host_rounds.specs.Rounds.{Due, on_host}
 use Rattle.tas_runs.specs.Records.{Content, Damaged, Remote, Local, Item, is_remote}
-use Rattle.tas_runs.specs.FirstNumbers.{first_number}
+use Rattle.tas_runs.specs.Starts.{first_start}
 
 -- ----- what a capture's script is
 -- What is done for the flow of a record, in this order. Each stage makes at most one call.
@@ -90,19 +91,19 @@ abbrev pub connects : Seg → Bool
 connects seg = is_syn seg && not (is_ack seg)
 
 -- Connect opens a flow in the lowest free slot, which the application holds, or is refused where no slot is free.
-abbrev pub opened_by_connect : (free : Option ℕ) → (number tick : ℕ) → Host → FourTuple → Host
-opened_by_connect None number t host tuple = logged host t (events.ConnectRefused 0 tuple.raddr tuple.rport false)
-opened_by_connect (Some slot) number t host tuple =
-    opened_in host slot tuple (Application 0) (first_entry the_app t (calls.Connect (record { 0 = number })))
+abbrev pub opened_by_connect : (free : Option ℕ) → (start : Start) (tick : ℕ) → Host → FourTuple → Host
+opened_by_connect None start t host tuple = logged host t (events.ConnectRefused 0 tuple.raddr tuple.rport false)
+opened_by_connect (Some slot) start t host tuple =
+    opened_in host slot tuple start.scale (Application 0) (first_entry the_app t (calls.Connect start.number))
 
-abbrev pub connected_where : (wanted : Bool) → (number tick : ℕ) → Host → FourTuple → Host
-connected_where true number t host tuple = opened_by_connect (lowest_free host) number t host tuple
-connected_where false number t host tuple = host
+abbrev pub connected_where : (wanted : Bool) → (start : Start) (tick : ℕ) → Host → FourTuple → Host
+connected_where true start t host tuple = opened_by_connect (lowest_free host) start t host tuple
+connected_where false start t host tuple = host
 
 -- where the segment is a SYN of the host's own and no flow has its four-tuple
-abbrev pub connected : Numbers → (tick : ℕ) → FourTuple → Seg → Host → Host
-connected numbers t tuple seg host =
-    connected_where (connects seg && not (is_known host tuple)) (next_number numbers host tuple) t host tuple
+abbrev pub connected : Starts → (tick : ℕ) → FourTuple → Seg → Host → Host
+connected starts t tuple seg host =
+    connected_where (connects seg && not (is_known host tuple)) (next_start starts host tuple) t host tuple
 
 -- ----- the calls of a flow
 -- past SYN-SENT and SYN-RECEIVED, in a flow that was accepted or connected; CLOSED is past them too
@@ -181,22 +182,22 @@ served_flow stage t content tuple site =
     served_where (position (is_indexed_as tuple) site.host.flows) stage t content site
 
 -- The stage of a record: Beginning is that of a local segment alone.
-abbrev pub served_content : Numbers → Stage → (tick : ℕ) → Content → Site (List Shown) → Site (List Shown)
-served_content numbers stage t (Damaged rule) site = site
-served_content numbers Beginning t (Remote tuple seg) site = site
-served_content numbers Beginning t (Local tuple seg) site =
-    served_flow Beginning t (Local tuple seg) tuple (on_host (connected numbers t tuple seg) site)
-served_content numbers stage t (Remote tuple seg) site = served_flow stage t (Remote tuple seg) tuple site
-served_content numbers stage t (Local tuple seg) site = served_flow stage t (Local tuple seg) tuple site
+abbrev pub served_content : Starts → Stage → (tick : ℕ) → Content → Site (List Shown) → Site (List Shown)
+served_content starts stage t (Damaged rule) site = site
+served_content starts Beginning t (Remote tuple seg) site = site
+served_content starts Beginning t (Local tuple seg) site =
+    served_flow Beginning t (Local tuple seg) tuple (on_host (connected starts t tuple seg) site)
+served_content starts stage t (Remote tuple seg) site = served_flow stage t (Remote tuple seg) tuple site
+served_content starts stage t (Local tuple seg) site = served_flow stage t (Local tuple seg) tuple site
 
 -- ----- the scripts
 abbrev pub capture_scripts : List Item → Scripts (List Shown) Asking
 capture_scripts items =
     record {
-      numbers = first_number items;
+      starts = first_start items;
       agent = λ (a : Asking). a.item.number;
       asked = λ (t : ℕ) (site : Site (List Shown)) (a : Asking).
-          served_content (first_number items) a.stage t a.item.content site;
+          served_content (first_start items) a.stage t a.item.content site;
     }
 
 -- the frame that a record of the capture is

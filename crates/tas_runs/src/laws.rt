@@ -12,7 +12,7 @@ ghost use Rattle.host_rounds.specs.Openings.{AreOpened, openings_of};
 ghost use Rattle.host_rounds.specs.Histories.{IsSound, HasSentAll};
 ghost use Rattle.tas_runs.specs.Records.{Item};
 ghost use Rattle.tas_runs.specs.Batches.{batches_of, AreBatches, flat};
-ghost use Rattle.tas_runs.specs.FirstNumbers.{first_number};
+ghost use Rattle.tas_runs.specs.Starts.{first_start};
 ghost use Rattle.tas_runs.specs.LocalScript.{Shown, capture_scripts, arrivals_in, due_in};
 ghost use Rattle.tas_runs.specs.Replays.{Replay, items_in, replay_params};
 ghost use Rattle.tas_runs.specs.SerialOrder.{serial_replay};
@@ -58,10 +58,10 @@ pub fn frames_have_one_place()
 {}
 
 /// Every flow was opened with the host's parameters, in one of its slots, as that slot's next generation, and with the
-/// first number that the capture gives it.
+/// first number and the window scale that the capture gives it.
 pub fn flows_are_opened_rightly()
     ensures { (local : ℕ) (bytes : List ℕ) (loose : Bool) (log : RunLog) → Replay local bytes loose log
-        → Each (λ (h : HostRun). AreOpened (first_number (items_in local bytes loose)) (replay_params local) []
+        → Each (λ (h : HostRun). AreOpened (first_start (items_in local bytes loose)) (replay_params local) []
         (openings_of h.flows)) log.hosts }
 {}
 
