@@ -15,7 +15,7 @@ use Rattle.host_rounds.specs.Deliveries.{delivered_packet}
 use Rattle.host_rounds.specs.SerialOrder.{slow_phase, frame_phase, ask_phase, emit_phase, serial_tick}
 use Rattle.tas_runs.specs.Records as model
 use Rattle.tas_runs.specs.Records.{Item, Content}
-use Rattle.tas_runs.specs.FirstNumbers.{first_number}
+use Rattle.tas_runs.specs.Starts.{first_start}
 use Rattle.tas_runs.specs.LocalScript.{Beginning, Shown, connects, connected_where, served_flow, served_content}
 use Rattle.tas_runs.specs.LocalScript.{capture_scripts, arrival_of, arrivals_in, asks_in, due_in}
 use Rattle.capture_items.specs.declared.item.Item as code
@@ -36,15 +36,15 @@ abbrev pub frames : List Item → (tick : ℕ) → Site (List Shown) → List It
 frames items t site xs = on_host (λ (host : Host). frame_phase (capture_scripts items) t host (arrivals_in xs)) site
 
 frames_next : (items : List Item) (t : ℕ) (site : Site (List Shown)) (x : Item) (xs : List Item)
-    → frames items t site (x ∷ xs) ≡ frames items t (on_host (came (first_number items) t x) site) xs
+    → frames items t site (x ∷ xs) ≡ frames items t (on_host (came (first_start items) t x) site) xs
 frames_next items t site x xs =
     ap (λ (host : Host). record site { host = host })
-    (frames_of (first_number items) t site.host (arrival_of x) (arrivals_in xs))
+    (frames_of (first_start items) t site.host (arrival_of x) (arrivals_in xs))
 
 -- the records that are left, one less
 pub frames_less : (items : List Item) (t : ℕ) (site after end : Site (List Shown)) (xs : List code.Item) (i : ℕ)
     (d : code.Item) → i < length xs
-    → after ≡ on_host (came (first_number items) t (item_in (get_or xs i d))) site
+    → after ≡ on_host (came (first_start items) t (item_in (get_or xs i d))) site
     → frames items t site (map item_in (drop i xs)) ≡ end
     → frames items t after (map item_in (drop (i + 1) xs)) ≡ end
 frames_less items t site after end xs i d below made left =
@@ -58,13 +58,13 @@ abbrev pub asks : List Item → (tick : ℕ) → Site (List Shown) → List Item
 asks items t site xs = ask_phase (capture_scripts items) t site (asks_in xs)
 
 asks_next : (items : List Item) (t : ℕ) (site : Site (List Shown)) (x : Item) (xs : List Item)
-    → asks items t site (x ∷ xs) ≡ asks items t (served_whole (first_number items) t x.content site) xs
+    → asks items t site (x ∷ xs) ≡ asks items t (served_whole (first_start items) t x.content site) xs
 unfolding served_whole
 asks_next items t site x xs = refl
 
 pub asks_less : (items : List Item) (t : ℕ) (site after end : Site (List Shown)) (xs : List code.Item) (i : ℕ)
     (d : code.Item) → i < length xs
-    → after ≡ served_whole (first_number items) t (item_in (get_or xs i d)).content site
+    → after ≡ served_whole (first_start items) t (item_in (get_or xs i d)).content site
     → asks items t site (map item_in (drop i xs)) ≡ end
     → asks items t after (map item_in (drop (i + 1) xs)) ≡ end
 asks_less items t site after end xs i d below made left =

@@ -2,7 +2,7 @@ ghost use Rattle.std.specs.Prelude.{◌≡◌, ◌≤◌, IfSome};
 ghost use Rattle.tas_model.specs.Valid.{InRange};
 ghost use Rattle.host_rounds.specs.Hosts.{flow_params as model_flow_params};
 
-use capture_items::FirstNumbers;
+use capture_items::FlowStarts;
 use host_rounds::Start;
 use tas_model::{FourTuple, HostParams};
 
@@ -22,13 +22,13 @@ pub trait StartSource {
         ensures shift { IfSome result.scale (λ shift. shift ≤ 14) };
 }
 
-impl StartSource for FirstNumbers {
-    ghost use Rattle.capture_items.specs.Numbers.{kept_starts};
+impl StartSource for FlowStarts {
+    ghost use Rattle.capture_items.specs.Starts.{kept_starts};
 
     ghost starts = { λ kept. kept_starts kept };
 
     fn start(&self, tuple: FourTuple, k: usize, n: u32) -> Start {
-        self.start(tuple, k, n)
+        FlowStarts::start(self, tuple, k, n)
     }
 }
 
