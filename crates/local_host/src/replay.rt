@@ -192,12 +192,7 @@ impl LocalReplay {
     }
 
     /// The frame of a record comes to the host, where it is one. The error is want of memory.
-    fn deliver(
-        &mut self,
-        tick: u32,
-        item: &Item<'_>,
-        starts: &FlowStarts,
-    ) -> Result<(), AllocError>
+    fn deliver(&mut self, tick: u32, item: &Item<'_>, starts: &FlowStarts) -> Result<(), AllocError>
         ensures { OnOk result (self.new ≡ on_host (came (kept_starts starts.now) tick (item_in item.now)) self.old) }
     {
         match arrival_of(item) {
@@ -223,12 +218,7 @@ impl LocalReplay {
     }
 
     /// What the application does for a record. The error is want of memory.
-    fn serve(
-        &mut self,
-        tick: u32,
-        item: &Item<'_>,
-        starts: &FlowStarts,
-    ) -> Result<(), AllocError>
+    fn serve(&mut self, tick: u32, item: &Item<'_>, starts: &FlowStarts) -> Result<(), AllocError>
         ensures { OnOk result (self.new ≡ served_whole (kept_starts starts.now) tick
             (item_in item.now).content self.old) }
     {
