@@ -27,6 +27,7 @@ impl StartSource for FlowStarts {
 
     ghost starts = { λ kept. kept_starts kept };
 
+    #[tactic(auto, using(crate::proofs::Shifts::replays_shift))]
     fn start(&self, tuple: FourTuple, k: usize, n: u32) -> Start {
         FlowStarts::start(self, tuple, k, n)
     }
@@ -34,6 +35,7 @@ impl StartSource for FlowStarts {
 
 /// The parameters of a flow that is opened with this window scale, on a host with these parameters: with a scale of its
 /// own a flow has larger rings.
+#[tactic(auto, using(host_rounds::proofs::Runs::flow_in_range))]
 pub fn flow_params(params: &HostParams, scale: Option<u8>) -> HostParams
     requires ranges { InRange params.now }
     requires shift { IfSome scale (λ shift. shift ≤ 14) }
