@@ -8,7 +8,7 @@ ghost use Rattle.asked_host.specs.Asking.{IsSocketCall, IsEndCall, IsAccepting, 
 ghost use Rattle.asked_host.specs.Kills.{without_app};
 
 use flow_state::{Answer, CallIn};
-use local_host::{Connecting, NumberSource};
+use local_host::{Connecting, StartSource};
 use std::alloc::AllocError;
 use tas_core::LogEvent;
 
@@ -46,18 +46,18 @@ pub trait AskedHost {
 
     /// The application connects to the port of a host: a flow is opened in the lowest free slot, from the next port.
     /// The answer says so, or why not; then nothing changes.
-    fn connect_out<N: NumberSource>(
+    fn connect_out<S: StartSource>(
         &mut self,
         app: u32,
         tick: u32,
         raddr: u32,
         rport: u16,
-        numbers: &N,
+        starts: &S,
     ) -> Result<Connecting, AllocError>
         requires app { has_app self.old app }
         requires ports { (seen self.old).params.fixed ≡ false }
         ensures { IfOk result (λ answer.
-            IsConnecting (N.numbers numbers.now) tick app raddr rport (seen self.old) (seen self.new) answer) };
+            IsConnecting (S.starts starts.now) tick app raddr rport (seen self.old) (seen self.new) answer) };
 
     /// The application makes a call on the socket of the flow at this place, which it keeps. The answer tells no window
     /// update.

@@ -6,7 +6,7 @@ ghost use Rattle.asked_host.specs.Asking.{IsEndCall, IsAccepting, left_by};
 use crate::asked::AskedHost;
 use crate::kill::end_app;
 use flow_state::{Answer, CallIn};
-use local_host::{Connecting, Holder, LocalHost, NumberSource};
+use local_host::{Connecting, Holder, LocalHost, StartSource};
 use std::alloc::AllocError;
 use tas_core::LogEvent;
 use tas_model::Caller;
@@ -30,15 +30,15 @@ impl AskedHost for LocalHost {
         accept_first(self, app, tick, port)
     }
 
-    fn connect_out<N: NumberSource>(
+    fn connect_out<S: StartSource>(
         &mut self,
         app: u32,
         tick: u32,
         raddr: u32,
         rport: u16,
-        numbers: &N,
+        starts: &S,
     ) -> Result<Connecting, AllocError> {
-        LocalHost::connect_out(self, tick, app, raddr, rport, numbers)
+        LocalHost::connect_out(self, tick, app, raddr, rport, starts)
     }
 
     fn ask(

@@ -29,6 +29,7 @@ pub fn segment_with<'a>(line: &SegLine<'_>, payload: &'a [u8]) -> Segment<'a>
         flags: Flags(line.head.flags),
         window: line.head.window,
         mss: line.head.mss,
+        scale: line.head.scale,
         payload,
     }
 }

@@ -6,7 +6,8 @@ use Rattle.std.specs.Option.{option_map}
 use Rattle.std.proofs.lemmas.List.{drop_more, take_more, map-append}
 use Rattle.std.proofs.lemmas.List.Elements.{filter_map-append}
 use Rattle.tas_model.specs.declared.entry.Caller.TheVariants.{Slow}
-use Rattle.host_rounds.specs.Hosts.{Host, Numbers, is_known}
+use Rattle.host_rounds.specs.declared.opening.Start.{Start}
+use Rattle.host_rounds.specs.Hosts.{Host, Starts, is_known}
 use Rattle.host_rounds.specs.Scripts.{Site}
 use Rattle.host_rounds.specs.Rounds.{on_host}
 use Rattle.host_rounds.specs.Deliveries.{Packet, Damaged, Segment, Arrival, Taking, received, arrived, delivered}
@@ -48,23 +49,23 @@ came_more xs after o batch i d below is made before =
 abbrev pub rests : List Item → (tick : ℕ) → Site (List Shown) → List Arrival → Site (List Shown)
 rests items t site xs = on_host (λ (host : Host). rest_phase (capture_scripts items) t host xs) site
 
-packet_alike : (by : Taking) (numbers others : Numbers) (t : ℕ) (host : Host) (frame : FrameId) (p : Packet)
-    → AreAlike numbers others
-    → delivered_packet by numbers t host frame p ≡ delivered_packet by others t host frame p
-packet_alike by numbers others t host frame (Damaged rule) alike = refl
-packet_alike by numbers others t host frame (Segment tuple seg) alike =
-    ap (λ (n : ℕ). arrived (is_known host tuple) (by t frame seg) n t host frame tuple seg) (alike tuple _ _)
+packet_alike : (by : Taking) (starts others : Starts) (t : ℕ) (host : Host) (frame : FrameId) (p : Packet)
+    → AreAlike starts others
+    → delivered_packet by starts t host frame p ≡ delivered_packet by others t host frame p
+packet_alike by starts others t host frame (Damaged rule) alike = refl
+packet_alike by starts others t host frame (Segment tuple seg) alike =
+    ap (λ (s : Start). arrived (is_known host tuple) (by t frame seg) s t host frame tuple seg) (alike tuple _ _)
 
-pub slow_alike : (numbers others : Numbers) (t : ℕ) (x : Arrival) (site : Site (List Shown)) → AreAlike numbers others
-    → ◌≡◌ {A = Site (List Shown)} (on_host (λ (host : Host). delivered (received Slow) numbers t host x) site)
+pub slow_alike : (starts others : Starts) (t : ℕ) (x : Arrival) (site : Site (List Shown)) → AreAlike starts others
+    → ◌≡◌ {A = Site (List Shown)} (on_host (λ (host : Host). delivered (received Slow) starts t host x) site)
     (on_host (λ (host : Host). delivered (received Slow) others t host x) site)
-slow_alike numbers others t x site alike = ap (λ (host : Host). record site { host = host })
-    (packet_alike (received Slow) numbers others t site.host x.frame x.packet alike)
+slow_alike starts others t x site alike = ap (λ (host : Host). record site { host = host })
+    (packet_alike (received Slow) starts others t site.host x.frame x.packet alike)
 
 -- the frames that are left, one less
 pub rests_less : (items : List Item) (t : ℕ) (site after end : Site (List Shown)) (xs : List arrivals.Arrival) (i : ℕ)
     (d : arrivals.Arrival) → i < length xs
-    → after ≡ on_host (λ (host : Host). delivered (received Slow) ((capture_scripts items).numbers) t host
+    → after ≡ on_host (λ (host : Host). delivered (received Slow) ((capture_scripts items).starts) t host
     (arrival_in (get_or xs i d))) site
     → rests items t site (map arrival_in (drop i xs)) ≡ end
     → rests items t after (map arrival_in (drop (i + 1) xs)) ≡ end

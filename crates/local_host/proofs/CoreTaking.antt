@@ -10,7 +10,7 @@ use Rattle.tas_model.specs.declared.entry.FrameId.{FrameId}
 use Rattle.tas_model.specs.declared.entry.HostParams.{HostParams}
 use Rattle.tas_model.specs.declared.entry.Seg.{Seg}
 use Rattle.tas_model.specs.declared.entry.Caller.TheVariants.{Core, App}
-use Rattle.host_rounds.specs.Hosts.{Live, Host, Numbers, is_indexed_as, next_number}
+use Rattle.host_rounds.specs.Hosts.{Live, Host, Starts, is_indexed_as, next_start}
 use Rattle.host_rounds.specs.Deliveries.{Packet, Damaged, Segment, Arrival, received, arrived}
 use Rattle.host_rounds.specs.Deliveries.{delivered_packet}
 use Rattle.core_rounds.specs.CoreTicks.{Taken, taken_by_cores, is_frame}
@@ -294,25 +294,25 @@ took_host {params} {listeners} {t} {old} {after} {cores} {frames} {rest} took is
     subst (IsHost params listeners) took.made (order_host t took.order old took.known is)
 
 -- ----- the host
-packet_done : (numbers : Numbers) (core t : ℕ) (host : Host) (frame : FrameId) (p : Packet)
+packet_done : (starts : Starts) (core t : ℕ) (host : Host) (frame : FrameId) (p : Packet)
     → is_some (place_in host.flows p) ≡ true
-    → ◌≡◌ {A = Host} (delivered_packet (received (Core core)) numbers t host frame p)
+    → ◌≡◌ {A = Host} (delivered_packet (received (Core core)) starts t host frame p)
     (record host { flows = taken_packet core t frame p host.flows })
-packet_done numbers core t host frame (Damaged rule) here = absurd (true≢false (sym here))
-packet_done numbers core t host frame (Segment tuple seg) here =
+packet_done starts core t host frame (Damaged rule) here = absurd (true≢false (sym here))
+packet_done starts core t host frame (Segment tuple seg) here =
     let at = found_at host.flows (Segment tuple seg) here in
-    ap (λ (b : Bool). arrived b (received (Core core) t frame seg) (next_number numbers host tuple) t host frame tuple
+    ap (λ (b : Bool). arrived b (received (Core core) t frame seg) (next_start starts host tuple) t host frame tuple
     seg)
     (known_is tuple host at.0 at.1)
 
-order_done : (numbers : Numbers) (t : ℕ) (order : List Taken) (host : Host) → AreKnown host.flows order
-    → ◌≡◌ {A = Host} (taken_by_cores numbers t host order)
+order_done : (starts : Starts) (t : ℕ) (order : List Taken) (host : Host) → AreKnown host.flows order
+    → ◌≡◌ {A = Host} (taken_by_cores starts t host order)
     (record host { flows = fold (flow_taken t) host.flows order })
-order_done numbers t [] host all = refl
-order_done numbers t (x ∷ order) host all =
-    ap (λ (h : Host). taken_by_cores numbers t h order)
-    (packet_done numbers x.core t host x.arrival.frame x.arrival.packet (first_known host.flows x order all))
-    ∙ order_done numbers t order (record host { flows = flow_taken t host.flows x })
+order_done starts t [] host all = refl
+order_done starts t (x ∷ order) host all =
+    ap (λ (h : Host). taken_by_cores starts t h order)
+    (packet_done starts x.core t host x.arrival.frame x.arrival.packet (first_known host.flows x order all))
+    ∙ order_done starts t order (record host { flows = flow_taken t host.flows x })
     (rest_known t host.flows x order all)
 
 pub took_phase : (t : ℕ) (host : Host) (after : List Live) (cores : List ℕ) (frames rest : List Arrival)
@@ -322,7 +322,7 @@ took_phase t host after cores frames rest took = record {
   phase = record {
     order = took.order;
     shared = took.shared;
-    made = λ numbers. order_done numbers t took.order host took.known
+    made = λ starts. order_done starts t took.order host took.known
         ∙ ap (λ (F : List Live). record host { flows = F }) took.made;
   };
   steered = took.steered;
@@ -335,7 +335,7 @@ none_taken t host cores frames rest same = record {
   phase = record {
     order = [];
     shared = λ frame. ap (filter (is_frame frame)) same;
-    made = λ numbers. refl;
+    made = λ starts. refl;
   };
   steered = All-nil (IsSteered cores frames);
 }

@@ -4,18 +4,19 @@ use Rattle.std.proofs.Common.{List, [], ◌∷◌, length, get_or, position, Opt
 use Rattle.std.proofs.Common.{ap, ◌∙◌, true≢false, arith, tests, nat_lt}
 use Rattle.std.specs.List.{list_any, position_or_len}
 use Rattle.std.proofs.lemmas.List.Sums.{fails_before_first}
-use Rattle.tas_num.specs.declared.seq.Seq.{Seq}
 use Rattle.tas_model.specs.declared.entry.FlowId.{FlowId}
 use Rattle.tas_model.specs.declared.entry.FrameId.{FrameId}
 use Rattle.tas_model.specs.declared.entry.FourTuple.{FourTuple}
+use Rattle.tas_model.specs.declared.entry.HostParams.{HostParams}
 use Rattle.tas_model.specs.declared.entry.Seg.{Seg}
 use Rattle.tas_model.specs.declared.entry.Entry.{Entry}
 use Rattle.tas_model.specs.declared.entry.Call.TheVariants as calls
 use Rattle.tas_model.specs.declared.entry.Caller.TheVariants.{Slow, App}
+use Rattle.host_rounds.specs.declared.opening.Start.{Start}
 use Rattle.host_rounds.specs.Lists.{change_at}
 use Rattle.host_rounds.specs.Hosts.{Live, Host, Holder, Waiting, Application, changed, is_known}
 use Rattle.host_rounds.specs.Hosts.{is_indexed_as, lowest_free, next_generation}
-use Rattle.host_rounds.specs.Hosts.{first_entry, opened_in, Numbers, next_number}
+use Rattle.host_rounds.specs.Hosts.{Starts, flow_params, next_start, first_entry, opened_in}
 use Rattle.host_rounds.specs.Deliveries.{opened_by_syn}
 use Rattle.host_rounds.proofs.Loops.{none_found, known_found}
 use Rattle.tas_runs.specs.LocalScript.{connects, opened_by_connect, connected_where, connected}
@@ -62,85 +63,74 @@ pub unknown_is : (tuple : FourTuple) (host : Host) → position (is_indexed_as t
 unknown_is tuple host none = unknown (is_indexed_as tuple) host.flows none
 
 -- ----- openings
-opened_there : (host : Host) (slot : ℕ) (tuple : FourTuple) (holder : Holder) (x y : Entry) (id : FlowId)
-    (flows : List Live)
-    → id ≡ record { slot = slot; generation = next_generation slot host.flows } → x ≡ y
-    → flows ≡ host.flows ++ opened_live id tuple host.params holder x ∷ []
-    → ◌≡◌ {A = Host} (record host { flows = flows }) (opened_in host slot tuple holder y)
-opened_there host slot tuple holder x y id flows is same made =
+opened_there : (host : Host) (slot : ℕ) (tuple : FourTuple) (scale : Option ℕ) (holder : Holder) (x y : Entry)
+    (params : HostParams) (id : FlowId) (flows : List Live)
+    → id ≡ record { slot = slot; generation = next_generation slot host.flows }
+    → params ≡ flow_params host.params scale → x ≡ y
+    → flows ≡ host.flows ++ opened_live id tuple params holder x ∷ []
+    → ◌≡◌ {A = Host} (record host { flows = flows }) (opened_in host slot tuple scale holder y)
+opened_there host slot tuple scale holder x y params id flows is are same made =
     let next : FlowId = record { slot = slot; generation = next_generation slot host.flows } in
     ap (λ (ls : List Live). record host { flows = ls })
     (made
-    ∙ (ap (λ (i : FlowId). host.flows ++ opened_live i tuple host.params holder x ∷ []) is
-    ∙ ap (λ (z : Entry). host.flows ++ opened_live next tuple host.params holder z ∷ []) same))
+    ∙ (ap (λ (i : FlowId). host.flows ++ opened_live i tuple params holder x ∷ []) is
+    ∙ (ap (λ (p : HostParams). host.flows ++ opened_live next tuple p holder x ∷ []) are
+    ∙ ap (λ (z : Entry). host.flows ++ opened_live next tuple (flow_params host.params scale) holder z ∷ []) same)))
 
-number_is : (iss : Seq) (n : ℕ) → iss.0 ≡ n → ◌≡◌ {A = Seq} iss (record { 0 = n })
-number_is iss n is = ap (λ (m : ℕ). record { 0 = m }) is
-
-pub syn_opened : (host : Host) (slot n t : ℕ) (frame : FrameId) (tuple : FourTuple) (seg : Seg) (iss : Seq)
-    (id : FlowId) (flows : List Live)
+pub syn_opened : (host : Host) (slot t : ℕ) (frame : FrameId) (tuple : FourTuple) (seg : Seg) (start given : Start)
+    (params : HostParams) (id : FlowId) (flows : List Live)
     → lowest_free host ≡ Some slot → id ≡ record { slot = slot; generation = next_generation slot host.flows }
-    → iss.0 ≡ n
-    → flows ≡ host.flows ++ opened_live id tuple host.params Waiting
-    (first_entry Slow t (calls.Passive frame iss seg)) ∷ []
-    → ◌≡◌ {A = Host} (record host { flows = flows }) (opened_by_syn false (lowest_free host) n t host frame tuple seg)
-syn_opened host slot n t frame tuple seg iss id flows free is number made =
-    opened_there host slot tuple Waiting (first_entry Slow t (calls.Passive frame iss seg))
-    (first_entry Slow t (calls.Passive frame (record { 0 = n }) seg)) id flows is
-    (ap (λ (s : Seq). first_entry Slow t (calls.Passive frame s seg)) (number_is iss n number)) made
-    ∙ ap (λ (o : Option ℕ). opened_by_syn false o n t host frame tuple seg) (sym free)
+    → params ≡ flow_params host.params start.scale → given ≡ start
+    → flows ≡ host.flows ++ opened_live id tuple params Waiting
+    (first_entry Slow t (calls.Passive frame given.number seg)) ∷ []
+    → ◌≡◌ {A = Host} (record host { flows = flows })
+    (opened_by_syn false (lowest_free host) start t host frame tuple seg)
+syn_opened host slot t frame tuple seg start given params id flows free is are same made =
+    opened_there host slot tuple start.scale Waiting (first_entry Slow t (calls.Passive frame given.number seg))
+    (first_entry Slow t (calls.Passive frame start.number seg)) params id flows is are
+    (ap (λ (s : Start). first_entry Slow t (calls.Passive frame s.number seg)) same) made
+    ∙ ap (λ (o : Option ℕ). opened_by_syn false o start t host frame tuple seg) (sym free)
 
-pub connect_opened : (host : Host) (app slot n t : ℕ) (tuple : FourTuple) (iss : Seq) (id : FlowId) (flows : List Live)
-    → lowest_free host ≡ Some slot → id ≡ record { slot = slot; generation = next_generation slot host.flows }
-    → iss.0 ≡ n
-    → flows ≡ host.flows ++ opened_live id tuple host.params (Application app)
-    (first_entry (App app) t (calls.Connect iss)) ∷ []
-    → ◌≡◌ {A = Host} (record host { flows = flows }) (connected_by app (lowest_free host) n t host tuple)
-connect_opened host app slot n t tuple iss id flows free is number made =
-    opened_there host slot tuple (Application app) (first_entry (App app) t (calls.Connect iss))
-    (first_entry (App app) t (calls.Connect (record { 0 = n }))) id flows is
-    (ap (λ (s : Seq). first_entry (App app) t (calls.Connect s)) (number_is iss n number)) made
-    ∙ ap (λ (o : Option ℕ). connected_by app o n t host tuple) (sym free)
-
--- ----- a segment of no flow
 -- ----- a connect
-same_connect : (o : Option ℕ) (n t : ℕ) (host : Host) (tuple : FourTuple)
-    → connected_by 0 o n t host tuple ≡ opened_by_connect o n t host tuple
-same_connect None n t host tuple = refl
-same_connect (Some slot) n t host tuple = refl
+same_connect : (o : Option ℕ) (start : Start) (t : ℕ) (host : Host) (tuple : FourTuple)
+    → connected_by 0 o start t host tuple ≡ opened_by_connect o start t host tuple
+same_connect None start t host tuple = refl
+same_connect (Some slot) start t host tuple = refl
 
-not_wanted : (wanted known : Bool) (n t : ℕ) (host : Host) (tuple : FourTuple) → known ≡ true
-    → host ≡ connected_where (wanted && not known) n t host tuple
-not_wanted true true n t host tuple h = refl
-not_wanted false true n t host tuple h = refl
-not_wanted wanted false n t host tuple h = absurd (true≢false (sym h))
+not_wanted : (wanted known : Bool) (start : Start) (t : ℕ) (host : Host) (tuple : FourTuple) → known ≡ true
+    → host ≡ connected_where (wanted && not known) start t host tuple
+not_wanted true true start t host tuple h = refl
+not_wanted false true start t host tuple h = refl
+not_wanted wanted false start t host tuple h = absurd (true≢false (sym h))
 
-wanted_so : (wanted known : Bool) (n t : ℕ) (host : Host) (tuple : FourTuple) → wanted ≡ true → known ≡ false
-    → opened_by_connect (lowest_free host) n t host tuple ≡ connected_where (wanted && not known) n t host tuple
-wanted_so true false n t host tuple h g = refl
-wanted_so false known n t host tuple h g = absurd (true≢false (sym h))
-wanted_so true true n t host tuple h g = absurd (true≢false g)
+wanted_so : (wanted known : Bool) (start : Start) (t : ℕ) (host : Host) (tuple : FourTuple) → wanted ≡ true
+    → known ≡ false
+    → opened_by_connect (lowest_free host) start t host tuple
+    ≡ connected_where (wanted && not known) start t host tuple
+wanted_so true false start t host tuple h g = refl
+wanted_so false known start t host tuple h g = absurd (true≢false (sym h))
+wanted_so true true start t host tuple h g = absurd (true≢false g)
 
 -- a flow has the four-tuple
-pub connects_none : (numbers : Numbers) (t : ℕ) (tuple : FourTuple) (seg : Seg) (host : Host) (i : ℕ)
-    → position (is_indexed_as tuple) host.flows ≡ Some i → host ≡ connected numbers t tuple seg host
-connects_none numbers t tuple seg host i found =
-    not_wanted (connects seg) (is_known host tuple) (next_number numbers host tuple) t host tuple
+pub connects_none : (starts : Starts) (t : ℕ) (tuple : FourTuple) (seg : Seg) (host : Host) (i : ℕ)
+    → position (is_indexed_as tuple) host.flows ≡ Some i → host ≡ connected starts t tuple seg host
+connects_none starts t tuple seg host i found =
+    not_wanted (connects seg) (is_known host tuple) (next_start starts host tuple) t host tuple
     (known_is tuple host i found)
 
 -- and none has it
-pub connects_one : (numbers : Numbers) (t : ℕ) (tuple : FourTuple) (seg : Seg) (host : Host)
+pub connects_one : (starts : Starts) (t : ℕ) (tuple : FourTuple) (seg : Seg) (host : Host)
     → position (is_indexed_as tuple) host.flows ≡ None → connects seg ≡ true
-    → connected_by 0 (lowest_free host) (next_number numbers host tuple) t host tuple
-    ≡ connected numbers t tuple seg host
-connects_one numbers t tuple seg host none wanted =
-    same_connect (lowest_free host) (next_number numbers host tuple) t host tuple
-    ∙ wanted_so (connects seg) (is_known host tuple) (next_number numbers host tuple) t host tuple wanted
+    → connected_by 0 (lowest_free host) (next_start starts host tuple) t host tuple
+    ≡ connected starts t tuple seg host
+connects_one starts t tuple seg host none wanted =
+    same_connect (lowest_free host) (next_start starts host tuple) t host tuple
+    ∙ wanted_so (connects seg) (is_known host tuple) (next_start starts host tuple) t host tuple wanted
     (unknown_is tuple host none)
 
 -- the segment is no SYN of the host's own
-pub connects_not : (numbers : Numbers) (t : ℕ) (tuple : FourTuple) (seg : Seg) (host : Host) → connects seg ≡ false
-    → host ≡ connected numbers t tuple seg host
-connects_not numbers t tuple seg host other =
-    ap (λ (b : Bool). connected_where (b && not (is_known host tuple)) (next_number numbers host tuple) t host tuple)
+pub connects_not : (starts : Starts) (t : ℕ) (tuple : FourTuple) (seg : Seg) (host : Host) → connects seg ≡ false
+    → host ≡ connected starts t tuple seg host
+connects_not starts t tuple seg host other =
+    ap (λ (b : Bool). connected_where (b && not (is_known host tuple)) (next_start starts host tuple) t host tuple)
     (sym other)

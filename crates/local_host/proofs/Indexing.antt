@@ -22,7 +22,7 @@ use Rattle.local_host.specs.declared.arrival.Taking.TheVariants as takings
 use Rattle.local_host.specs.Arriving.{taking_in}
 use Rattle.tas_runs.specs.LocalScript.{Stage, Beginning, Accepting, Sending, Shutting, Aborting, Receiving, Leaving}
 use Rattle.tas_runs.specs.LocalScript.{Shown, at_stage, asked_where, is_wanted, given_up, resets_here}
-use Rattle.capture_items.specs.Numbers.{equal_tuple}
+use Rattle.capture_items.specs.Starts.{equal_tuple}
 use Rattle.capture_items.proofs.Listed.{tuple_exact, tuple_itself, tuple_apart, same_equal}
 use Rattle.local_host.specs.declared.flows.Openings.{Openings}
 use Rattle.local_host.specs.Index.{indexed_at, latest_of, count_of, IsIndex}

@@ -5,6 +5,7 @@ pub mod Emitting
 pub mod Fitting
 pub mod Places
 pub mod Hosting
+mod Shifts
 pub mod Indexing
 pub mod Slots
 pub mod Standing

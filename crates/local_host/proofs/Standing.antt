@@ -26,7 +26,7 @@ use Rattle.local_host.specs.declared.arrival.Taking.{Taking}
 use Rattle.local_host.specs.declared.arrival.Taking.TheVariants as takings
 use Rattle.local_host.specs.Arriving.{taking_in}
 use Rattle.tas_runs.specs.LocalScript.{Shown}
-use Rattle.capture_items.specs.Numbers.{equal_tuple}
+use Rattle.capture_items.specs.Starts.{equal_tuple}
 use Rattle.local_host.specs.declared.flows.Openings.{Openings}
 use Rattle.local_host.specs.Index.{passes_at, is_standing, with_first, standing_places, IsAtRest, AreAtRest, number_of}
 use Rattle.local_host.specs.Index.{flows_in, IsKnown, IsIndex, indexed_at}

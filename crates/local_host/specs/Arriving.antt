@@ -2,7 +2,7 @@
 use Rattle.std.specs.Prelude.{ℕ, Option, Some, None}
 use Rattle.flow_state.specs.Calls.{seg_of}
 use Rattle.tas_model.specs.declared.entry.Caller.TheVariants.{Slow}
-use Rattle.host_rounds.specs.Hosts.{Host, Numbers}
+use Rattle.host_rounds.specs.Hosts.{Host, Starts}
 use Rattle.host_rounds.specs.Deliveries.{Packet, Damaged, Segment, Arrival, Taking, received, received_serially}
 use Rattle.host_rounds.specs.Deliveries.{delivered}
 use Rattle.tas_runs.specs.Records.{Item}
@@ -26,10 +26,10 @@ taking_in takings.Serially = received_serially
 taking_in takings.Slowly = received Slow
 
 -- the frame comes, where there is one
-abbrev pub came_where : Numbers → (tick : ℕ) → Option Arrival → Host → Host
-came_where numbers t None host = host
-came_where numbers t (Some x) host = delivered received_serially numbers t host x
+abbrev pub came_where : Starts → (tick : ℕ) → Option Arrival → Host → Host
+came_where starts t None host = host
+came_where starts t (Some x) host = delivered received_serially starts t host x
 
 -- what comes in a record of a capture
-abbrev pub came : Numbers → (tick : ℕ) → Item → Host → Host
-came numbers t x host = came_where numbers t (arrival_of x) host
+abbrev pub came : Starts → (tick : ℕ) → Item → Host → Host
+came starts t x host = came_where starts t (arrival_of x) host

@@ -18,6 +18,7 @@ use Rattle.host_rounds.specs.Logs.{Flow}
 use Rattle.host_rounds.specs.Hosts.{Live, Host, Holder, Waiting, Application, GivenUp, endpoint, logged}
 use Rattle.host_rounds.specs.Hosts.{first_entry, opened_in}
 use Rattle.host_rounds.specs.declared.log.LogEvent.TheVariants as events
+use Rattle.host_rounds.specs.declared.opening.Start.{Start}
 use Rattle.host_rounds.specs.Upkeep.{quieted}
 use Rattle.local_host.specs.declared.live.Holder as code
 use Rattle.local_host.specs.declared.live.Holder.TheVariants as holders
@@ -66,7 +67,8 @@ opened_live id tuple params holder x =
     }
 
 -- a connect of this application
-abbrev pub connected_by : (app : ℕ) → (free : Option ℕ) → (number tick : ℕ) → Host → FourTuple → Host
-connected_by app None number t host tuple = logged host t (events.ConnectRefused app tuple.raddr tuple.rport false)
-connected_by app (Some slot) number t host tuple =
-    opened_in host slot tuple (Application app) (first_entry (App app) t (calls.Connect (record { 0 = number })))
+abbrev pub connected_by : (app : ℕ) → (free : Option ℕ) → Start → (tick : ℕ) → Host → FourTuple → Host
+connected_by app None start t host tuple = logged host t (events.ConnectRefused app tuple.raddr tuple.rport false)
+connected_by app (Some slot) start t host tuple =
+    opened_in host slot tuple start.scale (Application app)
+    (first_entry (App app) t (calls.Connect start.number))

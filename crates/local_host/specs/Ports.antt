@@ -9,9 +9,10 @@ use Rattle.tas_model.specs.Valid.{InRange}
 use Rattle.flow_state.specs.declared.call.CallIn.{CallIn}
 use Rattle.flow_state.specs.declared.call.CallIn.TheVariants as ins
 use Rattle.host_rounds.specs.declared.log.LogLine.{LogLine}
+use Rattle.host_rounds.specs.declared.opening.Start.{Start}
 use Rattle.host_rounds.specs.Lists.{Each}
-use Rattle.host_rounds.specs.Hosts.{Host, Live, Listener, Application, Numbers, first_port, ports_given, is_running}
-use Rattle.host_rounds.specs.Hosts.{lowest_free, next_number, first_entry, opened_in}
+use Rattle.host_rounds.specs.Hosts.{Host, Live, Listener, Application, Starts, first_port, ports_given, is_running}
+use Rattle.host_rounds.specs.Hosts.{lowest_free, next_start, first_entry, opened_in}
 use Rattle.local_host.specs.declared.host.Listener as code
 use Rattle.local_host.specs.declared.host.Connecting.{Connecting}
 use Rattle.local_host.specs.declared.host.Connecting.TheVariants.{Opened, NoSlot, NoPort}
@@ -38,17 +39,18 @@ pub record IsHost (params : HostParams) (listeners : List code.Listener) (flows 
 
 -- ----- connects
 -- The answer is the connect's, and so is what it left: the slot is looked at first, and then the port.
-abbrev pub IsConnecting : Numbers → (tick app raddr rport : ℕ) → (before after : Host) → Connecting → Type 0
-IsConnecting numbers t app raddr rport before after NoSlot = (lowest_free before ≡ None) × (after ≡ before)
-IsConnecting numbers t app raddr rport before after NoPort =
+abbrev pub IsConnecting : Starts → (tick app raddr rport : ℕ) → (before after : Host) → Connecting → Type 0
+IsConnecting starts t app raddr rport before after NoSlot = (lowest_free before ≡ None) × (after ≡ before)
+IsConnecting starts t app raddr rport before after NoPort =
     IsSome (lowest_free before) × (nat_lt (first_port + ports_given before) (2 ^ 16) ≡ false) × (after ≡ before)
-IsConnecting numbers t app raddr rport before after (Opened place) =
+IsConnecting starts t app raddr rport before after (Opened place) =
     let port : ℕ = first_port + ports_given before in
     let tuple : FourTuple =
     record { laddr = before.params.addr; lport = port; raddr = raddr; rport = rport } in
+    let start : Start = next_start starts before tuple in
     (slot : ℕ) × (lowest_free before ≡ Some slot) × (nat_lt port (2 ^ 16) ≡ true) × (place ≡ length before.flows)
-    × (after ≡ opened_in before slot tuple (Application app)
-    (first_entry (App app) t (calls.Connect (record { 0 = next_number numbers before tuple }))))
+    × (after ≡ opened_in before slot tuple start.scale (Application app)
+    (first_entry (App app) t (calls.Connect start.number)))
 
 -- ----- calls
 -- the call may be made on this flow: Accept where it is past its opening and not closed, and any other in any phase

@@ -2,7 +2,7 @@
 use Rattle.std.specs.Prelude.{ℕ, List, [], ◌∷◌, fold, get_or}
 use Rattle.tas_model.specs.declared.entry.FourTuple.{FourTuple}
 use Rattle.host_rounds.specs.Lists.{change_at}
-use Rattle.host_rounds.specs.Hosts.{Live, Numbers, at_flow}
+use Rattle.host_rounds.specs.Hosts.{Live, Starts, at_flow}
 use Rattle.host_rounds.specs.Scripts.{Site}
 use Rattle.tas_runs.specs.Records.{Content}
 use Rattle.tas_runs.specs.LocalScript.{Stage, Accepting, Sending, Shutting, Aborting, Receiving, Leaving, stages, Shown}
@@ -53,6 +53,6 @@ served_later t content tuple site =
     fold (λ (s : Site (List Shown)) (stage : Stage). served_flow stage t content tuple s) site later_stages
 
 -- all stages of a record
-unfoldable pub served_whole : Numbers → (tick : ℕ) → Content → Site (List Shown) → Site (List Shown)
-served_whole numbers t content site =
-    fold (λ (s : Site (List Shown)) (stage : Stage). served_content numbers stage t content s) site stages
+unfoldable pub served_whole : Starts → (tick : ℕ) → Content → Site (List Shown) → Site (List Shown)
+served_whole starts t content site =
+    fold (λ (s : Site (List Shown)) (stage : Stage). served_content starts stage t content s) site stages

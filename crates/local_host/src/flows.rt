@@ -3,7 +3,7 @@ ghost use Rattle.std.specs.Prelude.{position, get_or, nat_eq, ◌||◌, List, sl
 ghost use Rattle.std.specs.Prelude.{OnErr, OnOk, is_some, nat_le, count_by, All};
 ghost use Rattle.std.specs.List.{list_any, list_all, filter};
 ghost use Rattle.std.specs.HashMap.{get};
-ghost use Rattle.capture_items.specs.Numbers.{equal_tuple};
+ghost use Rattle.capture_items.specs.Starts.{equal_tuple};
 ghost use Rattle.tas_model.specs.declared.entry.Caller.TheVariants.{Slow};
 ghost use Rattle.flow_state.specs.Calls.{seg_of, call_of, offer_of, answer_of, IsSmall};
 ghost use Rattle.flow_state.specs.App.{IsAppCall};

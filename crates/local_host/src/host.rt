@@ -9,7 +9,7 @@ ghost use Rattle.host_rounds.specs.Moves.{IsAppCall};
 ghost use Rattle.host_rounds.specs.declared.log.LogEvent.TheVariants as events;
 ghost use Rattle.host_rounds.specs.Lists.{Each};
 ghost use Rattle.host_rounds.specs.Hosts.{Host, Live, is_indexed_as, logged, is_known, is_listening, at_flow};
-ghost use Rattle.host_rounds.specs.Hosts.{lowest_free, next_generation, next_number, opened_in, flows_of, with_call};
+ghost use Rattle.host_rounds.specs.Hosts.{lowest_free, next_generation, next_start, opened_in, flows_of, with_call};
 ghost use Rattle.host_rounds.specs.Hosts.{is_listened, is_full, is_ready, is_over, answer_of, first_port, ports_given};
 ghost use Rattle.host_rounds.specs.Hosts.{Listener as ModelListener};
 ghost use Rattle.host_rounds.specs.Deliveries.{received, received_serially, stray_answer, met_no_flow};
@@ -34,9 +34,10 @@ use crate::cores::SideWork;
 use crate::distinct::are_distinct;
 use crate::flows::{FIRST_PORT, Flows};
 use crate::live::{Holder, LiveFlow};
-use crate::numbers::NumberSource;
 use crate::script::Shown;
+use crate::starts::{StartSource, flow_params};
 use flow_state::{Answer, CallIn, FlowHistory};
+use host_rounds::Start;
 use segment_fields::Segment;
 use slow_handshake::stray;
 use std::alloc::{AllocError, Global};
@@ -44,7 +45,7 @@ use std::marker::Model;
 use std::thread::Threads;
 use tas_core::{HostLog, KeptSeg, LogEvent, LogLine};
 use tas_model::{Bytes, Caller, FlowId, FourTuple, FrameId, Head, HostParams, Seg};
-use tas_num::{Gate, Seq};
+use tas_num::Gate;
 
 /// An application listens on a port.
 #[derive(Clone, Copy)]
@@ -255,17 +256,17 @@ impl LocalHost {
 
     /// An application connects to the port of a host: a flow is opened in the lowest free slot, from the next port. The
     /// answer says so, or why not; then nothing changed. The error is want of memory.
-    pub fn connect_out<N: NumberSource>(
+    pub fn connect_out<S: StartSource>(
         &mut self,
         tick: u32,
         app: u32,
         raddr: u32,
         rport: u16,
-        numbers: &N,
+        starts: &S,
     ) -> Result<Connecting, AllocError>
         requires { self.old.params.fixed ≡ false }
         ensures { IfOk result (λ answer.
-            IsConnecting (N.numbers numbers.now) tick app raddr rport self.old self.new answer) }
+            IsConnecting (S.starts starts.now) tick app raddr rport self.old self.new answer) }
     {
         let Some(slot) = self.flows.lowest_free(self.params.slots) else {
             return Ok(Connecting::NoSlot);
@@ -280,7 +281,7 @@ impl LocalHost {
             rport,
         };
         let place = self.flows.len();
-        self.open_connected(tick, app, slot, tuple, numbers)?;
+        self.open_connected(tick, app, slot, tuple, starts)?;
         Ok(Connecting::Opened(place))
     }
 
@@ -416,27 +417,28 @@ impl LocalHost {
         }
     }
 
-    /// The first number of the next flow of this four-tuple.
-    fn next_number<N: NumberSource>(&self, tuple: FourTuple, numbers: &N) -> Seq
-        ensures { result.0 ≡ next_number (N.numbers numbers.now) self.now tuple }
+    /// What the next flow of this four-tuple begins with.
+    fn next_start<S: StartSource>(&self, tuple: FourTuple, starts: &S) -> Start
+        ensures start { result ≡ next_start (S.starts starts.now) self.now tuple }
+        ensures shift { IfSome result.scale (λ shift. shift ≤ 14) }
     {
-        numbers.first_number(tuple, self.flows.opened_as(&tuple), self.flows.len() as u32)
+        starts.start(tuple, self.flows.opened_as(&tuple), self.flows.len() as u32)
     }
 
     /// A SYN for a listener opens a flow in the lowest free slot, and is dropped where as many flows wait as the
     /// listener takes, or no slot is free. The error is want of memory.
-    fn open_by_syn<N: NumberSource>(
+    fn open_by_syn<S: StartSource>(
         &mut self,
         tick: u32,
         frame: FrameId,
         tuple: FourTuple,
         seg: &Segment<'_>,
-        numbers: &N,
+        starts: &S,
     ) -> Result<(), AllocError>
         requires port { self.old.params.fixed ≡ false → tuple.lport < first_port }
         requires fresh { position (is_indexed_as tuple) self.old.flows ≡ None }
         ensures made { OnOk result (self.new ≡ model_opened_by_syn (is_full self.old tuple.lport) (lowest_free self.old)
-            (next_number (N.numbers numbers.now) self.old tuple) tick self.old frame tuple (seg_of seg.now)) }
+            (next_start (S.starts starts.now) self.old tuple) tick self.old frame tuple (seg_of seg.now)) }
         ensures params { self.new.params ≡ self.old.params }
     {
         if self.is_full(tuple.lport) {
@@ -458,13 +460,14 @@ impl LocalHost {
             ),
             Some(slot) => {
                 let id = self.next_id(slot);
-                let iss = self.next_number(tuple, numbers);
+                let start = self.next_start(tuple, starts);
+                let params = flow_params(&self.params, start.scale);
                 let flow = LiveFlow::opened_by_syn(
                     self.alloc,
                     id,
                     tuple,
-                    &self.params,
-                    iss,
+                    &params,
+                    start.number,
                     frame,
                     seg,
                     tick,
@@ -476,17 +479,17 @@ impl LocalHost {
 
     /// An application's connect opens a flow in the lowest free slot, and is refused where none is free. The error is
     /// want of memory.
-    pub fn connect<N: NumberSource>(
+    pub fn connect<S: StartSource>(
         &mut self,
         tick: u32,
         app: u32,
         tuple: FourTuple,
-        numbers: &N,
+        starts: &S,
     ) -> Result<(), AllocError>
         requires fixed { self.old.params.fixed ≡ true }
         requires fresh { position (is_indexed_as tuple) self.old.flows ≡ None }
         ensures made { OnOk result (self.new ≡ connected_by app (lowest_free self.old)
-            (next_number (N.numbers numbers.now) self.old tuple) tick self.old tuple) }
+            (next_start (S.starts starts.now) self.old tuple) tick self.old tuple) }
         ensures params { self.new.params ≡ self.old.params }
     {
         match self.flows.lowest_free(self.params.slots) {
@@ -499,102 +502,103 @@ impl LocalHost {
                     no_port: false,
                 },
             ),
-            Some(slot) => self.open_connected(tick, app, slot, tuple, numbers),
+            Some(slot) => self.open_connected(tick, app, slot, tuple, starts),
         }
     }
 
     /// A connect opens a flow in this slot, where the host may open one more. The error is want of memory.
-    fn open_connected<N: NumberSource>(
+    fn open_connected<S: StartSource>(
         &mut self,
         tick: u32,
         app: u32,
         slot: u32,
         tuple: FourTuple,
-        numbers: &N,
+        starts: &S,
     ) -> Result<(), AllocError>
         requires port { self.old.params.fixed ≡ false → tuple.lport ≡ first_port + ports_given self.old }
         requires fresh { position (is_indexed_as tuple) self.old.flows ≡ None }
         requires few { length self.old.flows < 2 ^ 32 - 1 }
         ensures made { OnOk result (self.new ≡ connected_by app (Some slot)
-            (next_number (N.numbers numbers.now) self.old tuple) tick self.old tuple) }
+            (next_start (S.starts starts.now) self.old tuple) tick self.old tuple) }
         ensures params { self.new.params ≡ self.old.params }
     {
         let id = self.next_id(slot);
-        let iss = self.next_number(tuple, numbers);
-        let flow = LiveFlow::connected(self.alloc, id, tuple, &self.params, iss, app, tick)?;
+        let start = self.next_start(tuple, starts);
+        let params = flow_params(&self.params, start.scale);
+        let flow = LiveFlow::connected(self.alloc, id, tuple, &params, start.number, app, tick)?;
         self.flows.push(tuple, flow)
     }
 
     /// A segment comes that is of no flow. The error is want of memory.
-    fn meet_no_flow<N: NumberSource>(
+    fn meet_no_flow<S: StartSource>(
         &mut self,
         tick: u32,
         frame: FrameId,
         tuple: FourTuple,
         seg: &Segment<'_>,
-        numbers: &N,
+        starts: &S,
     ) -> Result<(), AllocError>
         requires fresh { position (is_indexed_as tuple) self.old.flows ≡ None }
         ensures made { OnOk result (self.new ≡ met_no_flow
             (is_listening self.old tuple.lport && model_opens (seg_of seg.now)) (is_listening self.old tuple.lport)
-            (next_number (N.numbers numbers.now) self.old tuple) tick self.old frame tuple (seg_of seg.now)) }
+            (next_start (S.starts starts.now) self.old tuple) tick self.old frame tuple (seg_of seg.now)) }
         ensures params { self.new.params ≡ self.old.params }
     {
         let listening = self.is_listening(tuple.lport);
         if listening && opens(seg) {
-            self.open_by_syn(tick, frame, tuple, seg, numbers)
+            self.open_by_syn(tick, frame, tuple, seg, starts)
         } else {
             self.note_stray(tick, frame, tuple, seg, listening)
         }
     }
 
     /// A segment comes to the host. The error is want of memory.
-    fn receive<N: NumberSource>(
+    fn receive<S: StartSource>(
         &mut self,
         taking: Taking,
         tick: u32,
         frame: FrameId,
         tuple: FourTuple,
         seg: &Segment<'_>,
-        numbers: &N,
+        starts: &S,
     ) -> Result<(), AllocError>
         ensures made { OnOk result (self.new ≡ arrived (is_known self.old tuple)
             (taking_in taking tick frame (seg_of seg.now))
-            (next_number (N.numbers numbers.now) self.old tuple) tick self.old frame tuple (seg_of seg.now)) }
+            (next_start (S.starts starts.now) self.old tuple) tick self.old frame tuple (seg_of seg.now)) }
         ensures params { self.new.params ≡ self.old.params }
     {
         match self.flows.find(&tuple) {
             Some(i) => self.flows.receive(i, taking, tick, frame, seg),
-            None => self.meet_no_flow(tick, frame, tuple, seg, numbers),
+            None => self.meet_no_flow(tick, frame, tuple, seg, starts),
         }
     }
 
     /// A frame comes to the host, in serial order. The error is want of memory.
-    pub fn deliver<N: NumberSource>(
+    pub fn deliver<S: StartSource>(
         &mut self,
         tick: u32,
         arrival: &Arrival<'_>,
-        numbers: &N,
+        starts: &S,
     ) -> Result<(), AllocError>
-        ensures made { OnOk result (self.new ≡ delivered received_serially (N.numbers numbers.now) tick self.old
+        ensures made { OnOk result (self.new ≡ delivered received_serially (S.starts starts.now) tick self.old
             (arrival_in arrival.now)) }
         ensures params { self.new.params ≡ self.old.params }
     {
-        self.deliver_by(Taking::Serially, tick, arrival, numbers)
+        self.deliver_by(Taking::Serially, tick, arrival, starts)
     }
 
     /// A frame comes to the host, and the slow path takes it. The error is want of memory.
-    pub fn deliver_slowly<N: NumberSource>(
+    pub fn deliver_slowly<S: StartSource>(
         &mut self,
         tick: u32,
         arrival: &Arrival<'_>,
-        numbers: &N,
+        starts: &S,
     ) -> Result<(), AllocError>
-        ensures made { OnOk result (self.new ≡ delivered (received Slow) (N.numbers numbers.now) tick self.old
+        ensures made { OnOk result (self.new ≡ delivered (received Slow) (S.starts starts.now) tick self.old
             (arrival_in arrival.now)) }
         ensures params { self.new.params ≡ self.old.params }
     {
-        self.deliver_by(Taking::Slowly, tick, arrival, numbers)
+        self.deliver_by(Taking::Slowly, tick, arrival, starts)
     }
 
     /// Cores take frames, each on a thread of its own where these are many or someone watches: a segment goes to the
@@ -663,21 +667,21 @@ impl LocalHost {
         Ok(SideWork { rest, attempts })
     }
 
-    fn deliver_by<N: NumberSource>(
+    fn deliver_by<S: StartSource>(
         &mut self,
         taking: Taking,
         tick: u32,
         arrival: &Arrival<'_>,
-        numbers: &N,
+        starts: &S,
     ) -> Result<(), AllocError>
-        ensures made { OnOk result (self.new ≡ delivered (taking_in taking) (N.numbers numbers.now) tick self.old
+        ensures made { OnOk result (self.new ≡ delivered (taking_in taking) (S.starts starts.now) tick self.old
             (arrival_in arrival.now)) }
         ensures params { self.new.params ≡ self.old.params }
     {
         match arrival.packet {
             Packet::Damaged(rule) => self.refuse(tick, arrival.frame, rule),
             Packet::Segment(tuple, seg) => {
-                self.receive(taking, tick, arrival.frame, tuple, &seg, numbers)
+                self.receive(taking, tick, arrival.frame, tuple, &seg, starts)
             }
         }
     }

@@ -8,13 +8,13 @@ ghost use Rattle.host_rounds.specs.Rounds.{on_host};
 ghost use Rattle.host_rounds.specs.SerialOrder.{slow_phase, frame_phase, ask_phase, emit_phase, serial_tick};
 ghost use Rattle.tas_runs.specs.Records as model;
 ghost use Rattle.tas_runs.specs.Records.{is_remote};
-ghost use Rattle.tas_runs.specs.FirstNumbers.{first_number};
+ghost use Rattle.tas_runs.specs.Starts.{first_start};
 ghost use Rattle.tas_runs.specs.LocalScript.{Beginning, connects as model_connects, connected, connected_where};
 ghost use Rattle.tas_runs.specs.LocalScript.{all_shown, resets_here, served_where, served_content, capture_scripts};
 ghost use Rattle.tas_runs.specs.LocalScript.{arrivals_in, asks_in, due_in};
 ghost use Rattle.tas_runs.specs.Replays.{at_start};
 ghost use Rattle.capture_items.specs.Items.{item_in};
-ghost use Rattle.capture_items.specs.Numbers.{AreNumbersOf, kept_numbers};
+ghost use Rattle.capture_items.specs.Starts.{AreStartsOf, kept_starts};
 ghost use Rattle.local_host.specs.Script.{asked_at, served_later, served_whole};
 ghost use Rattle.local_host.specs.Index.{is_standing, passes_at};
 ghost use Rattle.tas_model.specs.declared.entry.Caller.TheVariants.{Slow};
@@ -27,7 +27,7 @@ use crate::arrival::{Arrival, arrival_of, arrivals_of};
 use crate::host::{HostEnd, LocalHost};
 use crate::script::{Shown, THE_APP};
 use crate::steer::Cores;
-use capture_items::{Content, FirstNumbers, Item};
+use capture_items::{Content, FlowStarts, Item};
 use segment_fields::Segment;
 use std::alloc::{AllocError, Global};
 use std::marker::Model;
@@ -105,15 +105,15 @@ impl LocalReplay {
         &mut self,
         tick: u32,
         batch: &[Item<'_>],
-        numbers: &FirstNumbers,
+        starts: &FlowStarts,
     ) -> Result<(), AllocError>
-        ensures { (items : List model.Item) → AreNumbersOf items numbers.now
+        ensures { (items : List model.Item) → AreStartsOf items starts.now
             → OnOk result (self.new ≡ serial_tick (capture_scripts items) tick self.old
             (due_in (map item_in batch.now))) }
     {
         self.host.pass_time(tick)?;
-        self.deliver_all(tick, batch, numbers)?;
-        self.serve_all(tick, batch, numbers)?;
+        self.deliver_all(tick, batch, starts)?;
+        self.serve_all(tick, batch, starts)?;
         self.host.send_all(tick)
     }
 
@@ -124,11 +124,11 @@ impl LocalReplay {
         rt: &R,
         tick: u32,
         batch: &[Item<'_>],
-        numbers: &FirstNumbers,
+        starts: &FlowStarts,
         cores: &mut Cores,
         gate: &G,
     ) -> Result<(), AllocError>
-        ensures tick { (items : List model.Item) → AreNumbersOf items numbers.now
+        ensures tick { (items : List model.Item) → AreStartsOf items starts.now
             → OnOk result (IsCoresTick (capture_scripts items) cores.old.count tick (due_in (map item_in batch.now))
             self.old self.new) }
         ensures cores { cores.new ≡ cores.old }
@@ -140,8 +140,8 @@ impl LocalReplay {
         let rest = self
             .host
             .receive_on_cores(rt, tick, &arrivals, &steered, host, count, gate)?;
-        self.deliver_rest(tick, &rest, numbers)?;
-        self.serve_all(tick, batch, numbers)?;
+        self.deliver_rest(tick, &rest, starts)?;
+        self.serve_all(tick, batch, starts)?;
         self.host.send_all_on_cores(rt, tick, cores.count())
     }
 
@@ -150,14 +150,14 @@ impl LocalReplay {
         &mut self,
         tick: u32,
         rest: &[Arrival<'_>],
-        numbers: &FirstNumbers,
+        starts: &FlowStarts,
     ) -> Result<(), AllocError>
-        ensures { (items : List model.Item) → AreNumbersOf items numbers.now
+        ensures { (items : List model.Item) → AreStartsOf items starts.now
             → OnOk result (self.new ≡ on_host (λ host. rest_phase (capture_scripts items) tick host
             (map arrival_in rest.now)) self.old) }
     {
         for arrival in rest {
-            self.deliver_slowly(tick, arrival, numbers)?;
+            self.deliver_slowly(tick, arrival, starts)?;
         }
         Ok(())
     }
@@ -167,41 +167,36 @@ impl LocalReplay {
         &mut self,
         tick: u32,
         arrival: &Arrival<'_>,
-        numbers: &FirstNumbers,
+        starts: &FlowStarts,
     ) -> Result<(), AllocError>
-        ensures { OnOk result (self.new ≡ on_host (λ host. delivered (received Slow) (kept_numbers numbers.now) tick
+        ensures { OnOk result (self.new ≡ on_host (λ host. delivered (received Slow) (kept_starts starts.now) tick
             host (arrival_in arrival.now)) self.old) }
     {
-        self.host.deliver_slowly(tick, arrival, numbers)
+        self.host.deliver_slowly(tick, arrival, starts)
     }
 
     fn deliver_all(
         &mut self,
         tick: u32,
         batch: &[Item<'_>],
-        numbers: &FirstNumbers,
+        starts: &FlowStarts,
     ) -> Result<(), AllocError>
-        ensures { (items : List model.Item) → AreNumbersOf items numbers.now
+        ensures { (items : List model.Item) → AreStartsOf items starts.now
             → OnOk result (self.new ≡ on_host (λ host. frame_phase (capture_scripts items) tick host
             (arrivals_in (map item_in batch.now))) self.old) }
     {
         for item in batch {
-            self.deliver(tick, item, numbers)?;
+            self.deliver(tick, item, starts)?;
         }
         Ok(())
     }
 
     /// The frame of a record comes to the host, where it is one. The error is want of memory.
-    fn deliver(
-        &mut self,
-        tick: u32,
-        item: &Item<'_>,
-        numbers: &FirstNumbers,
-    ) -> Result<(), AllocError>
-        ensures { OnOk result (self.new ≡ on_host (came (kept_numbers numbers.now) tick (item_in item.now)) self.old) }
+    fn deliver(&mut self, tick: u32, item: &Item<'_>, starts: &FlowStarts) -> Result<(), AllocError>
+        ensures { OnOk result (self.new ≡ on_host (came (kept_starts starts.now) tick (item_in item.now)) self.old) }
     {
         match arrival_of(item) {
-            Some(arrival) => self.host.deliver(tick, &arrival, numbers),
+            Some(arrival) => self.host.deliver(tick, &arrival, starts),
             None => Ok(()),
         }
     }
@@ -210,33 +205,28 @@ impl LocalReplay {
         &mut self,
         tick: u32,
         batch: &[Item<'_>],
-        numbers: &FirstNumbers,
+        starts: &FlowStarts,
     ) -> Result<(), AllocError>
-        ensures { (items : List model.Item) → AreNumbersOf items numbers.now
+        ensures { (items : List model.Item) → AreStartsOf items starts.now
             → OnOk result (self.new ≡ ask_phase (capture_scripts items) tick self.old
             (asks_in (map item_in batch.now))) }
     {
         for item in batch {
-            self.serve(tick, item, numbers)?;
+            self.serve(tick, item, starts)?;
         }
         Ok(())
     }
 
     /// What the application does for a record. The error is want of memory.
-    fn serve(
-        &mut self,
-        tick: u32,
-        item: &Item<'_>,
-        numbers: &FirstNumbers,
-    ) -> Result<(), AllocError>
-        ensures { OnOk result (self.new ≡ served_whole (kept_numbers numbers.now) tick
+    fn serve(&mut self, tick: u32, item: &Item<'_>, starts: &FlowStarts) -> Result<(), AllocError>
+        ensures { OnOk result (self.new ≡ served_whole (kept_starts starts.now) tick
             (item_in item.now).content self.old) }
     {
         match item.content {
             Content::Damaged(_) => Ok(()),
             Content::Remote(tuple, _) => self.ask(tick, &tuple, true, false),
             Content::Local(tuple, seg) => {
-                self.begin(tick, tuple, &seg, numbers)?;
+                self.begin(tick, tuple, &seg, starts)?;
                 self.ask(tick, &tuple, false, seg.flags.is_rst())
             }
         }
@@ -249,12 +239,12 @@ impl LocalReplay {
         tick: u32,
         tuple: FourTuple,
         seg: &Segment<'_>,
-        numbers: &FirstNumbers,
+        starts: &FlowStarts,
     ) -> Result<(), AllocError>
-        ensures { OnOk result (self.new ≡ served_content (kept_numbers numbers.now) Beginning tick
+        ensures { OnOk result (self.new ≡ served_content (kept_starts starts.now) Beginning tick
             (model.Local tuple (seg_of seg.now)) self.old) }
     {
-        self.connect_where(tick, tuple, seg, numbers)?;
+        self.connect_where(tick, tuple, seg, starts)?;
         match self.host.find(&tuple) {
             Some(i) => self.see(i, seg),
             None => Ok(()),
@@ -266,17 +256,17 @@ impl LocalReplay {
         tick: u32,
         tuple: FourTuple,
         seg: &Segment<'_>,
-        numbers: &FirstNumbers,
+        starts: &FlowStarts,
     ) -> Result<(), AllocError>
         ensures { OnOk result (self.new ≡ on_host
-            (connected (kept_numbers numbers.now) tick tuple (seg_of seg.now)) self.old) }
+            (connected (kept_starts starts.now) tick tuple (seg_of seg.now)) self.old) }
     {
         if !connects(seg) {
             return Ok(());
         }
         match self.host.find(&tuple) {
             Some(_) => Ok(()),
-            None => self.host.connect(tick, THE_APP, tuple, numbers),
+            None => self.host.connect(tick, THE_APP, tuple, starts),
         }
     }
 

@@ -49,6 +49,7 @@ pub fn segment(place: u32, flags: Flags, payload: &[u8]) -> Segment<'_>
         flags,
         window: 16384,
         mss: None,
+        scale: None,
         payload,
     }
 }

@@ -32,6 +32,7 @@ const PARAMS: HostParams = HostParams {
     slots: 2,
     backlog: 1,
     fixed: false,
+    scale: None,
 };
 
 /// A table of two slots, the slow path's pass, and one that was split off, each with its first turn.

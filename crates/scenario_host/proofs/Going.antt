@@ -12,9 +12,10 @@ use Rattle.tas_model.specs.declared.entry.Reply.{Reply}
 use Rattle.tas_model.specs.declared.entry.Call.{Call}
 use Rattle.tas_model.specs.declared.entry.Call.TheVariants as calls
 use Rattle.tas_model.proofs.Tests.{on_cond}
-use Rattle.host_rounds.specs.Hosts.{Live, Host, Holder, Application, GivenUp, Numbers, answer_of, is_listened}
+use Rattle.host_rounds.specs.declared.opening.Start.{Start}
+use Rattle.host_rounds.specs.Hosts.{Live, Host, Holder, Application, GivenUp, Starts, answer_of}
 use Rattle.host_rounds.specs.Hosts.{is_ready}
-use Rattle.host_rounds.specs.Hosts.{lowest_free, first_port, ports_given, new_flow, first_entry, next_number}
+use Rattle.host_rounds.specs.Hosts.{is_listened, lowest_free, first_port, ports_given, new_flow, first_entry, next_start}
 use Rattle.scenario_text.specs.declared.scenario.Step.{Step}
 use Rattle.scenario_text.specs.declared.scenario.Step.TheVariants as steps
 use Rattle.scenario_runs.specs.Applications.{AListener, ASocket, Script, Turn, bind, unbind, stepped, called}
@@ -109,28 +110,33 @@ accept_goes (Some port) t socket x fine =
     accepts_goes (position (is_ready port) x.host.flows) t socket port x refl fine
 
 -- ----- connect
-opens_goes : (left : Bool) (numbers : Numbers) (slot port t : ℕ) (socket : List ℕ) (raddr rport : ℕ) (x : Turn)
-    → IsFine x → Goes x (opens_where left numbers slot port t socket raddr rport x)
-opens_goes false numbers slot port t socket raddr rport x fine =
+opens_goes : (left : Bool) (starts : Starts) (slot port t : ℕ) (socket : List ℕ) (raddr rport : ℕ) (x : Turn)
+    → IsFine x → Goes x (opens_where left starts slot port t socket raddr rport x)
+opens_goes false starts slot port t socket raddr rport x fine =
     goes_stepped x _ (lasts_flowless x.host _ refl refl) fine
-opens_goes true numbers slot port t socket raddr rport x fine =
+opens_goes true starts slot port t socket raddr rport x fine =
     let tuple : FourTuple = record { laddr = x.host.params.addr; lport = port; raddr = raddr; rport = rport } in
+    let start : Start = next_start starts x.host tuple in
     let first : Entry =
-    first_entry (App x.script.number) t (calls.Connect (record { 0 = next_number numbers x.host tuple })) in
-    let after : Turn = opens numbers slot t socket tuple x in
-    let lasts : Lasts x.host after.host = lasts_opened x.host slot tuple (Application x.script.number) first in
+    first_entry (App x.script.number) t (calls.Connect start.number) in
+    let after : Turn = opens starts slot t socket tuple x in
+    let lasts : Lasts x.host after.host = lasts_opened x.host slot tuple start.scale (Application x.script.number) first in
     let bound : IsFit (length after.host.flows) (bind socket (ASocket (length x.host.flows)) x.script) =
     fit_bound (length after.host.flows) socket (ASocket (length x.host.flows)) x.script
-    (omega (arith, length-append x.host.flows (new_flow x.host slot tuple (Application x.script.number) first ∷ [])))
+    (omega (
+      arith,
+      length-append x.host.flows (new_flow x.host slot tuple start.scale (Application x.script.number) first ∷
+          []),
+    ))
     (fine_after x after.host lasts fine) in
     goes_with x after.host after.script lasts refl
     (record { steps = bound.steps; part = bound.part; names = bound.names })
 
-connects_goes : (numbers : Numbers) (free : Option ℕ) (t : ℕ) (socket : List ℕ) (raddr rport : ℕ) (x : Turn) → IsFine x
-    → Goes x (connects numbers free t socket raddr rport x)
-connects_goes numbers None t socket raddr rport x fine = goes_stepped x _ (lasts_flowless x.host _ refl refl) fine
-connects_goes numbers (Some slot) t socket raddr rport x fine =
-    opens_goes (nat_lt (first_port + ports_given x.host) (2 ^ 16)) numbers slot (first_port + ports_given x.host) t
+connects_goes : (starts : Starts) (free : Option ℕ) (t : ℕ) (socket : List ℕ) (raddr rport : ℕ) (x : Turn) → IsFine x
+    → Goes x (connects starts free t socket raddr rport x)
+connects_goes starts None t socket raddr rport x fine = goes_stepped x _ (lasts_flowless x.host _ refl refl) fine
+connects_goes starts (Some slot) t socket raddr rport x fine =
+    opens_goes (nat_lt (first_port + ports_given x.host) (2 ^ 16)) starts slot (first_port + ports_given x.host) t
     socket raddr rport x fine
 
 -- ----- calls on a socket
@@ -196,11 +202,11 @@ socket_goes : (socket : List ℕ) (act : ℕ → Turn → Turn) (x : Turn) → I
     → Goes x (on_socket socket act x)
 socket_goes socket act x fine acts = flow_goes (flow_of (bound_in x.script.names socket)) act x fine acts
 
-connecting_goes : (numbers : Numbers) (begun : Bool) (t : ℕ) (socket : List ℕ) (raddr rport : ℕ) (x : Turn) → IsFine x
-    → Goes x (connects_on numbers begun t socket raddr rport x)
-connecting_goes numbers false t socket raddr rport x fine =
-    connects_goes numbers (lowest_free x.host) t socket raddr rport x fine
-connecting_goes numbers true t socket raddr rport x fine =
+connecting_goes : (starts : Starts) (begun : Bool) (t : ℕ) (socket : List ℕ) (raddr rport : ℕ) (x : Turn) → IsFine x
+    → Goes x (connects_on starts begun t socket raddr rport x)
+connecting_goes starts false t socket raddr rport x fine =
+    connects_goes starts (lowest_free x.host) t socket raddr rport x fine
+connecting_goes starts true t socket raddr rport x fine =
     socket_goes socket (λ (n : ℕ). waits_for n t calls.Ready) x fine (λ n. waits_goes n t calls.Ready x fine)
 
 -- ----- one step
@@ -210,38 +216,38 @@ part_under_way all step rest s left part = record {
   goes_on = λ done below. subst (λ (steps : List Step). IsPartOfFirst steps done) (sym left) (part done below);
 }
 
-step_goes : (numbers : Numbers) (address : List ℕ → ℕ) (t : ℕ) (step : Step) (rest : List Step) (x : Turn)
-    → x.script.left ≡ step ∷ rest → IsPart step x.script.done → IsFine x → Goes x (step_of numbers address t step x)
-step_goes numbers address t (steps.Listen name port) rest x left part fine =
+step_goes : (starts : Starts) (address : List ℕ → ℕ) (t : ℕ) (step : Step) (rest : List Step) (x : Turn)
+    → x.script.left ≡ step ∷ rest → IsPart step x.script.done → IsFine x → Goes x (step_of starts address t step x)
+step_goes starts address t (steps.Listen name port) rest x left part fine =
     listens_goes (is_listened port x.host) t name port x fine
-step_goes numbers address t (steps.Accept socket listener) rest x left part fine =
+step_goes starts address t (steps.Accept socket listener) rest x left part fine =
     accept_goes (port_of (bound_in x.script.names listener)) t socket x fine
-step_goes numbers address t (steps.Connect socket host port) rest x left part fine =
-    connecting_goes numbers x.script.begun t socket (address host) port x fine
-step_goes numbers address t (steps.Send socket text) rest x left part fine =
+step_goes starts address t (steps.Connect socket host port) rest x left part fine =
+    connecting_goes starts x.script.begun t socket (address host) port x fine
+step_goes starts address t (steps.Send socket text) rest x left part fine =
     socket_goes socket (λ (n : ℕ). sends n t text) x fine
     (λ n. sends_goes n t text x (part_under_way (length text) (steps.Send socket text) rest x.script left (λ d b. b))
     part fine)
-step_goes numbers address t (steps.Fill socket count) rest x left part fine =
+step_goes starts address t (steps.Fill socket count) rest x left part fine =
     let all : length (filling count) ≡ count = length-filling count in
     socket_goes socket (λ (n : ℕ). sends n t (filling count)) x fine
     (λ n. sends_goes n t (filling count) x
     (part_under_way (length (filling count)) (steps.Fill socket count) rest x.script left
     (λ d b. omega (arith, b, all)))
     (omega (arith, part, all)) fine)
-step_goes numbers address t (steps.Recv socket count) rest x left part fine =
+step_goes starts address t (steps.Recv socket count) rest x left part fine =
     socket_goes socket (λ (n : ℕ). receives n t (Some count)) x fine
     (λ n. receives_goes n t (Some count) x
     (part_under_way count (steps.Recv socket count) rest x.script left (λ d b. b)) (omega (arith, part)) fine)
-step_goes numbers address t (steps.Drain socket) rest x left part fine =
+step_goes starts address t (steps.Drain socket) rest x left part fine =
     socket_goes socket (λ (n : ℕ). receives n t None) x fine (λ n. receives_goes n t None x tt tt fine)
-step_goes numbers address t (steps.Shut socket) rest x left part fine =
+step_goes starts address t (steps.Shut socket) rest x left part fine =
     socket_goes socket (λ (n : ℕ). once n t calls.Shut) x fine (λ n. once_goes n t calls.Shut x fine)
-step_goes numbers address t (steps.Close socket) rest x left part fine =
+step_goes starts address t (steps.Close socket) rest x left part fine =
     socket_goes socket (λ (n : ℕ). ends n t calls.Close socket) x fine (λ n. ends_goes n t calls.Close socket x fine)
-step_goes numbers address t (steps.Abort socket) rest x left part fine =
+step_goes starts address t (steps.Abort socket) rest x left part fine =
     socket_goes socket (λ (n : ℕ). ends n t calls.Abort socket) x fine (λ n. ends_goes n t calls.Abort socket x fine)
-step_goes numbers address t (steps.Wait ticks) rest x left part fine =
+step_goes starts address t (steps.Wait ticks) rest x left part fine =
     goes_by x x.host (done_or (x.script.done + 1 == ticks) (x.script.done + 1) x.script) (lasts_same x.host)
     (stays_done (length x.host.flows) ticks (x.script.done + 1) x.script
     (part_under_way ticks (steps.Wait ticks) rest x.script left (λ d b. b)) (omega (arith, part)) fine)
@@ -260,18 +266,18 @@ killed_goes t x =
       grown = omega (arith, ap length flows, length-map before.flows f);
     }
 
-goes_on_goes : (numbers : Numbers) (address : List ℕ → ℕ) (t : ℕ) (left : List Step) (x : Turn)
-    → x.script.left ≡ left → IsFine x → Goes x (goes_on numbers address t left x)
-goes_on_goes numbers address t [] x is fine = goes_waiting x x.host (lasts_same x.host) fine
-goes_on_goes numbers address t (step ∷ rest) x is fine =
-    step_goes numbers address t step rest x is
+goes_on_goes : (starts : Starts) (address : List ℕ → ℕ) (t : ℕ) (left : List Step) (x : Turn)
+    → x.script.left ≡ left → IsFine x → Goes x (goes_on starts address t left x)
+goes_on_goes starts address t [] x is fine = goes_waiting x x.host (lasts_same x.host) fine
+goes_on_goes starts address t (step ∷ rest) x is fine =
+    step_goes starts address t step rest x is
     (subst (λ (left : List Step). IsPartOfFirst left x.script.done) is fine.part) fine
 
-turn_where_goes : (killed_now : Bool) (numbers : Numbers) (address : List ℕ → ℕ) (t : ℕ) (x : Turn) → IsFine x
-    → Goes x (turn_where killed_now numbers address t x)
-turn_where_goes true numbers address t x fine = killed_goes t x
-turn_where_goes false numbers address t x fine = goes_on_goes numbers address t x.script.left x refl fine
+turn_where_goes : (killed_now : Bool) (starts : Starts) (address : List ℕ → ℕ) (t : ℕ) (x : Turn) → IsFine x
+    → Goes x (turn_where killed_now starts address t x)
+turn_where_goes true starts address t x fine = killed_goes t x
+turn_where_goes false starts address t x fine = goes_on_goes starts address t x.script.left x refl fine
 
-pub turn_goes : (numbers : Numbers) (address : List ℕ → ℕ) (t : ℕ) (x : Turn) → IsFit (length x.host.flows) x.script
-    → Goes x (turn numbers address t x)
-turn_goes numbers address t x fine = turn_where_goes (is_killed_at t x.script.kill) numbers address t x fine
+pub turn_goes : (starts : Starts) (address : List ℕ → ℕ) (t : ℕ) (x : Turn) → IsFit (length x.host.flows) x.script
+    → Goes x (turn starts address t x)
+turn_goes starts address t x fine = turn_where_goes (is_killed_at t x.script.kill) starts address t x fine

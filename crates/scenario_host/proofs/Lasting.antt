@@ -9,7 +9,8 @@ use Rattle.tas_model.specs.declared.entry.Seg.{Seg}
 use Rattle.tas_model.specs.declared.entry.Entry.{Entry}
 use Rattle.tas_model.specs.declared.entry.Caller.TheVariants.{Slow}
 use Rattle.host_rounds.specs.Lists.{change_first, change_at}
-use Rattle.host_rounds.specs.Hosts.{Live, Host, Holder, Numbers, next_number, is_known, is_indexed_as, is_listening}
+use Rattle.host_rounds.specs.declared.opening.Start.{Start}
+use Rattle.host_rounds.specs.Hosts.{Live, Host, Holder, Starts, next_start, is_known, is_indexed_as, is_listening}
 use Rattle.host_rounds.specs.Hosts.{is_full}
 use Rattle.host_rounds.specs.Hosts.{lowest_free, at_flow, opened_in, new_flow}
 use Rattle.host_rounds.specs.Upkeep.{swept, timed, quieted}
@@ -52,11 +53,11 @@ lasts_at f n host = lasts_flows host (change_at n f host.flows) (length_at f n h
 pub lasts_map : (f : Live → Live) (host : Host) → Lasts host (record host { flows = map f host.flows })
 lasts_map f host = lasts_flows host (map f host.flows) (length-map host.flows f)
 
-pub lasts_opened : (host : Host) (slot : ℕ) (tuple : FourTuple) (holder : Holder) (x : Entry)
-    → Lasts host (opened_in host slot tuple holder x)
-lasts_opened host slot tuple holder x = record {
+pub lasts_opened : (host : Host) (slot : ℕ) (tuple : FourTuple) (scale : Option ℕ) (holder : Holder) (x : Entry)
+    → Lasts host (opened_in host slot tuple scale holder x)
+lasts_opened host slot tuple scale holder x = record {
   params = refl;
-  grown = omega (arith, length-append host.flows (new_flow host slot tuple holder x ∷ []));
+  grown = omega (arith, length-append host.flows (new_flow host slot tuple scale holder x ∷ []));
 }
 
 -- ----- phases
@@ -68,44 +69,44 @@ lasts_slow t host =
 pub lasts_emit : (t : ℕ) (host : Host) → Lasts host (emit_phase t host)
 lasts_emit t host = lasts_map (quieted t) host
 
-lasts_syn : (full : Bool) (free : Option ℕ) (number t : ℕ) (host : Host) (frame : FrameId) (tuple : FourTuple)
-    (seg : Seg) → Lasts host (opened_by_syn full free number t host frame tuple seg)
-lasts_syn true free number t host frame tuple seg = record { params = refl; grown = omega arith }
-lasts_syn false None number t host frame tuple seg = record { params = refl; grown = omega arith }
-lasts_syn false (Some slot) number t host frame tuple seg = lasts_opened host slot tuple _ _
+lasts_syn : (full : Bool) (free : Option ℕ) (start : Start) (t : ℕ) (host : Host) (frame : FrameId) (tuple : FourTuple)
+    (seg : Seg) → Lasts host (opened_by_syn full free start t host frame tuple seg)
+lasts_syn true free start t host frame tuple seg = record { params = refl; grown = omega arith }
+lasts_syn false None start t host frame tuple seg = record { params = refl; grown = omega arith }
+lasts_syn false (Some slot) start t host frame tuple seg = lasts_opened host slot tuple _ _ _
 
-lasts_no_flow : (opening listening : Bool) (number t : ℕ) (host : Host) (frame : FrameId) (tuple : FourTuple)
-    (seg : Seg) → Lasts host (met_no_flow opening listening number t host frame tuple seg)
-lasts_no_flow true listening number t host frame tuple seg =
-    lasts_syn (is_full host tuple.lport) (lowest_free host) number t host frame tuple seg
-lasts_no_flow false listening number t host frame tuple seg = record { params = refl; grown = omega arith }
+lasts_no_flow : (opening listening : Bool) (start : Start) (t : ℕ) (host : Host) (frame : FrameId) (tuple : FourTuple)
+    (seg : Seg) → Lasts host (met_no_flow opening listening start t host frame tuple seg)
+lasts_no_flow true listening start t host frame tuple seg =
+    lasts_syn (is_full host tuple.lport) (lowest_free host) start t host frame tuple seg
+lasts_no_flow false listening start t host frame tuple seg = record { params = refl; grown = omega arith }
 
-lasts_arrived : (known : Bool) (take_in : Live → Live) (number t : ℕ) (host : Host) (frame : FrameId)
-    (tuple : FourTuple) (seg : Seg) → Lasts host (arrived known take_in number t host frame tuple seg)
-lasts_arrived true take_in number t host frame tuple seg =
+lasts_arrived : (known : Bool) (take_in : Live → Live) (start : Start) (t : ℕ) (host : Host) (frame : FrameId)
+    (tuple : FourTuple) (seg : Seg) → Lasts host (arrived known take_in start t host frame tuple seg)
+lasts_arrived true take_in start t host frame tuple seg =
     lasts_flows host (change_first (is_indexed_as tuple) take_in host.flows)
     (length_first (is_indexed_as tuple) take_in host.flows)
-lasts_arrived false take_in number t host frame tuple seg =
-    lasts_no_flow (is_listening host tuple.lport && opens seg) (is_listening host tuple.lport) number t host frame tuple
+lasts_arrived false take_in start t host frame tuple seg =
+    lasts_no_flow (is_listening host tuple.lport && opens seg) (is_listening host tuple.lport) start t host frame tuple
     seg
 
-lasts_packet : (taking : Taking) (numbers : Numbers) (t : ℕ) (host : Host) (frame : FrameId) (packet : Packet)
-    → Lasts host (delivered_packet taking numbers t host frame packet)
-lasts_packet taking numbers t host frame (Damaged rule) = record { params = refl; grown = omega arith }
-lasts_packet taking numbers t host frame (Segment tuple seg) =
-    lasts_arrived (is_known host tuple) (taking t frame seg) (next_number numbers host tuple) t host frame tuple seg
+lasts_packet : (taking : Taking) (starts : Starts) (t : ℕ) (host : Host) (frame : FrameId) (packet : Packet)
+    → Lasts host (delivered_packet taking starts t host frame packet)
+lasts_packet taking starts t host frame (Damaged rule) = record { params = refl; grown = omega arith }
+lasts_packet taking starts t host frame (Segment tuple seg) =
+    lasts_arrived (is_known host tuple) (taking t frame seg) (next_start starts host tuple) t host frame tuple seg
 
-pub lasts_frame : (taking : Taking) (numbers : Numbers) (t : ℕ) (host : Host) (x : Arrival)
-    → Lasts host (delivered taking numbers t host x)
-lasts_frame taking numbers t host x = lasts_packet taking numbers t host x.frame x.packet
+pub lasts_frame : (taking : Taking) (starts : Starts) (t : ℕ) (host : Host) (x : Arrival)
+    → Lasts host (delivered taking starts t host x)
+lasts_frame taking starts t host x = lasts_packet taking starts t host x.frame x.packet
 
-pub lasts_frames : (taking : Taking) (numbers : Numbers) (t : ℕ) (frames : List Arrival) (host : Host)
-    → Lasts host (fold (delivered taking numbers t) host frames)
-lasts_frames taking numbers t [] host = lasts_same host
-lasts_frames taking numbers t (x ∷ xs) host =
-    let next : Host = delivered taking numbers t host x in
-    lasts_both host next (fold (delivered taking numbers t) next xs)
-    (lasts_frame taking numbers t host x) (lasts_frames taking numbers t xs next)
+pub lasts_frames : (taking : Taking) (starts : Starts) (t : ℕ) (frames : List Arrival) (host : Host)
+    → Lasts host (fold (delivered taking starts t) host frames)
+lasts_frames taking starts t [] host = lasts_same host
+lasts_frames taking starts t (x ∷ xs) host =
+    let next : Host = delivered taking starts t host x in
+    lasts_both host next (fold (delivered taking starts t) next xs)
+    (lasts_frame taking starts t host x) (lasts_frames taking starts t xs next)
 
 pub lasts_made : (before after made : Host) → after ≡ made → Lasts before made → Lasts before after
 lasts_made before after made is lasts = subst (Lasts before) (sym is) lasts

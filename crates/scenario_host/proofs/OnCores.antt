@@ -2,7 +2,7 @@
 use Rattle.std.proofs.Common.{◌≡◌, ℕ, ◌<◌, All, List, [], ◌∷◌, fold, Option, refl, sym, subst, ap, ◌∙◌}
 use Rattle.tas_model.specs.declared.entry.HostParams.{HostParams}
 use Rattle.tas_model.specs.declared.entry.Caller.TheVariants.{Slow, Core}
-use Rattle.host_rounds.specs.Hosts.{Host, Numbers}
+use Rattle.host_rounds.specs.Hosts.{Host, Starts}
 use Rattle.host_rounds.specs.Deliveries.{Arrival, received, delivered}
 use Rattle.host_rounds.specs.Scripts.{Site}
 use Rattle.host_rounds.specs.Rounds.{on_host}
@@ -23,14 +23,14 @@ use Rattle.scenario_host.proofs.Playing.{numbers_in, fits_later, sound_later}
 use Rattle.scenario_host.proofs.TriedTurns.{each_once, leads_by_tries, made_within}
 use Rattle.scenario_host.proofs.Walking.{Leads, leads_start, asked_all}
 
-lasts_taken : (numbers : Numbers) (t : ℕ) (host : Host) (order : List Taken)
-    → Lasts host (taken_by_cores numbers t host order)
-lasts_taken numbers t host [] = lasts_same host
-lasts_taken numbers t host (x ∷ xs) =
-    let next : Host = delivered (received (Core x.core)) numbers t host x.arrival in
-    lasts_both host next (taken_by_cores numbers t next xs)
-    (lasts_frame (received (Core x.core)) numbers t host x.arrival)
-    (lasts_taken numbers t next xs)
+lasts_taken : (starts : Starts) (t : ℕ) (host : Host) (order : List Taken)
+    → Lasts host (taken_by_cores starts t host order)
+lasts_taken starts t host [] = lasts_same host
+lasts_taken starts t host (x ∷ xs) =
+    let next : Host = delivered (received (Core x.core)) starts t host x.arrival in
+    lasts_both host next (taken_by_cores starts t next xs)
+    (lasts_frame (received (Core x.core)) starts t host x.arrival)
+    (lasts_taken starts t next xs)
 
 lasts_phase : (t : ℕ) (frames rest : List Arrival) (before after : Host) → IsCoresPhase t before frames rest after
     → Lasts before after
@@ -64,14 +64,14 @@ side_by_side s params count t start timed after cores frames rest given attempts
     sound = record {
       middle = side.middle;
       phase = phase_of count t timed cores frames rest side.middle low side.phase;
-      leads = subst (λ (h : Host). Leads numbers address t [] first end h (answered_all attempts scripts)) side.others
-          (leads_by_tries numbers address t attempts scripts 0 first end side.middle scripts after.flows refl
+      leads = subst (λ (h : Host). Leads starts address t [] first end h (answered_all attempts scripts)) side.others
+          (leads_by_tries starts address t attempts scripts 0 first end side.middle scripts after.flows refl
           (subst (AreAttemptsOf t scripts) (sym side.same) are) side.made
-          (leads_start numbers address t (tried_in attempts (numbers_in scripts)) first middle_sound.numbers
+          (leads_start starts address t (tried_in attempts (numbers_in scripts)) first middle_sound.numbers
           middle_sound.scripts));
     } where
-      numbers : Numbers
-      numbers = numbers_of params
+      starts : Starts
+      starts = numbers_of params
 
       address : List ℕ → ℕ
       address = address_in s.hosts
@@ -80,7 +80,7 @@ side_by_side s params count t start timed after cores frames rest given attempts
       first = site_with side.middle scripts
 
       end : Site (List Script)
-      end = asked_all numbers address t first (tried_in attempts (numbers_in scripts))
+      end = asked_all starts address t first (tried_in attempts (numbers_in scripts))
 
       middle_sound : IsSound first
       middle_sound =
@@ -152,7 +152,7 @@ sound_before s params count t frames rest attempts start met scripts now b =
     let lasts : Lasts start met = lasts_before s params count t frames rest attempts start met scripts now b in
     record {
       listens = ap (λ (p : HostParams). p.fixed) lasts.params ∙ b.sound.listens;
-      numbers = b.side.leads.rising;
+      starts = b.side.leads.rising;
       scripts = fits_later b.after met now (lasts_rest params t rest b.after met b.came) b.side.leads.fit;
     }
 

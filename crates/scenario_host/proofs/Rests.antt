@@ -5,7 +5,7 @@ use Rattle.std.proofs.Common.{◌∙◌, ◌&&◌, arith, length-append}
 use Rattle.std.specs.List.{list_all}
 use Rattle.std.proofs.lemmas.Bool.Decides.{nat_tests}
 use Rattle.tas_model.specs.declared.entry.HostParams.{HostParams}
-use Rattle.host_rounds.specs.Hosts.{Host, Numbers}
+use Rattle.host_rounds.specs.Hosts.{Host, Starts}
 use Rattle.host_rounds.specs.Scripts.{Site}
 use Rattle.scenario_text.specs.declared.scenario.Step.{Step}
 use Rattle.scenario_text.specs.declared.scenario.Step.TheVariants as steps
@@ -36,10 +36,10 @@ rested_none s = ap (λ (d : ℕ). record s { done = d }) (by_left s.left) where
   by_left (step ∷ rest) = omega arith
 
 -- The turn of a script that rests is counted.
-pub rest_turn : (numbers : Numbers) (address : List ℕ → ℕ) (t n turns : ℕ) (host : Host) (s : Script)
+pub rest_turn : (starts : Starts) (address : List ℕ → ℕ) (t n turns : ℕ) (host : Host) (s : Script)
     → MayRest turns s → n < turns
-    → turn_of host (rested (suc n) s) ≡ turn numbers address t (turn_of host (rested n s))
-rest_turn numbers address t n turns host s may below =
+    → turn_of host (rested (suc n) s) ≡ turn starts address t (turn_of host (rested n s))
+rest_turn starts address t n turns host s may below =
     by_left s.number s.kill s.left s.done s.begun s.names may.spared may.waits
   where
     by_left : (number : ℕ) (kill : Option ℕ) (left : List Step) (done : ℕ) (begun : Bool)
@@ -51,7 +51,7 @@ rest_turn numbers address t n turns host s may below =
           done = done;
           begun = begun;
           names = names;
-        })) ≡ turn numbers address t (turn_of host (rested n (record {
+        })) ≡ turn starts address t (turn_of host (rested n (record {
           number = number;
           kill = kill;
           left = left;
@@ -254,19 +254,19 @@ some_at (s ∷ ss) (suc p) below = some_at ss p (omega (arith, below))
 
 -- ----- a walk over those that are awake
 -- The scripts before this place had their turns, some of which were counted alone; of the others these are awake.
-pub record Turning (numbers : Numbers) (address : List ℕ → ℕ) (t n turns p : ℕ) (bs : List Bool)
+pub record Turning (starts : Starts) (address : List ℕ → ℕ) (t n turns p : ℕ) (bs : List Bool)
     (start : Site (List Script)) (left : List ℕ) (host : Host) (ss : List Script) : Type 0 where
-  pub walks : Walks numbers address t p start host (both (suc n) n p bs ss)
+  pub walks : Walks starts address t p start host (both (suc n) n p bs ss)
   pub awake : left ≡ awake_from p (drop p bs)
   pub resting : AreResting turns bs ss
   pub marks : length bs ≡ length ss
 
 -- the turn of a sleeper is counted
-one_rests : (numbers : Numbers) (address : List ℕ → ℕ) (t n turns p : ℕ) (bs ds : List Bool)
+one_rests : (starts : Starts) (address : List ℕ → ℕ) (t n turns p : ℕ) (bs ds : List Bool)
     (start : Site (List Script)) (left : List ℕ) (host : Host) (ss : List Script) → n < turns
-    → drop p bs ≡ true ∷ ds → Turning numbers address t n turns p bs start left host ss
-    → Turning numbers address t n turns (suc p) bs start left host ss
-one_rests numbers address t n turns p bs ds start left host ss below at turning =
+    → drop p bs ≡ true ∷ ds → Turning starts address t n turns p bs start left host ss
+    → Turning starts address t n turns (suc p) bs start left host ss
+one_rests starts address t n turns p bs ds start left host ss below at turning =
     let here : slice_get bs p ≡ Some true = head_at p bs ds true at in
     let sleeps : is_asleep bs p ≡ true = ap (λ (o : Option Bool). unwrap_or o false) here in
     let within : p < length bs = below_at p bs true here in
@@ -274,11 +274,11 @@ one_rests numbers address t n turns p bs ds start left host ss below at turning 
     let s : Script = some.0 in
     let next : p + 1 ≡ suc p = omega arith in
     record {
-      walks = subst (λ (q : ℕ). Walks numbers address t q start host (both (suc n) n (suc p) bs ss)) next
-          (subst (Walks numbers address t (p + 1) start host) (asleep_set (suc n) n p bs ss s sleeps some.1)
-          (walks_more numbers address t p start host host (both (suc n) n p bs ss) (rested n s) (rested (suc n) s)
+      walks = subst (λ (q : ℕ). Walks starts address t q start host (both (suc n) n (suc p) bs ss)) next
+          (subst (Walks starts address t (p + 1) start host) (asleep_set (suc n) n p bs ss s sleeps some.1)
+          (walks_more starts address t p start host host (both (suc n) n p bs ss) (rested n s) (rested (suc n) s)
           turning.walks (asleep_get (suc n) n p bs ss s sleeps some.1)
-          (rest_turn numbers address t n turns host s (resting_at turns p bs ss s turning.resting sleeps some.1)
+          (rest_turn starts address t n turns host s (resting_at turns p bs ss s turning.resting sleeps some.1)
           below)));
       awake = turning.awake ∙ (ap (awake_from p) at ∙ ap (awake_from (suc p)) (sym (rest_at p bs ds true at)));
       resting = turning.resting;
@@ -286,34 +286,34 @@ one_rests numbers address t n turns p bs ds start left host ss below at turning 
     }
 
 -- those before the next that is awake
-pub turning_to : (numbers : Numbers) (address : List ℕ → ℕ) (t n turns p q : ℕ) (bs ds : List Bool)
+pub turning_to : (starts : Starts) (address : List ℕ → ℕ) (t n turns p q : ℕ) (bs ds : List Bool)
     (start : Site (List Script)) (left : List ℕ) (host : Host) (ss : List Script) → n < turns
-    → drop p bs ≡ ds → Turning numbers address t n turns p bs start (q ∷ left) host ss
-    → Turning numbers address t n turns q bs start (q ∷ left) host ss × (slice_get bs q ≡ Some false)
-turning_to numbers address t n turns p q bs [] start left host ss below at turning =
+    → drop p bs ≡ ds → Turning starts address t n turns p bs start (q ∷ left) host ss
+    → Turning starts address t n turns q bs start (q ∷ left) host ss × (slice_get bs q ≡ Some false)
+turning_to starts address t n turns p q bs [] start left host ss below at turning =
     absurd (cc (turning.awake, ap (awake_from p) at))
-turning_to numbers address t n turns p q bs (true ∷ ds) start left host ss below at turning =
-    turning_to numbers address t n turns (suc p) q bs ds start left host ss below (rest_at p bs ds true at)
-    (one_rests numbers address t n turns p bs ds start (q ∷ left) host ss below at turning)
-turning_to numbers address t n turns p q bs (false ∷ ds) start left host ss below at turning =
+turning_to starts address t n turns p q bs (true ∷ ds) start left host ss below at turning =
+    turning_to starts address t n turns (suc p) q bs ds start left host ss below (rest_at p bs ds true at)
+    (one_rests starts address t n turns p bs ds start (q ∷ left) host ss below at turning)
+turning_to starts address t n turns p q bs (false ∷ ds) start left host ss below at turning =
     let same : p ≡ q = cc (turning.awake, ap (awake_from p) at) in (
-      subst (λ (k : ℕ). Turning numbers address t n turns k bs start (q ∷ left) host ss) same turning,
+      subst (λ (k : ℕ). Turning starts address t n turns k bs start (q ∷ left) host ss) same turning,
       subst (λ (k : ℕ). slice_get bs k ≡ Some false) same (head_at p bs ds false at),
     )
 
 -- and its turn
-pub turning_on : (numbers : Numbers) (address : List ℕ → ℕ) (t n turns q : ℕ) (bs : List Bool)
+pub turning_on : (starts : Starts) (address : List ℕ → ℕ) (t n turns q : ℕ) (bs : List Bool)
     (start : Site (List Script)) (left : List ℕ) (host after : Host) (ss : List Script) (s y : Script)
-    → Turning numbers address t n turns q bs start (q ∷ left) host ss → slice_get bs q ≡ Some false
-    → slice_get ss q ≡ Some s → turn_of after y ≡ turn numbers address t (turn_of host s)
-    → Turning numbers address t n turns (suc q) bs start left after (set ss q y)
-turning_on numbers address t n turns q bs start left host after ss s y turning mark here made =
+    → Turning starts address t n turns q bs start (q ∷ left) host ss → slice_get bs q ≡ Some false
+    → slice_get ss q ≡ Some s → turn_of after y ≡ turn starts address t (turn_of host s)
+    → Turning starts address t n turns (suc q) bs start left after (set ss q y)
+turning_on starts address t n turns q bs start left host after ss s y turning mark here made =
     let wakes : is_asleep bs q ≡ false = ap (λ (o : Option Bool). unwrap_or o false) mark in
     let next : q + 1 ≡ suc q = omega arith in
     record {
-      walks = subst (λ (k : ℕ). Walks numbers address t k start after (both (suc n) n (suc q) bs (set ss q y))) next
-          (subst (Walks numbers address t (q + 1) start after) (awake_set (suc n) n q bs ss y wakes)
-          (walks_more numbers address t q start host after (both (suc n) n q bs ss) s y turning.walks
+      walks = subst (λ (k : ℕ). Walks starts address t k start after (both (suc n) n (suc q) bs (set ss q y))) next
+          (subst (Walks starts address t (q + 1) start after) (awake_set (suc n) n q bs ss y wakes)
+          (walks_more starts address t q start host after (both (suc n) n q bs ss) s y turning.walks
           (awake_get (suc n) n q bs ss wakes ∙ here) made));
       awake = ap (drop 1) turning.awake ∙ by_marks q bs mark;
       resting = resting_set turns q bs ss y turning.resting wakes;
@@ -337,24 +337,24 @@ turning_on numbers address t n turns q bs start left host after ss s y turning m
     set_length (suc k) (z ∷ zs) x = ap suc (set_length k zs x)
 
 -- those behind the last that is awake
-pub turning_past : (numbers : Numbers) (address : List ℕ → ℕ) (t n turns p : ℕ) (bs ds : List Bool)
+pub turning_past : (starts : Starts) (address : List ℕ → ℕ) (t n turns p : ℕ) (bs ds : List Bool)
     (start : Site (List Script)) (host : Host) (ss : List Script) → n < turns
-    → drop p bs ≡ ds → Turning numbers address t n turns p bs start [] host ss
-    → (q : ℕ) × Turning numbers address t n turns q bs start [] host ss × (length bs ≤ q)
-turning_past numbers address t n turns p bs [] start host ss below at turning = (p, turning, past_at p bs at)
-turning_past numbers address t n turns p bs (true ∷ ds) start host ss below at turning =
-    turning_past numbers address t n turns (suc p) bs ds start host ss below (rest_at p bs ds true at)
-    (one_rests numbers address t n turns p bs ds start [] host ss below at turning)
-turning_past numbers address t n turns p bs (false ∷ ds) start host ss below at turning =
+    → drop p bs ≡ ds → Turning starts address t n turns p bs start [] host ss
+    → (q : ℕ) × Turning starts address t n turns q bs start [] host ss × (length bs ≤ q)
+turning_past starts address t n turns p bs [] start host ss below at turning = (p, turning, past_at p bs at)
+turning_past starts address t n turns p bs (true ∷ ds) start host ss below at turning =
+    turning_past starts address t n turns (suc p) bs ds start host ss below (rest_at p bs ds true at)
+    (one_rests starts address t n turns p bs ds start [] host ss below at turning)
+turning_past starts address t n turns p bs (false ∷ ds) start host ss below at turning =
     absurd (cc (turning.awake, ap (awake_from p) at))
 
 -- ----- the walk of a turn
-pub turning_start : (numbers : Numbers) (address : List ℕ → ℕ) (t : ℕ) (k : AppScripts) (host : Host)
+pub turning_start : (starts : Starts) (address : List ℕ → ℕ) (t : ℕ) (k : AppScripts) (host : Host)
     → IsSound (site_with host (scripts_in k)) → AreKept k → k.passed < k.turns
-    → Turning numbers address t k.passed k.turns 0 k.asleep.items (site_with host (scripts_in k)) k.awake.items host
+    → Turning starts address t k.passed k.turns 0 k.asleep.items (site_with host (scripts_in k)) k.awake.items host
     k.items.items
-turning_start numbers address t k host sound kept left = record {
-  walks = walks_start numbers address t (site_with host (scripts_in k)) sound.numbers sound.scripts;
+turning_start starts address t k host sound kept left = record {
+  walks = walks_start starts address t (site_with host (scripts_in k)) sound.starts sound.scripts;
   awake = (kept.marked left).places;
   resting = kept.resting;
   marks = (kept.marked left).marks;
@@ -372,19 +372,19 @@ drop_end (x ∷ xs) zero past = absurd (omega (arith, past))
 drop_end (x ∷ xs) (suc i) past = drop_end xs i (omega (arith, past))
 
 -- The walk is at this script, which is awake.
-pub record IsNext (numbers : Numbers) (address : List ℕ → ℕ) (t n turns q : ℕ) (bs : List Bool)
+pub record IsNext (starts : Starts) (address : List ℕ → ℕ) (t n turns q : ℕ) (bs : List Bool)
     (start : Site (List Script)) (left : List ℕ) (host : Host) (ss : List Script) : Type 0 where
-  pub walk : Turning numbers address t n turns q bs start (q ∷ left) host ss
+  pub walk : Turning starts address t n turns q bs start (q ∷ left) host ss
   pub mark : slice_get bs q ≡ Some false
   pub below : q < length ss
 
-pub next_awake : (numbers : Numbers) (address : List ℕ → ℕ) (t n turns p k q : ℕ) (bs : List Bool)
+pub next_awake : (starts : Starts) (address : List ℕ → ℕ) (t n turns p k q : ℕ) (bs : List Bool)
     (start : Site (List Script)) (awake : List ℕ) (host : Host) (ss : List Script) → n < turns
-    → slice_get awake k ≡ Some q → Turning numbers address t n turns p bs start (drop k awake) host ss
-    → IsNext numbers address t n turns q bs start (drop (suc k) awake) host ss
-next_awake numbers address t n turns p k q bs start awake host ss below here turning =
-    let to = turning_to numbers address t n turns p q bs (drop p bs) start (drop (suc k) awake) host ss below refl
-    (subst (λ (left : List ℕ). Turning numbers address t n turns p bs start left host ss) (drop_here awake k q here)
+    → slice_get awake k ≡ Some q → Turning starts address t n turns p bs start (drop k awake) host ss
+    → IsNext starts address t n turns q bs start (drop (suc k) awake) host ss
+next_awake starts address t n turns p k q bs start awake host ss below here turning =
+    let to = turning_to starts address t n turns p q bs (drop p bs) start (drop (suc k) awake) host ss below refl
+    (subst (λ (left : List ℕ). Turning starts address t n turns p bs start left host ss) (drop_here awake k q here)
     turning) in
     record {
       walk = to.0;
@@ -392,10 +392,10 @@ next_awake numbers address t n turns p k q bs start awake host ss below here tur
       below = omega (arith, below_at q bs false to.1, turning.marks);
     }
 
-pub next_fit : (numbers : Numbers) (address : List ℕ → ℕ) (t n turns q : ℕ) (bs : List Bool)
+pub next_fit : (starts : Starts) (address : List ℕ → ℕ) (t n turns q : ℕ) (bs : List Bool)
     (start : Site (List Script)) (left : List ℕ) (host : Host) (ss : List Script) (s : Script)
-    → IsNext numbers address t n turns q bs start left host ss → slice_get ss q ≡ Some s → IsFit (length host.flows) s
-next_fit numbers address t n turns q bs start left host ss s next here =
+    → IsNext starts address t n turns q bs start left host ss → slice_get ss q ≡ Some s → IsFit (length host.flows) s
+next_fit starts address t n turns q bs start left host ss s next here =
     each_at (IsFit (length host.flows)) (both (suc n) n q bs ss) q s next.walk.walks.fit
     (awake_get (suc n) n q bs ss (ap (λ (o : Option Bool). unwrap_or o false) next.mark) ∙ here)
 
@@ -407,32 +407,32 @@ length_seen n (true ∷ bs) (s ∷ ss) = ap suc (length_seen n bs ss)
 length_seen n (false ∷ bs) (s ∷ ss) = ap suc (length_seen n bs ss)
 
 -- All had their turns, and the host is sound.
-pub record Turned (numbers : Numbers) (address : List ℕ → ℕ) (t : ℕ) (start : Site (List Script)) (host : Host)
+pub record Turned (starts : Starts) (address : List ℕ → ℕ) (t : ℕ) (start : Site (List Script)) (host : Host)
     (ss : List Script) : Type 0 where
   pub made : ◌≡◌ {A = Site (List Script)} (site_with host ss)
-      (asked_all numbers address t start (numbers_in start.scripts))
+      (asked_all starts address t start (numbers_in start.scripts))
   pub params : host.params ≡ start.host.params
   pub sound : IsSound (site_with host ss)
 
-pub turned : (numbers : Numbers) (address : List ℕ → ℕ) (t n turns p : ℕ) (bs : List Bool)
+pub turned : (starts : Starts) (address : List ℕ → ℕ) (t n turns p : ℕ) (bs : List Bool)
     (start : Site (List Script)) (host : Host) (ss : List Script) → IsSound start → n < turns
-    → Turning numbers address t n turns p bs start [] host ss
-    → Turned numbers address t start host (seen (n + 1) bs ss)
-turned numbers address t n turns p bs start host ss sound below turning =
-    let end = turning_past numbers address t n turns p bs (drop p bs) start host ss below refl turning in
+    → Turning starts address t n turns p bs start [] host ss
+    → Turned starts address t start host (seen (n + 1) bs ss)
+turned starts address t n turns p bs start host ss sound below turning =
+    let end = turning_past starts address t n turns p bs (drop p bs) start host ss below refl turning in
     let q : ℕ = end.0 in
     let past : length ss ≤ q = omega (arith, end.2, (end.1).marks) in
     let next : suc n ≡ n + 1 = omega arith in
-    let walks : Walks numbers address t q start host (seen (n + 1) bs ss) =
-    subst (λ (k : ℕ). Walks numbers address t q start host (seen k bs ss)) next
-    (subst (Walks numbers address t q start host) (both_all (suc n) n q bs ss past) (end.1).walks) in
+    let walks : Walks starts address t q start host (seen (n + 1) bs ss) =
+    subst (λ (k : ℕ). Walks starts address t q start host (seen k bs ss)) next
+    (subst (Walks starts address t q start host) (both_all (suc n) n q bs ss past) (end.1).walks) in
     record {
-      made = walks_end numbers address t q start host (seen (n + 1) bs ss) walks
+      made = walks_end starts address t q start host (seen (n + 1) bs ss) walks
           (omega (arith, past, length_seen (n + 1) bs ss));
       params = walks.lasts.params;
       sound = record {
         listens = ap (λ (p : HostParams). p.fixed) walks.lasts.params ∙ sound.listens;
-        numbers = walks.rising;
+        starts = walks.rising;
         scripts = walks.fit;
       };
     }

@@ -3,7 +3,7 @@ use Rattle.std.proofs.Common.{◌≡◌, ℕ, List, [], position, Option, Some, 
 use Rattle.tas_model.specs.declared.entry.Caller.TheVariants.{App}
 use Rattle.tas_model.specs.declared.entry.Call.{Call}
 use Rattle.tas_model.specs.declared.entry.Call.TheVariants as calls
-use Rattle.host_rounds.specs.Hosts.{Numbers, Live, Host, Holder, Application, GivenUp, at_flow, with_call, is_ready}
+use Rattle.host_rounds.specs.Hosts.{Starts, Live, Host, Holder, Application, GivenUp, at_flow, with_call, is_ready}
 use Rattle.scenario_runs.specs.Applications.{ASocket, Script, bind, unbind, stepped, bound_in, port_of, accepts}
 use Rattle.scenario_runs.specs.Applications.{Turn, accepts_one, once, ends, sends, filling, flow_of, on_socket, step_of}
 use Rattle.scenario_text.specs.declared.scenario.Step.{Step}
@@ -53,19 +53,19 @@ pub sent_found : (t : ℕ) (socket bytes : List ℕ) (x y : Turn) (place : ℕ)
     → y ≡ on_socket socket (λ (n : ℕ). sends n t bytes) x
 sent_found t socket bytes x y place found made = made ∙ on_found socket (λ (n : ℕ). sends n t bytes) x place found
 
-pub send_step : (numbers : Numbers) (address : List ℕ → ℕ) (t : ℕ) (step : Step) (socket text name bytes : List ℕ)
+pub send_step : (starts : Starts) (address : List ℕ → ℕ) (t : ℕ) (step : Step) (socket text name bytes : List ℕ)
     (x y : Turn) → step ≡ steps.Send socket text → name ≡ socket → bytes ≡ text
-    → y ≡ on_socket name (λ (n : ℕ). sends n t bytes) x → y ≡ step_of numbers address t step x
-send_step numbers address t step socket text name bytes x y is named same made =
+    → y ≡ on_socket name (λ (n : ℕ). sends n t bytes) x → y ≡ step_of starts address t step x
+send_step starts address t step socket text name bytes x y is named same made =
     made
     ∙ (ap (λ (s : List ℕ). on_socket s (λ (n : ℕ). sends n t bytes) x) named
     ∙ (ap (λ (b : List ℕ). on_socket socket (λ (n : ℕ). sends n t b) x) same
-    ∙ ap (λ (s : Step). step_of numbers address t s x) (sym is)))
+    ∙ ap (λ (s : Step). step_of starts address t s x) (sym is)))
 
-pub fill_step : (numbers : Numbers) (address : List ℕ → ℕ) (t : ℕ) (step : Step) (socket name : List ℕ) (count : ℕ)
+pub fill_step : (starts : Starts) (address : List ℕ → ℕ) (t : ℕ) (step : Step) (socket name : List ℕ) (count : ℕ)
     (x y : Turn) → step ≡ steps.Fill socket count → name ≡ socket
-    → y ≡ on_socket name (λ (n : ℕ). sends n t (filling count)) x → y ≡ step_of numbers address t step x
-fill_step numbers address t step socket name count x y is named made =
+    → y ≡ on_socket name (λ (n : ℕ). sends n t (filling count)) x → y ≡ step_of starts address t step x
+fill_step starts address t step socket name count x y is named made =
     made
     ∙ (ap (λ (s : List ℕ). on_socket s (λ (n : ℕ). sends n t (filling count)) x) named
-    ∙ ap (λ (s : Step). step_of numbers address t s x) (sym is))
+    ∙ ap (λ (s : Step). step_of starts address t s x) (sym is))

@@ -7,7 +7,7 @@ use Rattle.std.proofs.lemmas.Bool.Decides.{nat_tests}
 use Rattle.std.proofs.lemmas.List.Elements.{All-nil, All-cons, filter-append}
 use Rattle.flow_state.specs.declared.call.Answer.{Answer}
 use Rattle.host_rounds.specs.Lists.{Each}
-use Rattle.host_rounds.specs.Hosts.{Live, Host, Numbers}
+use Rattle.host_rounds.specs.Hosts.{Live, Host, Starts}
 use Rattle.host_rounds.specs.Scripts.{Site}
 use Rattle.local_host.specs.declared.attempts.Attempt.{Attempt}
 use Rattle.local_host.specs.Trying.{IsMadeBy, AreMade, unanswered, AreAnswered, CanTryIt}
@@ -165,57 +165,57 @@ made_within t (Some x ∷ xs) (s ∷ ss) host F G are made =
           (record { made = one; others = refl })
 
 -- One attempt: its application's turn is made, where it was made itself.
-leads_tried : (numbers : Numbers) (address : List ℕ → ℕ) (t i : ℕ) (left : List ℕ) (start end : Site (List Script))
+leads_tried : (starts : Starts) (address : List ℕ → ℕ) (t i : ℕ) (left : List ℕ) (start end : Site (List Script))
     (host : Host) (scripts : List Script) (s : Script) (x : Attempt) (o : Option Answer) (next : List Live)
     → slice_get scripts i ≡ Some s → IsAttemptOf t s (record x { answer = None }) → IsMadeBy t x o host.flows next
-    → Leads numbers address t (elim o [ None ↦ left | Some a ↦ s.number ∷ left ]) start end host scripts
-    → Leads numbers address t left start end (record host { flows = next }) (set scripts i (goes_by o s))
-leads_tried numbers address t i left start end host scripts s x None next here is made leads =
-    subst (λ (ls : List Live). Leads numbers address t left start end (record host { flows = ls }) (set scripts i s))
-    made (subst (Leads numbers address t left start end host) (sym (set_same scripts i s here)) leads)
-leads_tried numbers address t i left start end host scripts s x (Some a) next here is made leads =
-    leads_on numbers address t i left start end host (record host { flows = next }) scripts s (answered_by a s) leads
+    → Leads starts address t (elim o [ None ↦ left | Some a ↦ s.number ∷ left ]) start end host scripts
+    → Leads starts address t left start end (record host { flows = next }) (set scripts i (goes_by o s))
+leads_tried starts address t i left start end host scripts s x None next here is made leads =
+    subst (λ (ls : List Live). Leads starts address t left start end (record host { flows = ls }) (set scripts i s))
+    made (subst (Leads starts address t left start end host) (sym (set_same scripts i s here)) leads)
+leads_tried starts address t i left start end host scripts s x (Some a) next here is made leads =
+    leads_on starts address t i left start end host (record host { flows = next }) scripts s (answered_by a s) leads
     here
-    (is.turns numbers address a host (record host { flows = next }) (record { made = made; others = refl }))
+    (is.turns starts address a host (record host { flows = next }) (record { made = made; others = refl }))
 
 -- All attempts, from this place on.
-pub leads_by_tries : (numbers : Numbers) (address : List ℕ → ℕ) (t : ℕ) (xs : List (Option Attempt))
+pub leads_by_tries : (starts : Starts) (address : List ℕ → ℕ) (t : ℕ) (xs : List (Option Attempt))
     (ds : List Script) (i : ℕ) (start end : Site (List Script)) (host : Host) (scripts : List Script) (G : List Live)
     → drop i scripts ≡ ds → AreAttemptsOf t ds (map unanswered xs) → AreMade t xs host.flows G
-    → Leads numbers address t (tried_in xs (numbers_in ds)) start end host scripts
-    → Leads numbers address t [] start end (record host { flows = G }) (answered_from i xs scripts)
-leads_by_tries numbers address t [] ds i start end host scripts G at are made leads =
-    subst (λ (ls : List Live). Leads numbers address t [] start end (record host { flows = ls })
+    → Leads starts address t (tried_in xs (numbers_in ds)) start end host scripts
+    → Leads starts address t [] start end (record host { flows = G }) (answered_from i xs scripts)
+leads_by_tries starts address t [] ds i start end host scripts G at are made leads =
+    subst (λ (ls : List Live). Leads starts address t [] start end (record host { flows = ls })
     (answered_from i [] scripts)) made
-    (subst (Leads numbers address t [] start end host) (sym (answered_none i scripts)) leads)
-leads_by_tries numbers address t (x ∷ xs) [] i start end host scripts G at are made leads = absurd are
-leads_by_tries numbers address t (None ∷ xs) (s ∷ ds) i start end host scripts G at are made leads =
-    subst (Leads numbers address t [] start end (record host { flows = G }))
+    (subst (Leads starts address t [] start end host) (sym (answered_none i scripts)) leads)
+leads_by_tries starts address t (x ∷ xs) [] i start end host scripts G at are made leads = absurd are
+leads_by_tries starts address t (None ∷ xs) (s ∷ ds) i start end host scripts G at are made leads =
+    subst (Leads starts address t [] start end (record host { flows = G }))
     (ap (answered_from (suc i) xs) (sym (set_same scripts i s here)) ∙ sym (answered_one i None xs scripts s here))
-    (leads_by_tries numbers address t xs ds (suc i) start end (record host { flows = made.0 }) scripts G
+    (leads_by_tries starts address t xs ds (suc i) start end (record host { flows = made.0 }) scripts G
     (sym (drop_one i scripts) ∙ ap (drop 1) at) are.1 made.2
-    (subst (λ (ls : List Live). Leads numbers address t (tried_in xs (numbers_in ds)) start end
+    (subst (λ (ls : List Live). Leads starts address t (tried_in xs (numbers_in ds)) start end
     (record host { flows = ls }) scripts) made.1 leads)) where
       here : slice_get scripts i ≡ Some s
       here = sym (at_drop i scripts) ∙ ap (λ (zs : List Script). slice_get zs 0) at
-leads_by_tries numbers address t (Some x ∷ xs) (s ∷ ds) i start end host scripts G at are made leads =
-    subst (Leads numbers address t [] start end (record host { flows = G }))
+leads_by_tries starts address t (Some x ∷ xs) (s ∷ ds) i start end host scripts G at are made leads =
+    subst (Leads starts address t [] start end (record host { flows = G }))
     (sym (answered_one i (Some x) xs scripts s here))
-    (leads_by_tries numbers address t xs ds (suc i) start end (record host { flows = made.0 })
+    (leads_by_tries starts address t xs ds (suc i) start end (record host { flows = made.0 })
     (set scripts i (goes_by x.answer s)) G
     (drop_set scripts i (goes_by x.answer s) ∙ (sym (drop_one i scripts) ∙ ap (drop 1) at)) are.1 made.2
-    (leads_tried numbers address t i (tried_in xs (numbers_in ds)) start end host scripts s x x.answer made.0 here
+    (leads_tried starts address t i (tried_in xs (numbers_in ds)) start end host scripts s x x.answer made.0 here
     are.0 made.1 leads)) where
       here : slice_get scripts i ≡ Some s
       here = sym (at_drop i scripts) ∙ ap (λ (zs : List Script). slice_get zs 0) at
 
 -- ----- those that are asked later
 -- The scripts before this place had their turns.
-abbrev pub WalksRest : Numbers → (address : List ℕ → ℕ) → (t : ℕ) → List (Option Attempt) → (i : ℕ)
+abbrev pub WalksRest : Starts → (address : List ℕ → ℕ) → (t : ℕ) → List (Option Attempt) → (i : ℕ)
     → (start : Site (List Script)) → Host → List Script → Type 0
-WalksRest numbers address t xs i start host scripts =
-    Leads numbers address t (later_in (drop i xs) (numbers_in (drop i scripts))) start
-    (asked_all numbers address t start (later_in xs (numbers_in start.scripts))) host scripts
+WalksRest starts address t xs i start host scripts =
+    Leads starts address t (later_in (drop i xs) (numbers_in (drop i scripts))) start
+    (asked_all starts address t start (later_in xs (numbers_in start.scripts))) host scripts
 
 later_asked : (ys : List (Option Attempt)) (n : ℕ) (ns : List ℕ) → answer_on (slice_get ys 0) ≡ None
     → later_in ys (n ∷ ns) ≡ n ∷ later_in (drop 1 ys) ns
@@ -238,13 +238,13 @@ some_of None is = absurd (cc (is))
 some_of (Some a) is = (a, refl)
 
 -- one has its turn
-pub rest_asked : (numbers : Numbers) (address : List ℕ → ℕ) (t : ℕ) (xs : List (Option Attempt)) (i : ℕ)
+pub rest_asked : (starts : Starts) (address : List ℕ → ℕ) (t : ℕ) (xs : List (Option Attempt)) (i : ℕ)
     (start : Site (List Script)) (host after : Host) (scripts : List Script) (s y : Script)
-    → WalksRest numbers address t xs i start host scripts → slice_get scripts i ≡ Some s → answer_at xs i ≡ None
-    → turn_of after y ≡ turn numbers address t (turn_of host s)
-    → WalksRest numbers address t xs (i + 1) start after (set scripts i y)
-rest_asked numbers address t xs i start host after scripts s y walks here is made =
-    let end : Site (List Script) = asked_all numbers address t start (later_in xs (numbers_in start.scripts)) in
+    → WalksRest starts address t xs i start host scripts → slice_get scripts i ≡ Some s → answer_at xs i ≡ None
+    → turn_of after y ≡ turn starts address t (turn_of host s)
+    → WalksRest starts address t xs (i + 1) start after (set scripts i y)
+rest_asked starts address t xs i start host after scripts s y walks here is made =
+    let end : Site (List Script) = asked_all starts address t start (later_in xs (numbers_in start.scripts)) in
     let next : suc i ≡ i + 1 = omega arith in
     let left : later_in (drop i xs) (numbers_in (drop i scripts))
     ≡ s.number ∷ later_in (drop (suc i) xs) (numbers_in (drop (suc i) (set scripts i y))) =
@@ -252,26 +252,26 @@ rest_asked numbers address t xs i start host after scripts s y walks here is mad
     ∙ (later_asked (drop i xs) s.number (numbers_in (drop (suc i) scripts)) (ap answer_on (at_drop i xs) ∙ is)
     ∙ (ap (λ (ys : List (Option Attempt)). s.number ∷ later_in ys (numbers_in (drop (suc i) scripts))) (drop_one i xs)
     ∙ ap (λ (zs : List Script). s.number ∷ later_in (drop (suc i) xs) (numbers_in zs)) (sym (drop_set scripts i y)))) in
-    subst (λ (n : ℕ). WalksRest numbers address t xs n start after (set scripts i y)) next
-    (leads_on numbers address t i (later_in (drop (suc i) xs) (numbers_in (drop (suc i) (set scripts i y)))) start end
-    host after scripts s y (subst (λ (ns : List ℕ). Leads numbers address t ns start end host scripts) left walks)
+    subst (λ (n : ℕ). WalksRest starts address t xs n start after (set scripts i y)) next
+    (leads_on starts address t i (later_in (drop (suc i) xs) (numbers_in (drop (suc i) (set scripts i y)))) start end
+    host after scripts s y (subst (λ (ns : List ℕ). Leads starts address t ns start end host scripts) left walks)
     here made)
 
 -- or is passed over
-pub rest_passed : (numbers : Numbers) (address : List ℕ → ℕ) (t : ℕ) (xs : List (Option Attempt)) (i : ℕ)
+pub rest_passed : (starts : Starts) (address : List ℕ → ℕ) (t : ℕ) (xs : List (Option Attempt)) (i : ℕ)
     (start : Site (List Script)) (host : Host) (scripts : List Script) (s : Script) (a : Answer)
-    → WalksRest numbers address t xs i start host scripts → slice_get scripts i ≡ Some s → answer_at xs i ≡ Some a
-    → WalksRest numbers address t xs (i + 1) start host scripts
-rest_passed numbers address t xs i start host scripts s a walks here is =
-    let end : Site (List Script) = asked_all numbers address t start (later_in xs (numbers_in start.scripts)) in
+    → WalksRest starts address t xs i start host scripts → slice_get scripts i ≡ Some s → answer_at xs i ≡ Some a
+    → WalksRest starts address t xs (i + 1) start host scripts
+rest_passed starts address t xs i start host scripts s a walks here is =
+    let end : Site (List Script) = asked_all starts address t start (later_in xs (numbers_in start.scripts)) in
     let next : suc i ≡ i + 1 = omega arith in
     let left : later_in (drop i xs) (numbers_in (drop i scripts))
     ≡ later_in (drop (suc i) xs) (numbers_in (drop (suc i) scripts)) =
     ap (λ (zs : List Script). later_in (drop i xs) (numbers_in zs)) (drop_place scripts i s here)
     ∙ (later_passed (drop i xs) s.number (numbers_in (drop (suc i) scripts)) a (ap answer_on (at_drop i xs) ∙ is)
     ∙ ap (λ (ys : List (Option Attempt)). later_in ys (numbers_in (drop (suc i) scripts))) (drop_one i xs)) in
-    subst (λ (n : ℕ). WalksRest numbers address t xs n start host scripts) next
-    (subst (λ (ns : List ℕ). Leads numbers address t ns start end host scripts) left walks)
+    subst (λ (n : ℕ). WalksRest starts address t xs n start host scripts) next
+    (subst (λ (ns : List ℕ). Leads starts address t ns start end host scripts) left walks)
 
 drop_all : {X : Type 0} (xs : List X) (i : ℕ) → length xs ≤ i → drop i xs ≡ []
 drop_all [] zero past = refl
@@ -283,13 +283,13 @@ later_none : (ys : List (Option Attempt)) → later_in ys [] ≡ []
 later_none [] = refl
 later_none (y ∷ ys) = refl
 
-pub rest_end : (numbers : Numbers) (address : List ℕ → ℕ) (t : ℕ) (xs : List (Option Attempt)) (i : ℕ)
+pub rest_end : (starts : Starts) (address : List ℕ → ℕ) (t : ℕ) (xs : List (Option Attempt)) (i : ℕ)
     (start : Site (List Script)) (host : Host) (scripts : List Script)
-    → WalksRest numbers address t xs i start host scripts → length scripts ≤ i
+    → WalksRest starts address t xs i start host scripts → length scripts ≤ i
     → ◌≡◌ {A = Site (List Script)} (record { host = host; scripts = scripts })
-    (asked_all numbers address t start (later_in xs (numbers_in start.scripts)))
-rest_end numbers address t xs i start host scripts walks past =
-    ap (λ (ns : List ℕ). asked_all numbers address t (record { host = host; scripts = scripts }) ns)
+    (asked_all starts address t start (later_in xs (numbers_in start.scripts)))
+rest_end starts address t xs i start host scripts walks past =
+    ap (λ (ns : List ℕ). asked_all starts address t (record { host = host; scripts = scripts }) ns)
     (sym (ap (λ (zs : List Script). later_in (drop i xs) (numbers_in zs)) (drop_all scripts i past)
     ∙ later_none (drop i xs)))
     ∙ walks.rest

@@ -5,7 +5,7 @@ use Rattle.std.proofs.Common.{set, slice_get, get_or, Option, Some, refl, sym, a
 use Rattle.std.specs.List.{find}
 use Rattle.std.proofs.lemmas.Bool.Decides.{nat_tests}
 use Rattle.host_rounds.specs.Lists.{Each, change_first}
-use Rattle.host_rounds.specs.Hosts.{Host, Numbers}
+use Rattle.host_rounds.specs.Hosts.{Host, Starts}
 use Rattle.host_rounds.specs.Scripts.{Site}
 use Rattle.scenario_runs.specs.Applications.{Script, Turn, turn}
 use Rattle.scenario_runs.specs.Worlds.{asked_of, with_turn}
@@ -106,25 +106,25 @@ set_same (x ∷ xs) (suc i) s here = ap (λ (zs : List Script). x ∷ zs) (set_s
 abbrev pub numbers_in : List Script → List ℕ
 numbers_in ss = map (λ (s : Script). s.number) ss
 
-abbrev pub asked_by : Numbers → (address : List ℕ → ℕ) → (tick : ℕ) → Site (List Script) → ℕ → Site (List Script)
-asked_by numbers address t site k = asked_of numbers address t (find (has_number k) site.scripts) site
+abbrev pub asked_by : Starts → (address : List ℕ → ℕ) → (tick : ℕ) → Site (List Script) → ℕ → Site (List Script)
+asked_by starts address t site k = asked_of starts address t (find (has_number k) site.scripts) site
 
-abbrev pub asked_all : Numbers → (address : List ℕ → ℕ) → (tick : ℕ) → Site (List Script) → List ℕ → Site (List Script)
-asked_all numbers address t site ks = fold (asked_by numbers address t) site ks
+abbrev pub asked_all : Starts → (address : List ℕ → ℕ) → (tick : ℕ) → Site (List Script) → List ℕ → Site (List Script)
+asked_all starts address t site ks = fold (asked_by starts address t) site ks
 
 -- Some turns were made, and those of these applications lead from what there is to the end.
-pub record Leads (numbers : Numbers) (address : List ℕ → ℕ) (t : ℕ) (left : List ℕ) (start end : Site (List Script))
+pub record Leads (starts : Starts) (address : List ℕ → ℕ) (t : ℕ) (left : List ℕ) (start end : Site (List Script))
     (host : Host) (scripts : List Script) : Type 0 where
-  pub rest : asked_all numbers address t (record { host = host; scripts = scripts }) left ≡ end
+  pub rest : asked_all starts address t (record { host = host; scripts = scripts }) left ≡ end
   pub lasts : Lasts start.host host
   pub same : numbers_in scripts ≡ numbers_in start.scripts
   pub rising : AreRising scripts
   pub fit : Each (IsFit (length host.flows)) scripts
 
-pub leads_start : (numbers : Numbers) (address : List ℕ → ℕ) (t : ℕ) (left : List ℕ) (start : Site (List Script))
+pub leads_start : (starts : Starts) (address : List ℕ → ℕ) (t : ℕ) (left : List ℕ) (start : Site (List Script))
     → AreRising start.scripts → Each (IsFit (length start.host.flows)) start.scripts
-    → Leads numbers address t left start (asked_all numbers address t start left) start.host start.scripts
-leads_start numbers address t left start rising fit =
+    → Leads starts address t left start (asked_all starts address t start left) start.host start.scripts
+leads_start starts address t left start rising fit =
     record { rest = refl; lasts = lasts_same start.host; same = refl; rising = rising; fit = fit }
 
 set_number : (ss : List Script) (i : ℕ) (s y : Script) → slice_get ss i ≡ Some s → y.number ≡ s.number
@@ -136,24 +136,24 @@ set_number (x ∷ xs) zero s y here same =
 set_number (x ∷ xs) (suc i) s y here same = ap (λ (ks : List ℕ). x.number ∷ ks) (set_number xs i s y here same)
 
 -- one more
-pub leads_on : (numbers : Numbers) (address : List ℕ → ℕ) (t i : ℕ) (left : List ℕ) (start end : Site (List Script))
+pub leads_on : (starts : Starts) (address : List ℕ → ℕ) (t i : ℕ) (left : List ℕ) (start end : Site (List Script))
     (host after : Host) (scripts : List Script) (s y : Script)
-    → Leads numbers address t (s.number ∷ left) start end host scripts → slice_get scripts i ≡ Some s
-    → turn_of after y ≡ turn numbers address t (turn_of host s)
-    → Leads numbers address t left start end after (set scripts i y)
-leads_on numbers address t i left start end host after scripts s y leads here made =
+    → Leads starts address t (s.number ∷ left) start end host scripts → slice_get scripts i ≡ Some s
+    → turn_of after y ≡ turn starts address t (turn_of host s)
+    → Leads starts address t left start end after (set scripts i y)
+leads_on starts address t i left start end host after scripts s y leads here made =
     let site : Site (List Script) = record { host = host; scripts = scripts } in
     let x : Turn = turn_of host s in
     let goes : Goes x (turn_of after y) =
     subst (Goes x) (sym made)
-    (turn_goes numbers address t x (each_at (IsFit (length host.flows)) scripts i s leads.fit here)) in
-    let one : asked_by numbers address t site s.number ≡ record { host = after; scripts = set scripts i y } =
-    ap (λ (o : Option Script). asked_of numbers address t o site) (find_by_number scripts i s leads.rising here)
+    (turn_goes starts address t x (each_at (IsFit (length host.flows)) scripts i s leads.fit here)) in
+    let one : asked_by starts address t site s.number ≡ record { host = after; scripts = set scripts i y } =
+    ap (λ (o : Option Script). asked_of starts address t o site) (find_by_number scripts i s leads.rising here)
     ∙ (ap (λ (z : Turn). with_turn z scripts) (sym made)
     ∙ ap (λ (zs : List Script). record { host = after; scripts = zs })
     (put_by_number scripts i s y leads.rising here goes.number)) in
     record {
-      rest = ap (λ (z : Site (List Script)). asked_all numbers address t z left) (sym one) ∙ leads.rest;
+      rest = ap (λ (z : Site (List Script)). asked_all starts address t z left) (sym one) ∙ leads.rest;
       lasts = lasts_both start.host host after leads.lasts goes.host;
       same = set_number scripts i s y here goes.number ∙ leads.same;
       rising = rising_set scripts i s y leads.rising here goes.number;
@@ -165,29 +165,29 @@ leads_on numbers address t i left start end host after scripts s y leads here ma
 
 -- ----- all of them
 -- The scripts before this place have made their turns.
-abbrev pub Walks : Numbers → (address : List ℕ → ℕ) → (t i : ℕ) → (start : Site (List Script)) → Host → List Script
+abbrev pub Walks : Starts → (address : List ℕ → ℕ) → (t i : ℕ) → (start : Site (List Script)) → Host → List Script
     → Type 0
-Walks numbers address t i start host scripts =
-    Leads numbers address t (numbers_in (drop i scripts)) start
-    (asked_all numbers address t start (numbers_in start.scripts)) host scripts
+Walks starts address t i start host scripts =
+    Leads starts address t (numbers_in (drop i scripts)) start
+    (asked_all starts address t start (numbers_in start.scripts)) host scripts
 
-pub walks_start : (numbers : Numbers) (address : List ℕ → ℕ) (t : ℕ) (start : Site (List Script))
+pub walks_start : (starts : Starts) (address : List ℕ → ℕ) (t : ℕ) (start : Site (List Script))
     → AreRising start.scripts → Each (IsFit (length start.host.flows)) start.scripts
-    → Walks numbers address t 0 start start.host start.scripts
-walks_start numbers address t start rising fit =
-    leads_start numbers address t (numbers_in start.scripts) start rising fit
+    → Walks starts address t 0 start start.host start.scripts
+walks_start starts address t start rising fit =
+    leads_start starts address t (numbers_in start.scripts) start rising fit
 
-pub walks_more : (numbers : Numbers) (address : List ℕ → ℕ) (t i : ℕ) (start : Site (List Script)) (host after : Host)
+pub walks_more : (starts : Starts) (address : List ℕ → ℕ) (t i : ℕ) (start : Site (List Script)) (host after : Host)
     (scripts : List Script) (s y : Script)
-    → Walks numbers address t i start host scripts → slice_get scripts i ≡ Some s
-    → turn_of after y ≡ turn numbers address t (turn_of host s)
-    → Walks numbers address t (i + 1) start after (set scripts i y)
-walks_more numbers address t i start host after scripts s y walks here made =
-    let end : Site (List Script) = asked_all numbers address t start (numbers_in start.scripts) in
+    → Walks starts address t i start host scripts → slice_get scripts i ≡ Some s
+    → turn_of after y ≡ turn starts address t (turn_of host s)
+    → Walks starts address t (i + 1) start after (set scripts i y)
+walks_more starts address t i start host after scripts s y walks here made =
+    let end : Site (List Script) = asked_all starts address t start (numbers_in start.scripts) in
     let next : suc i ≡ i + 1 = omega arith in
-    subst (λ (n : ℕ). Walks numbers address t n start after (set scripts i y)) next
-    (leads_on numbers address t i (numbers_in (drop (suc i) (set scripts i y))) start end host after scripts s y
-    (subst (λ (zs : List Script). Leads numbers address t (numbers_in zs) start end host scripts)
+    subst (λ (n : ℕ). Walks starts address t n start after (set scripts i y)) next
+    (leads_on starts address t i (numbers_in (drop (suc i) (set scripts i y))) start end host after scripts s y
+    (subst (λ (zs : List Script). Leads starts address t (numbers_in zs) start end host scripts)
     (drop_place scripts i s here ∙ ap (λ (zs : List Script). s ∷ zs) (sym (drop_set scripts i y))) walks) here made)
 
 pub get_at : {X : Type 0} (xs : List X) (i : ℕ) (d : X) → i < length xs → slice_get xs i ≡ Some (get_or xs i d)
@@ -202,10 +202,10 @@ drop_past (s ∷ ss) zero past = absurd (omega (arith, past))
 drop_past (s ∷ ss) (suc i) past = drop_past ss i (omega (arith, past))
 
 -- all of them
-pub walks_end : (numbers : Numbers) (address : List ℕ → ℕ) (t i : ℕ) (start : Site (List Script)) (host : Host)
-    (scripts : List Script) → Walks numbers address t i start host scripts → length scripts ≤ i
+pub walks_end : (starts : Starts) (address : List ℕ → ℕ) (t i : ℕ) (start : Site (List Script)) (host : Host)
+    (scripts : List Script) → Walks starts address t i start host scripts → length scripts ≤ i
     → ◌≡◌ {A = Site (List Script)} (record { host = host; scripts = scripts })
-    (asked_all numbers address t start (numbers_in start.scripts))
-walks_end numbers address t i start host scripts walks past =
-    ap (λ (zs : List Script). asked_all numbers address t (record { host = host; scripts = scripts }) (numbers_in zs))
+    (asked_all starts address t start (numbers_in start.scripts))
+walks_end starts address t i start host scripts walks past =
+    ap (λ (zs : List Script). asked_all starts address t (record { host = host; scripts = scripts }) (numbers_in zs))
     (sym (drop_past scripts i past)) ∙ walks.rest

@@ -4,7 +4,7 @@ use Rattle.std.specs.Prelude.{⊤}
 use Rattle.flow_state.specs.declared.call.CallIn.{CallIn}
 use Rattle.flow_state.specs.declared.call.Answer.{Answer}
 use Rattle.host_rounds.specs.Lists.{Each}
-use Rattle.host_rounds.specs.Hosts.{Host, Numbers}
+use Rattle.host_rounds.specs.Hosts.{Host, Starts}
 use Rattle.local_host.specs.declared.attempts.Attempt.{Attempt}
 use Rattle.local_host.specs.Live.{took}
 use Rattle.local_host.specs.Trying.{IsTryable, IsMadeBy}
@@ -71,16 +71,16 @@ pub record IsTry (t : ℕ) (x : Attempt) (a : Answer) (before after : Host) : Ty
 pub record IsAttemptAt (t : ℕ) (step : Step) (s : Script) (x : Attempt) : Type 0 where
   pub fresh : x.answer ≡ None
   pub may : IsTryable x.call
-  pub turns : (numbers : Numbers) (address : List ℕ → ℕ) (a : Answer) (before after : Host) → IsTry t x a before after
-      → turn_of after (answered_at step a s) ≡ step_of numbers address t step (turn_of before s)
+  pub turns : (starts : Starts) (address : List ℕ → ℕ) (a : Answer) (before after : Host) → IsTry t x a before after
+      → turn_of after (answered_at step a s) ≡ step_of starts address t step (turn_of before s)
   pub within : (a : Answer) (before after : Host) → IsTry t x a before after → IsAnswerAt step a s
 
 -- And that is the turn of its application.
 pub record IsAttemptOf (t : ℕ) (s : Script) (x : Attempt) : Type 0 where
   pub fresh : x.answer ≡ None
   pub may : IsTryable x.call
-  pub turns : (numbers : Numbers) (address : List ℕ → ℕ) (a : Answer) (before after : Host) → IsTry t x a before after
-      → turn_of after (answered_by a s) ≡ turn numbers address t (turn_of before s)
+  pub turns : (starts : Starts) (address : List ℕ → ℕ) (a : Answer) (before after : Host) → IsTry t x a before after
+      → turn_of after (answered_by a s) ≡ turn starts address t (turn_of before s)
   pub within : (a : Answer) (before after : Host) → IsTry t x a before after → IsAnswerWithin a s
 
 -- ----- attempts of all applications

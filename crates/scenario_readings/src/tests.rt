@@ -36,6 +36,11 @@ fn texts_are_read_or_refused_by_line_and_kind(rt: HostRuntime) -> Result<(), Fai
         (
             b"host a 10.0.0.1 iss 1 iss 1 iss 1 iss 1 iss 1 iss 1 iss 1\n",
             1,
+            7,
+        ),
+        (
+            b"host a 10.0.0.1 iss 1 iss 1 iss 1 iss 1 iss 1 iss 1 iss 1 iss 1\n",
+            1,
             4,
         ),
         (b"host a 10.0.0.1\nhost b 10.0.0.2 foo bar\n", 2, 6),

@@ -7,7 +7,8 @@ use Rattle.tas_model.specs.declared.entry.Seg.{Seg}
 use Rattle.tas_model.specs.declared.entry.Entry.{Entry}
 use Rattle.tas_model.specs.declared.entry.Caller.{Caller}
 use Rattle.tas_model.specs.declared.entry.Call.TheVariants as calls
-use Rattle.host_rounds.specs.Hosts.{Live, Host, Holder, Numbers, next_number, with_call, at_flow, is_known}
+use Rattle.host_rounds.specs.declared.opening.Start.{Start}
+use Rattle.host_rounds.specs.Hosts.{Live, Host, Holder, Starts, next_start, with_call, at_flow, is_known}
 use Rattle.host_rounds.specs.Hosts.{is_indexed_as}
 use Rattle.host_rounds.specs.Hosts.{is_listening, is_full, lowest_free, new_flow, opened_in}
 use Rattle.host_rounds.specs.Upkeep.{swept, all_swept, timed, emits}
@@ -35,13 +36,13 @@ kept_flows host after params same =
 kept_all : (host : Host) → Kept host host
 kept_all host = kept_flows host host refl refl
 
-kept_opened : (host : Host) (slot : ℕ) (tuple : FourTuple) (holder : Holder) (x : Entry)
-    → Kept host (opened_in host slot tuple holder x)
-kept_opened host slot tuple holder x =
+kept_opened : (host : Host) (slot : ℕ) (tuple : FourTuple) (scale : Option ℕ) (holder : Holder) (x : Entry)
+    → Kept host (opened_in host slot tuple scale holder x)
+kept_opened host slot tuple scale holder x =
     record {
       params = refl;
-      more = opening_of (new_flow host slot tuple holder x).flow ∷ [];
-      openings = openings_push host.flows (new_flow host slot tuple holder x);
+      more = opening_of (new_flow host slot tuple scale holder x).flow ∷ [];
+      openings = openings_push host.flows (new_flow host slot tuple scale holder x);
     }
 
 kept_both : (host mid after : Host) → Kept host mid → Kept mid after → Kept host after
@@ -56,52 +57,52 @@ kept_at : (n : ℕ) (f : Live → Live) (host : Host) → Keeps f → AreLegal h
 kept_at n f host keeps legal = kept_flows host (at_flow n f host) refl (at_keeps n f keeps host.flows legal)
 
 -- ----- frames
-syn_kept : (full : Bool) (free : Option ℕ) (number t : ℕ) (host : Host) (frame : FrameId) (tuple : FourTuple)
+syn_kept : (full : Bool) (free : Option ℕ) (start : Start) (t : ℕ) (host : Host) (frame : FrameId) (tuple : FourTuple)
     (seg : Seg)
-    → Kept host (opened_by_syn full free number t host frame tuple seg)
-syn_kept true free number t host frame tuple seg = kept_flows host _ refl refl
-syn_kept false None number t host frame tuple seg = kept_flows host _ refl refl
-syn_kept false (Some slot) number t host frame tuple seg = kept_opened host slot tuple _ _
+    → Kept host (opened_by_syn full free start t host frame tuple seg)
+syn_kept true free start t host frame tuple seg = kept_flows host _ refl refl
+syn_kept false None start t host frame tuple seg = kept_flows host _ refl refl
+syn_kept false (Some slot) start t host frame tuple seg = kept_opened host slot tuple _ _ _
 
-no_flow_kept : (opening listening : Bool) (number t : ℕ) (host : Host) (frame : FrameId) (tuple : FourTuple) (seg : Seg)
-    → Kept host (met_no_flow opening listening number t host frame tuple seg)
-no_flow_kept true listening number t host frame tuple seg =
-    syn_kept (is_full host tuple.lport) (lowest_free host) number t host frame tuple seg
-no_flow_kept false listening number t host frame tuple seg = kept_flows host _ refl refl
+no_flow_kept : (opening listening : Bool) (start : Start) (t : ℕ) (host : Host) (frame : FrameId) (tuple : FourTuple) (seg : Seg)
+    → Kept host (met_no_flow opening listening start t host frame tuple seg)
+no_flow_kept true listening start t host frame tuple seg =
+    syn_kept (is_full host tuple.lport) (lowest_free host) start t host frame tuple seg
+no_flow_kept false listening start t host frame tuple seg = kept_flows host _ refl refl
 
-arrived_kept : (known : Bool) (by : Caller) (number t : ℕ) (host : Host) (frame : FrameId) (tuple : FourTuple)
+arrived_kept : (known : Bool) (by : Caller) (start : Start) (t : ℕ) (host : Host) (frame : FrameId) (tuple : FourTuple)
     (seg : Seg)
-    → AreLegal host → Kept host (arrived known (received by t frame seg) number t host frame tuple seg)
-arrived_kept true by number t host frame tuple seg legal =
+    → AreLegal host → Kept host (arrived known (received by t frame seg) start t host frame tuple seg)
+arrived_kept true by start t host frame tuple seg legal =
     kept_flows host _ refl
     (first_keeps (is_indexed_as tuple) (received by t frame seg)
     (call_keeps by t (calls.Rx frame seg) []) host.flows legal)
-arrived_kept false by number t host frame tuple seg legal =
+arrived_kept false by start t host frame tuple seg legal =
     no_flow_kept (is_listening host tuple.lport && opens seg)
-    (is_listening host tuple.lport) number t host frame tuple seg
+    (is_listening host tuple.lport) start t host frame tuple seg
 
-packet_kept : (by : Caller) (numbers : Numbers) (t : ℕ) (host : Host) (frame : FrameId) (packet : Packet)
-    → AreLegal host → Kept host (delivered_packet (received by) numbers t host frame packet)
-packet_kept by numbers t host frame (Damaged rule) legal = kept_flows host _ refl refl
-packet_kept by numbers t host frame (Segment tuple seg) legal =
-    arrived_kept (is_known host tuple) by (next_number numbers host tuple) t host frame tuple seg legal
+packet_kept : (by : Caller) (starts : Starts) (t : ℕ) (host : Host) (frame : FrameId) (packet : Packet)
+    → AreLegal host → Kept host (delivered_packet (received by) starts t host frame packet)
+packet_kept by starts t host frame (Damaged rule) legal = kept_flows host _ refl refl
+packet_kept by starts t host frame (Segment tuple seg) legal =
+    arrived_kept (is_known host tuple) by (next_start starts host tuple) t host frame tuple seg legal
 
 -- ----- moves
-move_kept : (numbers : Numbers) (t : ℕ) (host : Host) (m : Move) → AreLegal host → Kept host (moved numbers t host m)
-move_kept numbers t host (Calls n by call offer) legal =
+move_kept : (starts : Starts) (t : ℕ) (host : Host) (m : Move) → AreLegal host → Kept host (moved starts t host m)
+move_kept starts t host (Calls n by call offer) legal =
     kept_at n (λ (l : Live). with_call l by t call offer) host (call_keeps by t call offer) legal
-move_kept numbers t host (Opens slot tuple app) legal = kept_opened host slot tuple _ _
-move_kept numbers t host (Notes event) legal = kept_flows host _ refl refl
-move_kept numbers t host (Holds n holder) legal =
+move_kept starts t host (Opens slot tuple app) legal = kept_opened host slot tuple _ _ _
+move_kept starts t host (Notes event) legal = kept_flows host _ refl refl
+move_kept starts t host (Holds n holder) legal =
     kept_at n (λ (l : Live). record l { holder = holder }) host (λ l one. refl) legal
-move_kept numbers t host (Listens listeners) legal = kept_flows host _ refl refl
+move_kept starts t host (Listens listeners) legal = kept_flows host _ refl refl
 
 asked_kept : {S A : Type 0} (scripts : Scripts S A) (t : ℕ) (site : Site S) (a : A) → AreByMoves scripts
     → AreLegal site.host → Kept site.host (scripts.asked t site a).host
 asked_kept scripts t site a by_moves legal =
     asked_keeps (Kept site.host) scripts t by_moves
     (λ host m each may kept.
-    kept_both site.host host (moved scripts.numbers t host m) kept (move_kept scripts.numbers t host m each))
+    kept_both site.host host (moved scripts.starts t host m) kept (move_kept scripts.starts t host m each))
     site a legal (kept_all site.host)
 
 -- ----- ticks
@@ -109,7 +110,7 @@ deed_kept : {S A : Type 0} (scripts : Scripts S A) (t : ℕ) (site : Site S) (by
     → AreByMoves scripts → AreLegal site.host → Kept site.host (done_by scripts t site by action).host
 deed_kept scripts t site by (Timer n) by_moves legal = kept_at n (timed by t) site.host (timed_keeps by t) legal
 deed_kept scripts t site by (Frame x) by_moves legal =
-    packet_kept by scripts.numbers t site.host x.frame x.packet legal
+    packet_kept by scripts.starts t site.host x.frame x.packet legal
 deed_kept scripts t site by (Ask a) by_moves legal = asked_kept scripts t site a by_moves legal
 deed_kept scripts t site by (Emission n) by_moves legal = kept_at n (emits by t) site.host (emits_keeps by t) legal
 

@@ -28,13 +28,13 @@ use Rattle.sound_hosts.specs.Leaving.{reheld}
 use Rattle.sound_hosts.specs.Opening.{new_book, with_book}
 use Rattle.sound_hosts.specs.Sound.{IsHostSound}
 use Rattle.slow_rounds.specs.Opening.{IsOpening, reheld_as}
-use Rattle.slow_rounds.specs.Rests.{numbered, IsCounted}
+use Rattle.slow_rounds.specs.Rests.{IsCounted}
 use Rattle.slow_rounds.proofs.Opens.{free, opened_made}
 
 -- ----- a connect
 module _ (starts : Starts) (h : CoreHost) (tick app : ℕ) (tuple : FourTuple) (iss : Seq) (id : FlowId) (w : Worker)
     (sound : IsHostSound h) (few : length h.books < 4294967295) (opening : IsOpening tuple iss tick app id h.slow w)
-    (start : numbered iss ≡ next_start starts (host_of h) tuple) where
+    (start : next_start starts (host_of h) tuple ≡ record { number = iss; scale = None }) where
   abbrev history : History
   history = first_history tuple h.slow.path.params (App app) tick iss
 
@@ -55,7 +55,7 @@ module _ (starts : Starts) (h : CoreHost) (tick app : ℕ) (tuple : FourTuple) (
         (ap (λ (x : Worker). x.path.listeners) opening.rest ∙ ap (λ (o : Openings). o.listeners) opening.path)
         (ap (λ (x : Worker). x.log) opening.rest)
         ∙ ap (λ (s : Start). opened_in (host_of h) id.slot tuple s.scale (Application app)
-        (first_entry (App app) tick (calls.Connect s.number))) start,
+        (first_entry (App app) tick (calls.Connect s.number))) (sym start),
     λ counted. ap (λ (o : Opener). o.pass.view.opened) opening.opened.1
         ∙ (ap (λ n. n + 1) counted ∙ sym (length-append h.books (new_book id (Application app) ∷ []))),
   )

@@ -1,7 +1,5 @@
 -- The frames that wait at the slow path, in the words of a run.
 use Rattle.std.specs.Prelude.{◌≡◌, List, length, map, None}
-use Rattle.tas_num.specs.declared.seq.Seq.{Seq}
-use Rattle.host_rounds.specs.declared.opening.Start.{Start}
 use Rattle.host_rounds.specs.Deliveries.{Arrival}
 use Rattle.host_rounds.specs.Hosts.{Starts}
 use Rattle.slow_handshake.specs.Numbers.{FirstNumbers}
@@ -9,13 +7,10 @@ use Rattle.slow_worker.specs.Workers.{Worker, waiting}
 use Rattle.sound_hosts.specs.Hosts.{CoreHost}
 use Rattle.phase_orders.specs.CoreTurns.{arrivals_of, frame_in}
 
--- a flow gets this first number, and no scale of its own
-abbrev pub numbered : Seq → Start
-numbered iss = record { number = iss; scale = None }
-
--- the starts of flows, where their numbers go by the number of flows that the host opened alone
+-- what flows are given at their opening, where first numbers go by the number of flows that the host opened alone, and
+-- no flow has a scale of its own
 abbrev pub starts_by : FirstNumbers → Starts
-starts_by ns tuple k n = numbered (ns tuple n)
+starts_by ns tuple k n = record { number = ns tuple n; scale = None }
 
 -- the frames that wait, as they came to the host: the exceptions, and then the deferred ones
 abbrev pub rest_of : Worker → List Arrival

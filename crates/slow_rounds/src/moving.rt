@@ -23,16 +23,16 @@ ghost use Rattle.sound_hosts.specs.Opening.{new_book, with_book};
 ghost use Rattle.sound_hosts.specs.Sound.{IsHostSound};
 ghost use Rattle.slow_rounds.specs.Aborting.{aborted_in, given_up_by, left_alone};
 ghost use Rattle.slow_rounds.specs.Opening.{IsOpening, reheld_as};
-ghost use Rattle.slow_rounds.specs.Rests.{numbered, IsCounted};
+ghost use Rattle.slow_rounds.specs.Rests.{IsCounted};
 
 /// A flow that an application opened alone, with what [`App::connect`] says of one that it opened, is one that a run's
-/// connect opens, where its first number is the run's and it gets no window scale of its own. The slow path counts it.
+/// connect opens, where its first number is the run's, which gives it no scale of its own. The slow path counts it.
 ///
 /// [`App::connect`]: libtas_sockets::App::connect
 pub fn opened_flows_are_moves()
     ensures { (starts : Starts) (h : CoreHost) (tick app : ℕ) (tuple : FourTuple) (iss : Seq) (id : FlowId)
         (w : Worker) → IsHostSound h → length h.books < 4294967295 → IsOpening tuple iss tick app id h.slow w
-        → numbered iss ≡ next_start starts (host_of h) tuple
+        → next_start starts (host_of h) tuple ≡ record { number = iss; scale = None }
         → MayMove (host_of h) (Opens id.slot tuple app)
         × (host_of (with_book (new_book id (Application app)) w h)
         ≡ moved starts tick (host_of h) (Opens id.slot tuple app))

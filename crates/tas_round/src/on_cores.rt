@@ -1,12 +1,12 @@
 ghost use Rattle.std.specs.Prelude.{◌≤◌, ◌<◌, ◌^◌, length, IfOk, IfErr};
 ghost use Rattle.host_rounds.specs.Cores.{CoresBelow};
 ghost use Rattle.tas_runs.specs.Replays.{Replay};
-ghost use Rattle.capture_items.specs.Numbers.{AreNumbersOf};
+ghost use Rattle.capture_items.specs.Starts.{AreStartsOf};
 ghost use Rattle.tas_round.specs.Runs.{log_in, EndedRight, Refuses};
 
 use crate::logs::RunLog;
 use crate::replaying::{Ending, ReplayFault, find, log_of};
-use capture_items::{BatchReader, FirstNumbers, Found, ItemReader, Tally};
+use capture_items::{BatchReader, FlowStarts, Found, ItemReader, Tally};
 use local_host::{Cores, LocalReplay};
 use std::alloc::{AllocError, Global};
 use std::sync::Wait;
@@ -31,11 +31,11 @@ pub(crate) fn replay_on_cores<R: Threads + Wait + Sync, G: Gate + Sync>(
 {
     let Found {
         items,
-        numbers,
+        starts,
         records,
     } = find(alloc, local, capture, loose)?;
     let mut cores = Cores::new(alloc, 0, count)?;
-    let ending = run_batches(rt, alloc, local, items, &numbers, &mut cores, gate)?;
+    let ending = run_batches(rt, alloc, local, items, &starts, &mut cores, gate)?;
     let log = log_of(alloc, records, ending)?;
     Ok(log)
 }
@@ -46,11 +46,11 @@ fn run_batches<R: Threads + Wait + Sync, G: Gate + Sync>(
     alloc: Global,
     local: u32,
     items: ItemReader<'_>,
-    numbers: &FirstNumbers,
+    starts: &FlowStarts,
     cores: &mut Cores,
     gate: &G,
 ) -> Result<Ending, AllocError>
-    requires numbers { AreNumbersOf items numbers.now }
+    requires starts { AreStartsOf items starts.now }
     requires few { length items < 2 ^ 32 }
     ensures ended { IfOk result (EndedRight local cores.old.count items.entry) }
     ensures few { IfOk result (λ ending. ending.tally.refused ≤ ending.tally.items) }
@@ -69,7 +69,7 @@ fn run_batches<R: Threads + Wait + Sync, G: Gate + Sync>(
                 tally,
             });
         }
-        replay.play_on_cores(rt, ticks, &batch, numbers, cores, gate)?;
+        replay.play_on_cores(rt, ticks, &batch, starts, cores, gate)?;
         tally = tally.with(&batch);
         ticks += 1;
     }

@@ -7,13 +7,13 @@ ghost use Rattle.host_rounds.specs.Cores.{CoresBelow};
 ghost use Rattle.tas_runs.specs.Replays.{replay_log, Replay};
 ghost use Rattle.tas_runs.specs.SerialOrder.{serial_replay};
 ghost use Rattle.capture_items.specs.Found.{IsFound};
-ghost use Rattle.capture_items.specs.Numbers.{AreNumbersOf};
+ghost use Rattle.capture_items.specs.Starts.{AreStartsOf};
 ghost use Rattle.tas_round.specs.Runs.{host_in, log_in, AreCores, cores_of, Ended, Refuses};
 ghost use Rattle.tas_round.specs.declared.replaying.Mode.{Mode};
 
 use crate::logs::{FlowList, HostRun, HostRuns, RunLog};
 use crate::on_cores::replay_on_cores;
-use capture_items::{BatchReader, FirstNumbers, Found, InputFault, ItemReader, Tally, find_items};
+use capture_items::{BatchReader, FlowStarts, Found, InputFault, ItemReader, Tally, find_items};
 use local_host::LocalReplay;
 use pcap_frames::PcapRefused;
 use std::alloc::{AllocError, Global};
@@ -102,10 +102,10 @@ pub fn replay_serially(
 {
     let Found {
         items,
-        numbers,
+        starts,
         records,
     } = find(alloc, local, capture, loose)?;
-    let ending = run_batches(alloc, local, items, &numbers)?;
+    let ending = run_batches(alloc, local, items, &starts)?;
     let log = log_of(alloc, records, ending)?;
     Ok(log)
 }
@@ -134,9 +134,9 @@ fn run_batches(
     alloc: Global,
     local: u32,
     items: ItemReader<'_>,
-    numbers: &FirstNumbers,
+    starts: &FlowStarts,
 ) -> Result<Ending, AllocError>
-    requires numbers { AreNumbersOf items numbers.now }
+    requires starts { AreStartsOf items starts.now }
     requires few { length items < 2 ^ 32 }
     ensures ended { IfOk result (Ended local items.entry) }
     ensures few { IfOk result (λ ending. ending.tally.refused ≤ ending.tally.items) }
@@ -155,7 +155,7 @@ fn run_batches(
                 tally,
             });
         }
-        replay.play(ticks, &batch, numbers)?;
+        replay.play(ticks, &batch, starts)?;
         tally = tally.with(&batch);
         ticks += 1;
     }

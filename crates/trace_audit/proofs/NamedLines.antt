@@ -53,7 +53,7 @@ host_named : (words : List (List ℕ)) → IsHostRead (host_line words)
 host_named [] = tt
 host_named (name ∷ []) = tt
 host_named (name ∷ addr ∷ words) =
-    on_cond IsHostRead (length words % 2 == 0 && nat_le (length words) 12)
+    on_cond IsHostRead (length words % 2 == 0 && nat_le (length words) 14)
     (host_said name (address_of addr) (given_by none_given words)) (Wrong 4)
     (λ t. host_said_named name (address_of addr) (given_by none_given words)) (λ f. tt)
 

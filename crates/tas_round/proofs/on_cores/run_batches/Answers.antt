@@ -37,7 +37,7 @@ loop-batch-preserved g c =
     c.play_on_cores.new.self) (ap (λ (s : Steered). s.count) c.loop-batch.invariant.cores)
     (subst (λ b. IsCoresTick (capture_scripts all) c.loop-batch.cores.count c.loop-batch.ticks (due_in (map item_in b))
     c.loop-batch.replay c.play_on_cores.new.self) c.deref.ensures.value
-    (c.in_ok-play_on_cores.ensures.tick all c.requires.numbers)) in
+    (c.in_ok-play_on_cores.ensures.tick all c.requires.starts)) in
     let round = batch_round all count c.loop-batch.ticks (map item_in batch) c.loop-batch.replay
     c.play_on_cores.new.self c.loop-batch.invariant.histories made in
     let n = c.loop-batch.tally.items in

@@ -28,7 +28,7 @@ loop-batch-preserved c =
     let first = c.in_ok-next_batch.ensures.first (some_left item_in xs rest batch front nonempty) in
     let made : c.play.new.self ≡ tick all c.loop-batch.ticks c.loop-batch.replay (map item_in batch) =
     subst (λ b. c.play.new.self ≡ tick all c.loop-batch.ticks c.loop-batch.replay (map item_in b)) c.deref.ensures.value
-    (c.in_ok-play.ensures all c.requires.numbers) in
+    (c.in_ok-play.ensures all c.requires.starts) in
     let n = c.loop-batch.tally.items in
     let more : c.with-tally.result.items ≡ n + length (map item_in batch) = c.with-tally.ensures.items
     ∙ ap (λ b. n + length (map item_in b)) c.deref-in-loop-batch.ensures.value in

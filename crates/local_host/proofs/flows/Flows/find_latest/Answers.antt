@@ -1,7 +1,7 @@
 use Rattle.std.proofs.Common.{rules, ◌≡◌, ◌<◌, true, false, List, length, Some, None, sym, ap, subst, ◌∙◌, position}
 use Rattle.std.proofs.Common.{get_or}
 use Rattle.std.specs.HashMap.{get}
-use Rattle.capture_items.specs.Numbers.{equal_tuple}
+use Rattle.capture_items.specs.Starts.{equal_tuple}
 use Rattle.host_rounds.specs.Hosts.{Live, is_indexed_as}
 use Rattle.local_host.specs.Index.{latest_of, passes_at, is_standing}
 use Rattle.local_host.proofs.Indexing.{latest_found, latest_not_found, none_latest}

@@ -1,6 +1,6 @@
 use Rattle.std.proofs.Common.{◌≡◌, Some, None, sym, ap, ◌∙◌}
 use Rattle.std.specs.HashMap.{get}
-use Rattle.capture_items.specs.Numbers.{equal_tuple}
+use Rattle.capture_items.specs.Starts.{equal_tuple}
 use Rattle.host_rounds.specs.Hosts.{opened_as}
 use Rattle.local_host.specs.Index.{count_of}
 use Rattle.local_host.proofs.flows.Flows.opened_as.Goals as goal

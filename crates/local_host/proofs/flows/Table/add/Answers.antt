@@ -3,7 +3,7 @@ use Rattle.std.specs.HashMap.{get}
 use Rattle.tas_model.specs.declared.entry.FlowId.{FlowId}
 use Rattle.tas_model.specs.declared.entry.FourTuple.{FourTuple}
 use Rattle.host_rounds.specs.Hosts.{first_port}
-use Rattle.capture_items.specs.Numbers.{equal_tuple}
+use Rattle.capture_items.specs.Starts.{equal_tuple}
 use Rattle.local_host.specs.Index.{IsKnown, number_of}
 use Rattle.local_host.proofs.Places.{ok_both}
 use Rattle.local_host.proofs.Standing.{known_push}

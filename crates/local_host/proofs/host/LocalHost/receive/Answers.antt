@@ -1,8 +1,9 @@
 use Rattle.std.proofs.Common.{◌≡◌, ℕ, Bool, false, sym, ap, subst, ◌∙◌}
 use Rattle.tas_model.specs.declared.entry.Seg.{Seg}
 use Rattle.flow_state.specs.Calls.{seg_of}
+use Rattle.host_rounds.specs.declared.opening.Start.{Start}
 use Rattle.host_rounds.specs.Lists.{change_at}
-use Rattle.host_rounds.specs.Hosts.{Live, Host, is_known, next_number}
+use Rattle.host_rounds.specs.Hosts.{Live, Host, is_known, next_start}
 use Rattle.host_rounds.specs.Deliveries.{arrived}
 use Rattle.local_host.specs.Arriving.{taking_in}
 use Rattle.local_host.specs.Ports.{host_of}
@@ -27,17 +28,17 @@ returns-in-Some-clause-made g c =
     let seg : Seg = seg_of c.args.seg.now in
     let f : Live → Live = taking_in c.args.taking c.args.tick c.args.frame seg in
     let found = sym c.find.ensures.place ∙ c.in-Some.is in
-    let numbers = g.N.NumberSource.numbers c.args.numbers.now in
+    let starts = g.S.StartSource.starts c.args.starts.now in
     ok_by c.receive.result
     (λ made.
     subst
     (λ (h : Host).
     record host { flows = c.receive.new.self }
-    ≡ arrived (is_known h c.args.tuple) f (next_number numbers h c.args.tuple) c.args.tick h c.args.frame c.args.tuple
+    ≡ arrived (is_known h c.args.tuple) f (next_start starts h c.args.tuple) c.args.tick h c.args.frame c.args.tuple
     seg)
     c.self.view_is
     (changed_found host c.args.tuple f c.in-Some.i c.receive.new.self found made
-    ∙ ap (λ (b : Bool). arrived b f (next_number numbers host c.args.tuple) c.args.tick host c.args.frame c.args.tuple
+    ∙ ap (λ (b : Bool). arrived b f (next_start starts host c.args.tuple) c.args.tick host c.args.frame c.args.tuple
     seg)
     (sym (known_is c.args.tuple host c.in-Some.i found))))
     c.receive.ensures.made
@@ -48,11 +49,11 @@ returns-in-None-clause-made g c =
     c.self.inside.flows in
     let seg : Seg = seg_of c.args.seg.now in
     let f : Live → Live = taking_in c.args.taking c.args.tick c.args.frame seg in
-    let number : ℕ = next_number (g.N.NumberSource.numbers c.args.numbers.now) c.args.self.now c.args.tuple in
+    let start : Start = next_start (g.S.StartSource.starts c.args.starts.now) c.args.self.now c.args.tuple in
     let none : is_known c.args.self.now c.args.tuple ≡ false =
     subst (λ (h : Host). is_known h c.args.tuple ≡ false) c.self.view_is
     (unknown_is c.args.tuple host (sym c.find.ensures.place ∙ c.in-None.is)) in
     ok_by c.meet_no_flow.result
-    (λ made. made ∙ ap (λ (b : Bool). arrived b f number c.args.tick c.args.self.now c.args.frame c.args.tuple seg)
+    (λ made. made ∙ ap (λ (b : Bool). arrived b f start c.args.tick c.args.self.now c.args.frame c.args.tuple seg)
     (sym none))
     c.meet_no_flow.ensures.made

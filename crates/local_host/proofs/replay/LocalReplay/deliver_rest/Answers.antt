@@ -1,7 +1,7 @@
 use Rattle.std.proofs.Common.{map, ◌∙◌}
-use Rattle.tas_runs.specs.FirstNumbers.{first_number}
-use Rattle.capture_items.specs.Numbers.{kept_numbers}
-use Rattle.capture_items.proofs.Listed.{numbers_are}
+use Rattle.tas_runs.specs.Starts.{first_start}
+use Rattle.capture_items.specs.Starts.{kept_starts}
+use Rattle.capture_items.proofs.Listed.{starts_are}
 use Rattle.local_host.specs.Arriving.{arrival_in}
 use Rattle.local_host.proofs.CoreRecording.{rests, rests_less, slow_alike}
 use Rattle.local_host.proofs.replay.LocalReplay.deliver_rest.Goals as goal
@@ -12,6 +12,6 @@ loop-arrival-preserved c = λ items are.
     (rests items c.args.tick c.args.self.now (map arrival_in c.args.rest.now))
     c.args.rest.now c.loop-arrival.arrival-index _ c.loop-arrival-test.true
     (c.in_ok-deliver_slowly.ensures
-    ∙ slow_alike (kept_numbers c.args.numbers.now) (first_number items) c.args.tick (arrival_in _) c.loop-arrival.self
-    (λ tuple k n. numbers_are items c.args.numbers.now tuple k n are))
+    ∙ slow_alike (kept_starts c.args.starts.now) (first_start items) c.args.tick (arrival_in _) c.loop-arrival.self
+    (λ tuple k n. starts_are items c.args.starts.now tuple k n are))
     (c.loop-arrival.invariant items are)

@@ -1,8 +1,8 @@
 use Rattle.std.proofs.Common.{map, ◌∙◌}
-use Rattle.tas_runs.specs.FirstNumbers.{first_number}
+use Rattle.tas_runs.specs.Starts.{first_start}
 use Rattle.capture_items.specs.Items.{item_in}
-use Rattle.capture_items.specs.Numbers.{kept_numbers}
-use Rattle.capture_items.proofs.Listed.{numbers_are}
+use Rattle.capture_items.specs.Starts.{kept_starts}
+use Rattle.capture_items.proofs.Listed.{starts_are}
 use Rattle.local_host.proofs.Recording.{asks, asks_less, served_alike}
 use Rattle.local_host.proofs.replay.LocalReplay.serve_all.Goals as goal
 
@@ -12,6 +12,6 @@ loop-item-preserved c = λ items are.
     (asks items c.args.tick c.args.self.now (map item_in c.args.batch.now))
     c.args.batch.now c.loop-item.item-index _ c.loop-item-test.true
     (c.in_ok-serve.ensures
-    ∙ served_alike (kept_numbers c.args.numbers.now) (first_number items) c.args.tick _ c.loop-item.self
-    (λ tuple k n. numbers_are items c.args.numbers.now tuple k n are))
+    ∙ served_alike (kept_starts c.args.starts.now) (first_start items) c.args.tick _ c.loop-item.self
+    (λ tuple k n. starts_are items c.args.starts.now tuple k n are))
     (c.loop-item.invariant items are)
