@@ -177,7 +177,7 @@ turn_leaves s p t host x own m other k h = by_kill (is_killed_at t x.kill) where
 
   by_kill : (b : Bool)
       → holder_at (turn_where b (starts_of p) (address_in s.hosts) t here).host.flows k ≡ Application m
-  by_kill true = kill_leaves x.start t host host.flows m other k h
+  by_kill true = kill_leaves x.number t host host.flows m other k h
   by_kill false = by_left x.left
 
 abbrev OwnsAs : (number : ℕ) → Turn → Type 0
@@ -211,9 +211,9 @@ abbrev pub Owns : List Live → Script → Type 0
 Owns ls b = AreOwn ls b.number b.names
 
 knows_now : (K : (number at : ℕ) → Type 0) (t : ℕ) (x : Script) → KnowsKill K x → is_killed_at t x.kill ≡ true
-    → K x.start t
+    → K x.number t
 knows_now K t x knows h = by_kill x.kill refl h where
-  by_kill : (o : Option ℕ) → x.kill ≡ o → is_killed_at t o ≡ true → K x.start t
+  by_kill : (o : Option ℕ) → x.kill ≡ o → is_killed_at t o ≡ true → K x.number t
   by_kill None same g = absurd (true≢false (sym g))
   by_kill (Some at) same g =
       let now : at ≡ t = grind (arith, tests, g) in subst (K x.number) now (knows at same)

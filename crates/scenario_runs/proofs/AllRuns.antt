@@ -1,15 +1,12 @@
 -- What holds of every run of a scenario, and that the serial one is among them.
-use Rattle.std.proofs.Common.{◌≡◌, ℕ, zero, suc, ◌+◌, not, Bool, true, false, List, [], ◌∷◌, map, refl, sym, subst}
-use Rattle.std.proofs.Common.{ap, ◌∙◌, true≢false}
+use Rattle.std.proofs.Common.{◌≡◌, ℕ, zero, suc, ◌+◌, Bool, true, false, List, [], ◌∷◌, map, refl, sym, subst}
+use Rattle.std.proofs.Common.{◌∙◌, true≢false}
 use Rattle.tas_model.specs.declared.entry.HostParams.{HostParams}
-use Rattle.tas_model.specs.Valid.{InRange}
 use Rattle.host_rounds.specs.Logs.{HostRun, RunLog}
 use Rattle.host_rounds.specs.Lists.{Each}
-use Rattle.host_rounds.specs.Hosts.{Live, Host}
 use Rattle.host_rounds.specs.Scripts.{Site}
 use Rattle.host_rounds.specs.Rounds.{Round}
-use Rattle.host_rounds.specs.SerialOrder.{serial_tick}
-use Rattle.host_rounds.specs.Histories.{HasHistory, IsSound, HasSentAll}
+use Rattle.host_rounds.specs.Histories.{HasHistory, IsSound}
 use Rattle.host_rounds.proofs.AllLegal.{round_kept}
 use Rattle.host_rounds.proofs.SerialRounds.{serial_round}
 use Rattle.host_rounds.proofs.AllOpened.{IsRight, round_right}
@@ -17,9 +14,9 @@ use Rattle.host_rounds.proofs.Runs.{flows_sound}
 use Rattle.scenario_text.specs.declared.scenario.Scenario.{Scenario}
 use Rattle.scenario_text.specs.declared.scenario.HostLine.{HostLine}
 use Rattle.scenario_runs.specs.Applications.{Script}
-use Rattle.scenario_runs.specs.Worlds.{World, site_of, at_start, starts_of, scripts_of, due_at, all_ended, is_at_rest}
+use Rattle.scenario_runs.specs.Worlds.{World, site_of, at_start, starts_of, scripts_of, due_at, is_at_rest}
 use Rattle.scenario_runs.specs.Runs.{AreRounds, IsTick, serial_sites, serial_world, End, RunsFrom, serial_from}
-use Rattle.scenario_runs.specs.Runs.{hosts_of, scenario_log, Run, serial_run}
+use Rattle.scenario_runs.specs.Runs.{hosts_of, Run, serial_run}
 use Rattle.scenario_runs.specs.Histories.{AreInRange, AreSound}
 use Rattle.scenario_runs.proofs.ByMoves.{scenarios_by_moves}
 

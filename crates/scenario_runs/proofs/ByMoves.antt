@@ -1,23 +1,22 @@
 -- Whatever an application of a scenario asks is a row of moves.
-use Rattle.std.proofs.Common.{◌≡◌, ℕ, zero, suc, ◌+◌, ◌==◌, ◌&&◌, not, Bool, true, false, List, [], ◌∷◌, ◌++◌, length}
+use Rattle.std.proofs.Common.{◌≡◌, ℕ, ◌+◌, ◌==◌, ◌&&◌, not, Bool, true, false, List, [], ◌∷◌, ◌++◌, length}
 use Rattle.std.proofs.Common.{map, filter, position, slice_get, nat_lt, ◌^◌, Option, Some, None, IfSome, refl, sym}
-use Rattle.std.proofs.Common.{subst, ap, ◌∙◌, true≢false, arith, length-append, append_assoc, if◌then◌else◌}
-use Rattle.std.specs.List.{list_any, find}
+use Rattle.std.proofs.Common.{subst, ap, ◌∙◌, true≢false, arith, length-append, append_assoc}
+use Rattle.std.specs.List.{find}
 use Rattle.std.proofs.lemmas.List.Quantifiers.{position-Some}
 use Rattle.std.proofs.lemmas.Option.{get_or_from_slice_get}
-use Rattle.tas_model.specs.declared.entry.FourTuple.{FourTuple}
 use Rattle.tas_model.specs.declared.entry.HostParams.{HostParams}
 use Rattle.tas_model.specs.declared.entry.Caller.TheVariants.{Slow, App}
 use Rattle.tas_model.specs.declared.entry.Call.{Call}
 use Rattle.tas_model.specs.declared.entry.Call.TheVariants as calls
-use Rattle.tas_model.specs.LegalHistory.{Offers, shown}
+use Rattle.tas_model.specs.LegalHistory.{shown}
 use Rattle.host_rounds.specs.declared.log.LogEvent.TheVariants as events
 use Rattle.host_rounds.specs.Lists.{change_at}
-use Rattle.host_rounds.specs.Hosts.{Live, Host, Holder, Application, Waiting, GivenUp, Listener, Starts, endpoint}
-use Rattle.host_rounds.specs.Hosts.{is_over, is_running, is_waiting_by, with_call, at_flow, is_known, lowest_free}
-use Rattle.host_rounds.specs.Hosts.{is_listened, is_ready, first_port, ports_given, answer_of}
+use Rattle.host_rounds.specs.Hosts.{Live, Host, Application, GivenUp, Listener, Starts, endpoint}
+use Rattle.host_rounds.specs.Hosts.{is_running, with_call, lowest_free}
+use Rattle.host_rounds.specs.Hosts.{is_listened, is_ready, first_port, ports_given}
 use Rattle.host_rounds.specs.Scripts.{Site}
-use Rattle.host_rounds.specs.Moves.{Move, Calls, Opens, Notes, Holds, Listens, MayCall, MayMove, moved, AreMoves}
+use Rattle.host_rounds.specs.Moves.{Calls, Opens, Notes, Holds, Listens, MayCall, MayMove}
 use Rattle.host_rounds.specs.Moves.{AreByMoves}
 use Rattle.host_rounds.proofs.Steps.{accept_steps, ready_steps, send_steps, shut_steps, close_steps, abort_steps}
 use Rattle.host_rounds.proofs.Steps.{recv_steps}
@@ -25,13 +24,13 @@ use Rattle.host_rounds.proofs.Rows.{Row, none, joined, with_flows}
 use Rattle.scenario_text.specs.declared.scenario.Scenario.{Scenario}
 use Rattle.scenario_text.specs.declared.scenario.Step.{Step}
 use Rattle.scenario_text.specs.declared.scenario.Step.TheVariants as steps
-use Rattle.scenario_runs.specs.Applications.{Script, Turn, on_script, stepped, called, holds, listens_where, listens}
+use Rattle.scenario_runs.specs.Applications.{Script, Turn, called, listens_where}
 use Rattle.scenario_runs.specs.Applications.{accepts_one, accepts}
-use Rattle.scenario_runs.specs.Applications.{refused, opens, opens_where, connects, waits_for, is_not_yet}
-use Rattle.scenario_runs.specs.Applications.{sends, receives, asks_for, most, once, ends, on_flow, on_socket}
+use Rattle.scenario_runs.specs.Applications.{opens_where, connects, waits_for}
+use Rattle.scenario_runs.specs.Applications.{sends, receives, once, ends, on_flow, on_socket}
 use Rattle.scenario_runs.specs.Applications.{connects_on, step_of, is_concerned, let_go, aborted_where, killed}
-use Rattle.scenario_runs.specs.Applications.{is_killed_at, goes_on, turn_where, turn, bound_in, flow_of, port_of}
-use Rattle.scenario_runs.specs.Worlds.{starts_of, address_in, with_turn, asked_of, scripts_of}
+use Rattle.scenario_runs.specs.Applications.{is_killed_at, goes_on, turn_where, bound_in, flow_of, port_of}
+use Rattle.scenario_runs.specs.Worlds.{starts_of, address_in, asked_of, scripts_of}
 
 -- ----- a call
 -- a call that is always a step, of whatever stands there

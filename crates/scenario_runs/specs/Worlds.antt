@@ -6,7 +6,6 @@ use Rattle.std.specs.Prelude.{if◌then◌else◌}
 use Rattle.std.specs.List.{list_any, list_all, find}
 use Rattle.tas_model.specs.declared.entry.HostParams.{HostParams}
 use Rattle.tas_model.specs.declared.entry.FourTuple.{FourTuple}
-use Rattle.tas_model.specs.declared.entry.FrameId.{FrameId}
 use Rattle.tas_model.specs.declared.entry.Head.{Head}
 use Rattle.tas_model.specs.declared.entry.Seg.{Seg}
 use Rattle.tas_model.specs.declared.entry.Entry.{Entry}
@@ -17,7 +16,7 @@ use Rattle.host_rounds.specs.declared.log.LogLine.{LogLine}
 use Rattle.host_rounds.specs.declared.log.LogEvent.{LogEvent}
 use Rattle.host_rounds.specs.declared.log.LogEvent.TheVariants as events
 use Rattle.host_rounds.specs.Lists.{change_first}
-use Rattle.host_rounds.specs.Hosts.{Live, Host, Starts, is_over}
+use Rattle.host_rounds.specs.Hosts.{Live, Starts, is_over}
 use Rattle.host_rounds.specs.Deliveries.{Arrival, Packet}
 use Rattle.host_rounds.specs.Deliveries.{Damaged as damaged, Segment as segment}
 use Rattle.host_rounds.specs.Scripts.{Scripts, Site}
