@@ -7,11 +7,11 @@ use Rattle.std.proofs.Common.{◌||◌, slice_index_or}
 use Rattle.std.proofs.lemmas.List.{length-take, length-drop, length-append}
 use Rattle.tas_model.specs.declared.entry.Reply.TheVariants as replies
 use Rattle.host_rounds.specs.Lists.{Each}
-use Rattle.host_rounds.specs.Hosts.{Live, Host, Holder, Listener, Waiting, Application, GivenUp, Starts, is_over}
+use Rattle.host_rounds.specs.Hosts.{Live, Host, Listener, Waiting, Application, GivenUp, Starts, is_over}
 use Rattle.host_rounds.specs.Hosts.{is_ready, lowest_free, first_port, ports_given}
 use Rattle.tas_runs.specs.Records.{Content}
 use Rattle.tas_runs.specs.LocalScript.{Shown, Shutting, is_wanted, is_empty, is_served}
-use Rattle.scenario_runs.specs.Applications.{Turn, Script, accepts, accepts_one, has_listener, is_concerned, most}
+use Rattle.scenario_runs.specs.Applications.{Turn, Script, accepts, accepts_one, is_concerned, most}
 use Rattle.scenario_runs.specs.Applications.{sent_on, done_or, stepped, connects, connects_on, opens_where, refused}
 
 -- ----- accept
