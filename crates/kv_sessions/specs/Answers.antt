@@ -63,3 +63,11 @@ answers_of (suc n) bytes m = by_next (answers_of n) m bytes (next_command bytes)
 -- What a stream is answered where the map is m before it. Each command has a byte at least.
 abbrev pub answers : Map → (stream : List ℕ) → Answers
 answers m stream = answers_of (length stream) stream m
+
+-- the answers, once these bytes have come too
+abbrev pub more_by : (ended : Bool) → Answers → (more : List ℕ) → Answers
+more_by true a more = a
+more_by false a more = behind a.replies (answers a.map (a.left ++ more))
+
+abbrev pub and_more : Answers → (more : List ℕ) → Answers
+and_more a more = more_by a.ended a more

@@ -22,10 +22,13 @@ ends_with reply m = record { reply = reply; map = m; ends = true }
 abbrev pub is_full_for : Map → (key : List ℕ) → Bool
 is_full_for m key = not (map.contains_key m key) && nat_le MOST_KEYS (map.len m)
 
+abbrev pub too_large : Map → Outcome
+too_large m = goes_on (codes "SERVER_ERROR object too large for cache\r\n") m
+
 -- A set whose block, which is its data and two bytes more, has come.
 abbrev pub set_outcome : Map → (key : List ℕ) → (flags len : ℕ) → (block : List ℕ) → Outcome
 set_outcome m key flags len block =
-    if nat_lt MOST_DATA len then goes_on (codes "SERVER_ERROR object too large for cache\r\n") m
+    if nat_lt MOST_DATA len then too_large m
     else (if not (bytes_eq (drop len block) (codes "\r\n")) then ends_with (codes "CLIENT_ERROR bad data chunk\r\n") m
     else (if is_full_for m key then goes_on (codes "SERVER_ERROR out of memory storing object\r\n") m
     else goes_on (codes "STORED\r\n") (map.insert m key (record { flags = flags; bytes = take len block }))))

@@ -45,17 +45,18 @@ standing a = at_end a.ended a.left
 -- A session that began over the map m was fed the bytes of `stream`, in whatever pieces, and answered `said`; and the
 -- store is as its last call left it.
 pub record IsAfter (m : Map) (stream said : List ℕ) (session : Standing) (store : Map) : Type 0 where
-  pub said : said ≡ (answers m stream).replies
-  pub store : store ≡ (answers m stream).map
-  pub session : session ≡ standing (answers m stream)
+  pub replies : said ≡ (answers m stream).replies
+  pub map : store ≡ (answers m stream).map
+  pub stands : session ≡ standing (answers m stream)
 
 -- Feeding `bytes` answers `reply`: whatever the session was fed and answered before, it is then after that and these
 -- bytes, and has answered that and this reply.
-abbrev pub Answered : (session : Standing) (store : Map) (bytes reply : List ℕ) (later : Standing) (left : Map) → Type 0
-Answered session store bytes reply later left = (m : Map) (stream said : List ℕ) → IsAfter m stream said session store
-    → IsAfter m (stream ++ bytes) (said ++ reply) later left
+abbrev pub Answered : (session : Standing) (store : Map) (bytes reply : List ℕ) (later : Standing) (later_store : Map)
+    → Type 0
+Answered session store bytes reply later later_store = (m : Map) (stream said : List ℕ)
+    → IsAfter m stream said session store → IsAfter m (stream ++ bytes) (said ++ reply) later later_store
 
--- The store has the effects of whole commands alone: those of the stream, and of some of the first of `bytes`.
-abbrev pub HasWhole : (session : Standing) (store : Map) (bytes : List ℕ) (left : Map) → Type 0
-HasWhole session store bytes left = (m : Map) (stream said : List ℕ) → IsAfter m stream said session store
-    → (n : ℕ) × (n ≤ length bytes) × (left ≡ (answers m (stream ++ take n bytes)).map)
+-- The store has the effects of whole commands alone: those of the stream, and of the first n of `bytes`.
+abbrev pub HasWhole : (session : Standing) (store : Map) (bytes : List ℕ) (later_store : Map) → Type 0
+HasWhole session store bytes later_store = (m : Map) (stream said : List ℕ) → IsAfter m stream said session store
+    → (n : ℕ) × (n ≤ length bytes) × (later_store ≡ (answers m (stream ++ take n bytes)).map)

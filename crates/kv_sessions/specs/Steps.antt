@@ -1,10 +1,10 @@
 -- How a session goes on from what it is at, piece by piece.
-use Rattle.std.specs.Prelude.{◌≡◌, ◌<◌, ◌≤◌, ◌+◌, ◌^◌, ℕ, Bool, true, false, nat_lt, List, [], ◌++◌, length, ⊤}
+use Rattle.std.specs.Prelude.{◌≡◌, ◌<◌, ◌≤◌, ◌+◌, ◌^◌, ℕ, Bool, true, false, nat_lt, nat_le, ◌==◌, List, [], ◌++◌, length, ⊤}
 use Rattle.std.specs.Prelude.{if◌then◌else◌, vec_len}
 use Rattle.kv_sessions.specs.Stored.{Map}
-use Rattle.kv_sessions.specs.Lines.{FirstLine, Unended, TooLong, Line, words_of}
+use Rattle.kv_sessions.specs.Lines.{FirstLine, Unended, TooLong, Line, text_of, words_of}
 use Rattle.kv_sessions.specs.Commands as commands
-use Rattle.kv_sessions.specs.Outcomes.{Outcome, outcome, too_long}
+use Rattle.kv_sessions.specs.Outcomes.{Outcome, outcome, too_long, too_large}
 use Rattle.kv_sessions.specs.Sessions.{Standing, InLine, InBlock, InDropped, Over, IsAfter, in_block}
 use Rattle.kv_sessions.specs.declared.request.Request.{Request}
 use Rattle.kv_sessions.specs.declared.request.Request.TheVariants as requests
@@ -23,14 +23,14 @@ command_in requests.Unknown = commands.Unknown
 -- what a session is at in this mode
 abbrev pub standing_in : Mode → Standing
 standing_in (modes.Line line) = InLine line.items
-standing_in (modes.Block key flags len block) = InBlock key.items flags len block.items
+standing_in (modes.Block b) = InBlock b.key.items b.flags b.len b.bytes.items
 standing_in (modes.Dropped missing) = InDropped missing
 standing_in modes.Over = Over
 
 -- what waits is less than a line, or less than a block
 abbrev pub IsShort : Mode → Type 0
 IsShort (modes.Line line) = length line.items < LONGEST_LINE + 2
-IsShort (modes.Block key flags len block) = (len ≤ MOST_DATA) × (length block.items < len + 2)
+IsShort (modes.Block b) = (b.len ≤ MOST_DATA) × (length b.bytes.items < b.len + 2)
 IsShort (modes.Dropped missing) = (0 < missing) × (missing < 2 ^ 33)
 IsShort modes.Over = ⊤
 
@@ -67,15 +67,33 @@ abbrev pub block_step : Map → (key : List ℕ) → (flags len : ℕ) → (got 
 block_step m key flags len got = if nat_lt (length got) (len + 2) then stays m (InBlock key flags len got)
     else done (outcome m (commands.Set key flags len) got)
 
--- Replies, store and mode are what a step made of them.
-pub record Made (s : Step) (replies later_replies : List ℕ) (later_store : Map) (mode : Mode) : Type 0 where
-  pub replies : later_replies ≡ replies ++ s.reply
-  pub store : later_store ≡ s.map
-  pub standing : standing_in mode ≡ s.standing
+-- where so many bytes are missing of the block of a set that is too large
+abbrev pub dropped_step : Map → (missing : ℕ) → Step
+dropped_step m missing = if missing == 0 then done (too_large m) else stays m (InDropped missing)
+
+-- no byte stands behind the line
+abbrev pub IsLast : FirstLine → Type 0
+IsLast (Line text rest) = rest ≡ []
+IsLast _ = ⊤
+
+-- the line that ends behind these bytes
+abbrev pub ended_line : (before : List ℕ) → FirstLine
+ended_line before = if nat_le (length (text_of before)) LONGEST_LINE then Line (text_of before) [] else TooLong
+
+-- the line whose end isn't among these bytes
+abbrev pub open_line : List ℕ → FirstLine
+open_line bytes = if nat_lt (length bytes) (LONGEST_LINE + 2) then Unended else TooLong
+
+-- Replies, store and mode are what a step makes of them.
+pub record Made (s : Step) (before after : List ℕ) (store : Map) (mode : Mode) : Type 0 where
+  pub replies : after ≡ before ++ s.reply
+  pub map : store ≡ s.map
+  pub stands : standing_in mode ≡ s.standing
   pub short : IsShort mode
 
--- The bytes `taken` led from the one mode, store and replies to the other ones.
-abbrev pub Leads : (mode : Standing) (store : Map) (replies taken : List ℕ) (later_mode : Standing) (later_store : Map)
+-- The bytes `taken` led from the one standing, store and replies to the other ones.
+abbrev pub Leads : (session : Standing) (store : Map) (replies taken : List ℕ) (later : Standing) (later_store : Map)
     (later_replies : List ℕ) → Type 0
-Leads mode store replies taken later_mode later_store later_replies = (m : Map) (stream said : List ℕ)
-    → IsAfter m stream (said ++ replies) mode store → IsAfter m (stream ++ taken) (said ++ later_replies) later_mode later_store
+Leads session store replies taken later later_store later_replies = (m : Map) (stream said : List ℕ)
+    → IsAfter m stream (said ++ replies) session store
+    → IsAfter m (stream ++ taken) (said ++ later_replies) later later_store

@@ -2,6 +2,7 @@
 //! client come in.
 #![tactic(auto)]
 
+mod laws;
 mod mode;
 mod replies;
 mod request;
@@ -10,6 +11,7 @@ mod store;
 mod taking;
 mod words;
 
+pub use laws::{answers_go_on, sessions_end_with_their_streams};
 pub use session::Session;
 pub use store::Store;
 

@@ -1,8 +1,6 @@
-ghost use Rattle.std.specs.Prelude.{◌≡◌, ◌++◌, length, codes, OnOk, IfOk, OnErr, is_ok};
-ghost use Rattle.std.specs.FinMap as map;
+ghost use Rattle.std.specs.Prelude.{◌≡◌, ◌++◌, length, codes, decimal, Some, OnOk, OnErr};
 ghost use Rattle.kv_sessions.specs.Lines as lines;
 ghost use Rattle.kv_sessions.specs.Outcomes as outcomes;
-ghost use Rattle.kv_sessions.specs.Commands as commands;
 ghost use Rattle.kv_sessions.specs.Shown.{item_of};
 
 use crate::store::{Held, Store};

@@ -1,9 +1,9 @@
-ghost use Rattle.std.specs.Prelude.{◌≡◌, ◌<◌, ◌+◌, ◌∷◌, ◌==◌, [], not, length, position, list_all};
+ghost use Rattle.std.specs.Prelude.{◌≡◌, ◌<◌, ◌+◌, ◌∷◌, ◌==◌, [], length, position};
 ghost use Rattle.std.specs.Prelude.{bytes_eq, IfSome, MatchOption};
 ghost use Rattle.std.specs.List.{slice_split, list_all};
 ghost use Rattle.kv_sessions.specs.Lines as lines;
 
-use crate::{LONGEST_KEY};
+use crate::LONGEST_KEY;
 
 /// The place of the first such byte.
 pub(crate) fn place_of(text: &[u8], byte: u8) -> Option<usize>

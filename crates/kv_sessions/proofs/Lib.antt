@@ -1,0 +1,4 @@
+pub mod Entries
+pub mod Lined
+pub mod Streams
+pub mod Standings
