@@ -1,4 +1,5 @@
 pub mod Entries
 pub mod Lined
+pub mod Worded
 pub mod Streams
 pub mod Standings

@@ -47,7 +47,7 @@ abbrev pub is_visible : ℕ → Bool
 is_visible c = nat_le 33 c && nat_le c 126
 
 abbrev pub is_key : List ℕ → Bool
-is_key word = not (is_empty word) && nat_le (length word) LONGEST_KEY && list_all is_visible word
+is_key word = nat_le 1 (length word) && nat_le (length word) LONGEST_KEY && list_all is_visible word
 
 -- ----- numbers
 abbrev pub is_digit : ℕ → Bool

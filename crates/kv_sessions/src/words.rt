@@ -29,8 +29,10 @@ fn cut(text: &[u8]) -> Option<(&[u8], &[u8])>
         (λ parts. slice_split (λ c. c == 32) text.now ≡ parts.0.now ∷ slice_split (λ c. c == 32) parts.1.now) }
     ensures shorter { IfSome result (λ parts. length parts.1.now < length text.now) }
 {
-    let at = place_of(text, b' ')?;
-    Some((&text[..at], &text[at + 1..]))
+    match place_of(text, b' ') {
+        Some(at) => Some((&text[..at], &text[at + 1..])),
+        None => None,
+    }
 }
 
 /// The first word of a text, and what stands behind it.
@@ -64,7 +66,13 @@ pub(crate) fn is(word: &[u8], text: &[u8]) -> bool
 pub(crate) fn is_key(word: &[u8]) -> bool
     ensures { result ≡ lines.is_key word.now }
 {
-    !word.is_empty() && word.len() <= LONGEST_KEY && word.iter().all(|c| *c >= 33 && *c <= 126)
+    !word.is_empty() && word.len() <= LONGEST_KEY && all_visible(word)
+}
+
+fn all_visible(word: &[u8]) -> bool
+    ensures { result ≡ list_all lines.is_visible word.now }
+{
+    word.iter().all(|c| *c >= 33 && *c <= 126)
 }
 
 /// The number of 32 bits that a word is, in decimal without sign or leading zero.
