@@ -34,11 +34,15 @@ set_outcome m key flags len block =
     else goes_on (codes "STORED\r\n") (map.insert m key (record { flags = flags; bytes = take len block }))))
 
 -- ----- get
--- VALUE KEY FLAGS LEN and the data, where the key is held
+-- VALUE KEY FLAGS LEN
+abbrev pub head_text : (key : List ℕ) → Item → List ℕ
+head_text key item = codes "VALUE " ++ (key ++ (codes " " ++ (decimal item.flags ++ (codes " "
+    ++ (decimal (length item.bytes) ++ codes "\r\n")))))
+
+-- that line and the data, where the key is held
 abbrev pub value_text : (key : List ℕ) → Option Item → List ℕ
 value_text key None = []
-value_text key (Some item) = codes "VALUE " ++ (key ++ (codes " " ++ (decimal item.flags ++ (codes " "
-    ++ (decimal (length item.bytes) ++ (codes "\r\n" ++ (item.bytes ++ codes "\r\n")))))))
+value_text key (Some item) = head_text key item ++ (item.bytes ++ codes "\r\n")
 
 abbrev pub values_text : Map → (keys : List (List ℕ)) → List ℕ
 values_text m keys = flat_map (λ (key : List ℕ). value_text key (map.get m key)) keys

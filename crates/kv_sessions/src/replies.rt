@@ -23,9 +23,9 @@ fn say_number(replies: &mut Vec<u8>, number: usize) -> Result<(), AllocError>
     say(replies, digits.format(number).as_bytes())
 }
 
-/// Puts what is held at a key behind the replies.
-fn say_value(replies: &mut Vec<u8>, key: &[u8], held: &Held) -> Result<(), AllocError>
-    ensures { OnOk result (replies.new.items ≡ replies.old.items ++ outcomes.value_text key.now (Some (item_of held.now))) }
+/// Puts the line before what is held at a key behind the replies.
+fn say_head(replies: &mut Vec<u8>, key: &[u8], held: &Held) -> Result<(), AllocError>
+    ensures { OnOk result (replies.new.items ≡ replies.old.items ++ outcomes.head_text key.now (item_of held.now)) }
 {
     say(replies, b"VALUE ")?;
     say(replies, key)?;
@@ -34,8 +34,17 @@ fn say_value(replies: &mut Vec<u8>, key: &[u8], held: &Held) -> Result<(), Alloc
     say(replies, b" ")?;
     say_number(replies, held.bytes.len())?;
     say(replies, b"\r\n")?;
+    Ok(())
+}
+
+/// Puts what is held at a key behind the replies.
+fn say_value(replies: &mut Vec<u8>, key: &[u8], held: &Held) -> Result<(), AllocError>
+    ensures { OnOk result (replies.new.items ≡ replies.old.items ++ outcomes.value_text key.now (Some (item_of held.now))) }
+{
+    say_head(replies, key, held)?;
     say(replies, &held.bytes)?;
-    say(replies, b"\r\n")
+    say(replies, b"\r\n")?;
+    Ok(())
 }
 
 /// Answers a get: what is held at each of the keys.
