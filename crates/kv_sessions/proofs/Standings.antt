@@ -2,8 +2,9 @@
 use Rattle.std.proofs.Common.{◌≡◌, ℕ, zero, suc, ◌+◌, ◌-◌, ◌<◌, ◌≤◌, Bool, true, false, cond, List, [], ◌∷◌, ◌++◌, length, take, drop}
 use Rattle.std.proofs.Common.{refl, sym, ap, ◌∙◌, subst, arith, nat_lt, nat_le, ◌==◌, append_assoc, length-append}
 use Rattle.std.proofs.lemmas.Bool.Decides.{nat_tests}
-use Rattle.std.proofs.lemmas.List.{append-nil, take_all}
+use Rattle.std.proofs.lemmas.List.{append-nil, take_all, take-append-drop}
 use Rattle.std.proofs.Math.ListN.{drop_of_length-le}
+use Rattle.std.proofs.Math.Seq.{take-append_seam}
 use Rattle.kv_sessions.specs.Stored.{Map}
 use Rattle.kv_sessions.specs.Lines.{FirstLine, Unended, TooLong, Line, first_line, words_of}
 use Rattle.kv_sessions.specs.Commands.{Command, Set, Get, Delete, Quit, Unknown, command_of, block_len}
@@ -12,7 +13,7 @@ use Rattle.kv_sessions.specs.Answers.{Next, Waits, LineTooLong, Whole, with_bloc
 use Rattle.kv_sessions.specs.Answers.{Answers, over, behind, then_later, by_next, answers, answers_of, more_by}
 use Rattle.kv_sessions.specs.Answers.{and_more}
 use Rattle.kv_sessions.specs.Sessions.{Standing, InLine, InBlock, InDropped, Over, is_over, in_block, in_line, at_left}
-use Rattle.kv_sessions.specs.Sessions.{at_end, standing, IsAfter}
+use Rattle.kv_sessions.specs.Sessions.{at_end, standing, IsAfter, Answered, HasWhole}
 use Rattle.kv_sessions.specs.Steps.{Step, stays, done, command_step, line_step, block_step, dropped_step, IsLast, ended_line, open_line, Leads}
 use Rattle.kv_sessions.proofs.Lined.{line_stays}
 use Rattle.kv_sessions.proofs.Streams.{later_answers, one_command, goes_on, leaves_none}
@@ -400,3 +401,54 @@ drop_leads taken missing_before missing store replies later later_store later_re
           holds = m ∙ sym is.map;
           stands = s ∙ sym is.stands;
         })
+
+-- ----- a piece, command by command
+-- some of the bytes were taken, and these are the rest
+pub record Reached (session : Standing) (store : Map) (bytes rest replies : List ℕ) (later : Standing) (later_store : Map) :
+    Type 0 where
+  pub taken : List ℕ
+  pub parts : bytes ≡ taken ++ rest
+  pub answered : Answered session store taken replies later later_store
+
+pub reached_first : (session : Standing) (store : Map) (bytes : List ℕ) → Reached session store bytes bytes [] session store
+reached_first session store bytes = record {
+  taken = [];
+  parts = refl;
+  answered = λ m stream said after.
+      subst (λ (s : List ℕ). IsAfter m s (said ++ []) session store) (sym (append-nil stream))
+      (subst (λ (r : List ℕ). IsAfter m stream r session store) (sym (append-nil said)) after);
+}
+
+pub reached_next : (s0 : Standing) (m0 : Map) (bytes rest r1 : List ℕ) (s1 : Standing) (m1 : Map) (n : ℕ) (s2 : Standing)
+    (m2 : Map) (r2 : List ℕ)
+    → Reached s0 m0 bytes rest r1 s1 m1 → Leads s1 m1 r1 (take n rest) s2 m2 r2
+    → Reached s0 m0 bytes (drop n rest) r2 s2 m2
+reached_next s0 m0 bytes rest r1 s1 m1 n s2 m2 r2 here more = record {
+  taken = here.taken ++ take n rest;
+  parts = here.parts ∙ ap (λ (xs : List ℕ). here.taken ++ xs) (sym (take-append-drop n rest))
+      ∙ sym (append_assoc here.taken (take n rest) (drop n rest));
+  answered = λ m stream said after.
+      subst (λ (s : List ℕ). IsAfter m s (said ++ r2) s2 m2) (append_assoc stream here.taken (take n rest))
+      (more m (stream ++ here.taken) said (here.answered m stream said after));
+}
+
+pub reached_all : (s0 : Standing) (m0 : Map) (bytes replies : List ℕ) (s1 : Standing) (m1 : Map)
+    → Reached s0 m0 bytes [] replies s1 m1 → Answered s0 m0 bytes replies s1 m1
+reached_all s0 m0 bytes replies s1 m1 here = λ m stream said after.
+    let same : here.taken ≡ bytes = sym (here.parts ∙ append-nil here.taken) in
+    subst (λ (b : List ℕ). IsAfter m (stream ++ b) (said ++ replies) s1 m1) same (here.answered m stream said after)
+
+pub reached_whole : (s0 : Standing) (m0 : Map) (bytes rest replies : List ℕ) (s1 : Standing) (m1 : Map)
+    → Reached s0 m0 bytes rest replies s1 m1 → HasWhole s0 m0 bytes m1
+reached_whole s0 m0 bytes rest replies s1 m1 here = λ m stream said after.
+    let front : take (length here.taken) bytes ≡ here.taken =
+        ap (λ (b : List ℕ). take (length here.taken) b) here.parts ∙ take-append_seam here.taken rest in (
+      length here.taken,
+      omega (arith, length-append here.taken rest, ap length here.parts),
+      (here.answered m stream said after).map ∙ ap (λ (b : List ℕ). (answers m (stream ++ b)).map) (sym front),
+    )
+
+-- a session that was fed nothing
+pub begun : (m : Map) → IsAfter m [] [] (InLine []) m
+unfolding answers_of
+begun m = record { replies = refl; map = refl; stands = refl }
