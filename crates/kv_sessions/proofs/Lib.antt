@@ -3,3 +3,4 @@ pub mod Lined
 pub mod Worded
 pub mod Streams
 pub mod Standings
+pub mod Taken

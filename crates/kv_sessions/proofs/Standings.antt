@@ -432,11 +432,15 @@ reached_next s0 m0 bytes rest r1 s1 m1 n s2 m2 r2 here more = record {
       (more m (stream ++ here.taken) said (here.answered m stream said after));
 }
 
-pub reached_all : (s0 : Standing) (m0 : Map) (bytes replies : List ℕ) (s1 : Standing) (m1 : Map)
-    → Reached s0 m0 bytes [] replies s1 m1 → Answered s0 m0 bytes replies s1 m1
-reached_all s0 m0 bytes replies s1 m1 here = λ m stream said after.
-    let same : here.taken ≡ bytes = sym (here.parts ∙ append-nil here.taken) in
-    subst (λ (b : List ℕ). IsAfter m (stream ++ b) (said ++ replies) s1 m1) same (here.answered m stream said after)
+no_rest : (bytes taken rest : List ℕ) → length rest ≡ 0 → bytes ≡ taken ++ rest → taken ≡ bytes
+no_rest bytes taken [] h e = sym (e ∙ append-nil taken)
+no_rest bytes taken (c ∷ cs) h e = absurd (omega (arith, h))
+
+pub reached_all : (s0 : Standing) (m0 : Map) (bytes rest replies : List ℕ) (s1 : Standing) (m1 : Map)
+    → length rest ≡ 0 → Reached s0 m0 bytes rest replies s1 m1 → Answered s0 m0 bytes replies s1 m1
+reached_all s0 m0 bytes rest replies s1 m1 none here = λ m stream said after.
+    subst (λ (b : List ℕ). IsAfter m (stream ++ b) (said ++ replies) s1 m1) (no_rest bytes here.taken rest none here.parts)
+    (here.answered m stream said after)
 
 pub reached_whole : (s0 : Standing) (m0 : Map) (bytes rest replies : List ℕ) (s1 : Standing) (m1 : Map)
     → Reached s0 m0 bytes rest replies s1 m1 → HasWhole s0 m0 bytes m1
@@ -452,3 +456,7 @@ reached_whole s0 m0 bytes rest replies s1 m1 here = λ m stream said after.
 pub begun : (m : Map) → IsAfter m [] [] (InLine []) m
 unfolding answers_of
 begun m = record { replies = refl; map = refl; stands = refl }
+
+pub whole_at : (session : Standing) (store : Map) (bytes : List ℕ) (later same : Map) → later ≡ same
+    → HasWhole session store bytes same → HasWhole session store bytes later
+whole_at session store bytes later same e h = subst (HasWhole session store bytes) (sym e) h

@@ -1,8 +1,8 @@
 -- How a session goes on from what it is at, piece by piece.
-use Rattle.std.specs.Prelude.{◌≡◌, ◌<◌, ◌≤◌, ◌+◌, ◌^◌, ℕ, Bool, true, false, nat_lt, nat_le, ◌==◌, List, [], ◌++◌, length, ⊤}
+use Rattle.std.specs.Prelude.{◌≡◌, ◌<◌, ◌≤◌, ◌+◌, ◌^◌, ℕ, Bool, true, false, nat_lt, nat_le, ◌==◌, List, [], ◌++◌, length, position, None, ⊤}
 use Rattle.std.specs.Prelude.{if◌then◌else◌, vec_len}
 use Rattle.kv_sessions.specs.Stored.{Map}
-use Rattle.kv_sessions.specs.Lines.{FirstLine, Unended, TooLong, Line, text_of, words_of}
+use Rattle.kv_sessions.specs.Lines.{FirstLine, Unended, TooLong, Line, text_of, words_of, is_line_feed}
 use Rattle.kv_sessions.specs.Commands as commands
 use Rattle.kv_sessions.specs.Outcomes.{Outcome, outcome, too_long, too_large}
 use Rattle.kv_sessions.specs.Sessions.{Standing, InLine, InBlock, InDropped, Over, IsAfter, in_block}
@@ -29,7 +29,7 @@ standing_in modes.Over = Over
 
 -- what waits is less than a line, or less than a block
 abbrev pub IsShort : Mode → Type 0
-IsShort (modes.Line line) = length line.items < LONGEST_LINE + 2
+IsShort (modes.Line line) = (length line.items < LONGEST_LINE + 2) × (position is_line_feed line.items ≡ None)
 IsShort (modes.Block b) = (b.len ≤ MOST_DATA) × (length b.bytes.items < b.len + 2)
 IsShort (modes.Dropped missing) = (0 < missing) × (missing < 2 ^ 33)
 IsShort modes.Over = ⊤

@@ -93,9 +93,9 @@ fn take_line(
     requires some { 0 < length bytes.now }
     ensures some { IfOk result (λ r. 0 < r.1) }
     ensures within { IfOk result (λ r. r.1 ≤ length bytes.now) }
-    ensures made { IfOk result (λ r. let got = line.items ++ take r.1 bytes.now in
-        steps.Made (steps.line_step store.old got (lines.first_line got)) replies.old.items replies.new.items store.new r.0) }
-    ensures last { IfOk result (λ r. steps.IsLast (lines.first_line (line.items ++ take r.1 bytes.now))) }
+    ensures leads { IfOk result (λ r. steps.Leads (sessions.InLine line.items) store.old replies.old.items
+        (take r.1 bytes.now) (steps.standing_in r.0) store.new replies.new.items) }
+    ensures short { IfOk result (λ r. steps.IsShort r.0) }
     ensures err { OnErr result (store.new ≡ store.old) }
 {
     let room = (LONGEST_LINE + 2 - line.len()).min(bytes.len());
@@ -134,7 +134,8 @@ fn end_line(
 
 /// Goes on with a line that has no end yet, or ends the session where it is too long.
 fn wait_for_end(line: Vec<u8>, replies: &mut Vec<u8>) -> Result<Mode, AllocError>
-    requires { length line.items ≤ LONGEST_LINE + 2 }
+    requires within { length line.items ≤ LONGEST_LINE + 2 }
+    requires open { position lines.is_line_feed line.items ≡ None }
     ensures made { IfOk result (λ mode. (m : Map) → steps.Made (steps.line_step m line.items (steps.open_line line.items))
         replies.old.items replies.new.items m mode) }
 {
@@ -172,7 +173,7 @@ fn answer(
     store: &mut Store,
     replies: &mut Vec<u8>,
 ) -> Result<Mode, AllocError>
-    ensures made { IfOk result (λ mode. steps.Made (steps.command_step store.old (steps.command_in request))
+    ensures made { IfOk result (λ mode. steps.Made (steps.command_step store.old (steps.command_in request.entry))
         replies.old.items replies.new.items store.new mode) }
     ensures err { OnErr result (store.new ≡ store.old) }
 {
