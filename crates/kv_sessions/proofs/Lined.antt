@@ -32,7 +32,7 @@ at_place at n e same below =
     let t : nat_lt at n ≡ true = grind (arith, nat_tests, same, below) in
     rw t (ap (λ (k : ℕ). Some k) same)
 
-at_none : (at n : ℕ) → n ≤ at → ◌≡◌ {A = Option ℕ} (cond (nat_lt at n) (Some at) None) None
+pub at_none : (at n : ℕ) → n ≤ at → ◌≡◌ {A = Option ℕ} (cond (nat_lt at n) (Some at) None) None
 at_none at n h = let t : nat_lt at n ≡ false = grind (arith, nat_tests, h) in rw t refl
 
 -- it stays where more comes behind

@@ -460,3 +460,30 @@ begun m = record { replies = refl; map = refl; stands = refl }
 pub whole_at : (session : Standing) (store : Map) (bytes : List ℕ) (later same : Map) → later ≡ same
     → HasWhole session store bytes same → HasWhole session store bytes later
 whole_at session store bytes later same e h = subst (HasWhole session store bytes) (sym e) h
+
+pub begun_at : (session : Standing) → session ≡ InLine [] → (m : Map) → IsAfter m [] [] session m
+begun_at session e m = subst (λ (s : Standing). IsAfter m [] [] s m) (sym e) (begun m)
+
+-- ----- what a call of a session says
+over_fed_by : (store : Map) (bytes : List ℕ) → Answered Over store bytes [] Over store
+over_fed_by store bytes = λ m stream said after.
+    over_leads store [] bytes m stream said
+    (subst (λ (r : List ℕ). IsAfter m stream r Over store) (sym (append-nil said)) after)
+
+pub over_fed : (session : Standing) (store : Map) (bytes reply : List ℕ) → is_over session ≡ true → reply ≡ []
+    → Answered session store bytes reply session store
+over_fed Over store bytes reply e none =
+    subst (λ (r : List ℕ). Answered Over store bytes r Over store) (sym none) (over_fed_by store bytes)
+over_fed (InLine line) store bytes reply e none = absurd (cc (e))
+over_fed (InBlock key flags len got) store bytes reply e none = absurd (cc (e))
+over_fed (InDropped missing) store bytes reply e none = absurd (cc (e))
+
+pub answered_from : (session same : Standing) (store : Map) (bytes reply : List ℕ) (later : Standing) (later_store : Map)
+    → same ≡ session → Answered same store bytes reply later later_store
+    → Answered session store bytes reply later later_store
+answered_from session same store bytes reply later later_store e h =
+    subst (λ (s : Standing). Answered s store bytes reply later later_store) e h
+
+pub whole_from : (session same : Standing) (store : Map) (bytes : List ℕ) (later : Map)
+    → same ≡ session → HasWhole same store bytes later → HasWhole session store bytes later
+whole_from session same store bytes later e h = subst (λ (s : Standing). HasWhole s store bytes later) e h

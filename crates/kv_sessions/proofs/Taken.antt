@@ -56,7 +56,7 @@ pub record EndsAt (bytes : List ℕ) (room e : ℕ) : Type 0 where
   pub within : e < length bytes
   pub inside : e < room
   pub seam : take (e + 1) bytes ≡ take e bytes ++ 10 ∷ []
-  pub open : position is_line_feed (take e bytes) ≡ None
+  pub none : position is_line_feed (take e bytes) ≡ None
 
 ends_at : (bytes : List ℕ) (room e : ℕ) → position is_line_feed (take room bytes) ≡ Some e → EndsAt bytes room e
 ends_at bytes room e h =
@@ -76,7 +76,7 @@ ends_at bytes room e h =
       inside = inside;
       seam = ap (λ (k : ℕ). take k bytes) (add-one e) ∙ take-suc bytes e 0 within
           ∙ ap (λ (c : ℕ). take e bytes ++ c ∷ []) byte;
-      open = subst (λ (xs : List ℕ). position is_line_feed xs ≡ None) less (none_before is_line_feed (take room bytes) e h);
+      none = subst (λ (xs : List ℕ). position is_line_feed xs ≡ None) less (none_before is_line_feed (take room bytes) e h);
     }
 
 -- ----- steps of a line
@@ -128,7 +128,7 @@ ends_line line bytes room e m before after store mode h g size made =
     let short : length front < 514 =
         omega (arith, length-append line (take e bytes), length-take e bytes, at.within, at.inside) in
     let is : first_line (line ++ take (e + 1) bytes) ≡ ended_line front =
-        ap first_line all ∙ line_ends front (none_joined is_line_feed line (take e bytes) h at.open) short in
+        ap first_line all ∙ line_ends front (none_joined is_line_feed line (take e bytes) h at.none) short in
     leads_on line (take (e + 1) bytes) m before after store mode
     (subst IsLast (sym is) (last_by (nat_le (length (text_of front)) 512) (text_of front)))
     (along m (line ++ take (e + 1) bytes) (front ++ 10 ∷ []) _ (ended_line front) before after store mode all is made)
@@ -159,3 +159,12 @@ pub in_over : (mode : Mode) (bytes : List ℕ) (m : Map) (before : List ℕ) →
     → Leads (standing_in mode) m before bytes Over m before
 in_over mode bytes m before e =
     subst (λ (s : Standing). Leads s m before bytes Over m before) (sym e) (over_leads m before bytes)
+
+-- ----- tests of the code
+pub none_of : (b : Bool) (n : ℕ) → b ≡ eqb n 0 → b ≡ true → n ≡ 0
+none_of b n e t = let here : eqb n 0 ≡ true = sym e ∙ t in grind (arith, nat_tests, here)
+
+pub none_in : (xs line bytes : List ℕ) → xs ≡ line ++ bytes → position is_line_feed line ≡ None
+    → position is_line_feed bytes ≡ None → position is_line_feed xs ≡ None
+none_in xs line bytes e h g =
+    subst (λ (ys : List ℕ). position is_line_feed ys ≡ None) (sym e) (none_joined is_line_feed line bytes h g)
