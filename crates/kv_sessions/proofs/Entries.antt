@@ -96,7 +96,7 @@ removed_is bytes old new keeps here = same _ _ (λ q.
     ∙ ap (option_map item_of) (looked_up bytes old new None keeps here q)
     ∙ gone_by (bytes_eq q bytes) (lookup (is_at q) old) (get (map_of old) q) (get_is old q)
     ∙ ap (λ (b : Bool). cond b None (get (map_of old) q))
-        (nat_list_eq_equiv.symm q bytes ∙ texts_ties bytes q ∙ sym (texts_ties bytes q) ∙ nat_list_eq_equiv.symm bytes q ∙ texts_ties q bytes)
+    (nat_list_eq_equiv.symm q bytes ∙ texts_ties bytes q ∙ sym (texts_ties bytes q) ∙ nat_list_eq_equiv.symm bytes q ∙ texts_ties q bytes)
     ∙ sym (get-remove nat_list_cmp_total (map_of old) bytes q))
 
 -- ----- how many keys
@@ -110,7 +110,7 @@ unfolding IsDistinct
 len_is [] h = len-empty (slice_cmp nat_cmp) Item
 len_is (e ∷ es) h =
     let absent : contains_key (map_of es) e.0.items ≡ false =
-        ap is_some (get_is es e.0.items ∙ ap (option_map item_of) (none_there e.0 es h.0)) in
+    ap is_some (get_is es e.0.items ∙ ap (option_map item_of) (none_there e.0 es h.0)) in
     len-insert nat_list_cmp_total (map_of es) e.0.items (item_of e.1)
     ∙ ap (λ (b : Bool). cond b (len (map_of es)) (len (map_of es) + 1)) absent
     ∙ ap (λ (n : ℕ). n + 1) (len_is es h.1) ∙ more (length es) where

@@ -43,8 +43,8 @@ place_stays : (p : ℕ → Bool) (xs ys : List ℕ) (e : ℕ) → position p xs 
 place_stays p xs ys e h =
     let here = place p xs e h in
     let same : position_or_len p (xs ++ ys) ≡ e =
-        prefix_len-append (λ (c : ℕ). not (p c)) xs ys
-        ∙ front (position_or_len p xs) (length xs) (position_or_len p ys) here.1 ∙ here.0 in
+    prefix_len-append (λ (c : ℕ). not (p c)) xs ys
+    ∙ front (position_or_len p xs) (length xs) (position_or_len p ys) here.1 ∙ here.0 in
     at_place _ _ e same (omega (arith, length-append xs ys, here.0, here.1))
 
 -- among the first n bytes
@@ -107,8 +107,8 @@ long_stays bytes more h = by_end (position is_line_feed (take 514 bytes)) refl h
     by_end None at g =
         let enough : 514 ≤ length bytes = long_of (nat_lt (length bytes) 514) refl g in
         let still : nat_lt (length (bytes ++ more)) 514 ≡ false =
-            (let longer : 514 ≤ length (bytes ++ more) = omega (arith, length-append bytes more) in
-            grind (arith, nat_tests, longer)) in
+        (let longer : 514 ≤ length (bytes ++ more) = omega (arith, length-append bytes more) in
+        grind (arith, nat_tests, longer)) in
         rw (take-append-le 514 bytes more enough, at, still) refl where
           long_of : (b : Bool) → nat_lt (length bytes) 514 ≡ b → cond b Unended TooLong ≡ TooLong → 514 ≤ length bytes
           long_of true t i = absurd (cc (i))
@@ -126,6 +126,7 @@ line_shortens bytes text rest h = by_end (position is_line_feed (take 514 bytes)
     line_rest : (b : Bool) (t r : List ℕ) → cond b (Line t r) TooLong ≡ Line text rest → r ≡ rest
     line_rest true t r g = cc (g)
     line_rest false t r g = absurd (cc (g))
+
     by_end : (end : Option ℕ) → position is_line_feed (take 514 bytes) ≡ end → line_at bytes end ≡ Line text rest
         → length rest < length bytes
     by_end None at g = absurd (open_or_long _ text rest g)
@@ -146,10 +147,10 @@ last_place : (before : List ℕ) → position is_line_feed before ≡ None
 last_place before h =
     let none : length before ≤ position_or_len is_line_feed before = no_place is_line_feed before h in
     let most : position_or_len is_line_feed before ≤ length before =
-        prefix_len-le-length (λ (c : ℕ). not (is_line_feed c)) before in
+    prefix_len-le-length (λ (c : ℕ). not (is_line_feed c)) before in
     let same : position_or_len is_line_feed (before ++ 10 ∷ []) ≡ length before =
-        prefix_len-append (λ (c : ℕ). not (is_line_feed c)) before (10 ∷ [])
-        ∙ at_seam (position_or_len is_line_feed before) (length before) none most in
+    prefix_len-append (λ (c : ℕ). not (is_line_feed c)) before (10 ∷ [])
+    ∙ at_seam (position_or_len is_line_feed before) (length before) none most in
     at_place _ _ (length before) same (omega (arith, length-append before (10 ∷ [])))
 
 pub line_ends : (before : List ℕ) → position is_line_feed before ≡ None → length before < 514

@@ -1,10 +1,13 @@
 -- How a session goes on, in whatever pieces its stream comes.
 use Rattle.std.proofs.Common.{◌≡◌, ℕ, zero, suc, ◌+◌, ◌-◌, ◌<◌, ◌≤◌, Bool, true, false, cond, List, [], ◌∷◌, ◌++◌, length, take, drop}
-use Rattle.std.proofs.Common.{refl, sym, ap, ◌∙◌, subst, arith, nat_lt, nat_le, ◌==◌, append_assoc, length-append}
+use Rattle.std.proofs.Common.{refl, sym, ap, ◌∙◌, subst, arith, nat_lt, nat_le, ◌==◌, append_assoc, length-append, get_or, add-one}
 use Rattle.std.proofs.lemmas.Bool.Decides.{nat_tests}
 use Rattle.std.proofs.lemmas.List.{append-nil, take_all, take-append-drop}
 use Rattle.std.proofs.Math.ListN.{drop_of_length-le}
-use Rattle.std.proofs.Math.Seq.{take-append_seam}
+use Rattle.std.proofs.Math.Seq.{take-append_seam, take-suc}
+use Rattle.std.proofs.lemmas.Grind.{flat_map-append}
+use Rattle.std.specs.Prelude.{flat_map}
+use Rattle.std.specs.Borrow.{Bor}
 use Rattle.kv_sessions.specs.Stored.{Map}
 use Rattle.kv_sessions.specs.Lines.{FirstLine, Unended, TooLong, Line, first_line, words_of}
 use Rattle.kv_sessions.specs.Commands.{Command, Set, Get, Delete, Quit, Unknown, command_of, block_len}
@@ -57,18 +60,18 @@ leads_by : (ended : Bool) (left : List ℕ) (map : Map) (front : List ℕ)
     → said ++ replies ≡ front → store ≡ map → session ≡ at_end ended left
     → (ended ≡ false → next_command left ≡ Waits)
     → ((rest : List ℕ) → next_command rest ≡ Waits → at_left rest ≡ session
-        → Took rest taken store replies later later_store later_replies)
+    → Took rest taken store replies later later_store later_replies)
     → let a : Answers = more_by ended (record { replies = front; map = map; ended = ended; left = left }) taken in
-      (said ++ later_replies ≡ a.replies) × (later_store ≡ a.map) × (later ≡ standing a)
+    (said ++ later_replies ≡ a.replies) × (later_store ≡ a.map) × (later ≡ standing a)
 leads_by true left map front taken session store replies later later_store later_replies said goes f s t w h =
     absurd (cc (goes, ap is_over t))
 leads_by false left map front taken session store replies later later_store later_replies said goes f s t w h =
     let took = h left (w refl) (sym t) in
     let here : answers store (left ++ taken) ≡ answers map (left ++ taken) = ap (λ (m : Map). answers m (left ++ taken)) s in (
       ap (λ (rs : List ℕ). said ++ rs) took.says
-      ∙ sym (append_assoc said replies (answers store (left ++ taken)).replies)
-      ∙ ap (λ (rs : List ℕ). rs ++ (answers store (left ++ taken)).replies) f
-      ∙ ap (λ (a : Answers). front ++ a.replies) here,
+          ∙ sym (append_assoc said replies (answers store (left ++ taken)).replies)
+          ∙ ap (λ (rs : List ℕ). rs ++ (answers store (left ++ taken)).replies) f
+          ∙ ap (λ (a : Answers). front ++ a.replies) here,
       took.holds ∙ ap (λ (a : Answers). a.map) here,
       took.stands ∙ ap standing here,
     )
@@ -77,12 +80,12 @@ pub leads : (session : Standing) (store : Map) (replies taken : List ℕ) (later
     (later_replies : List ℕ)
     → is_over session ≡ false
     → ((rest : List ℕ) → next_command rest ≡ Waits → at_left rest ≡ session
-        → Took rest taken store replies later later_store later_replies)
+    → Took rest taken store replies later later_store later_replies)
     → Leads session store replies taken later later_store later_replies
 leads session store replies taken later later_store later_replies goes h = λ m stream said after.
     let a : Answers = answers m stream in
     let facts = leads_by a.ended a.left a.map a.replies taken session store replies later later_store later_replies said
-        goes after.replies after.map after.stands (leaves_none m stream) h in
+    goes after.replies after.map after.stands (leaves_none m stream) h in
     let all : answers m (stream ++ taken) ≡ and_more a taken = goes_on m stream taken in
     record {
       replies = facts.0 ∙ sym (ap (λ (b : Answers). b.replies) all);
@@ -128,7 +131,7 @@ pub record Is (a : Answers) (s : Step) : Type 0 where
 -- a command with nothing behind it
 done_by : (ends : Bool) (reply : List ℕ) (map : Map)
     → Is (then_later ends (record { reply = reply; map = map; ends = ends }) (later_answers []))
-        (done (record { reply = reply; map = map; ends = ends }))
+    (done (record { reply = reply; map = map; ends = ends }))
 unfolding answers_of
 done_by true reply map = record { replies = refl; map = refl; stands = refl }
 done_by false reply map = record { replies = append-nil reply; map = refl; stands = refl }
@@ -194,13 +197,13 @@ pub line_leads : (line taken : List ℕ) (store : Map) (replies : List ℕ) (lat
     → Leads (InLine line) store replies taken later later_store later_replies
 line_leads line taken store replies later later_store later_replies last r m s =
     leads (InLine line) store replies taken later later_store later_replies refl (λ rest w e.
-        let same : rest ≡ line = left_in_line rest line (first_line rest) w e in
-        let is = line_answers store (line ++ taken) last in
-        subst (λ (l : List ℕ). Took l taken store replies later later_store later_replies) (sym same) (record {
-          says = r ∙ ap (λ (rs : List ℕ). replies ++ rs) (sym is.replies);
-          holds = m ∙ sym is.map;
-          stands = s ∙ sym is.stands;
-        }))
+    let same : rest ≡ line = left_in_line rest line (first_line rest) w e in
+    let is = line_answers store (line ++ taken) last in
+    subst (λ (l : List ℕ). Took l taken store replies later later_store later_replies) (sym same) (record {
+      says = r ∙ ap (λ (rs : List ℕ). replies ++ rs) (sym is.replies);
+      holds = m ∙ sym is.map;
+      stands = s ∙ sym is.stands;
+    }))
 
 -- ----- in a block
 -- the line of a set has come, and these bytes behind it
@@ -261,7 +264,7 @@ set_at left key got taken flags len begun =
 set_by : (m : Map) (bytes key got : List ℕ) (flags len : ℕ) (b : Bool) → nat_lt (length got) (len + 2) ≡ b
     → length got ≤ len + 2
     → Is (by_next later_answers m bytes (cond b Waits (Whole (Set key flags len) (take (len + 2) got) (drop (len + 2) got))))
-        (cond b (stays m (at_left bytes)) (done (outcome m (Set key flags len) got)))
+    (cond b (stays m (at_left bytes)) (done (outcome m (Set key flags len) got)))
 set_by m bytes key got flags len true t h = record { replies = refl; map = refl; stands = refl }
 set_by m bytes key got flags len false t h =
     let all : length got ≡ len + 2 = grind (arith, nat_tests, t, h) in
@@ -271,26 +274,26 @@ set_by m bytes key got flags len false t h =
 block_answers : (m : Map) (left key got taken : List ℕ) (flags len : ℕ) → SetLine left key flags len got
     → length (got ++ taken) ≤ len + 2
     → Is (answers m (left ++ taken)) (cond (nat_lt (length (got ++ taken)) (len + 2)) (stays m (at_left (left ++ taken)))
-        (done (outcome m (Set key flags len) (got ++ taken))))
+    (done (outcome m (Set key flags len) (got ++ taken))))
 block_answers m left key got taken flags len begun h =
     let all : answers m (left ++ taken) ≡ by_next later_answers m (left ++ taken) (with_block (Set key flags len) (got ++ taken)) =
-        one_command m (left ++ taken)
-        ∙ ap (by_next later_answers m (left ++ taken)) (set_next left key got taken flags len begun) in
+    one_command m (left ++ taken)
+    ∙ ap (by_next later_answers m (left ++ taken)) (set_next left key got taken flags len begun) in
     subst (λ (a : Answers). Is a (cond (nat_lt (length (got ++ taken)) (len + 2)) (stays m (at_left (left ++ taken)))
-        (done (outcome m (Set key flags len) (got ++ taken)))))
+    (done (outcome m (Set key flags len) (got ++ taken)))))
     (sym all)
     (set_by m (left ++ taken) key (got ++ taken) flags len (nat_lt (length (got ++ taken)) (len + 2)) refl h)
 
 block_step_is : (m : Map) (left key got taken : List ℕ) (flags len : ℕ) → BlockBegun left key flags len got
     → cond (nat_lt (length (got ++ taken)) (len + 2)) (stays m (at_left (left ++ taken)))
-        (done (outcome m (Set key flags len) (got ++ taken)))
+    (done (outcome m (Set key flags len) (got ++ taken)))
     ≡ block_step m key flags len (got ++ taken)
 block_step_is m left key got taken flags len begun =
     let here : at_left (left ++ taken) ≡ InBlock key flags len (got ++ taken) =
-        set_at left key got taken flags len begun.begun
-        ∙ ap (λ (b : Bool). cond b (InBlock key flags len (got ++ taken)) (InDropped (len + 2 - length (got ++ taken)))) begun.small in
+    set_at left key got taken flags len begun.begun
+    ∙ ap (λ (b : Bool). cond b (InBlock key flags len (got ++ taken)) (InDropped (len + 2 - length (got ++ taken)))) begun.small in
     ap (λ (s : Standing). cond (nat_lt (length (got ++ taken)) (len + 2)) (stays m s)
-        (done (outcome m (Set key flags len) (got ++ taken)))) here
+    (done (outcome m (Set key flags len) (got ++ taken)))) here
 
 pub block_leads : (key got taken : List ℕ) (flags len : ℕ) (store : Map) (replies : List ℕ) (later : Standing)
     (later_store : Map) (later_replies : List ℕ)
@@ -301,15 +304,15 @@ pub block_leads : (key got taken : List ℕ) (flags len : ℕ) (store : Map) (re
     → Leads (InBlock key flags len got) store replies taken later later_store later_replies
 block_leads key got taken flags len store replies later later_store later_replies h r m s =
     leads (InBlock key flags len got) store replies taken later later_store later_replies refl (λ rest w e.
-        let begun = block_begun rest key got flags len (first_line rest) refl e in
-        let is : Is (answers store (rest ++ taken)) (block_step store key flags len (got ++ taken)) =
-            subst (Is (answers store (rest ++ taken))) (block_step_is store rest key got taken flags len begun)
-            (block_answers store rest key got taken flags len begun.begun h) in
-        record {
-          says = r ∙ ap (λ (rs : List ℕ). replies ++ rs) (sym is.replies);
-          holds = m ∙ sym is.map;
-          stands = s ∙ sym is.stands;
-        })
+    let begun = block_begun rest key got flags len (first_line rest) refl e in
+    let is : Is (answers store (rest ++ taken)) (block_step store key flags len (got ++ taken)) =
+    subst (Is (answers store (rest ++ taken))) (block_step_is store rest key got taken flags len begun)
+    (block_answers store rest key got taken flags len begun.begun h) in
+    record {
+      says = r ∙ ap (λ (rs : List ℕ). replies ++ rs) (sym is.replies);
+      holds = m ∙ sym is.map;
+      stands = s ∙ sym is.stands;
+    })
 
 -- ----- in a block that is dropped
 pub record DropBegun (left : List ℕ) (missing : ℕ) : Type 0 where
@@ -383,24 +386,24 @@ pub drop_leads : (taken : List ℕ) (missing_before missing : ℕ) (store : Map)
     → Leads (InDropped missing_before) store replies taken later later_store later_replies
 drop_leads taken missing_before missing store replies later later_store later_replies h r m s =
     leads (InDropped missing_before) store replies taken later later_store later_replies refl (λ rest w e.
-        let d = drop_begun rest missing_before (first_line rest) refl w e in
-        let joined : length (d.got ++ taken) ≡ length d.got + length taken = length-append d.got taken in
-        let fits : length (d.got ++ taken) ≤ d.len + 2 = omega (arith, d.left_over, d.short, h, joined) in
-        let is_missing : missing ≡ d.len + 2 - length (d.got ++ taken) = omega (arith, d.left_over, d.short, h, joined) in
-        let here : at_left (rest ++ taken) ≡ InDropped missing =
-            set_at rest d.key d.got taken d.flags d.len d.begun
-            ∙ ap (λ (b : Bool). cond b (InBlock d.key d.flags d.len (d.got ++ taken)) (InDropped (d.len + 2 - length (d.got ++ taken)))) d.large
-            ∙ ap (λ (n : ℕ). InDropped n) (sym is_missing) in
-        let is : Is (answers store (rest ++ taken)) (dropped_step store missing) =
-            subst (Is (answers store (rest ++ taken)))
-            (drop_step_by store d.key (d.got ++ taken) d.flags d.len missing (rest ++ taken)
-                (nat_lt (length (d.got ++ taken)) (d.len + 2)) d.large refl fits is_missing here)
-            (block_answers store rest d.key d.got taken d.flags d.len d.begun fits) in
-        record {
-          says = r ∙ ap (λ (rs : List ℕ). replies ++ rs) (sym is.replies);
-          holds = m ∙ sym is.map;
-          stands = s ∙ sym is.stands;
-        })
+    let d = drop_begun rest missing_before (first_line rest) refl w e in
+    let joined : length (d.got ++ taken) ≡ length d.got + length taken = length-append d.got taken in
+    let fits : length (d.got ++ taken) ≤ d.len + 2 = omega (arith, d.left_over, d.short, h, joined) in
+    let is_missing : missing ≡ d.len + 2 - length (d.got ++ taken) = omega (arith, d.left_over, d.short, h, joined) in
+    let here : at_left (rest ++ taken) ≡ InDropped missing =
+    set_at rest d.key d.got taken d.flags d.len d.begun
+    ∙ ap (λ (b : Bool). cond b (InBlock d.key d.flags d.len (d.got ++ taken)) (InDropped (d.len + 2 - length (d.got ++ taken)))) d.large
+    ∙ ap (λ (n : ℕ). InDropped n) (sym is_missing) in
+    let is : Is (answers store (rest ++ taken)) (dropped_step store missing) =
+    subst (Is (answers store (rest ++ taken)))
+    (drop_step_by store d.key (d.got ++ taken) d.flags d.len missing (rest ++ taken)
+    (nat_lt (length (d.got ++ taken)) (d.len + 2)) d.large refl fits is_missing here)
+    (block_answers store rest d.key d.got taken d.flags d.len d.begun fits) in
+    record {
+      says = r ∙ ap (λ (rs : List ℕ). replies ++ rs) (sym is.replies);
+      holds = m ∙ sym is.map;
+      stands = s ∙ sym is.stands;
+    })
 
 -- ----- a piece, command by command
 -- some of the bytes were taken, and these are the rest
@@ -446,7 +449,7 @@ pub reached_whole : (s0 : Standing) (m0 : Map) (bytes rest replies : List ℕ) (
     → Reached s0 m0 bytes rest replies s1 m1 → HasWhole s0 m0 bytes m1
 reached_whole s0 m0 bytes rest replies s1 m1 here = λ m stream said after.
     let front : take (length here.taken) bytes ≡ here.taken =
-        ap (λ (b : List ℕ). take (length here.taken) b) here.parts ∙ take-append_seam here.taken rest in (
+    ap (λ (b : List ℕ). take (length here.taken) b) here.parts ∙ take-append_seam here.taken rest in (
       length here.taken,
       omega (arith, length-append here.taken rest, ap length here.parts),
       (here.answered m stream said after).map ∙ ap (λ (b : List ℕ). (answers m (stream ++ b)).map) (sym front),
@@ -487,3 +490,29 @@ answered_from session same store bytes reply later later_store e h =
 pub whole_from : (session same : Standing) (store : Map) (bytes : List ℕ) (later : Map)
     → same ≡ session → HasWhole same store bytes later → HasWhole session store bytes later
 whole_from session same store bytes later e h = subst (λ (s : Standing). HasWhole s store bytes later) e h
+
+-- ----- whole streams
+abbrev pub Piece : Type 0
+Piece = Bor (List ℕ)
+
+abbrev pub joined : List Piece → List ℕ
+joined pieces = flat_map (λ (p : Piece). p.now) pieces
+
+joined_next : (pieces : List Piece) (i : ℕ) (d : Piece) → i < length pieces
+    → joined (take (i + 1) pieces) ≡ joined (take i pieces) ++ (get_or pieces i d).now
+joined_next pieces i d h =
+    ap (λ (n : ℕ). joined (take n pieces)) (add-one i) ∙ ap joined (take-suc pieces i d h)
+    ∙ flat_map-append (λ (p : Piece). p.now) (take i pieces) (get_or pieces i d ∷ [])
+    ∙ ap (λ (xs : List ℕ). joined (take i pieces) ++ xs) (append-nil (get_or pieces i d).now)
+
+-- a piece behind others
+pub piece_next : (m : Map) (pieces : List Piece) (i : ℕ) (d : Piece) (said reply longer : List ℕ) (session later : Standing)
+    (store later_store : Map)
+    → i < length pieces → longer ≡ said ++ reply
+    → IsAfter m (joined (take i pieces)) said session store
+    → Answered session store (get_or pieces i d).now reply later later_store
+    → IsAfter m (joined (take (i + 1) pieces)) longer later later_store
+piece_next m pieces i d said reply longer session later store later_store h same after answered =
+    subst (λ (s : List ℕ). IsAfter m s longer later later_store) (sym (joined_next pieces i d h))
+    (subst (λ (r : List ℕ). IsAfter m (joined (take i pieces) ++ (get_or pieces i d).now) r later later_store) (sym same)
+    (answered m (joined (take i pieces)) said after))

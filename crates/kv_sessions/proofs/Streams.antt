@@ -97,8 +97,8 @@ enough (suc n) zero [] m h i = refl
 enough (suc n) zero (c ∷ cs) m h i = absurd (omega (arith, i))
 enough (suc n) (suc k) bytes m h i =
     alike_next (answers_of n) (answers_of k) m bytes (next_command bytes) (λ command block rest e later.
-        let shorter : length rest < length bytes = whole_shortens bytes command block rest e in
-        enough n k rest later (omega arith) (omega arith))
+    let shorter : length rest < length bytes = whole_shortens bytes command block rest e in
+    enough n k rest later (omega arith) (omega arith))
 
 abbrev pub later_answers : List ℕ → Map → Answers
 later_answers bytes m = answers m bytes
@@ -108,8 +108,8 @@ unfolding answers_of
 one_command m [] = refl
 one_command m (c ∷ cs) =
     alike_next (answers_of (length cs)) later_answers m (c ∷ cs) (next_command (c ∷ cs)) (λ command block rest e later.
-        let shorter : length rest < length (c ∷ cs) = whole_shortens (c ∷ cs) command block rest e in
-        enough (length cs) (length rest) rest later (omega arith) (omega arith))
+    let shorter : length rest < length (c ∷ cs) = whole_shortens (c ∷ cs) command block rest e in
+    enough (length cs) (length rest) rest later (omega arith) (omega arith))
 
 -- ----- a stream and what comes behind it
 behind_more : (ended : Bool) (reply : List ℕ) (a : Answers) (more : List ℕ)
@@ -128,7 +128,7 @@ later_more false o rest more h =
 
 more_next : (m : Map) (bytes more : List ℕ) (next : Next) → next_command bytes ≡ next
     → ((command : Command) (block rest : List ℕ) → next ≡ Whole command block rest
-        → (later : Map) → answers later (rest ++ more) ≡ and_more (answers later rest) more)
+    → (later : Map) → answers later (rest ++ more) ≡ and_more (answers later rest) more)
     → answers m (bytes ++ more) ≡ and_more (by_next later_answers m bytes next) more
 more_next m bytes more Waits e h = refl
 more_next m bytes more LineTooLong e h =
@@ -137,7 +137,7 @@ more_next m bytes more (Whole command block rest) e h =
     one_command m (bytes ++ more)
     ∙ ap (by_next later_answers m (bytes ++ more)) (whole_stays bytes more command block rest e)
     ∙ later_more (outcome m command block).ends (outcome m command block) rest more
-        (h command block rest refl (outcome m command block).map)
+    (h command block rest refl (outcome m command block).map)
 
 goes_on_within : (n : ℕ) (m : Map) (bytes more : List ℕ) → length bytes ≤ n
     → answers m (bytes ++ more) ≡ and_more (answers m bytes) more
@@ -146,8 +146,8 @@ goes_on_within zero m [] more h = refl
 goes_on_within zero m (c ∷ cs) more h = absurd (omega (arith, h))
 goes_on_within (suc n) m bytes more h =
     more_next m bytes more (next_command bytes) refl (λ command block rest e later.
-        let shorter : length rest < length bytes = whole_shortens bytes command block rest e in
-        goes_on_within n later rest more (omega arith))
+    let shorter : length rest < length bytes = whole_shortens bytes command block rest e in
+    goes_on_within n later rest more (omega arith))
     ∙ ap (λ (a : Answers). and_more a more) (sym (one_command m bytes))
 
 -- What a stream is answered goes on from what its beginning was answered.

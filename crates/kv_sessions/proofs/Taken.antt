@@ -33,7 +33,7 @@ none_joined p xs ys h g =
     let first : position_or_len p xs ≡ length xs = omega (arith, no_place p xs h, prefix_len-le-length (fails p) xs) in
     let second : position_or_len p ys ≡ length ys = omega (arith, no_place p ys g, prefix_len-le-length (fails p) ys) in
     let all : position_or_len p (xs ++ ys) ≡ length xs + length ys =
-        prefix_len-append (fails p) xs ys ∙ both_none _ _ _ _ first second in
+    prefix_len-append (fails p) xs ys ∙ both_none _ _ _ _ first second in
     at_none _ _ (omega (arith, all, length-append xs ys))
 
 none_before : (p : ℕ → Bool) (xs : List ℕ) (e : ℕ) → position p xs ≡ Some e → position p (take e xs) ≡ None
@@ -41,9 +41,9 @@ none_before p xs e h =
     let here = place p xs e h in
     let size : length (take e xs) ≡ e = omega (arith, length-take e xs, here.0, here.1) in
     let all : position_or_len p (take e xs) ≡ e =
-        prefix_len_is (fails p) (take e xs) e 0 (omega (arith, size))
-        (λ k below. rw (get_or-take e xs k 0 below) (prefix_len_passes (fails p) xs k 0 (omega (arith, below, here.0))))
-        (λ past. absurd (omega (arith, past, size))) in
+    prefix_len_is (fails p) (take e xs) e 0 (omega (arith, size))
+    (λ k below. rw (get_or-take e xs k 0 below) (prefix_len_passes (fails p) xs k 0 (omega (arith, below, here.0))))
+    (λ past. absurd (omega (arith, past, size))) in
     at_none _ _ (omega (arith, all, size))
 
 -- ----- where the first line feed stands
@@ -64,11 +64,11 @@ ends_at bytes room e h =
     let inside : e < room = omega (arith, here.0, here.1, length-take room bytes) in
     let within : e < length bytes = omega (arith, here.0, here.1, length-take room bytes) in
     let stops : not (is_line_feed (get_or (take room bytes) (position_or_len is_line_feed (take room bytes)) 0)) ≡ false =
-        prefix_len_stops (fails is_line_feed) (take room bytes) 0 here.1 in
+    prefix_len_stops (fails is_line_feed) (take room bytes) 0 here.1 in
     let there : is_line_feed (get_or bytes e 0) ≡ true =
-        ap (λ (c : ℕ). is_line_feed c) (sym (get_or-take room bytes e 0 inside))
-        ∙ ap (λ (k : ℕ). is_line_feed (get_or (take room bytes) k 0)) (sym here.0)
-        ∙ turned _ stops in
+    ap (λ (c : ℕ). is_line_feed c) (sym (get_or-take room bytes e 0 inside))
+    ∙ ap (λ (k : ℕ). is_line_feed (get_or (take room bytes) k 0)) (sym here.0)
+    ∙ turned _ stops in
     let byte : get_or bytes e 0 ≡ 10 = grind (arith, nat_tests, there) in
     let less : take e (take room bytes) ≡ take e bytes = take-take e room bytes (omega arith) in
     record {
@@ -124,11 +124,11 @@ ends_line line bytes room e m before after store mode h g size made =
     let at = ends_at bytes room e g in
     let front : List ℕ = line ++ take e bytes in
     let all : line ++ take (e + 1) bytes ≡ front ++ 10 ∷ [] =
-        ap (λ (xs : List ℕ). line ++ xs) at.seam ∙ sym (append_assoc line (take e bytes) (10 ∷ [])) in
+    ap (λ (xs : List ℕ). line ++ xs) at.seam ∙ sym (append_assoc line (take e bytes) (10 ∷ [])) in
     let short : length front < 514 =
-        omega (arith, length-append line (take e bytes), length-take e bytes, at.within, at.inside) in
+    omega (arith, length-append line (take e bytes), length-take e bytes, at.within, at.inside) in
     let is : first_line (line ++ take (e + 1) bytes) ≡ ended_line front =
-        ap first_line all ∙ line_ends front (none_joined is_line_feed line (take e bytes) h at.none) short in
+    ap first_line all ∙ line_ends front (none_joined is_line_feed line (take e bytes) h at.none) short in
     leads_on line (take (e + 1) bytes) m before after store mode
     (subst IsLast (sym is) (last_by (nat_le (length (text_of front)) 512) (text_of front)))
     (along m (line ++ take (e + 1) bytes) (front ++ 10 ∷ []) _ (ended_line front) before after store mode all is made)

@@ -51,7 +51,7 @@ too_high v i r word h e is above =
     let here : drop i word ≡ get_or word i 0 ∷ drop (suc i) word = drop-cons word i 0 h in
     let next : fold step (step v (get_or word i 0)) (drop (suc i) word) ≡ value_of word = sym (ap (fold step v) here) ∙ e in
     let grown : step v (get_or word i 0) ≤ fold step (step v (get_or word i 0)) (drop (suc i) word) =
-        value_grows (step v (get_or word i 0)) (drop (suc i) word) in
+    value_grows (step v (get_or word i 0)) (drop (suc i) word) in
     let past : nat_lt (value_of word) (2 ^ 32) ≡ false =
-        (let i : 2 ^ 32 ≤ value_of word = omega (arith, grown, next, is, above) in grind (arith, nat_tests, i)) in
+    (let i : 2 ^ 32 ≤ value_of word = omega (arith, grown, next, is, above) in grind (arith, nat_tests, i)) in
     none_by (is_numeral word) (nat_lt (value_of word) (2 ^ 32)) (value_of word) past

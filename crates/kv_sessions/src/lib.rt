@@ -12,7 +12,7 @@ mod taking;
 mod words;
 
 pub use laws::{answers_go_on, sessions_end_with_their_streams};
-pub use session::Session;
+pub use session::{Session, answer_pieces};
 pub use store::Store;
 
 /// The most bytes of a line without its LF and a CR before it.

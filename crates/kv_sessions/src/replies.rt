@@ -48,7 +48,11 @@ fn say_value(replies: &mut Vec<u8>, key: &[u8], held: &Held) -> Result<(), Alloc
 }
 
 /// Answers a get: what is held at each of the keys.
-pub(crate) fn say_values(replies: &mut Vec<u8>, keys: &[u8], store: &Store) -> Result<(), AllocError>
+pub(crate) fn say_values(
+    replies: &mut Vec<u8>,
+    keys: &[u8],
+    store: &Store,
+) -> Result<(), AllocError>
     ensures { OnOk result (replies.new.items
         ≡ replies.old.items ++ (outcomes.values_text store.now (lines.words_of keys.now) ++ codes "END\r\n")) }
 {

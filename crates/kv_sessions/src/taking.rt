@@ -122,7 +122,7 @@ fn end_line(
 ) -> Result<Mode, AllocError>
     ensures made { IfOk result (λ mode. let before = line.items ++ bytes.now in
         steps.Made (steps.line_step store.old (before ++ 10 ∷ []) (steps.ended_line before))
-            replies.old.items replies.new.items store.new mode) }
+        replies.old.items replies.new.items store.new mode) }
     ensures err { OnErr result (store.new ≡ store.old) }
 {
     if line.is_empty() {
@@ -155,7 +155,7 @@ fn take_command(
 ) -> Result<Mode, AllocError>
     ensures made { IfOk result (λ mode.
         steps.Made (steps.line_step store.old (before.now ++ 10 ∷ []) (steps.ended_line before.now))
-            replies.old.items replies.new.items store.new mode) }
+        replies.old.items replies.new.items store.new mode) }
     ensures err { OnErr result (store.new ≡ store.old) }
 {
     let text = text_of(before);
@@ -224,7 +224,7 @@ fn take_block(
     requires within { length block.bytes.items + length bytes.now ≤ block.len + 2 }
     ensures made { IfOk result (λ mode.
         steps.Made (steps.block_step store.old block.key.items block.flags block.len (block.bytes.items ++ bytes.now))
-            replies.old.items replies.new.items store.new mode) }
+        replies.old.items replies.new.items store.new mode) }
     ensures err { OnErr result (store.new ≡ store.old) }
 {
     block.bytes.extend_from_slice(bytes)?;

@@ -7,8 +7,14 @@ returns-in_ok-later-in-None-clause-leads c =
     stays_open c.args.line.items c.args.bytes.now c.min-room.result c.extend_from_slice.new.self.items c.args.store.now
     c.args.replies.now.items c.wait_for_end.new.replies.items c.args.store.now c.in_ok-later-in-None.later
     c.requires.open (sym c.place_of.ensures.place ∙ c.in-None.is)
-    (omega (arith, length-append c.args.line.items (take c.min-room.result c.args.bytes.now),
-        length-take c.min-room.result c.args.bytes.now, c.min-room.ensures, c.len.ensures, c.requires.short))
+    (omega (
+      arith,
+      length-append c.args.line.items (take c.min-room.result c.args.bytes.now),
+      length-take c.min-room.result c.args.bytes.now,
+      c.min-room.ensures,
+      c.len.ensures,
+      c.requires.short,
+    ))
     c.in_ok-extend_from_slice-in-None.ensures.items (c.in_ok-later-in-None.ensures.made c.args.store.now)
 
 pub returns-in_ok-later-in-Some-clause-leads : goal.returns-in_ok-later-in-Some-clause-leads

@@ -9,17 +9,17 @@ pub returns-in_err-later-clause-whole : goal.returns-in_err-later-clause-whole
 returns-in_err-later-clause-whole c =
     on_err c.from_residual.result _
     (whole_at _ _ _ _ _ c.in_err-later.ensures.err
-        (reached_whole (standing_in c.args.mode) c.args.store.now c.args.bytes.now c.loop-rest.rest.now
-            c.loop-rest.replies.items (standing_in c.loop-rest.mode) c.loop-rest.store c.loop-rest.invariant.reached))
+    (reached_whole (standing_in c.args.mode) c.args.store.now c.args.bytes.now c.loop-rest.rest.now
+    c.loop-rest.replies.items (standing_in c.loop-rest.mode) c.loop-rest.store c.loop-rest.invariant.reached))
 
 pub loop-rest-preserved : goal.loop-rest-preserved
 loop-rest-preserved c = record {
   short = c.in_ok-later.ensures.short;
   reached = rw (take_rest c.loop-rest.rest.now c.in_ok-later.taken)
       (reached_next (standing_in c.args.mode) c.args.store.now c.args.bytes.now c.loop-rest.rest.now
-          c.loop-rest.replies.items (standing_in c.loop-rest.mode) c.loop-rest.store c.in_ok-later.taken
-          (standing_in c.in_ok-later.later) c.take_some.new.store c.take_some.new.replies.items
-          c.loop-rest.invariant.reached c.in_ok-later.ensures.leads);
+      c.loop-rest.replies.items (standing_in c.loop-rest.mode) c.loop-rest.store c.in_ok-later.taken
+      (standing_in c.in_ok-later.later) c.take_some.new.store c.take_some.new.replies.items
+      c.loop-rest.invariant.reached c.in_ok-later.ensures.leads);
 }
 
 pub returns-clause-answered : goal.returns-clause-answered

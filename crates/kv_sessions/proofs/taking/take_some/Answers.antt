@@ -19,8 +19,14 @@ returns-in_ok-later-in-Block-clause-leads c =
     in_block c.args.mode c.in-Block.block.key.items c.in-Block.block.bytes.items c.args.bytes.now c.in-Block.block.flags
     c.in-Block.block.len c.min-taken.result c.args.store.now c.args.replies.now.items c.take_block.new.replies.items
     c.take_block.new.store c.in_ok-later-in-Block.later (ap standing_in c.in-Block.is)
-    (omega (arith, length-append c.in-Block.block.bytes.items (take c.min-taken.result c.args.bytes.now),
-        length-take c.min-taken.result c.args.bytes.now, c.min-taken.ensures, c.len.ensures, short.1))
+    (omega (
+      arith,
+      length-append c.in-Block.block.bytes.items (take c.min-taken.result c.args.bytes.now),
+      length-take c.min-taken.result c.args.bytes.now,
+      c.min-taken.ensures,
+      c.len.ensures,
+      short.1,
+    ))
     c.in_ok-later-in-Block.ensures.made
 
 pub returns-in_ok-later-in-Dropped-clause-leads : goal.returns-in_ok-later-in-Dropped-clause-leads

@@ -13,7 +13,7 @@ pub returns-in_err-mode-clause-whole : goal.returns-in_err-mode-clause-whole
 returns-in_err-mode-clause-whole c =
     on_err c.from_residual.result _
     (whole_from c.args.self.now (standing_in c.replace-mode.result) c.args.store.now c.args.bytes.now
-        c.take_piece.new.store (ap standing_in c.replace-mode.ensures.value ∙ c.self.view_is) c.in_err-mode.ensures.whole)
+    c.take_piece.new.store (ap standing_in c.replace-mode.ensures.value ∙ c.self.view_is) c.in_err-mode.ensures.whole)
 
 pub returns-clause-answered : goal.returns-clause-answered
 returns-clause-answered c =
