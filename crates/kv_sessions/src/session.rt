@@ -95,6 +95,7 @@ mod tests {
     use std::test::Fail;
 
     const HELLO: &[u8] = b"set k 0 0 5\r\nhello\r\nget k\r\ndelete k\r\nget k\r\n";
+
     const SAID: &[u8] = b"STORED\r\nVALUE k 0 5\r\nhello\r\nEND\r\nDELETED\r\nEND\r\n";
 
     // What a stream is answered in two pieces.
@@ -131,7 +132,10 @@ mod tests {
             (b"get k l\n", b"END\r\n"),
             (b"set k 0 0 01\r\n", b"ERROR\r\n"),
             (b"set k 0 0 1 noreply\r\n", b"ERROR\r\n"),
-            (b" set  k 4294967295 7 0 \n\r\nget k k\n", b"STORED\r\nVALUE k 4294967295 0\r\n\r\nVALUE k 4294967295 0\r\n\r\nEND\r\n"),
+            (
+                b" set  k 4294967295 7 0 \n\r\nget k k\n",
+                b"STORED\r\nVALUE k 4294967295 0\r\n\r\nVALUE k 4294967295 0\r\n\r\nEND\r\n",
+            ),
             (b"set k 4294967296 0 0\n", b"ERROR\r\n"),
             (b"delete k\nquit\nget k\n", b"NOT_FOUND\r\n"),
         ];
@@ -150,7 +154,10 @@ mod tests {
         assert!(rt; nothing.is_empty());
         assert!(rt; !session.ended());
         let reply = session.feed(&mut store, b"c")?;
-        assert_eq!(rt; reply.as_slice(), b"CLIENT_ERROR bad data chunk\r\n".as_slice());
+        assert_eq!(rt;
+            reply.as_slice(),
+            b"CLIENT_ERROR bad data chunk\r\n".as_slice()
+        );
         assert!(rt; session.ended());
         Ok(())
     }
@@ -180,7 +187,10 @@ mod tests {
         stream.resize(17 + 65_539, 10)?;
         stream.extend_from_slice(b"get k\r\n")?;
         let replies = said(rt.alloc(), &stream)?;
-        assert_eq!(rt; replies.as_slice(), b"SERVER_ERROR object too large for cache\r\nEND\r\n".as_slice());
+        assert_eq!(rt;
+            replies.as_slice(),
+            b"SERVER_ERROR object too large for cache\r\nEND\r\n".as_slice()
+        );
         Ok(())
     }
 }
