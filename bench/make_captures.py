@@ -10,6 +10,9 @@ syns.pcap: 1,190,000 SYNs, each from another end.
 reopened.pcap: 500,000 times a SYN and a reset on one four-tuple.
 empty.pcap: 4,194,000 records without a byte.
 small.pcap: 1,170,000 segments of one byte, in order.
+scaled-60.pcap: a download of 60 MB, whose ends scale their windows by 7: the local host sends segments of 1,460 bytes,
+    of which each second one is acknowledged.
+scaled-idle.pcap: 1,000 connections whose ends scale their windows by 7, and on which nothing is sent.
 """
 import os
 import struct
@@ -32,13 +35,15 @@ def checksum(number):
     return 0xFFFF - number
 
 
-def packet(port, seq, ack, flags, payload, payload_total, remote=REMOTE):
-    """A segment from the remote host's port to the local port 80."""
-    length = 40 + len(payload)
-    ip = struct.pack(">BBHHHBBH", 0x45, 0, length, 0, 0x4000, 64, 6, 0) + remote + LOCAL
+def packet(port, seq, ack, flags, payload, payload_total, remote=REMOTE, is_local=False, window=65535, options=b""):
+    """A segment from the remote host's port to the local port 80, or back."""
+    ends, ports = (LOCAL + remote, (80, port)) if is_local else (remote + LOCAL, (port, 80))
+    length = 40 + len(options) + len(payload)
+    ip = struct.pack(">BBHHHBBH", 0x45, 0, length, 0, 0x4000, 64, 6, 0) + ends
     ip = ip[:10] + struct.pack(">H", checksum(total(ip))) + ip[12:]
-    tcp = struct.pack(">HHIIBBHHH", port, 80, seq % 2**32, ack, 0x50, flags, 65535, 0, 0)
-    pseudo = total(remote) + total(LOCAL) + 6 + len(tcp) + len(payload)
+    offset = 20 + len(options) << 2
+    tcp = struct.pack(">HHIIBBHHH", *ports, seq % 2**32, ack % 2**32, offset, flags, window, 0, 0) + options
+    pseudo = total(ends) + 6 + len(tcp) + len(payload)
     tcp = tcp[:16] + struct.pack(">H", checksum(pseudo + total(tcp) + payload_total)) + tcp[18:]
     return ip + tcp + payload
 
@@ -66,6 +71,37 @@ def uploads(path, flows, size, segment=MSS):
     for turn in range(size // (segment * flows)):
         for port, ack in flow_acks:
             capture.add(packet(port, 101 + turn * segment, ack, 24, payload, payload_total))
+
+
+# MSS 1,460 and Window Scale 7, as a SYN bears them (RFC 7323, section 2.2).
+SCALED = struct.pack(">BBHBBBB", 2, 4, MSS, 1, 3, 3, 7)
+
+
+def scaled(capture, port):
+    """A connection that the remote host opens; the local one's number is 7,000."""
+    capture.add(packet(port, 100, 0, 2, b"", 0, options=SCALED))
+    capture.add(packet(port, 7000, 101, 18, b"", 0, is_local=True, options=SCALED))
+    capture.add(packet(port, 101, 7001, 16, b"", 0, window=2048))
+
+
+def download(path, size):
+    """One download of so many bytes, with 262,144 bytes of room for it."""
+    capture = Capture(path)
+    scaled(capture, 20000)
+    payload = bytes((i * 7 + i // 251) % 256 for i in range(MSS))
+    payload_total = total(payload)
+    for turn in range(size // MSS):
+        sent = 7001 + turn * MSS
+        capture.add(packet(20000, sent, 101, 24, payload, payload_total, is_local=True, window=2048))
+        if turn % 2:
+            capture.add(packet(20000, 101, sent + MSS, 16, b"", 0, window=2048))
+
+
+def scaled_idle(path, flows):
+    """So many connections on which nothing is sent."""
+    capture = Capture(path)
+    for i in range(flows):
+        scaled(capture, 20000 + i)
 
 
 def resets(path, count):
@@ -156,6 +192,8 @@ def main():
     reopened(os.path.join(folder, "reopened.pcap"), 500_000)
     empty(os.path.join(folder, "empty.pcap"), 4_194_000)
     small(os.path.join(folder, "small.pcap"), 1_170_000)
+    download(os.path.join(folder, "scaled-60.pcap"), 60_000_000)
+    scaled_idle(os.path.join(folder, "scaled-idle.pcap"), 1000)
 
 
 if __name__ == "__main__":

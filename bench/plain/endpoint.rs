@@ -4,10 +4,16 @@
 
 use crate::history::{Call, Phase, Reason, Reply, Timeout};
 use crate::receive::Island;
+use crate::script::Start;
 use crate::segment::{Header, Segment, ACK, FIN, PSH, SYN};
 
-/// The bytes that a ring has room for each way.
-pub const RING: u64 = 65535;
+/// The bytes that a ring has room for each way, and where the host gave the flow a window scale.
+const RING: u64 = 65535;
+const SCALED_RING: u64 = 262144;
+/// The most bytes that a window's field tells.
+const MOST_FIELD: u64 = 65535;
+/// The most bytes that a Recv asks for.
+const MOST_READ: u64 = 65535;
 /// The host's own MSS, in bytes.
 pub const MSS: u32 = 1460;
 /// The payload's limit for a peer whose SYN names no MSS, and the least of all, in bytes (RFC 9293, 3.7.1).
@@ -31,6 +37,11 @@ pub struct Endpoint<'a> {
     /// Its own first sequence number, and the peer's once its SYN was taken.
     pub iss: u32,
     pub peer: Option<u32>,
+    /// The shift that it may scale its window by, where it has one, and whether both sides agreed to scale windows; then
+    /// the peer's shift (RFC 7323, 2.3).
+    own_shift: Option<u8>,
+    is_scaled: bool,
+    peer_shift: u8,
     /// Why it is closed, if it is.
     pub reason: Option<Reason>,
 
@@ -44,7 +55,7 @@ pub struct Endpoint<'a> {
     pub max: u64,
     /// The peer's window, with the place and the acknowledgement of the segment that it is from (SND.WND, SND.WL1 and
     /// SND.WL2).
-    pub window: u16,
+    pub window: u32,
     pub wl1: u64,
     pub wl2: u64,
     /// Duplicate acknowledgements, 3 at most (RFC 5681, 2).
@@ -80,21 +91,56 @@ pub struct Emission {
 
 impl<'a> Endpoint<'a> {
     /// The endpoint of an application's connect (RFC 9293, 3.10.1).
-    pub fn connecting(iss: u32) -> Self {
-        Endpoint { iss, ..Endpoint::default() }
+    pub fn connecting(start: Start) -> Self {
+        Endpoint { iss: start.number, own_shift: start.scale, ..Endpoint::default() }
     }
 
     /// The endpoint that a SYN opens; nothing else of that segment is taken (RFC 9293, 3.10.7.2).
-    pub fn accepting(iss: u32, syn: &Segment) -> Self {
-        let header = syn.header;
-        let mut opened = Endpoint { iss, peer: Some(header.seq), window: header.window, ..Endpoint::default() };
-        opened.take_mss(syn.mss);
+    pub fn accepting(start: Start, syn: &Segment) -> Self {
+        let mut opened = Endpoint::connecting(start);
+        opened.peer = Some(syn.header.seq);
+        opened.window = syn.header.window as u32;
+        opened.take_options(syn);
         opened
     }
 
-    pub fn take_mss(&mut self, theirs: Option<u16>) {
-        self.payload_limit = theirs.map_or(DEFAULT_MSS, u32::from).min(MSS).max(LEAST_MSS);
+    /// Takes the options of the peer's SYN.
+    pub fn take_options(&mut self, syn: &Segment) {
+        self.payload_limit = syn.mss.map_or(DEFAULT_MSS, u32::from).min(MSS).max(LEAST_MSS);
         self.tokens = CONGESTION_WINDOW as u32;
+        if let (Some(_), Some(theirs)) = (self.own_shift, syn.scale) {
+            self.is_scaled = true;
+            self.peer_shift = theirs;
+        }
+    }
+
+    /// The shift that its SYN bears: an answer bears one where the peer's SYN did (RFC 7323, 2.2).
+    pub fn shift_in_syn(&self) -> Option<u8> {
+        self.own_shift.filter(|_| self.peer.is_none() || self.is_scaled)
+    }
+
+    /// The shift of the windows that it shows.
+    fn shift(&self) -> u8 {
+        self.own_shift.filter(|_| self.is_scaled).unwrap_or(0)
+    }
+
+    /// The window that a segment of the peer offers, in bytes.
+    pub fn offered(&self, segment: &Segment) -> u32 {
+        let field = segment.header.window as u32;
+        if segment.has(SYN) {
+            field
+        } else {
+            field << self.peer_shift
+        }
+    }
+
+    /// The bytes that its ring has room for each way.
+    fn ring(&self) -> u64 {
+        if self.own_shift.is_some() {
+            SCALED_RING
+        } else {
+            RING
+        }
     }
 
     /// SYN-SENT or SYN-RECEIVED.
@@ -127,9 +173,14 @@ impl<'a> Endpoint<'a> {
         }
     }
 
-    /// The room for what the peer sends, in bytes, which is the window that it is shown (RCV.WND).
-    pub fn free(&self) -> u64 {
-        RING - (self.received - self.read)
+    /// The room for what the peer sends, in bytes.
+    fn free(&self) -> u64 {
+        self.ring() - (self.received - self.read)
+    }
+
+    /// As much of it as a field can tell (RCV.WND).
+    pub fn own_window(&self) -> u64 {
+        self.free().min(MOST_FIELD << self.shift())
     }
 
     /// The place that is expected next of the peer (RCV.NXT).
@@ -152,7 +203,15 @@ impl<'a> Endpoint<'a> {
             flags,
             seq: self.iss.wrapping_add(place as u32),
             ack: self.peer.unwrap_or(0).wrapping_add(self.next_place() as u32),
-            window: self.free() as u16,
+            window: self.window_field(flags & SYN != 0),
+        }
+    }
+
+    fn window_field(&self, is_of_syn: bool) -> u16 {
+        if is_of_syn {
+            self.free().min(MOST_FIELD) as u16
+        } else {
+            (self.own_window() >> self.shift()) as u16
         }
     }
 
@@ -166,7 +225,7 @@ impl<'a> Endpoint<'a> {
 impl Endpoint<'_> {
     /// Takes the first of so many bytes, as many as there is room for (RFC 9293, 3.10.2).
     pub fn send(&mut self, offered: u32) -> Call {
-        let taken = (offered as u64).min(RING - self.unacknowledged()) as u32;
+        let taken = (offered as u64).min(self.ring() - self.unacknowledged()) as u32;
         let reply = match self.reason {
             Some(reason) => Reply::Closed(reason),
             None if self.shut => Reply::Shut,
@@ -179,9 +238,9 @@ impl Endpoint<'_> {
         Call::Send { offered, reply }
     }
 
-    /// Gives all bytes that were not read (RFC 9293, 3.10.3). A Recv asks for as many as a ring holds.
+    /// Gives the bytes that were not read, as many as a Recv asks for (RFC 9293, 3.10.3).
     pub fn recv(&mut self) -> Call {
-        let unread = self.received - self.read;
+        let unread = (self.received - self.read).min(MOST_READ);
         match self.reason {
             Some(reason) if reason != Reason::Done => Call::Recv(Reply::Closed(reason)),
             _ if unread > 0 => self.give(unread as u32),
@@ -191,11 +250,12 @@ impl Endpoint<'_> {
         }
     }
 
-    /// Gives so many bytes, and shows the window again where it is one segment wide now (RFC 9293, 3.8.6.2.2).
+    /// Gives so many bytes, and shows the window again where it is one segment wide now, or one unit of its field (RFC
+    /// 9293, 3.8.6.2.2).
     fn give(&mut self, length: u32) -> Call {
         let before = self.free();
         self.read += length as u64;
-        let needed = MSS as u64;
+        let needed = (MSS as u64).max(1 << self.shift());
         if self.peer_ended || before >= needed || self.free() < needed {
             return Call::Got(length);
         }

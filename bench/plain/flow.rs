@@ -14,6 +14,8 @@ pub struct Opening {
     pub generation: u32,
     pub tick: u32,
     pub iss: u32,
+    /// The shift that its SYN bears, if it bears one.
+    pub scale: Option<u8>,
     /// The SYN that opened it; none where an application's connect did.
     pub syn: Option<Frame>,
 }

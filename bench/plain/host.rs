@@ -4,14 +4,14 @@ use crate::capture::{Content, Frame, Item, Tuple, TupleMap};
 use crate::endpoint::Endpoint;
 use crate::flow::{FinishedFlow, Flow, Opening};
 use crate::report::Report;
-use crate::script::{Cue, FirstNumbers};
+use crate::script::{Cue, Starts};
 use crate::segment::{Segment, ACK, RST, SYN};
 use std::io;
 
 const SLOTS: usize = 1024;
 
 pub struct Host<'a> {
-    first_numbers: FirstNumbers,
+    starts: Starts,
     /// The lines of the log are the first ones of the host in the report, and go there at once.
     report: Report<'a>,
     /// The slot of each four-tuple's flow.
@@ -27,9 +27,9 @@ pub struct Host<'a> {
 }
 
 impl<'a> Host<'a> {
-    pub fn new(first_numbers: FirstNumbers, report: Report<'a>) -> Self {
+    pub fn new(starts: Starts, report: Report<'a>) -> Self {
         Host {
-            first_numbers,
+            starts,
             report,
             index: TupleMap::default(),
             slots: Vec::new(),
@@ -142,16 +142,17 @@ impl<'a> Host<'a> {
     /// Opens a flow in a slot that is free, by a SYN that came or by an application's connect.
     fn open(&mut self, tick: u32, slot: u16, tuple: Tuple, syn: Option<(Frame, &Segment<'a>)>) {
         let number = self.flows.len();
-        let iss = self.first_numbers.take(tuple, number);
+        let start = self.starts.take(tuple, number);
         let place = slot as usize;
         self.free[place / 64] &= !(1 << (place % 64));
         self.generations[place] += 1;
         let generation = self.generations[place];
-        let opening = Opening { tuple, slot, generation, tick, iss, syn: syn.map(|(frame, _)| frame) };
         let endpoint = match syn {
-            Some((_, segment)) => Endpoint::accepting(iss, segment),
-            None => Endpoint::connecting(iss),
+            Some((_, segment)) => Endpoint::accepting(start, segment),
+            None => Endpoint::connecting(start),
         };
+        let (iss, scale) = (start.number, endpoint.shift_in_syn());
+        let opening = Opening { tuple, slot, generation, tick, iss, scale, syn: syn.map(|(frame, _)| frame) };
         // the lowest slot that is free is at most one past those that were ever used
         if place == self.slots.len() {
             self.slots.push(None);

@@ -33,7 +33,7 @@ use capture::{Capture, Content, Frame, Item, NoCapture, Tuple};
 use host::Host;
 use output::Output;
 use report::{Counts, Report};
-use script::FirstNumbers;
+use script::Starts;
 use std::fs::File;
 use std::io::{self, Read};
 use std::net::Ipv4Addr;
@@ -119,9 +119,9 @@ impl<'a> Batch<'a> {
 /// Plays the host with this address, and writes the report.
 fn replay(capture: &Capture, local: u32) -> Result<(), Failure> {
     // all records are looked at before anything is written, so that nothing is where one is at fault
-    let (first_numbers, records) = FirstNumbers::in_capture(capture, local)?;
+    let (starts, records) = Starts::in_capture(capture, local)?;
     let output = Output::stdout().map_err(|_| Failure::Write)?;
-    let mut host = Host::new(first_numbers, Report::begin(output, capture.bytes, local));
+    let mut host = Host::new(starts, Report::begin(output, capture.bytes, local));
     let mut counts = Counts { records, frames: 0, refused: 0 };
     let mut batch = Batch::new();
     let mut ticks = 0;

@@ -130,11 +130,19 @@ impl Output {
 
     pub fn segment(&mut self, segment: &Segment) -> io::Result<()> {
         self.header(segment.header);
-        if let Some(mss) = segment.mss {
+        self.options(segment.mss, segment.scale);
+        self.payload(segment.payload)
+    }
+
+    pub fn options(&mut self, mss: Option<u16>, scale: Option<u8>) {
+        if let Some(mss) = mss {
             self.text(b" mss ");
             self.number(mss as u32);
         }
-        self.payload(segment.payload)
+        if let Some(shift) = scale {
+            self.text(b" ws ");
+            self.number(shift as u32);
+        }
     }
 
     pub fn reply(&mut self, reply: Reply) {

@@ -73,18 +73,18 @@ impl<'a> Endpoint<'a> {
         self.peer = Some(segment.header.seq);
         self.una = 1;
         self.nxt = self.nxt.max(1);
-        self.window = segment.header.window;
+        self.window = segment.header.window as u32;
         self.wl1 = 0;
         self.wl2 = 1;
         self.age = 0;
         self.tries = 0;
-        self.take_mss(segment.mss);
+        self.take_options(segment);
         Some(self.ack())
     }
 
     /// RFC 9293, 3.10.7.4.
     fn arrives_later(&mut self, tick: u32, phase: Phase, segment: &Segment<'a>) -> Option<Header> {
-        let (expected, room) = (self.next_place(), self.free());
+        let (expected, room) = (self.next_place(), self.own_window());
         let number = segment.header.seq.wrapping_sub(self.peer.unwrap_or(0));
         let Some(place) = nearest_place(expected, number) else {
             return self.refusal(segment);
@@ -163,7 +163,7 @@ impl<'a> Endpoint<'a> {
             self.tries = 0;
         }
         if moves_window {
-            self.take_window(segment.header.window);
+            self.take_window(self.offered(segment));
             self.wl1 = arrival.place;
             self.wl2 = acknowledged;
         }
@@ -186,7 +186,7 @@ impl<'a> Endpoint<'a> {
     /// The third duplicate makes sending go back (RFC 5681, 2 and 3.2).
     fn count_duplicate(&mut self, segment: &Segment, acknowledged: u64) {
         let is_in_flight = self.una < self.max && self.window > 0;
-        let is_same = acknowledged == self.una && segment.header.window == self.window;
+        let is_same = acknowledged == self.una && self.offered(segment) == self.window;
         if !is_in_flight || !is_same || segment.length() != 0 {
             return;
         }
@@ -196,7 +196,7 @@ impl<'a> Endpoint<'a> {
         self.duplicates = (self.duplicates + 1).min(3);
     }
 
-    fn take_window(&mut self, window: u16) {
+    fn take_window(&mut self, window: u32) {
         if self.window == 0 && window > 0 {
             self.age = 0;
             self.is_probe_due = false;

@@ -116,6 +116,7 @@ impl<'a> Report<'a> {
         let mut lines = Entries {
             output: &mut self.output,
             capture: self.capture,
+            scale: flow.opening.scale,
             sent: &flow.sent,
             pieces: flow.pieces.iter(),
             piece: &[],
@@ -197,7 +198,8 @@ impl<'a> Report<'a> {
 struct Entries<'o, 'a> {
     output: &'o mut Output,
     capture: &'a [u8],
-    /// The bytes that the flow sent.
+    /// The shift in the flow's SYN, and the bytes that it sent.
+    scale: Option<u8>,
     sent: &'o [u8],
     /// The pieces of what it received that no entry showed yet, and what is left of the one before them.
     pieces: slice::Iter<'o, &'a [u8]>,
@@ -380,8 +382,7 @@ impl Entries<'_, '_> {
         self.by_core += 1;
         output.header(header);
         if header.flags & SYN != 0 {
-            output.text(b" mss ");
-            output.number(MSS);
+            output.options(Some(MSS as u16), self.scale);
         }
         // of a SYN or a FIN the place is none of the stream's bytes
         if length > 0 {

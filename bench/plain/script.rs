@@ -89,54 +89,68 @@ impl Flow<'_> {
     }
 }
 
-/// The different first numbers that the local SYNs of each four-tuple show, in their order.
+/// What a flow gets at its opening: its first number, and a shift to scale its window by.
+#[derive(Clone, Copy)]
+pub struct Start {
+    pub number: u32,
+    pub scale: Option<u8>,
+}
+
+/// The shift is 10 at most.
+const MOST_SHIFT: u8 = 10;
+
+/// The different first numbers that the local SYNs of each four-tuple show, in their order, each with the shift of the
+/// first SYN that has it.
 #[derive(Default)]
-pub struct FirstNumbers {
-    tuples: TupleMap<Numbers>,
+pub struct Starts {
+    tuples: TupleMap<Shown>,
 }
 
 #[derive(Default)]
-struct Numbers {
-    shown: Vec<u32>,
+struct Shown {
+    shown: Vec<Start>,
     /// How many flows of the four-tuple were opened.
     opened: usize,
 }
 
-impl FirstNumbers {
+impl Starts {
     /// Looks through a whole capture, and says how many records it has.
     pub fn in_capture(capture: &Capture, local: u32) -> Result<(Self, u32), NoCapture> {
-        let mut tuples = TupleMap::<Numbers>::default();
+        let mut tuples = TupleMap::<Shown>::default();
         let mut seen = HashSet::new();
         let mut records = 0;
         for record in capture.records() {
             let record = record?;
             records = record.number.get();
             let Some(packet) = record.packet else { continue };
-            let Some((tuple, number)) = local_syn(&capture.bytes[packet], local) else { continue };
-            if seen.insert((tuple, number)) {
-                tuples.entry(tuple).or_default().shown.push(number);
+            let Some((tuple, start)) = local_syn(&capture.bytes[packet], local) else { continue };
+            if seen.insert((tuple, start.number)) {
+                tuples.entry(tuple).or_default().shown.push(start);
             }
         }
-        Ok((FirstNumbers { tuples }, records))
+        Ok((Starts { tuples }, records))
     }
 
-    /// The first number of the next flow of a four-tuple, where the host opened so many flows before.
-    pub fn take(&mut self, tuple: Tuple, flows: usize) -> u32 {
-        let fallback = 64000u32.wrapping_mul(flows as u32);
-        let Some(numbers) = self.tuples.get_mut(&tuple) else { return fallback };
-        numbers.opened += 1;
-        numbers.shown.get(numbers.opened - 1).copied().unwrap_or(fallback)
+    /// What the next flow of a four-tuple gets, where the host opened so many flows before.
+    pub fn take(&mut self, tuple: Tuple, flows: usize) -> Start {
+        let fallback = Start { number: 64000u32.wrapping_mul(flows as u32), scale: None };
+        let Some(starts) = self.tuples.get_mut(&tuple) else { return fallback };
+        starts.opened += 1;
+        starts.shown.get(starts.opened - 1).copied().unwrap_or(fallback)
     }
 }
 
-/// The four-tuple and the number of a packet that is a local SYN. The address alone tells most packets apart, which is
-/// cheaper than to read them all twice.
-fn local_syn(packet: &[u8], local: u32) -> Option<(Tuple, u32)> {
+/// The four-tuple of a packet that is a local SYN, and what it shows. The address alone tells most packets apart, which
+/// is cheaper than to read them all twice.
+fn local_syn(packet: &[u8], local: u32) -> Option<(Tuple, Start)> {
     if packet.len() < 20 || segment::word(packet, 12) != local {
         return None;
     }
     match Content::of(packet, local)? {
-        Content::Local(tuple, segment) if segment.has(SYN) => Some((tuple, segment.header.seq)),
+        Content::Local(tuple, segment) if segment.has(SYN) => {
+            let scale = segment.scale.map(|shift| shift.min(MOST_SHIFT));
+            Some((tuple, Start { number: segment.header.seq, scale }))
+        }
         _ => None,
     }
 }

@@ -9,7 +9,7 @@ pub const URG: u8 = 32;
 
 const PROTOCOL_TCP: u8 = 6;
 
-/// What a segment says beside its MSS and its payload, as it stands on the wire (RFC 9293, 3.1).
+/// What a segment says beside its options and its payload, as it stands on the wire (RFC 9293, 3.1).
 #[derive(Clone, Copy)]
 pub struct Header {
     pub flags: u8,
@@ -28,8 +28,10 @@ impl Header {
 #[derive(Clone, Copy)]
 pub struct Segment<'a> {
     pub header: Header,
-    /// The MSS option, in bytes; it is looked for in a SYN alone (RFC 9293, 3.7.1).
+    /// The MSS option, in bytes, and the shift of the option Window Scale; they are looked for in a SYN alone (RFC 9293,
+    /// 3.7.1; RFC 7323, 2.2).
     pub mss: Option<u16>,
+    pub scale: Option<u8>,
     pub payload: &'a [u8],
 }
 
@@ -107,11 +109,11 @@ impl<'a> Packet<'a> {
             return Err(Rule::TcpHeader);
         }
         let header = Header { flags: tcp[13], seq: word(tcp, 4), ack: word(tcp, 8), window: half_word(tcp, 14) };
-        let mss = if header.flags & SYN != 0 { mss_in(&tcp[20..offset]) } else { None };
+        let (mss, scale) = if header.flags & SYN != 0 { options_in(&tcp[20..offset]) } else { (None, None) };
         Ok(Packet {
             source: End { address: word(bytes, 12), port: half_word(tcp, 0) },
             target: End { address: word(bytes, 16), port: half_word(tcp, 2) },
-            segment: Segment { header, mss, payload: &tcp[offset..] },
+            segment: Segment { header, mss, scale, payload: &tcp[offset..] },
             bytes,
             tcp,
         })
@@ -160,17 +162,27 @@ pub fn has_right_ip_sum(bytes: &[u8]) -> bool {
     is_right(sum(&bytes[..header_length(bytes)]))
 }
 
-/// The first MSS among a segment's options, up to the end of the list or one that is malformed (RFC 9293, 3.2).
-fn mss_in(mut options: &[u8]) -> Option<u16> {
+/// The first MSS and the first shift among a segment's options, up to the end of the list or one that is malformed
+/// (RFC 9293, 3.2). A shift above 14 is read as 14 (RFC 7323, 2.3).
+fn options_in(mut options: &[u8]) -> (Option<u16>, Option<u8>) {
+    let (mut mss, mut scale) = (None, None);
     loop {
         match *options {
-            [] | [0, ..] => return None,
-            [1, ..] => options = &options[1..],
-            [2, 4, high, low, ..] => return Some(u16::from_be_bytes([high, low])),
+            [] | [0, ..] => break,
+            [1, ..] => {
+                options = &options[1..];
+                continue;
+            }
+            [2, 4, high, low, ..] => mss = mss.or(Some(u16::from_be_bytes([high, low]))),
+            [3, 3, shift, ..] => scale = scale.or(Some(shift.min(14))),
+            _ => {}
+        }
+        match *options {
             [_, length, ..] if length >= 2 && length as usize <= options.len() => options = &options[length as usize..],
-            _ => return None,
+            _ => break,
         }
     }
+    (mss, scale)
 }
 
 fn half_word(bytes: &[u8], at: usize) -> u16 {

@@ -1,4 +1,4 @@
--- How the first numbers are kept.
+-- How the starts are kept.
 use Rattle.std.proofs.Common.{◌≡◌, ℕ, zero, suc, ◌+◌, ◌==◌, ◌&&◌, ◌||◌, ◌≤◌, not, Bool, true, false}
 use Rattle.std.proofs.Common.{cond, List, [], ◌∷◌, ◌++◌, length, fold, filter_map, Option, Some}
 use Rattle.std.proofs.Common.{None, if◌then◌else◌, refl, sym, ap, ◌∙◌, subst, true≢false, arith, length-append}
@@ -7,31 +7,34 @@ use Rattle.std.specs.List.{slice_get, list_any, cons_option}
 use Rattle.std.specs.Map.{lookup}
 use Rattle.std.specs.HashMap.{get}
 use Rattle.std.specs.HashSet.{contains}
-use Rattle.std.specs.Option.{option_map, unwrap_or}
+use Rattle.std.specs.Option.{unwrap_or}
 use Rattle.std.proofs.lemmas.List.Elements.{filter_map-append}
 use Rattle.std.proofs.lemmas.List.Sums.{fold-append}
-use Rattle.tas_num.specs.declared.seq.Seq.{Seq}
 use Rattle.tas_model.specs.declared.entry.FourTuple.{FourTuple}
 use Rattle.tas_runs.specs.Records.{Item}
+use Rattle.host_rounds.specs.declared.opening.Start.{Start}
 use Rattle.host_rounds.specs.Hosts.{same_tuple}
-use Rattle.tas_runs.specs.FirstNumbers.{with_new, local_syn, local_numbers, first_number}
-use Rattle.capture_items.specs.Numbers.{equal_tuple, same_turn, same_known, number_at, number_or, kept_numbers}
-use Rattle.capture_items.specs.Numbers.{AreNumbersOf, count_in, AreOf, with_one}
-use Rattle.capture_items.specs.declared.numbers.Turn.{Turn}
-use Rattle.capture_items.specs.declared.numbers.Known.{Known}
-use Rattle.capture_items.specs.declared.numbers.Numbering.{Numbering}
+use Rattle.tas_runs.specs.Starts.{with_new, local_syn, local_syns, first_start}
+use Rattle.capture_items.specs.Starts.{equal_tuple, same_turn, same_known, syn_at, start_or, kept_starts}
+use Rattle.capture_items.specs.Starts.{AreStartsOf, count_in, AreOf, with_one}
+use Rattle.capture_items.specs.declared.starts.Turn.{Turn}
+use Rattle.capture_items.specs.declared.starts.Known.{Known}
+use Rattle.capture_items.specs.declared.starts.Numbering.{Numbering}
 
--- ----- a number is found
-pub number_found : (kept : List (Turn × Seq)) (tuple : FourTuple) (k n : ℕ) (o : Option Seq)
-    → lookup (same_turn (record { tuple = tuple; place = k })) kept ≡ o
-    → number_or n (option_map (λ (s : Seq). s.0) o) ≡ kept_numbers kept tuple k n
-number_found kept tuple k n o found = ap (λ (p : Option Seq). number_or n (option_map (λ (s : Seq). s.0) p)) (sym found)
+-- ----- a start is found
+-- a number alone
+abbrev pub numbered : ℕ → Start
+numbered n = record { number = record { 0 = n }; scale = None }
 
--- the numbers that are kept of the items are theirs
-pub numbers_are : (items : List Item) (kept : List (Turn × Seq)) (tuple : FourTuple) (k n : ℕ) → AreNumbersOf items kept
-    → kept_numbers kept tuple k n ≡ first_number items tuple k n
-unfolding first_number
-numbers_are items kept tuple k n are = ap (number_or n) (are tuple k)
+pub start_found : (kept : List (Turn × Start)) (tuple : FourTuple) (k n : ℕ) (o : Option Start)
+    → lookup (same_turn (record { tuple = tuple; place = k })) kept ≡ o → start_or n o ≡ kept_starts kept tuple k n
+start_found kept tuple k n o found = ap (start_or n) (sym found)
+
+-- the starts that are kept of the items are theirs
+pub starts_are : (items : List Item) (kept : List (Turn × Start)) (tuple : FourTuple) (k n : ℕ)
+    → AreStartsOf items kept → kept_starts kept tuple k n ≡ first_start items tuple k n
+unfolding first_start
+starts_are items kept tuple k n are = ap (start_or n) (are tuple k)
 
 -- ----- four-tuples
 -- those of one flow are the same
@@ -84,32 +87,31 @@ one_less m k = by_equal (m == k) refl where
   by_equal true e = grind (arith, nat_tests, e)
   by_equal false e = grind (arith, nat_tests, e)
 
-mapped_cond : (b : Bool) (x : Seq) (o : Option Seq)
-    → option_map (λ (s : Seq). s.0) (cond b (Some x) o) ≡ cond b (Some x.0) (option_map (λ (s : Seq). s.0) o)
-mapped_cond true x o = refl
-mapped_cond false x o = refl
-
-pub slice_get-push : (xs : List ℕ) (n k : ℕ) → slice_get (xs ++ n ∷ []) k
-    ≡ cond (length xs == k) (Some n) (slice_get xs k)
-slice_get-push [] n zero = refl
-slice_get-push [] n (suc k) =
+pub slice_get-push : {X : Type 0} (xs : List X) (y : X) (k : ℕ)
+    → slice_get (xs ++ y ∷ []) k ≡ cond (length xs == k) (Some y) (slice_get xs k)
+slice_get-push [] y zero = refl
+slice_get-push [] y (suc k) =
     let apart : (0 == suc k) ≡ false = grind (arith, nat_tests) in
     rw apart refl
-slice_get-push (x ∷ xs) n zero =
+slice_get-push (x ∷ xs) y zero =
     let apart : (length (x ∷ xs) == 0) ≡ false = grind (arith, nat_tests) in
     rw apart refl
-slice_get-push (x ∷ xs) n (suc k) =
+slice_get-push (x ∷ xs) y (suc k) =
     let same : (length (x ∷ xs) == suc k) ≡ (length xs == k) = one_less (length xs) k in
-    slice_get-push xs n k ∙ ap (λ (b : Bool). cond b (Some n) (slice_get xs k)) (sym same)
+    slice_get-push xs y k ∙ ap (λ (b : Bool). cond b (Some y) (slice_get xs k)) (sym same)
 
-pub list_any-push : (xs : List ℕ) (n m : ℕ) → list_any (λ x. x == m) (xs ++ n ∷ [])
-    ≡ cond (n == m) true (list_any (λ x. x == m) xs)
-list_any-push [] n m = or_false (n == m) where
+-- a segment in the list has this number
+abbrev is_listed : ℕ → List Start → Bool
+is_listed m xs = list_any (λ (x : Start). x.number.0 == m) xs
+
+pub list_any-push : (xs : List Start) (y : Start) (m : ℕ)
+    → is_listed m (xs ++ y ∷ []) ≡ cond (y.number.0 == m) true (is_listed m xs)
+list_any-push [] y m = or_false (y.number.0 == m) where
   or_false : (b : Bool) → (b || false) ≡ cond b true false
   or_false true = refl
   or_false false = refl
-list_any-push (x ∷ xs) n m = ap (λ b. x == m || b) (list_any-push xs n m)
-    ∙ later (x == m) (n == m) (list_any (λ x. x == m) xs) where
+list_any-push (x ∷ xs) y m = ap (λ b. x.number.0 == m || b) (list_any-push xs y m)
+    ∙ later (x.number.0 == m) (y.number.0 == m) (is_listed m xs) where
       later : (a b c : Bool) → (a || cond b true c) ≡ cond b true (a || c)
       later a true c = or_true a where
         or_true : (a : Bool) → (a || true) ≡ true
@@ -117,21 +119,20 @@ list_any-push (x ∷ xs) n m = ap (λ b. x == m || b) (list_any-push xs n m)
         or_true false = refl
       later a false c = refl
 
--- what one number more changes: it isn't listed yet
-pub record IsMore (s r : Numbering) (tuple : FourTuple) (number : Seq) : Type 0 where
-  pub fresh : contains same_known s.known (record { tuple = tuple; number = number.0 }) ≡ false
+-- what one segment more changes: its number isn't listed yet
+pub record IsMore (s r : Numbering) (tuple : FourTuple) (syn : Start) : Type 0 where
+  pub fresh : contains same_known s.known (record { tuple = tuple; number = syn.number.0 }) ≡ false
   pub counts : (q : FourTuple) → get equal_tuple r.counts q
       ≡ cond (equal_tuple tuple q) (Some (count_in s tuple + 1)) (get equal_tuple s.counts q)
   pub known : (q : Known) → contains same_known r.known q
-      ≡ cond (same_known (record { tuple = tuple; number = number.0 }) q) true (contains same_known s.known q)
-  pub numbers : (q : Turn) → get same_turn r.numbers q
-      ≡ cond (same_turn (record { tuple = tuple; place = count_in s tuple }) q) (Some number)
-      (get same_turn s.numbers q)
+      ≡ cond (same_known (record { tuple = tuple; number = syn.number.0 }) q) true (contains same_known s.known q)
+  pub syns : (q : Turn) → get same_turn r.syns q
+      ≡ cond (same_turn (record { tuple = tuple; place = count_in s tuple }) q) (Some syn) (get same_turn s.syns q)
 
-more_by : (s r : Numbering) (tuple t : FourTuple) (number : Seq) (list : List ℕ) → IsMore s r tuple number
-    → AreOf s t list → AreOf r t (if equal_tuple t tuple then with_new list number.0 else list)
-more_by s r tuple t number list more are = by_same (equal_tuple t tuple) refl where
-  by_same : (b : Bool) → equal_tuple t tuple ≡ b → AreOf r t (if b then with_new list number.0 else list)
+more_by : (s r : Numbering) (tuple t : FourTuple) (syn : Start) (list : List Start) → IsMore s r tuple syn
+    → AreOf s t list → AreOf r t (if equal_tuple t tuple then with_new list syn else list)
+more_by s r tuple t syn list more are = by_same (equal_tuple t tuple) refl where
+  by_same : (b : Bool) → equal_tuple t tuple ≡ b → AreOf r t (if b then with_new list syn else list)
   by_same false e =
       let apart : equal_tuple tuple t ≡ false = tuple_apart t tuple e in
       record {
@@ -139,72 +140,99 @@ more_by s r tuple t number list more are = by_same (equal_tuple t tuple) refl wh
             (more.counts t ∙ ap (λ (b : Bool). cond b (Some (count_in s tuple + 1)) (get equal_tuple s.counts t)) apart)
             ∙ are.counted;
         known = λ m. more.known (record { tuple = t; number = m })
-            ∙ (ap (λ (b : Bool). cond (b && number.0 == m) true
+            ∙ (ap (λ (b : Bool). cond (b && syn.number.0 == m) true
             (contains same_known s.known (record { tuple = t; number = m }))) apart ∙ are.known m);
-        numbers = λ k. ap (option_map (λ (s : Seq). s.0))
-            (more.numbers (record { tuple = t; place = k })
-            ∙ ap (λ (b : Bool). cond (b && count_in s tuple == k) (Some number)
-            (get same_turn s.numbers (record { tuple = t; place = k }))) apart) ∙ are.numbers k;
+        syns = λ k. more.syns (record { tuple = t; place = k })
+            ∙ (ap (λ (b : Bool). cond (b && count_in s tuple == k) (Some syn)
+            (get same_turn s.syns (record { tuple = t; place = k }))) apart ∙ are.syns k);
       }
   by_same true e =
       let exact : t ≡ tuple = tuple_exact t tuple e in
       let here : equal_tuple tuple t ≡ true = ap (equal_tuple tuple) exact ∙ tuple_itself tuple in
       let count : count_in s tuple ≡ length list = ap (count_in s) (sym exact) ∙ are.counted in
-      let fresh : list_any (λ m. m == number.0) list ≡ false = sym (are.known number.0)
-      ∙ (ap (λ (q : FourTuple). contains same_known s.known (record { tuple = q; number = number.0 })) exact
+      let fresh : is_listed syn.number.0 list ≡ false = sym (are.known syn.number.0)
+      ∙ (ap (λ (q : FourTuple). contains same_known s.known (record { tuple = q; number = syn.number.0 })) exact
       ∙ more.fresh) in
       let counted : count_in r t ≡ count_in s tuple + 1 = ap (λ (o : Option ℕ). unwrap_or o 0)
       (more.counts t ∙ ap (λ (b : Bool). cond b (Some (count_in s tuple + 1)) (get equal_tuple s.counts t)) here) in
-      let longer : AreOf r t (list ++ number.0 ∷ []) =
+      let longer : AreOf r t (list ++ syn ∷ []) =
       record {
-        counted = omega (arith, counted, count, length-append list (number.0 ∷ []));
+        counted = omega (arith, counted, count, length-append list (syn ∷ []));
         known = λ m. more.known (record { tuple = t; number = m })
-            ∙ (ap (λ (b : Bool). cond (b && number.0 == m) true
+            ∙ (ap (λ (b : Bool). cond (b && syn.number.0 == m) true
             (contains same_known s.known (record { tuple = t; number = m }))) here
-            ∙ (ap (cond (number.0 == m) true) (are.known m) ∙ sym (list_any-push list number.0 m)));
-        numbers = λ k. ap (option_map (λ (s : Seq). s.0))
-            (more.numbers (record { tuple = t; place = k })
-            ∙ ap (λ (b : Bool). cond (b && count_in s tuple == k) (Some number)
-            (get same_turn s.numbers (record { tuple = t; place = k }))) here)
-            ∙ (mapped_cond (count_in s tuple == k) number (get same_turn s.numbers (record { tuple = t; place = k }))
-            ∙ (ap (λ (n : ℕ). cond (n == k) (Some number.0) (number_at s.numbers.entries t k)) count
-            ∙ (ap (cond (length list == k) (Some number.0)) (are.numbers k)
-            ∙ sym (slice_get-push list number.0 k))));
+            ∙ (ap (cond (syn.number.0 == m) true) (are.known m) ∙ sym (list_any-push list syn m)));
+        syns = λ k. more.syns (record { tuple = t; place = k })
+            ∙ (ap (λ (b : Bool). cond (b && count_in s tuple == k) (Some syn)
+            (get same_turn s.syns (record { tuple = t; place = k }))) here
+            ∙ (ap (λ (n : ℕ). cond (n == k) (Some syn) (syn_at s.syns.entries t k)) count
+            ∙ (ap (cond (length list == k) (Some syn)) (are.syns k) ∙ sym (slice_get-push list syn k))));
       }
       in
       rw fresh longer
 
-pub listed_more : (s r : Numbering) (tuple t : FourTuple) (number : Seq) (list : List ℕ) → IsMore s r tuple number
-    → AreOf s t list → AreOf r t (if same_tuple t tuple then with_new list number.0 else list)
-listed_more s r tuple t number list more are = subst
-    (λ (b : Bool). AreOf r t (if b then with_new list number.0 else list)) (sym (same_equal t tuple))
-    (more_by s r tuple t number list more are)
+pub listed_more : (s r : Numbering) (tuple t : FourTuple) (syn : Start) (list : List Start) → IsMore s r tuple syn
+    → AreOf s t list → AreOf r t (if same_tuple t tuple then with_new list syn else list)
+listed_more s r tuple t syn list more are = subst
+    (λ (b : Bool). AreOf r t (if b then with_new list syn else list)) (sym (same_equal t tuple))
+    (more_by s r tuple t syn list more are)
+
+-- what stays where a number is listed already
+pub record IsSame (s r : Numbering) : Type 0 where
+  pub counts : (q : FourTuple) → get equal_tuple r.counts q ≡ get equal_tuple s.counts q
+  pub known : (q : Known) → contains same_known r.known q ≡ contains same_known s.known q
+  pub syns : (q : Turn) → get same_turn r.syns q ≡ get same_turn s.syns q
+
+pub listed_again : (s r : Numbering) (tuple t : FourTuple) (syn : Start) (list : List Start) → IsSame s r
+    → contains same_known s.known (record { tuple = tuple; number = syn.number.0 }) ≡ true → AreOf s t list
+    → AreOf r t (if same_tuple t tuple then with_new list syn else list)
+listed_again s r tuple t syn list same known are =
+    subst (λ (b : Bool). AreOf r t (if b then with_new list syn else list)) (sym (same_equal t tuple))
+    (by_same (equal_tuple t tuple) refl) where
+      all : AreOf r t list
+      all = record {
+        counted = ap (λ (o : Option ℕ). unwrap_or o 0) (same.counts t) ∙ are.counted;
+        known = λ m. same.known (record { tuple = t; number = m }) ∙ are.known m;
+        syns = λ k. same.syns (record { tuple = t; place = k }) ∙ are.syns k;
+      }
+
+      by_same : (b : Bool) → equal_tuple t tuple ≡ b → AreOf r t (if b then with_new list syn else list)
+      by_same false e = all
+      by_same true e =
+          let listed : is_listed syn.number.0 list ≡ true = sym (are.known syn.number.0)
+          ∙ (ap (λ (q : FourTuple). contains same_known s.known (record { tuple = q; number = syn.number.0 }))
+          (tuple_exact t tuple e) ∙ known) in
+          rw listed all
 
 -- ----- one item more
-folded : (o : Option ℕ) (list : List ℕ) → fold with_new list (cons_option o []) ≡ with_one list o
+folded : (o : Option Start) (list : List Start) → fold with_new list (cons_option o []) ≡ with_one list o
 folded None list = refl
-folded (Some n) list = refl
+folded (Some syn) list = refl
 
-pub numbers_push : (items : List Item) (x : Item) (t : FourTuple)
-    → local_numbers (items ++ x ∷ []) t ≡ with_one (local_numbers items t) (local_syn t x.content)
-numbers_push items x t =
-    let f : Item → Option ℕ = λ (y : Item). local_syn t y.content in
+pub syns_push : (items : List Item) (x : Item) (t : FourTuple)
+    → local_syns (items ++ x ∷ []) t ≡ with_one (local_syns items t) (local_syn t x.content)
+syns_push items x t =
+    let f : Item → Option Start = λ (y : Item). local_syn t y.content in
     ap (fold with_new []) (filter_map-append f items (x ∷ []))
     ∙ (fold-append with_new [] (filter_map f items) (cons_option (f x) [])
     ∙ folded (f x) (fold with_new [] (filter_map f items)))
 
-pub with_one_few : (o : Option ℕ) (list : List ℕ) → length (with_one list o) ≤ length list + 1
+pub with_one_few : (o : Option Start) (list : List Start) → length (with_one list o) ≤ length list + 1
 with_one_few None list = omega arith
-with_one_few (Some n) list = by_known (list_any (λ m. m == n) list) where
-  by_known : (b : Bool) → length (if b then list else list ++ n ∷ []) ≤ length list + 1
+with_one_few (Some syn) list = by_known (is_listed syn.number.0 list) where
+  by_known : (b : Bool) → length (if b then list else list ++ syn ∷ []) ≤ length list + 1
   by_known true = omega arith
-  by_known false = omega (arith, length-append list (n ∷ []))
+  by_known false = omega (arith, length-append list (syn ∷ []))
 
-pub with_one_if : (b : Bool) (list : List ℕ) (n : ℕ)
-    → with_one list (if b then Some n else None) ≡ (if b then with_new list n else list)
-with_one_if true list n = refl
-with_one_if false list n = refl
+pub with_one_if : (b : Bool) (list : List Start) (syn : Start)
+    → with_one list (if b then Some syn else None) ≡ (if b then with_new list syn else list)
+with_one_if true list syn = refl
+with_one_if false list syn = refl
 
 pub was_new : (b c : Bool) → b ≡ true → b ≡ not c → c ≡ false
 was_new b true is e = absurd (true≢false (sym is ∙ e))
 was_new b false is e = refl
+
+pub was_known : (b c : Bool) → b ≡ false → b ≡ not c → c ≡ true
+was_known b true is e = refl
+was_known b false is e = absurd (true≢false (sym e ∙ is))

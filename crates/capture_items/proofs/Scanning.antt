@@ -4,29 +4,29 @@ use Rattle.std.proofs.Common.{Option, Some, None, Result, Ok, Err, OnOk, refl, s
 use Rattle.std.proofs.Common.{append-nil, length-append, if◌then◌else◌}
 use Rattle.std.specs.List.{cons_option, slice_get}
 use Rattle.std.specs.Result.{is_err}
-use Rattle.tas_num.specs.declared.seq.Seq.{Seq}
 use Rattle.tas_num.specs.Captures.{Fault, Form, Record, Next, first_record, records_from, joined, form_of}
 use Rattle.tas_num.specs.Captures.{capture_of, capture_with, packet_of}
 use Rattle.pcap_frames.proofs.Following.{joined_next, joined_ends, joined_refused, joined_nothing, capture_of_form}
 use Rattle.tas_model.specs.declared.entry.FourTuple.{FourTuple}
 use Rattle.tas_runs.specs.Records.{Content, Item, content_of_packet, item_of, items_of}
-use Rattle.tas_runs.specs.FirstNumbers.{with_new, local_syn, local_numbers}
-use Rattle.capture_items.specs.Numbers.{AreOf, count_in, number_at, syn_in, syn_of, with_one}
+use Rattle.host_rounds.specs.declared.opening.Start.{Start}
+use Rattle.tas_runs.specs.Starts.{with_new, local_syn, local_syns}
+use Rattle.capture_items.specs.Starts.{AreOf, count_in, syn_at, syn_in, syn_of, with_one}
 use Rattle.capture_items.specs.Items.{items_among, items_from}
 use Rattle.capture_items.specs.Found.{IsFound}
 use Rattle.capture_items.specs.declared.found.Found.{Found}
-use Rattle.capture_items.specs.declared.numbers.Numbering.{Numbering}
-use Rattle.capture_items.specs.declared.numbers.Turn.{Turn}
+use Rattle.capture_items.specs.declared.starts.Numbering.{Numbering}
+use Rattle.capture_items.specs.declared.starts.Turn.{Turn}
 use Rattle.capture_items.proofs.Counted.{filtered_few, items_of-few}
 use Rattle.capture_items.proofs.Following.{items_of-push}
-use Rattle.capture_items.proofs.Listed.{numbers_push, with_one_few, with_one_if}
+use Rattle.capture_items.proofs.Listed.{syns_push, with_one_few, with_one_if}
 
--- So many records stand before the place, and the numbers of the local SYN segments among them were noted.
+-- So many records stand before the place, and the local SYN segments among them were noted.
 pub record Scanned (form : Form) (local : ℕ) (bytes : List ℕ) (at records : ℕ) (s : Numbering) : Type 0 where
   pub before : List Record
   pub joined : joined before (records_from form (records + 1) (drop at bytes)) ≡ records_from form 1 (drop 24 bytes)
   pub counted : length before ≡ records
-  pub listed : (loose : Bool) (t : FourTuple) → AreOf s t (local_numbers (items_of form local loose before) t)
+  pub listed : (loose : Bool) (t : FourTuple) → AreOf s t (local_syns (items_of form local loose before) t)
 
 -- ----- one record
 syn_of_content : (number : ℕ) (o : Option Content) (t : FourTuple)
@@ -57,28 +57,28 @@ pub went_well : {T E P : Type 0} (r : Result T E) → is_err r ≡ false → OnO
 went_well (Ok x) well p = p
 went_well (Err fault) well p = absurd (cc (well))
 
-pub with_syn : (b : Bool) (list : List ℕ) (n : ℕ) (o : Option ℕ) → (if b then Some n else None) ≡ o
-    → with_one list o ≡ (if b then with_new list n else list)
-with_syn b list n o is = ap (with_one list) (sym is) ∙ with_one_if b list n
+pub with_syn : (b : Bool) (list : List Start) (syn : Start) (o : Option Start) → (if b then Some syn else None) ≡ o
+    → with_one list o ≡ (if b then with_new list syn else list)
+with_syn b list syn o is = ap (with_one list) (sym is) ∙ with_one_if b list syn
 
--- ----- numbers
-numbers_with : (items : List Item) (o : Option Item) (t : FourTuple)
-    → local_numbers (items ++ cons_option o []) t ≡ with_one (local_numbers items t) (syn_of t o)
-numbers_with items None t = ap (λ (xs : List Item). local_numbers xs t) (append-nil items)
-numbers_with items (Some x) t = numbers_push items x t
+-- ----- local SYN segments
+syns_with : (items : List Item) (o : Option Item) (t : FourTuple)
+    → local_syns (items ++ cons_option o []) t ≡ with_one (local_syns items t) (syn_of t o)
+syns_with items None t = ap (λ (xs : List Item). local_syns xs t) (append-nil items)
+syns_with items (Some x) t = syns_push items x t
 
-with_new_few : (ns xs : List ℕ) → length (fold with_new xs ns) ≤ length xs + length ns
+with_new_few : (ys xs : List Start) → length (fold with_new xs ys) ≤ length xs + length ys
 with_new_few [] xs = omega arith
-with_new_few (n ∷ ns) xs =
-    let one : length (with_new xs n) ≤ length xs + 1 = with_one_few (Some n) xs in
-    omega (arith, one, with_new_few ns (with_new xs n))
+with_new_few (y ∷ ys) xs =
+    let one : length (with_new xs y) ≤ length xs + 1 = with_one_few (Some y) xs in
+    omega (arith, one, with_new_few ys (with_new xs y))
 
-numbers_few : (items : List Item) (t : FourTuple) → length (local_numbers items t) ≤ length items
-numbers_few items t =
-    let f : Item → Option ℕ = λ (x : Item). local_syn t x.content in
+syns_few : (items : List Item) (t : FourTuple) → length (local_syns items t) ≤ length items
+syns_few items t =
+    let f : Item → Option Start = λ (x : Item). local_syn t x.content in
     omega (arith, with_new_few (filter_map f items) [], filtered_few f items)
 
--- there are no more numbers than records
+-- there are no more of them than records
 pub scanned_few : (form : Form) (local : ℕ) (bytes : List ℕ) (at records : ℕ) (s : Numbering) (t : FourTuple)
     → Scanned form local bytes at records s → count_in s t ≤ records
 scanned_few form local bytes at records s t is =
@@ -87,7 +87,7 @@ scanned_few form local bytes at records s t is =
       arith,
       is.counted,
       (is.listed true t).counted,
-      numbers_few items t,
+      syns_few items t,
       items_of-few form local true is.before,
     )
 
@@ -104,7 +104,7 @@ scan_begins form local bytes s none = record {
 
 pub scan_more : (form : Form) (local : ℕ) (bytes : List ℕ) (at behind records : ℕ) (s r : Numbering) (x : Record)
     → first_record form (records + 1) (drop at bytes) ≡ Ok (Some (record { item = x; rest = drop behind bytes }))
-    → ((t : FourTuple) (list : List ℕ) (loose : Bool) → AreOf s t list
+    → ((t : FourTuple) (list : List Start) (loose : Bool) → AreOf s t list
     → AreOf r t (with_one list (syn_of t (item_of form local loose x))))
     → Scanned form local bytes at records s → Scanned form local bytes behind (records + 1) r
 scan_more form local bytes at behind records s r x found noted is =
@@ -115,11 +115,11 @@ scan_more form local bytes at behind records s r x found noted is =
       counted = omega (arith, is.counted, length-append is.before (x ∷ []));
       listed = λ loose t.
           let items = items_of form local loose is.before in
-          let more : local_numbers (items_of form local loose (is.before ++ x ∷ [])) t
-          ≡ with_one (local_numbers items t) (syn_of t (item_of form local loose x)) =
-          ap (λ (xs : List Item). local_numbers xs t) (items_of-push form local loose is.before x)
-          ∙ numbers_with items (item_of form local loose x) t in
-          subst (AreOf r t) (sym more) (noted t (local_numbers items t) loose (is.listed loose t));
+          let more : local_syns (items_of form local loose (is.before ++ x ∷ [])) t
+          ≡ with_one (local_syns items t) (syn_of t (item_of form local loose x)) =
+          ap (λ (xs : List Item). local_syns xs t) (items_of-push form local loose is.before x)
+          ∙ syns_with items (item_of form local loose x) t in
+          subst (AreOf r t) (sym more) (noted t (local_syns items t) loose (is.listed loose t));
     }
 
 -- the records of the whole capture
@@ -140,8 +140,8 @@ scan_refused form local bytes at records s fault header refused is =
 pub scan_found : (bytes : List ℕ) (local : ℕ) (loose : Bool) (form : Form) (records : ℕ) (s : Numbering)
     (found : Found) → form_of bytes ≡ Ok form
     → (before : List Record) → records_from form 1 (drop 24 bytes) ≡ Ok before → length before ≡ records
-    → ((t : FourTuple) → AreOf s t (local_numbers (items_of form local loose before) t))
-    → found.items ≡ items_from form local loose 1 (drop 24 bytes) → found.numbers ≡ s.numbers.entries
+    → ((t : FourTuple) → AreOf s t (local_syns (items_of form local loose before) t))
+    → found.items ≡ items_from form local loose 1 (drop 24 bytes) → found.starts ≡ s.syns.entries
     → found.records ≡ records → IsFound bytes local loose found
 scan_found bytes local loose form records s found header before all counted listed left kept count =
     let items : found.items ≡ items_of form local loose before = left ∙ ap (items_among form local loose) all in
@@ -149,8 +149,8 @@ scan_found bytes local loose form records s found header before all counted list
       capture = record { form = form; records = before };
       stands = capture_of_form bytes form header ∙ ap (capture_with form) all;
       items = items;
-      numbers = λ tuple place. ap (λ (n : List (Turn × Seq)). number_at n tuple place) kept
-          ∙ ((listed tuple).numbers place
-          ∙ ap (λ (xs : List Item). slice_get (local_numbers xs tuple) place) (sym items));
+      starts = λ tuple place. ap (λ (n : List (Turn × Start)). syn_at n tuple place) kept
+          ∙ ((listed tuple).syns place
+          ∙ ap (λ (xs : List Item). slice_get (local_syns xs tuple) place) (sym items));
       records = count ∙ sym counted;
     }

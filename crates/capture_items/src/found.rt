@@ -1,8 +1,8 @@
 ghost use Rattle.std.specs.Prelude.{◌≤◌, length, IfOk, IfErr};
 ghost use Rattle.capture_items.specs.Found.{IsFound, IsNoCapture};
 
-use crate::numbers::{FirstNumbers, Numbering};
 use crate::reader::ItemReader;
+use crate::starts::{FlowStarts, Numbering};
 use pcap_frames::{PcapRefused, next_record, read_header};
 use std::alloc::Global;
 
@@ -11,8 +11,8 @@ use std::alloc::Global;
 pub struct Found<'a> {
     /// The records that are not passed over, in their order.
     pub items: ItemReader<'a>,
-    /// The first numbers that they show.
-    pub numbers: FirstNumbers,
+    /// What they show of the starts of flows.
+    pub starts: FlowStarts,
     /// How many records the capture has.
     pub records: u32,
 }
@@ -26,7 +26,7 @@ pub enum InputFault {
 }
 
 /// What the capture of these bytes holds for the host of the address `local`. With `loose` no checksum is looked at.
-/// It goes over all records once, without a look at a checksum, and keeps the first numbers alone.
+/// It goes over all records once, without a look at a checksum, and keeps the starts alone.
 /// Bytes that are no capture are refused, with the first fault in them; want of memory is told where it comes first.
 pub fn find_items<'a>(
     alloc: Global,
@@ -58,7 +58,7 @@ pub fn find_items<'a>(
             Ok(None) => {
                 return Ok(Found {
                     items: ItemReader::new(header, bytes, local, loose),
-                    numbers: numbering.finish(),
+                    starts: numbering.finish(),
                     records,
                 });
             }

@@ -1,14 +1,16 @@
-ghost use Rattle.std.specs.Prelude.{◌≡◌, ℕ, ◌+◌, ◌<◌, ◌^◌, Bool, List, [], OnOk, if◌then◌else◌};
+ghost use Rattle.std.specs.Prelude.{◌≡◌, ◌+◌, ◌<◌, ◌≤◌, ◌^◌, Bool, List, [], OnOk, IfSome, if◌then◌else◌};
 ghost use Rattle.pcap_frames.specs.Views.{form_in, record_in};
 ghost use Rattle.tas_runs.specs.Records as model;
 ghost use Rattle.tas_runs.specs.Records.{content_of_packet, item_of};
-ghost use Rattle.tas_runs.specs.FirstNumbers.{first_number, with_new};
-ghost use Rattle.capture_items.specs.Numbers.{AreNumbersOf, AreOf, count_in, number_for, kept_numbers};
-ghost use Rattle.capture_items.specs.Numbers.{syn_in, syn_of, with_one};
+ghost use Rattle.tas_runs.specs.Starts.{first_start, limited, with_new};
+ghost use Rattle.capture_items.specs.Starts.{AreStartsOf, AreOf, count_in, syn_for, kept_starts};
+ghost use Rattle.capture_items.specs.Starts.{syn_in, syn_of, with_one};
 ghost use Rattle.tas_model.specs.declared.entry.FourTuple.{FourTuple};
+ghost use Rattle.host_rounds.specs.declared.opening.Start.{Start};
 ghost use Rattle.host_rounds.specs.Hosts.{same_tuple};
 
 use crate::item::sender_tuple;
+use host_rounds::Start;
 use pcap_frames::{CaptureHeader, RecordView, packet};
 use segment_fields::read;
 use std::alloc::{AllocError, Global};
@@ -17,7 +19,10 @@ use std::marker::Model;
 use tas_model::FourTuple;
 use tas_num::Seq;
 
-/// One of the first numbers of a four-tuple, by its place among them, from 0.
+/// The shift of a flow is so much at most.
+const MOST_SHIFT: u8 = 10;
+
+/// One of the different numbers of a four-tuple, by its place among them, from 0.
 #[derive(Clone, Copy, PartialEq, Eq, Hash, Debug)]
 struct Turn {
     tuple: FourTuple,
@@ -31,55 +36,53 @@ struct Known {
     number: u32,
 }
 
-/// The first sequence numbers of the local host's flows, which its own SYN segments in a capture have. They are seen as
-/// a list, in which each number stands
-/// behind its four-tuple and its place among the different numbers of that four-tuple.
+/// What the local host of a replay gives its flows: what its own SYN segments in the capture show. It is seen as a
+/// list, in which the number and the scale of such a segment stand behind its four-tuple and the number's place among
+/// the different ones of that four-tuple.
 #[derive(Drop)]
-pub struct FirstNumbers {
-    numbers: HashMap<Turn, Seq>,
+pub struct FlowStarts {
+    syns: HashMap<Turn, Start>,
 }
 
-impl Model for FirstNumbers {
+impl Model for FlowStarts {
     ghost use Rattle.std.specs.Prelude.{List};
-    ghost use Rattle.tas_num.specs.declared.seq.Seq.{Seq};
-    ghost use Rattle.capture_items.specs.declared.numbers.Turn.{Turn};
+    ghost use Rattle.host_rounds.specs.declared.opening.Start.{Start};
+    ghost use Rattle.capture_items.specs.declared.starts.Turn.{Turn};
 
-    ghost Value = { List (Turn × Seq) };
+    ghost Value = { List (Turn × Start) };
 
-    ghost view = { λ f. f.numbers.entries };
+    ghost view = { λ f. f.syns.entries };
 }
 
-/// The numbers that were met while the items are gone through.
+/// The SYN segments that were met while the records are gone through.
 #[derive(Drop)]
 pub(crate) struct Numbering {
-    numbers: HashMap<Turn, Seq>,
+    syns: HashMap<Turn, Start>,
     known: HashSet<Known>,
     /// How many different numbers each four-tuple has.
     counts: HashMap<FourTuple, usize>,
 }
 
 impl Numbering {
-    /// No number was met.
+    /// None was met.
     pub(crate) fn new(alloc: Global) -> Numbering
         ensures { (t : FourTuple) → AreOf result t [] }
     {
         Numbering {
-            numbers: HashMap::new(alloc),
+            syns: HashMap::new(alloc),
             known: HashSet::new(alloc),
             counts: HashMap::new(alloc),
         }
     }
 
     /// What was met.
-    pub(crate) fn finish(self) -> FirstNumbers
-        ensures { result ≡ self.numbers.entries }
+    pub(crate) fn finish(self) -> FlowStarts
+        ensures { result ≡ self.syns.entries }
     {
-        FirstNumbers {
-            numbers: self.numbers,
-        }
+        FlowStarts { syns: self.syns }
     }
 
-    /// Takes up the number of a record that is a SYN segment of the host of the address `local`.
+    /// Takes up what a record shows that is a SYN segment of the host of the address `local`.
     pub(crate) fn take_up(
         &mut self,
         header: &CaptureHeader,
@@ -87,25 +90,25 @@ impl Numbering {
         local: u32,
     ) -> Result<(), AllocError>
         requires small { (t : FourTuple) → count_in self.old t + 1 < 2 ^ 64 }
-        ensures ok { OnOk result ((t : FourTuple) (list : List ℕ) (loose : Bool) → AreOf self.old t list
+        ensures ok { OnOk result ((t : FourTuple) (list : List Start) (loose : Bool) → AreOf self.old t list
             → AreOf self.new t (with_one list
             (syn_of t (item_of (form_in header.now) local loose (record_in view.now))))) }
     {
         match local_syn(header, view, local) {
-            Some((tuple, number)) => self.note(tuple, number),
+            Some((tuple, syn)) => self.note(tuple, syn),
             None => Ok(()),
         }
     }
 
-    /// Takes up a number of a four-tuple, which is listed once.
-    fn note(&mut self, tuple: FourTuple, number: Seq) -> Result<(), AllocError>
+    /// Takes up a SYN segment of a four-tuple. A number is listed once.
+    fn note(&mut self, tuple: FourTuple, syn: Start) -> Result<(), AllocError>
         requires small { count_in self.old tuple + 1 < 2 ^ 64 }
-        ensures ok { OnOk result ((t : FourTuple) (list : List ℕ) → AreOf self.old t list
-            → AreOf self.new t (if same_tuple t tuple then with_new list number.0 else list)) }
+        ensures ok { OnOk result ((t : FourTuple) (list : List Start) → AreOf self.old t list
+            → AreOf self.new t (if same_tuple t tuple then with_new list syn else list)) }
     {
         let is_new = self.known.insert(Known {
             tuple,
-            number: number.0,
+            number: syn.number.0,
         })?;
         if !is_new {
             return Ok(());
@@ -115,45 +118,68 @@ impl Numbering {
             tuple,
             place: count,
         };
-        self.numbers.insert(turn, number)?;
+        self.syns.insert(turn, syn)?;
         self.counts.insert(tuple, count + 1)?;
         Ok(())
     }
 }
 
-impl FirstNumbers {
-    /// The first number of a flow of this four-tuple, where `k` flows of the four-tuple were opened before it, and `n`
-    /// flows of the host.
-    pub fn number(&self, tuple: FourTuple, k: usize, n: u32) -> Seq
-        ensures kept { result.0 ≡ kept_numbers self.now tuple k n }
-        ensures items { (items : List model.Item) → AreNumbersOf items self.now
-            → result.0 ≡ first_number items tuple k n }
+impl FlowStarts {
+    /// What a flow of this four-tuple gets, where `k` flows of the four-tuple were opened before it, and `n` flows of
+    /// the host: the number and the scale of the k-th number's first segment, or else a number alone.
+    pub fn start(&self, tuple: FourTuple, k: usize, n: u32) -> Start
+        ensures kept { result ≡ kept_starts self.now tuple k n }
+        ensures items { (items : List model.Item) → AreStartsOf items self.now
+            → result ≡ first_start items tuple k n }
+        ensures shift { IfSome result.scale (λ shift. shift ≤ 10) }
     {
-        match self.numbers.get(&Turn { tuple, place: k }) {
-            Some(number) => *number,
-            None => Seq(n.wrapping_mul(64_000)),
+        match self.syns.get(&Turn { tuple, place: k }) {
+            Some(syn) => limited(*syn),
+            None => Start {
+                number: Seq(n.wrapping_mul(64_000)),
+                scale: None,
+            },
         }
     }
 }
 
-/// The four-tuple and the number of a record that is a SYN segment of the host of the address `local`. That it sent the
-/// segment shows without a look at checksums.
-fn local_syn(header: &CaptureHeader, view: &RecordView<'_>, local: u32) -> Option<(FourTuple, Seq)>
+/// The start that a SYN segment shows, with as much of its shift as a flow may have.
+fn limited(syn: Start) -> Start
+    ensures exact { result ≡ limited syn }
+    ensures shift { IfSome result.scale (λ shift. shift ≤ 10) }
+{
+    let scale = match syn.scale {
+        Some(shift) => Some(MOST_SHIFT.min(shift)),
+        None => None,
+    };
+    Start { scale, ..syn }
+}
+
+/// The four-tuple of a record that is a SYN segment of the host of the address `local`, and what it shows. That it sent
+/// the segment shows without a look at checksums.
+fn local_syn(
+    header: &CaptureHeader,
+    view: &RecordView<'_>,
+    local: u32,
+) -> Option<(FourTuple, Start)>
     ensures { (t : FourTuple) (loose : Bool)
-        → number_for t result ≡ syn_of t (item_of (form_in header.now) local loose (record_in view.now)) }
+        → syn_for t result ≡ syn_of t (item_of (form_in header.now) local loose (record_in view.now)) }
 {
     syn_in(packet(header, view)?, local)
 }
 
 /// The same of a packet.
-fn syn_in(packet: &[u8], local: u32) -> Option<(FourTuple, Seq)>
+fn syn_in(packet: &[u8], local: u32) -> Option<(FourTuple, Start)>
     ensures { (t : FourTuple) (loose : Bool)
-        → number_for t result ≡ syn_in t (content_of_packet local loose packet.now) }
+        → syn_for t result ≡ syn_in t (content_of_packet local loose packet.now) }
 {
     match read(packet, false) {
         Ok(segment) if segment.src == local && segment.flags.is_syn() => Some((
             sender_tuple(&segment),
-            segment.seq,
+            Start {
+                number: segment.seq,
+                scale: segment.scale,
+            },
         )),
         _ => None,
     }

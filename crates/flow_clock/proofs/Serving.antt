@@ -19,7 +19,7 @@ use Rattle.flow_state.specs.Flow.{Flow}
 use Rattle.app_reaper.specs.OneCall.{IsUse, IsCallRefused}
 use Rattle.app_reaper.specs.Sweeping.{KeepsPin}
 use Rattle.app_reaper.specs.declared.one_call.CallFault.{CallFault}
-use Rattle.app_reaper.specs.declared.one_call.CallFault.TheVariants.{Busy}
+use Rattle.app_reaper.specs.declared.one_call.CallFault.TheVariants.{Busy, OutOfMemory}
 use Rattle.app_reaper.specs.declared.sweeping.Swept.{Swept}
 use Rattle.app_reaper.specs.declared.sweeping.Swept.TheVariants.{Freed, Pinned}
 use Rattle.app_reaper.proofs.Walking.{none_some, same_pin}
@@ -182,6 +182,15 @@ pub untold_there : (tick : ℕ) (f : FlowId) (tuple : FourTuple) (a : Timed) (v 
     (path path' : Openings) → a ≡ Closed tuple → IsTimed tick f v w kicks kicks' path path' a → path' ≡ path
 untold_there tick f tuple a v w kicks kicks' path path' is timed =
     (subst (IsTimed tick f v w kicks kicks' path path') is timed).6
+
+-- memory was wanting to let it leave: its record was given back as it was
+pub refused_there : (tick at : ℕ) (f : FlowId) (tuple : FourTuple) (a : Timed) (v u w : View) (pins : List FlowId)
+    (kicks kicks' : List Kick) (path path' : Openings) → a ≡ Closed tuple → slice_get pins at ≡ Some f
+    → IsTimed tick f v u kicks kicks' path path' a → w ≡ u → IsRefusedAt at pins v w
+refused_there tick at f tuple a v u w pins kicks kicks' path path' is q timed same =
+    let t = subst (IsTimed tick f v u kicks kicks' path path') is timed in
+    let refused : IsCallRefused f v u OutOfMemory = (t.0, t.2, subst (λ k. IsUse f t.0 k v u) t.3.2 t.4) in
+    (f, q, subst (λ x. IsCallRefused f v x OutOfMemory) (sym same) refused)
 
 pub kept_timed : (slots tick : ℕ) (f : FlowId) (a : Timed) (s n : Seen) (doomed pins : List FlowId)
     (kicks kicks' : List Kick) (path path' : Openings) → IsTimed tick f s.view n.view kicks kicks' path path' a

@@ -1,4 +1,4 @@
-ghost use Rattle.std.specs.Prelude.{◌≡◌, ◌++◌, ◌↔◌, [], bytes_eq, IfOk, OnOk, IsTrue};
+ghost use Rattle.std.specs.Prelude.{◌≡◌, ◌++◌, ◌↔◌, [], bytes_eq, IfOk, OnOk, IsTrue, true, false};
 ghost use Rattle.tas_model.specs.declared.entry.Reply.{Reply};
 ghost use Rattle.tas_model.specs.LegalHistory.{taken_bytes};
 ghost use Rattle.tas_model.specs.Outputs.{given_bytes};
@@ -118,6 +118,14 @@ fn has_bytes(alloc: Global, bytes: &[u8], reply: &ReplyLine<'_>) -> Result<bool,
     }
 }
 
+/// Whether they are one answer.
+fn are_one(answer: Answer, other: Answer) -> bool
+    ensures same { result ≡ true → answer ≡ other }
+    ensures apart { result ≡ false → answer ≡ other → ⊥ }
+{
+    answer == other
+}
+
 /// Whether an answer with these bytes is a line's reply. The error is want of memory.
 pub fn is_reply(
     alloc: Global,
@@ -128,7 +136,7 @@ pub fn is_reply(
     ensures { IfOk result (λ same. (m : Reply) → answer.now ≡ answer_of m → bytes.now ≡ reply_bytes m
         → (IsTrue same ↔ m ≡ seen_reply reply.now)) }
 {
-    if bare_answer(answer) != bare_reply(reply) {
+    if !are_one(bare_answer(answer), bare_reply(reply)) {
         return Ok(false);
     }
     let same = has_bytes(alloc, bytes, reply)?;

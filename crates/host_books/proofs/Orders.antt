@@ -9,7 +9,7 @@ use Rattle.tas_model.specs.declared.entry.Caller.TheVariants.{Core, App}
 use Rattle.tas_model.specs.declared.entry.Call.{Call}
 use Rattle.tas_model.specs.declared.entry.Call.TheVariants as calls
 use Rattle.host_rounds.specs.Lists.{Each, change_first, change_at}
-use Rattle.host_rounds.specs.Hosts.{Live, Host, is_indexed_as, next_number, with_call}
+use Rattle.host_rounds.specs.Hosts.{Live, Host, is_indexed_as, next_start, with_call}
 use Rattle.host_rounds.specs.Deliveries.{Packet, received, delivered_packet, arrived}
 use Rattle.host_rounds.specs.Upkeep.{emits, emits_where}
 use Rattle.host_rounds.specs.Scripts.{Scripts, Site}
@@ -98,8 +98,8 @@ module _ {S A : Type 0} (scripts : Scripts S A) (t : ℕ) where
       let take_in : Live → Live = received (Core o.core) t o.arrival.frame o.seg in
       ap (λ (z : rounds.Deed A). does scripts t (site_of s known state) z) o.is
       ∙ ap (λ (h : Host). record { host = h; scripts = state })
-      (ap (λ (p : Packet). delivered_packet (received (Core o.core)) scripts.numbers t host o.arrival.frame p) o.packet
-      ∙ ap (λ b. arrived b take_in (next_number scripts.numbers host o.tuple) t host o.arrival.frame o.tuple o.seg)
+      (ap (λ (p : Packet). delivered_packet (received (Core o.core)) scripts.starts t host o.arrival.frame p) o.packet
+      ∙ ap (λ b. arrived b take_in (next_start scripts.starts host o.tuple) t host o.arrival.frame o.tuple o.seg)
       (first_any (is_indexed_as o.tuple) o.place host.flows o.leads)
       ∙ ap (λ (ls : List Live). record host { flows = ls })
       (first_changed (is_indexed_as o.tuple) take_in o.place host.flows o.leads

@@ -15,7 +15,7 @@ use Rattle.host_rounds.specs.WorkedTicks.{ids}
 use Rattle.link_script.specs.DueFrames.{due}
 use Rattle.tas_runs.specs.Records.{items_of}
 use Rattle.tas_runs.specs.Batches.{batches_of}
-use Rattle.tas_runs.specs.FirstNumbers.{first_number}
+use Rattle.tas_runs.specs.Starts.{first_start}
 use Rattle.tas_runs.specs.SerialOrder.{serial_replay}
 use Rattle.tas_runs.specs.Report.{report}
 use Rattle.tas_runs.specs.WorkedTexts.{host_address, replayed}
@@ -41,7 +41,7 @@ all_due_are = refl
 
 pub broken_is : replayed host_address broken_capture false ≡ broken_report
 unfolding digits nearest refusal mss_of scale_of rx rx_later rx_syn_sent going ticks control step replay form_of
-    first_record capture_of items_of batches_of first_number serial_tick serial_ticks serial_replay report
+    first_record capture_of items_of batches_of first_start serial_tick serial_ticks serial_replay report
 broken_is = refl
 
 pub late_answer_is : reported late_answer ≡ late_answer_report

@@ -7,11 +7,11 @@ use Rattle.std.proofs.Common.{◌||◌, slice_index_or}
 use Rattle.std.proofs.lemmas.List.{length-take, length-drop, length-append}
 use Rattle.tas_model.specs.declared.entry.Reply.TheVariants as replies
 use Rattle.host_rounds.specs.Lists.{Each}
-use Rattle.host_rounds.specs.Hosts.{Live, Host, Holder, Listener, Waiting, Application, GivenUp, Numbers, is_over}
+use Rattle.host_rounds.specs.Hosts.{Live, Host, Listener, Waiting, Application, GivenUp, Starts, is_over}
 use Rattle.host_rounds.specs.Hosts.{is_ready, lowest_free, first_port, ports_given}
 use Rattle.tas_runs.specs.Records.{Content}
 use Rattle.tas_runs.specs.LocalScript.{Shown, Shutting, is_wanted, is_empty, is_served}
-use Rattle.scenario_runs.specs.Applications.{Turn, Script, accepts, accepts_one, has_listener, is_concerned, most}
+use Rattle.scenario_runs.specs.Applications.{Turn, Script, accepts, accepts_one, is_concerned, most}
 use Rattle.scenario_runs.specs.Applications.{sent_on, done_or, stepped, connects, connects_on, opens_where, refused}
 
 -- ----- accept
@@ -137,18 +137,18 @@ is_done bytes all s h =
     over_cond (s.done + length bytes == all) (s.done + length bytes) s (grind (arith, tests, h))
 
 -- ----- connect
-pub without_slot : (numbers : Numbers) (t raddr rport : ℕ) (socket : List ℕ) (x : Turn) → lowest_free x.host ≡ None
-    → connects_on numbers false t socket raddr rport x ≡ refused false t raddr rport x
-without_slot numbers t raddr rport socket x h =
-    ap (λ (o : Option ℕ). connects numbers o t socket raddr rport x) h
+pub without_slot : (starts : Starts) (t raddr rport : ℕ) (socket : List ℕ) (x : Turn) → lowest_free x.host ≡ None
+    → connects_on starts false t socket raddr rport x ≡ refused false t raddr rport x
+without_slot starts t raddr rport socket x h =
+    ap (λ (o : Option ℕ). connects starts o t socket raddr rport x) h
 
-pub without_port : (numbers : Numbers) (slot t raddr rport : ℕ) (socket : List ℕ) (x : Turn)
+pub without_port : (starts : Starts) (slot t raddr rport : ℕ) (socket : List ℕ) (x : Turn)
     → lowest_free x.host ≡ Some slot → ports_given x.host ≡ 16384
-    → connects_on numbers false t socket raddr rport x ≡ refused true t raddr rport x
-without_port numbers slot t raddr rport socket x h given =
+    → connects_on starts false t socket raddr rport x ≡ refused true t raddr rport x
+without_port starts slot t raddr rport socket x h given =
     let left : nat_lt (first_port + ports_given x.host) (2 ^ 16) ≡ false = grind (arith, tests, given) in
-    ap (λ (o : Option ℕ). connects numbers o t socket raddr rport x) h
-    ∙ ap (λ (b : Bool). opens_where b numbers slot (first_port + ports_given x.host) t socket raddr rport x) left
+    ap (λ (o : Option ℕ). connects starts o t socket raddr rport x) h
+    ∙ ap (λ (b : Bool). opens_where b starts slot (first_port + ports_given x.host) t socket raddr rport x) left
 
 -- ----- shut
 none_pending : (bytes : List ℕ) (a c : Bool) → (a && is_empty bytes && c) ≡ true → bytes ≡ []

@@ -4,7 +4,7 @@ ghost use Rattle.tas_model.specs.declared.entry.Call.TheVariants as calls;
 ghost use Rattle.tas_model.specs.declared.entry.Reason.{Reason};
 ghost use Rattle.tas_model.specs.declared.entry.Reply.TheVariants as replies;
 ghost use Rattle.host_rounds.specs.Lists.{Each};
-ghost use Rattle.host_rounds.specs.Hosts.{Live, Host, Listener, Waiting, Application, GivenUp, Numbers, is_over};
+ghost use Rattle.host_rounds.specs.Hosts.{Live, Host, Listener, Waiting, Application, GivenUp, Starts, is_over};
 ghost use Rattle.host_rounds.specs.Hosts.{is_ready, lowest_free, ports_given};
 ghost use Rattle.tas_runs.specs.Records.{Content};
 ghost use Rattle.tas_runs.specs.LocalScript.{Shown, Shutting, is_wanted};
@@ -66,12 +66,12 @@ pub fn calls_go_on_with_the_rest()
 
 /// A connect is refused by its own cause: for want of a slot, and where there is one, for want of a port.
 pub fn connects_are_refused_by_their_cause()
-    ensures no_slot { (numbers : Numbers) (t raddr rport : ℕ) (socket : List ℕ) (x : Turn)
+    ensures no_slot { (starts : Starts) (t raddr rport : ℕ) (socket : List ℕ) (x : Turn)
         → lowest_free x.host ≡ None
-        → connects_on numbers false t socket raddr rport x ≡ refused false t raddr rport x }
-    ensures no_port { (numbers : Numbers) (slot t raddr rport : ℕ) (socket : List ℕ) (x : Turn)
+        → connects_on starts false t socket raddr rport x ≡ refused false t raddr rport x }
+    ensures no_port { (starts : Starts) (slot t raddr rport : ℕ) (socket : List ℕ) (x : Turn)
         → lowest_free x.host ≡ Some slot → ports_given x.host ≡ 16384
-        → connects_on numbers false t socket raddr rport x ≡ refused true t raddr rport x }
+        → connects_on starts false t socket raddr rport x ≡ refused true t raddr rport x }
 {}
 
 /// A replay ends its stream only when no byte is pending that the capture showed.

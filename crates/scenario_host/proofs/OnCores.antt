@@ -13,7 +13,7 @@ use Rattle.local_host.specs.SideWork.{IsSidePhase}
 use Rattle.local_host.proofs.OfCores.{PhaseOf, phase_of}
 use Rattle.scenario_text.specs.declared.scenario.Scenario.{Scenario}
 use Rattle.scenario_runs.specs.Applications.{Script}
-use Rattle.scenario_runs.specs.Worlds.{scripts_of, numbers_of, address_in}
+use Rattle.scenario_runs.specs.Worlds.{scripts_of, starts_of, address_in}
 use Rattle.scenario_host.specs.Sound.{IsSound}
 use Rattle.scenario_host.specs.Tries.{AreAttemptsOf, AreWithin, answered_all, tried_in, later_in}
 use Rattle.scenario_host.specs.Turns.{site_with}
@@ -35,8 +35,8 @@ lasts_taken starts t host (x ∷ xs) =
 lasts_phase : (t : ℕ) (frames rest : List Arrival) (before after : Host) → IsCoresPhase t before frames rest after
     → Lasts before after
 lasts_phase t frames rest before after phase =
-    subst (Lasts before) (phase.made (numbers_of before.params))
-    (lasts_taken (numbers_of before.params) t before phase.order)
+    subst (Lasts before) (phase.made (starts_of before.params))
+    (lasts_taken (starts_of before.params) t before phase.order)
 
 -- ----- the cores, and beside them applications
 -- Cores took frames, and then those whose attempts were made had their turns.
@@ -45,8 +45,8 @@ pub record SideBySide (s : Scenario) (params : HostParams) (count t : ℕ) (befo
     : Type 0 where
   pub middle : Host
   pub phase : PhaseOf count t before frames rest middle
-  pub leads : Leads (numbers_of params) (address_in s.hosts) t [] (site_with middle scripts)
-      (asked_all (numbers_of params) (address_in s.hosts) t (site_with middle scripts)
+  pub leads : Leads (starts_of params) (address_in s.hosts) t [] (site_with middle scripts)
+      (asked_all (starts_of params) (address_in s.hosts) t (site_with middle scripts)
       (tried_in attempts (numbers_in scripts))) after now
 
 slow_sound : (t : ℕ) (start timed : Host) (scripts : List Script) → timed ≡ slow_phase t start
@@ -71,7 +71,7 @@ side_by_side s params count t start timed after cores frames rest given attempts
           middle_sound.scripts));
     } where
       starts : Starts
-      starts = numbers_of params
+      starts = starts_of params
 
       address : List ℕ → ℕ
       address = address_in s.hosts
@@ -105,7 +105,7 @@ pub record Before (s : Scenario) (params : HostParams) (count t : ℕ) (frames r
   pub after : Host
   pub slow : timed ≡ slow_phase t start
   pub side : SideBySide s params count t timed frames rest attempts after scripts now
-  pub came : met ≡ fold (delivered (received Slow) (numbers_of params) t) after rest
+  pub came : met ≡ fold (delivered (received Slow) (starts_of params) t) after rest
   pub sound : IsSound (site_with start scripts)
 
 -- what was read through slices among it
@@ -115,7 +115,7 @@ pub before_rest : (s : Scenario) (params : HostParams) (count t : ℕ) (start ti
     → timed ≡ slow_phase t start → listed ≡ scripts → AreAttemptsOf t listed given
     → All (λ (core : ℕ). core < count) cores → IsSidePhase t timed cores frames rest given attempts after
     → shown ≡ attempts → now ≡ answered_all shown scripts
-    → left ≡ rest → met ≡ fold (delivered (received Slow) (numbers_of params) t) after left
+    → left ≡ rest → met ≡ fold (delivered (received Slow) (starts_of params) t) after left
     → IsSound (site_with start scripts) → Before s params count t frames rest attempts start met scripts now
 before_rest s params count t start timed after met cores frames left rest given shown attempts listed scripts now slow
     same are low side told goes left_are came sound = record {
@@ -127,15 +127,15 @@ before_rest s params count t start timed after met cores frames left rest given 
           (side_by_side s params count t start timed after cores frames rest given attempts scripts slow low side
           (subst (λ (ss : List Script). AreAttemptsOf t ss given) same are) sound);
       came = came
-          ∙ ap (λ (xs : List Arrival). fold (delivered (received Slow) (numbers_of params) t) after xs) left_are;
+          ∙ ap (λ (xs : List Arrival). fold (delivered (received Slow) (starts_of params) t) after xs) left_are;
       sound = sound;
     }
 
 lasts_rest : (params : HostParams) (t : ℕ) (rest : List Arrival) (after met : Host)
-    → met ≡ fold (delivered (received Slow) (numbers_of params) t) after rest → Lasts after met
+    → met ≡ fold (delivered (received Slow) (starts_of params) t) after rest → Lasts after met
 lasts_rest params t rest after met came =
-    lasts_made after met (fold (delivered (received Slow) (numbers_of params) t) after rest) came
-    (lasts_frames (received Slow) (numbers_of params) t rest after)
+    lasts_made after met (fold (delivered (received Slow) (starts_of params) t) after rest) came
+    (lasts_frames (received Slow) (starts_of params) t rest after)
 
 pub lasts_before : (s : Scenario) (params : HostParams) (count t : ℕ) (frames rest : List Arrival)
     (attempts : List (Option Attempt)) (start met : Host) (scripts now : List Script)

@@ -133,7 +133,7 @@ sends_text t step socket text name whole done s x call is range part named same 
     subst (λ (z : Step). IsAttemptAt t z s x) (sym is) (record {
       fresh = on.fresh;
       may = sending.may;
-      turns = λ numbers address a before after try. sending.turns a before after try;
+      turns = λ starts address a before after try. sending.turns a before after try;
       within = λ a before after try. (omega (arith, few), sending.within a before after try);
     })
 
@@ -152,7 +152,7 @@ fills t step socket name bytes count done s x call is part named offered so_far 
     subst (λ (z : Step). IsAttemptAt t z s x) (sym is) (record {
       fresh = on.fresh;
       may = sending.may;
-      turns = λ numbers address a before after try.
+      turns = λ starts address a before after try.
           ap (λ (n : ℕ). turn_of after (sent_by a n s)) (sym all) ∙ sending.turns a before after try;
       within = λ a before after try. omega (arith, sending.within a before after try, all);
     })
@@ -214,7 +214,7 @@ receives_some t step socket name count done asks s x call is part named wanted s
     subst (λ (z : Step). IsAttemptAt t z s x) (sym is) (record {
       fresh = on.fresh;
       may = receiving.may;
-      turns = λ numbers address a before after try. receiving.turns a before after try;
+      turns = λ starts address a before after try. receiving.turns a before after try;
       within = λ a before after try. receiving.within a before after try;
     })
 
@@ -227,7 +227,7 @@ drains t step socket name done asks s x call is named wanted same on =
     subst (λ (z : Step). IsAttemptAt t z s x) (sym is) (record {
       fresh = on.fresh;
       may = receiving.may;
-      turns = λ numbers address a before after try. receiving.turns a before after try;
+      turns = λ starts address a before after try. receiving.turns a before after try;
       within = λ a before after try. tt;
     })
 
@@ -238,7 +238,7 @@ shuts t step socket name s x is named on =
     subst (λ (z : Step). IsAttemptAt t z s x) (sym is) (record {
       fresh = on.fresh;
       may = subst IsTryable (sym on.calls) tt;
-      turns = λ numbers address a before after try.
+      turns = λ starts address a before after try.
           once_by x.place t calls.Shut before after s (stepped s) x.app on.app
           (try_made t (record x { call = ins.Shut }) a before after (as_call t x ins.Shut a before after on.calls try))
           refl
@@ -274,7 +274,7 @@ closes t step socket name s x is named on =
     subst (λ (z : Step). IsAttemptAt t z s x) (sym is) (record {
       fresh = on.fresh;
       may = subst IsTryable (sym on.calls) tt;
-      turns = λ numbers address a before after try.
+      turns = λ starts address a before after try.
           ends_from x.app x.place t calls.Close socket before after s on.app
           (try_made t (record x { call = ins.Close }) a before after
           (as_call t x ins.Close a before after on.calls try))
@@ -289,7 +289,7 @@ aborts t step socket name s x is named on =
     subst (λ (z : Step). IsAttemptAt t z s x) (sym is) (record {
       fresh = on.fresh;
       may = subst IsTryable (sym on.calls) tt;
-      turns = λ numbers address a before after try.
+      turns = λ starts address a before after try.
           ends_from x.app x.place t calls.Abort socket before after s on.app
           (try_made t (record x { call = ins.Abort }) a before after
           (as_call t x ins.Abort a before after on.calls try))
@@ -304,11 +304,11 @@ attempt_whole : (t : ℕ) (step : Step) (rest : List Step) (s : Script) (x : Att
 attempt_whole t step rest s x alive left at = record {
   fresh = at.fresh;
   may = at.may;
-  turns = λ numbers address a before after try.
+  turns = λ starts address a before after try.
       ap (λ (steps : List Step). turn_of after (answered_first steps a s)) left
-      ∙ (at.turns numbers address a before after try
-      ∙ (ap (λ (steps : List Step). goes_on numbers address t steps (turn_of before s)) (sym left)
-      ∙ ap (λ (b : Bool). turn_where b numbers address t (turn_of before s)) (sym alive)));
+      ∙ (at.turns starts address a before after try
+      ∙ (ap (λ (steps : List Step). goes_on starts address t steps (turn_of before s)) (sym left)
+      ∙ ap (λ (b : Bool). turn_where b starts address t (turn_of before s)) (sym alive)));
   within = λ a before after try.
       subst (λ (steps : List Step). IsAnswerFirst steps a s) (sym left) (at.within a before after try);
 }

@@ -8,7 +8,7 @@ use Rattle.host_rounds.specs.Rounds.{on_host}
 use Rattle.host_rounds.specs.SerialOrder.{slow_phase, ask_phase, emit_phase, serial_tick}
 use Rattle.scenario_text.specs.declared.scenario.Scenario.{Scenario}
 use Rattle.scenario_runs.specs.Applications.{Script}
-use Rattle.scenario_runs.specs.Worlds.{scripts_of, numbers_of}
+use Rattle.scenario_runs.specs.Worlds.{scripts_of, starts_of}
 use Rattle.scenario_host.specs.Sound.{IsFit, IsSound}
 use Rattle.scenario_host.specs.Turns.{site_with}
 use Rattle.scenario_host.proofs.Lasting.{Lasts, lasts_both, lasts_made, lasts_slow, lasts_frames}
@@ -35,16 +35,16 @@ sound_later before after scripts lasts sound = record {
 
 -- the slow path and the frames
 pub lasts_deliveries : (params : HostParams) (t : ℕ) (frames : List Arrival) (before mid after : Host)
-    → mid ≡ slow_phase t before → after ≡ fold (delivered received_serially (numbers_of params) t) mid frames
+    → mid ≡ slow_phase t before → after ≡ fold (delivered received_serially (starts_of params) t) mid frames
     → Lasts before after
 lasts_deliveries params t frames before mid after slow came =
     lasts_both before mid after (lasts_made before mid (slow_phase t before) slow (lasts_slow t before))
-    (lasts_made mid after (fold (delivered received_serially (numbers_of params) t) mid frames) came
-    (lasts_frames received_serially (numbers_of params) t frames mid))
+    (lasts_made mid after (fold (delivered received_serially (starts_of params) t) mid frames) came
+    (lasts_frames received_serially (starts_of params) t frames mid))
 
 pub played : (s : Scenario) (params : HostParams) (t : ℕ) (frames : List Arrival) (start timed met asked sent : Host)
     (before after : List Script)
-    → timed ≡ slow_phase t start → met ≡ fold (delivered received_serially (numbers_of params) t) timed frames
+    → timed ≡ slow_phase t start → met ≡ fold (delivered received_serially (starts_of params) t) timed frames
     → site_with asked after ≡ ask_phase (scripts_of s params) t (site_with met before) (numbers_in before)
     → sent ≡ emit_phase t asked
     → site_with sent after
@@ -52,7 +52,7 @@ pub played : (s : Scenario) (params : HostParams) (t : ℕ) (frames : List Arriv
     (record { frames = frames; asks = numbers_in before })
 unfolding serial_tick
 played s params t frames start timed met asked sent before after slow came turns goes =
-    let frame : Host → Host = λ host. fold (delivered received_serially (numbers_of params) t) host frames in
+    let frame : Host → Host = λ host. fold (delivered received_serially (starts_of params) t) host frames in
     ap (λ (h : Host). site_with h after) goes
     ∙ ap (on_host (emit_phase t))
     (turns

@@ -9,17 +9,17 @@ ghost use Rattle.local_host.specs.Arriving.{arrival_in};
 ghost use Rattle.local_host.specs.Live.{flow_left, IsLegal};
 ghost use Rattle.scenario_ranges.specs.Ranges.{IsInRange, IsHostInRange};
 ghost use Rattle.scenario_runs.specs.Applications.{Script, has_ended, turn};
-ghost use Rattle.scenario_runs.specs.Worlds.{site_of, scripts_of, numbers_of, address_in};
+ghost use Rattle.scenario_runs.specs.Worlds.{site_of, scripts_of, starts_of, address_in};
 ghost use Rattle.scenario_host.specs.Resting.{scripts_in, seen, AreKept};
 ghost use Rattle.scenario_host.specs.Sound.{IsFit, IsSound};
 ghost use Rattle.scenario_host.specs.Turns.{turn_of, site_with};
 
 use crate::filling::FillBytes;
-use crate::numbers::HostNumbers;
 use crate::on_cores::play_tick_on_cores;
 use crate::resting::{AppScripts, LEAST_REST};
 use crate::script::AppScript;
 use crate::start::scripts_on;
+use crate::starts::HostStarts;
 use local_host::{Arrival, Cores, HostEnd, LocalHost};
 use scenario_text::{HostLine, Scenario};
 use std::alloc::{AllocError, Global};
@@ -33,7 +33,7 @@ use tas_num::Gate;
 pub struct ScenarioHost<'a> {
     alloc: Global,
     host: LocalHost,
-    numbers: HostNumbers,
+    starts: HostStarts,
     filling: FillBytes,
     scripts: AppScripts<'a>,
 }
@@ -49,7 +49,7 @@ impl<'a> Model for ScenarioHost<'a> {
 
     ghost view = { λ h. site_with h.host (scripts_in h.scripts) };
 
-    ghost invariant = { λ h. IsReady h.numbers.params h.host h.scripts };
+    ghost invariant = { λ h. IsReady h.starts.params h.host h.scripts };
 }
 
 impl<'a> ScenarioHost<'a> {
@@ -68,7 +68,7 @@ impl<'a> ScenarioHost<'a> {
         Ok(ScenarioHost {
             alloc,
             host: LocalHost::new(alloc, line.params),
-            numbers: HostNumbers {
+            starts: HostStarts {
                 params: line.params,
             },
             filling,
@@ -93,12 +93,12 @@ impl<'a> ScenarioHost<'a> {
             tick,
             arrivals,
             s,
-            &self.numbers,
+            &self.starts,
             &self.filling,
         ) {
             Ok(()) => Ok(()),
             Err(error) => {
-                self.host = LocalHost::new(self.alloc, self.numbers.params);
+                self.host = LocalHost::new(self.alloc, self.starts.params);
                 self.scripts = AppScripts::new(self.alloc, Vec::new(self.alloc));
                 Err(error)
             }
@@ -131,14 +131,14 @@ impl<'a> ScenarioHost<'a> {
             tick,
             arrivals,
             s,
-            &self.numbers,
+            &self.starts,
             &self.filling,
             cores,
             gate,
         ) {
             Ok(()) => Ok(()),
             Err(error) => {
-                self.host = LocalHost::new(self.alloc, self.numbers.params);
+                self.host = LocalHost::new(self.alloc, self.starts.params);
                 self.scripts = AppScripts::new(self.alloc, Vec::new(self.alloc));
                 Err(error)
             }
@@ -187,14 +187,14 @@ fn play_tick(
     tick: u32,
     arrivals: &[Arrival<'_>],
     s: &Scenario,
-    numbers: &HostNumbers,
+    starts: &HostStarts,
     filling: &FillBytes,
 ) -> Result<(), AllocError>
-    requires params { numbers.now.params ≡ host.old.params }
+    requires params { starts.now.params ≡ host.old.params }
     requires sound { IsSound (site_with host.old (scripts_in scripts.old)) }
     requires kept { AreKept scripts.old }
     ensures made { OnOk result (site_with host.new (scripts_in scripts.new)
-        ≡ serial_tick (scripts_of s.now numbers.now.params) tick (site_with host.old (scripts_in scripts.old)) (record {
+        ≡ serial_tick (scripts_of s.now starts.now.params) tick (site_with host.old (scripts_in scripts.old)) (record {
           frames = map arrival_in arrivals.now;
           asks = map (λ (x : Script). x.number) (scripts_in scripts.old);
         })) }
@@ -203,8 +203,8 @@ fn play_tick(
     ensures kept { OnOk result (AreKept scripts.new) }
 {
     host.pass_time(tick)?;
-    deliver_all(host, tick, arrivals, numbers)?;
-    ask_all(host, scripts, tick, s, numbers, filling)?;
+    deliver_all(host, tick, arrivals, starts)?;
+    ask_all(host, scripts, tick, s, starts, filling)?;
     host.send_all(tick)
 }
 
@@ -213,13 +213,13 @@ fn deliver_all(
     host: &mut LocalHost,
     tick: u32,
     arrivals: &[Arrival<'_>],
-    numbers: &HostNumbers,
+    starts: &HostStarts,
 ) -> Result<(), AllocError>
-    ensures { OnOk result (host.new ≡ fold (delivered received_serially (numbers_of numbers.now.params) tick)
+    ensures { OnOk result (host.new ≡ fold (delivered received_serially (starts_of starts.now.params) tick)
         host.old (map arrival_in arrivals.now)) }
 {
     for arrival in arrivals {
-        host.deliver(tick, arrival, numbers)?;
+        host.deliver(tick, arrival, starts)?;
     }
     Ok(())
 }
@@ -230,20 +230,20 @@ fn ask_all(
     scripts: &mut AppScripts<'_>,
     tick: u32,
     s: &Scenario,
-    numbers: &HostNumbers,
+    starts: &HostStarts,
     filling: &FillBytes,
 ) -> Result<(), AllocError>
     requires sound { IsSound (site_with host.old (scripts_in scripts.old)) }
     requires kept { AreKept scripts.old }
     ensures made { OnOk result (site_with host.new (scripts_in scripts.new)
-        ≡ ask_phase (scripts_of s.now numbers.now.params) tick (site_with host.old (scripts_in scripts.old))
+        ≡ ask_phase (scripts_of s.now starts.now.params) tick (site_with host.old (scripts_in scripts.old))
         (map (λ (x : Script). x.number) (scripts_in scripts.old))) }
     ensures params { OnOk result (host.new.params ≡ host.old.params) }
     ensures sound { OnOk result (IsSound (site_with host.new (scripts_in scripts.new))) }
     ensures kept { OnOk result (AreKept scripts.new) }
 {
     scripts.look_where_due()?;
-    let one_rests = ask_awake(host, scripts, tick, s, numbers, filling)?;
+    let one_rests = ask_awake(host, scripts, tick, s, starts, filling)?;
     scripts.end_turn(one_rests);
     Ok(())
 }
@@ -255,7 +255,7 @@ fn ask_awake(
     scripts: &mut AppScripts<'_>,
     tick: u32,
     s: &Scenario,
-    numbers: &HostNumbers,
+    starts: &HostStarts,
     filling: &FillBytes,
 ) -> Result<bool, AllocError>
     requires sound { IsSound (site_with host.old (scripts_in scripts.old)) }
@@ -263,7 +263,7 @@ fn ask_awake(
     requires left { scripts.old.passed < scripts.old.turns }
     ensures made { OnOk result (site_with host.new
         (seen (scripts.new.passed + 1) scripts.new.asleep.items scripts.new.items.items)
-        ≡ ask_phase (scripts_of s.now numbers.now.params) tick (site_with host.old (scripts_in scripts.old))
+        ≡ ask_phase (scripts_of s.now starts.now.params) tick (site_with host.old (scripts_in scripts.old))
         (map (λ (x : Script). x.number) (scripts_in scripts.old))) }
     ensures params { OnOk result (host.new.params ≡ host.old.params) }
     ensures sound { OnOk result (IsSound (site_with host.new
@@ -274,7 +274,7 @@ fn ask_awake(
     let mut one_rests = false;
     for k in 0..scripts.awake.len() {
         let place = scripts.awake[k];
-        one_rests |= ask_one(host, &mut scripts.items[place], tick, s, numbers, filling)?;
+        one_rests |= ask_one(host, &mut scripts.items[place], tick, s, starts, filling)?;
     }
     Ok(one_rests)
 }
@@ -285,14 +285,14 @@ fn ask_one(
     script: &mut AppScript<'_>,
     tick: u32,
     s: &Scenario,
-    numbers: &HostNumbers,
+    starts: &HostStarts,
     filling: &FillBytes,
 ) -> Result<bool, AllocError>
     requires listens { host.old.params.fixed ≡ false }
     requires fit { IsFit (length host.old.flows) script.old }
     ensures { OnOk result (turn_of host.new script.new
-        ≡ turn (numbers_of numbers.now.params) (address_in s.now.hosts) tick (turn_of host.old script.old)) }
+        ≡ turn (starts_of starts.now.params) (address_in s.now.hosts) tick (turn_of host.old script.old)) }
 {
-    script.take_turn(host, tick, s.hosts.as_slice(), numbers, filling)?;
+    script.take_turn(host, tick, s.hosts.as_slice(), starts, filling)?;
     Ok(script.rest() >= LEAST_REST)
 }

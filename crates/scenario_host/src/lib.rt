@@ -4,17 +4,17 @@
 mod filling;
 mod host;
 mod kill;
-mod numbers;
 mod on_cores;
 mod resting;
 mod script;
 mod start;
+mod starts;
 mod steps;
 mod streams;
 mod trying;
 
 pub use filling::FillBytes;
 pub use host::ScenarioHost;
-pub use numbers::HostNumbers;
 pub use script::AppScript;
 pub use start::scripts_on;
+pub use starts::HostStarts;

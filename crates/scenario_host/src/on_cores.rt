@@ -8,7 +8,7 @@ ghost use Rattle.local_host.specs.Arriving.{arrival_in};
 ghost use Rattle.local_host.specs.SideWork.{IsSidePhase};
 ghost use Rattle.local_host.specs.Trying.{AreAnswered, CanTryIt};
 ghost use Rattle.scenario_runs.specs.Applications.{Script};
-ghost use Rattle.scenario_runs.specs.Worlds.{scripts_of, numbers_of};
+ghost use Rattle.scenario_runs.specs.Worlds.{scripts_of, starts_of};
 ghost use Rattle.scenario_host.specs.Sound.{IsSound};
 ghost use Rattle.scenario_host.specs.Turns.{site_with};
 ghost use Rattle.scenario_host.specs.GroupMoves.{is_move_of, group_move, name_at};
@@ -16,8 +16,8 @@ ghost use Rattle.scenario_host.specs.Tries.{IsAtStep, AreAttemptsOf, AreWithin, 
 ghost use Rattle.scenario_host.specs.Tries.{answer_at as model_answer};
 
 use crate::filling::FillBytes;
-use crate::numbers::HostNumbers;
 use crate::script::AppScript;
+use crate::starts::HostStarts;
 use flow_state::Answer;
 use local_host::{Arrival, Attempt, Cores, GroupMove, LocalHost, SideWork, are_handed_out};
 use scenario_text::{HostLine, MoveLine, Scenario};
@@ -38,14 +38,14 @@ pub(crate) fn play_tick_on_cores<R: Threads + Wait + Sync, G: Gate + Sync>(
     tick: u32,
     arrivals: &[Arrival<'_>],
     s: &Scenario,
-    numbers: &HostNumbers,
+    starts: &HostStarts,
     filling: &FillBytes,
     cores: &mut Cores,
     gate: &G,
 ) -> Result<(), AllocError>
-    requires params { numbers.now.params ≡ host.old.params }
+    requires params { starts.now.params ≡ host.old.params }
     requires sound { IsSound (site_with host.old scripts.old.items) }
-    ensures made { OnOk result (IsCoresTick (scripts_of s.now numbers.now.params) cores.old.count tick
+    ensures made { OnOk result (IsCoresTick (scripts_of s.now starts.now.params) cores.old.count tick
         (record { frames = map arrival_in arrivals.now; asks = map (λ (x : Script). x.number) scripts.old.items })
         (site_with host.old scripts.old.items) (site_with host.new scripts.new.items)) }
     ensures params { OnOk result (host.new.params ≡ host.old.params) }
@@ -57,8 +57,8 @@ pub(crate) fn play_tick_on_cores<R: Threads + Wait + Sync, G: Gate + Sync>(
     let tries = attempts_where(alloc, handed_out, scripts.as_slice(), tick, filling)?;
     let side = work_on_cores(rt, alloc, host, tick, arrivals, tries, s, cores, gate)?;
     go_on_all(scripts, &side.attempts);
-    deliver_rest(host, tick, &side.rest, numbers)?;
-    ask_rest(host, scripts, &side.attempts, tick, s, numbers, filling)?;
+    deliver_rest(host, tick, &side.rest, starts)?;
+    ask_rest(host, scripts, &side.attempts, tick, s, starts, filling)?;
     host.send_all_on_cores(rt, tick, cores.count())
 }
 
@@ -159,13 +159,13 @@ fn deliver_rest(
     host: &mut LocalHost,
     tick: u32,
     rest: &[Arrival<'_>],
-    numbers: &HostNumbers,
+    starts: &HostStarts,
 ) -> Result<(), AllocError>
-    ensures { OnOk result (host.new ≡ fold (delivered (received Slow) (numbers_of numbers.now.params) tick)
+    ensures { OnOk result (host.new ≡ fold (delivered (received Slow) (starts_of starts.now.params) tick)
         host.old (map arrival_in rest.now)) }
 {
     for arrival in rest {
-        host.deliver_slowly(tick, arrival, numbers)?;
+        host.deliver_slowly(tick, arrival, starts)?;
     }
     Ok(())
 }
@@ -177,19 +177,19 @@ fn ask_rest(
     attempts: &[Option<Attempt<'_>>],
     tick: u32,
     s: &Scenario,
-    numbers: &HostNumbers,
+    starts: &HostStarts,
     filling: &FillBytes,
 ) -> Result<(), AllocError>
     requires sound { IsSound (site_with host.old scripts.old.items) }
     ensures made { OnOk result (site_with host.new scripts.new.items
-        ≡ ask_phase (scripts_of s.now numbers.now.params) tick (site_with host.old scripts.old.items)
+        ≡ ask_phase (scripts_of s.now starts.now.params) tick (site_with host.old scripts.old.items)
         (later_in attempts.now (map (λ (x : Script). x.number) scripts.old.items))) }
     ensures params { OnOk result (host.new.params ≡ host.old.params) }
     ensures sound { OnOk result (IsSound (site_with host.new scripts.new.items)) }
 {
     for (k, script) in scripts.iter_mut().enumerate() {
         if answer_at(attempts, k).is_none() {
-            script.take_turn(host, tick, s.hosts.as_slice(), numbers, filling)?;
+            script.take_turn(host, tick, s.hosts.as_slice(), starts, filling)?;
         }
     }
     Ok(())

@@ -5,15 +5,15 @@ ghost use Rattle.scenario_ranges.specs.Ranges.{IsStepInRange};
 ghost use Rattle.scenario_runs.specs.Applications.{bound_in, port_of, listens, accepts, refused, connects_on};
 ghost use Rattle.scenario_runs.specs.Applications.{done_or, on_socket, once, ends, waits_for, step_of, turn};
 ghost use Rattle.scenario_runs.specs.Applications.{is_killed_at, has_ended};
-ghost use Rattle.scenario_runs.specs.Worlds.{numbers_of, address_in};
+ghost use Rattle.scenario_runs.specs.Worlds.{starts_of, address_in};
 ghost use Rattle.tas_model.specs.declared.entry.Call.TheVariants as calls;
 ghost use Rattle.scenario_host.specs.Sound.{IsPart, AreNamesOf, IsFitFor};
 ghost use Rattle.scenario_host.specs.Turns.{turn_of};
 ghost use Rattle.asked_host.specs.Asking.{IsEndCall};
 
 use crate::filling::FillBytes;
-use crate::numbers::HostNumbers;
 use crate::script::{AppScript, Bound};
+use crate::starts::HostStarts;
 use asked_host::AskedHost;
 use flow_state::CallIn;
 use local_host::Connecting;
@@ -30,7 +30,7 @@ impl<'a> AppScript<'a> {
         host: &mut H,
         tick: u32,
         hosts: &[HostLine],
-        numbers: &HostNumbers,
+        starts: &HostStarts,
         filling: &FillBytes,
     ) -> Result<(), AllocError>
         requires listens { (H.seen host.old).params.fixed ≡ false }
@@ -38,7 +38,7 @@ impl<'a> AppScript<'a> {
         requires lives { has_ended self.old ≡ false → H.has_app host.old self.old.number }
         requires fit { IsFitFor (H.has_socket host.old self.old.number) self.old }
         ensures { OnOk result (turn_of (H.seen host.new) self.new
-            ≡ turn (numbers_of numbers.now.params) (address_in hosts.now) tick (turn_of (H.seen host.old) self.old)) }
+            ≡ turn (starts_of starts.now.params) (address_in hosts.now) tick (turn_of (H.seen host.old) self.old)) }
     {
         if self.is_killed_at(tick) {
             return self.be_killed(host, tick);
@@ -49,7 +49,7 @@ impl<'a> AppScript<'a> {
                 self.wait(*ticks);
                 Ok(())
             }
-            [step, ..] => self.take_step(host, tick, step, hosts, numbers, filling),
+            [step, ..] => self.take_step(host, tick, step, hosts, starts, filling),
         }
     }
 
@@ -61,7 +61,7 @@ impl<'a> AppScript<'a> {
         tick: u32,
         step: &'a Step,
         hosts: &[HostLine],
-        numbers: &HostNumbers,
+        starts: &HostStarts,
         filling: &FillBytes,
     ) -> Result<(), AllocError>
         requires listens { (H.seen host.old).params.fixed ≡ false }
@@ -69,7 +69,7 @@ impl<'a> AppScript<'a> {
         requires range { IsStepInRange step.now }
         requires part { IsPart step.now self.old.done }
         requires names { AreNamesOf (H.has_socket host.old self.old.number) self.old.names }
-        ensures { OnOk result (turn_of (H.seen host.new) self.new ≡ step_of (numbers_of numbers.now.params)
+        ensures { OnOk result (turn_of (H.seen host.new) self.new ≡ step_of (starts_of starts.now.params)
             (address_in hosts.now) tick step.now (turn_of (H.seen host.old) self.old)) }
     {
         match step {
@@ -79,7 +79,7 @@ impl<'a> AppScript<'a> {
             }
             Step::Connect(socket, name, port) => {
                 let raddr = address_of(hosts, name.as_slice());
-                self.connect(host, tick, socket.as_slice(), raddr, *port as u16, numbers)
+                self.connect(host, tick, socket.as_slice(), raddr, *port as u16, starts)
             }
             Step::Send(socket, text) => self.send(host, tick, socket.as_slice(), text.as_slice()),
             Step::Fill(socket, count) => self.fill(host, tick, socket.as_slice(), *count, filling),
@@ -172,19 +172,19 @@ impl<'a> AppScript<'a> {
         socket: &'a [u8],
         raddr: u32,
         rport: u16,
-        numbers: &HostNumbers,
+        starts: &HostStarts,
     ) -> Result<(), AllocError>
         requires listens { (H.seen host.old).params.fixed ≡ false }
         requires lives { H.has_app host.old self.old.number }
         requires names { AreNamesOf (H.has_socket host.old self.old.number) self.old.names }
         ensures { OnOk result (turn_of (H.seen host.new) self.new
-            ≡ connects_on (numbers_of numbers.now.params) self.old.begun tick socket.now raddr rport
+            ≡ connects_on (starts_of starts.now.params) self.old.begun tick socket.now raddr rport
             (turn_of (H.seen host.old) self.old)) }
     {
         if self.has_begun() {
             return self.ask_ready(host, tick, socket);
         }
-        match host.connect_out(self.number(), tick, raddr, rport, numbers)? {
+        match host.connect_out(self.number(), tick, raddr, rport, starts)? {
             Connecting::Opened(place) => {
                 self.bind(socket, Bound::Socket(place))?;
                 self.begin();

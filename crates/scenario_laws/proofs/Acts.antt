@@ -7,9 +7,10 @@ use Rattle.tas_model.specs.declared.entry.Call.{Call}
 use Rattle.tas_model.specs.declared.entry.Call.TheVariants as calls
 use Rattle.tas_model.specs.declared.entry.Reply.{Reply}
 use Rattle.tas_model.specs.declared.entry.Reply.TheVariants as replies
+use Rattle.host_rounds.specs.declared.opening.Start.{Start}
 use Rattle.host_rounds.specs.declared.log.LogEvent.{LogEvent}
 use Rattle.host_rounds.specs.declared.log.LogEvent.TheVariants as events
-use Rattle.host_rounds.specs.Hosts.{Live, Host, Application, GivenUp, Numbers, next_number, with_call, logged, at_flow}
+use Rattle.host_rounds.specs.Hosts.{Live, Host, Application, GivenUp, Starts, next_start, with_call, logged, at_flow}
 use Rattle.host_rounds.specs.Hosts.{is_listened, is_ready, lowest_free, first_port, ports_given, first_entry, opened_in}
 use Rattle.scenario_text.specs.declared.scenario.Step.{Step}
 use Rattle.scenario_text.specs.declared.scenario.Step.TheVariants as steps
@@ -28,20 +29,20 @@ pub data Act : Type 0 where
   Listens : (port : ℕ) → Act
 
 -- what the act of the application with this number leaves of the host
-abbrev pub leaves : Numbers → (tick number : ℕ) → Host → Act → Host
-leaves numbers t n host Rests = host
-leaves numbers t n host (Calls k call offer) = at_flow k (λ (l : Live). with_call l (App n) t call offer) host
-leaves numbers t n host (Accepts k) =
+abbrev pub leaves : Starts → (tick number : ℕ) → Host → Act → Host
+leaves starts t n host Rests = host
+leaves starts t n host (Calls k call offer) = at_flow k (λ (l : Live). with_call l (App n) t call offer) host
+leaves starts t n host (Accepts k) =
     at_flow k (λ (l : Live). record l { holder = Application n })
     (at_flow k (λ (l : Live). with_call l (App n) t calls.Accept []) host)
-leaves numbers t n host (Connects slot tuple) =
-    opened_in host slot tuple (Application n)
-    (first_entry (App n) t (calls.Connect (record { 0 = next_number numbers host tuple })))
-leaves numbers t n host (GivesUp k call) =
+leaves starts t n host (Connects slot tuple) =
+    let start : Start = next_start starts host tuple in
+    opened_in host slot tuple start.scale (Application n) (first_entry (App n) t (calls.Connect start.number))
+leaves starts t n host (GivesUp k call) =
     at_flow k (λ (l : Live). record l { holder = GivenUp })
     (at_flow k (λ (l : Live). with_call l (App n) t call []) host)
-leaves numbers t n host (Notes event) = logged host t event
-leaves numbers t n host (Listens port) =
+leaves starts t n host (Notes event) = logged host t event
+leaves starts t n host (Listens port) =
     record (logged host t (events.Listen n port true)) {
       listeners = host.listeners ++ (record { port = port; app = n }) ∷ [];
     }
@@ -133,45 +134,45 @@ received_names reply all s = refl
 
 -- ----- one step
 -- The step of a turn leaves this host, and these names.
-pub record Acted (numbers : Numbers) (t : ℕ) (step : Step) (x y : Turn) : Type 0 where
+pub record Acted (starts : Starts) (t : ℕ) (step : Step) (x y : Turn) : Type 0 where
   pub act : Act
   pub may : MayAct step x.host act
-  pub left : y.host ≡ leaves numbers t x.script.number x.host act
+  pub left : y.host ≡ leaves starts t x.script.number x.host act
   pub named : MayName x act y.script.names
   pub own : NotesOwn x.script.number act
 
-rests : (numbers : Numbers) (t : ℕ) (step : Step) (x y : Turn) → y.host ≡ x.host → y.script.names ≡ x.script.names
-    → Acted numbers t step x y
-rests numbers t step x y host names = record { act = Rests; may = tt; left = host; named = names; own = tt }
+rests : (starts : Starts) (t : ℕ) (step : Step) (x y : Turn) → y.host ≡ x.host → y.script.names ≡ x.script.names
+    → Acted starts t step x y
+rests starts t step x y host names = record { act = Rests; may = tt; left = host; named = names; own = tt }
 
-listens_acts : (numbers : Numbers) (taken : Bool) (t : ℕ) (name : List ℕ) (port : ℕ) (x : Turn)
-    → Acted numbers t (steps.Listen name port) x (listens_where taken t name port x)
-listens_acts numbers true t name port x =
+listens_acts : (starts : Starts) (taken : Bool) (t : ℕ) (name : List ℕ) (port : ℕ) (x : Turn)
+    → Acted starts t (steps.Listen name port) x (listens_where taken t name port x)
+listens_acts starts true t name port x =
     record { act = Notes (events.Listen x.script.number port false); may = tt; left = refl; named = refl; own = refl }
-listens_acts numbers false t name port x =
+listens_acts starts false t name port x =
     record { act = Listens port; may = (name, refl); left = refl; named = (name, refl); own = tt }
 
-one_acts : (numbers : Numbers) (ready : Option ℕ) (t : ℕ) (step : Step) (socket : List ℕ) (port : ℕ) (x : Turn)
+one_acts : (starts : Starts) (ready : Option ℕ) (t : ℕ) (step : Step) (socket : List ℕ) (port : ℕ) (x : Turn)
     → position (is_ready port) x.host.flows ≡ ready
-    → Acted numbers t step x (accepts_one ready t socket port x)
-one_acts numbers None t step socket port x at =
+    → Acted starts t step x (accepts_one ready t socket port x)
+one_acts starts None t step socket port x at =
     record { act = Notes (events.AcceptNotYet x.script.number port); may = tt; left = refl; named = refl; own = refl }
-one_acts numbers (Some k) t step socket port x at =
+one_acts starts (Some k) t step socket port x at =
     record { act = Accepts k; may = (port, at); left = refl; named = (socket, refl); own = tt }
 
-accepts_acts : (numbers : Numbers) (port : Option ℕ) (t : ℕ) (step : Step) (socket : List ℕ) (x : Turn)
-    → Acted numbers t step x (accepts port t socket x)
-accepts_acts numbers None t step socket x = rests numbers t step x _ refl refl
-accepts_acts numbers (Some port) t step socket x =
-    one_acts numbers (position (is_ready port) x.host.flows) t step socket port x refl
+accepts_acts : (starts : Starts) (port : Option ℕ) (t : ℕ) (step : Step) (socket : List ℕ) (x : Turn)
+    → Acted starts t step x (accepts port t socket x)
+accepts_acts starts None t step socket x = rests starts t step x _ refl refl
+accepts_acts starts (Some port) t step socket x =
+    one_acts starts (position (is_ready port) x.host.flows) t step socket port x refl
 
-where_acts : (numbers : Numbers) (left : Bool) (slot t : ℕ) (step : Step) (socket : List ℕ) (raddr rport : ℕ) (x : Turn)
+where_acts : (starts : Starts) (left : Bool) (slot t : ℕ) (step : Step) (socket : List ℕ) (raddr rport : ℕ) (x : Turn)
     → nat_lt (first_port + ports_given x.host) (2 ^ 16) ≡ left
-    → Acted numbers t step x
-    (opens_where left numbers slot (first_port + ports_given x.host) t socket raddr rport x)
-where_acts numbers true slot t step socket raddr rport x left =
+    → Acted starts t step x
+    (opens_where left starts slot (first_port + ports_given x.host) t socket raddr rport x)
+where_acts starts true slot t step socket raddr rport x left =
     record { act = Connects slot _; may = (refl, left); left = refl; named = (socket, refl); own = tt }
-where_acts numbers false slot t step socket raddr rport x left =
+where_acts starts false slot t step socket raddr rport x left =
     record {
       act = Notes (events.ConnectRefused x.script.number raddr rport true);
       may = left;
@@ -180,9 +181,9 @@ where_acts numbers false slot t step socket raddr rport x left =
       own = refl;
     }
 
-connects_acts : (numbers : Numbers) (free : Option ℕ) (t : ℕ) (step : Step) (socket : List ℕ) (raddr rport : ℕ)
-    (x : Turn) → Acted numbers t step x (connects numbers free t socket raddr rport x)
-connects_acts numbers None t step socket raddr rport x =
+connects_acts : (starts : Starts) (free : Option ℕ) (t : ℕ) (step : Step) (socket : List ℕ) (raddr rport : ℕ)
+    (x : Turn) → Acted starts t step x (connects starts free t socket raddr rport x)
+connects_acts starts None t step socket raddr rport x =
     record {
       act = Notes (events.ConnectRefused x.script.number raddr rport false);
       may = tt;
@@ -190,26 +191,26 @@ connects_acts numbers None t step socket raddr rport x =
       named = refl;
       own = refl;
     }
-connects_acts numbers (Some slot) t step socket raddr rport x =
-    where_acts numbers (nat_lt (first_port + ports_given x.host) (2 ^ 16)) slot t step socket raddr rport x refl
+connects_acts starts (Some slot) t step socket raddr rport x =
+    where_acts starts (nat_lt (first_port + ports_given x.host) (2 ^ 16)) slot t step socket raddr rport x refl
 
-flow_acts : (numbers : Numbers) (t : ℕ) (step : Step) (o : Option ℕ) (does : ℕ → Turn → Turn) (x : Turn)
-    → ((k : ℕ) → o ≡ Some k → Acted numbers t step x (does k x)) → Acted numbers t step x (on_flow o does x)
-flow_acts numbers t step None does x each = rests numbers t step x _ refl refl
-flow_acts numbers t step (Some k) does x each = each k refl
+flow_acts : (starts : Starts) (t : ℕ) (step : Step) (o : Option ℕ) (does : ℕ → Turn → Turn) (x : Turn)
+    → ((k : ℕ) → o ≡ Some k → Acted starts t step x (does k x)) → Acted starts t step x (on_flow o does x)
+flow_acts starts t step None does x each = rests starts t step x _ refl refl
+flow_acts starts t step (Some k) does x each = each k refl
 
-socket_acts : (numbers : Numbers) (t : ℕ) (step : Step) (socket : List ℕ) (does : ℕ → Turn → Turn) (x : Turn)
-    → ((k : ℕ) → flow_of (bound_in x.script.names socket) ≡ Some k → Acted numbers t step x (does k x))
-    → Acted numbers t step x (on_socket socket does x)
-socket_acts numbers t step socket does x each =
-    flow_acts numbers t step (flow_of (bound_in x.script.names socket)) does x each
+socket_acts : (starts : Starts) (t : ℕ) (step : Step) (socket : List ℕ) (does : ℕ → Turn → Turn) (x : Turn)
+    → ((k : ℕ) → flow_of (bound_in x.script.names socket) ≡ Some k → Acted starts t step x (does k x))
+    → Acted starts t step x (on_socket socket does x)
+socket_acts starts t step socket does x each =
+    flow_acts starts t step (flow_of (bound_in x.script.names socket)) does x each
 
-connects_on_acts : (numbers : Numbers) (begun : Bool) (t : ℕ) (step : Step) (socket : List ℕ) (raddr rport : ℕ)
-    (x : Turn) → Acted numbers t step x (connects_on numbers begun t socket raddr rport x)
-connects_on_acts numbers false t step socket raddr rport x =
-    connects_acts numbers (lowest_free x.host) t step socket raddr rport x
-connects_on_acts numbers true t step socket raddr rport x =
-    socket_acts numbers t step socket _ x (λ k at. record {
+connects_on_acts : (starts : Starts) (begun : Bool) (t : ℕ) (step : Step) (socket : List ℕ) (raddr rport : ℕ)
+    (x : Turn) → Acted starts t step x (connects_on starts begun t socket raddr rport x)
+connects_on_acts starts false t step socket raddr rport x =
+    connects_acts starts (lowest_free x.host) t step socket raddr rport x
+connects_on_acts starts true t step socket raddr rport x =
+    socket_acts starts t step socket _ x (λ k at. record {
       act = Calls k calls.Ready [];
       may = tt;
       left = refl;
@@ -217,9 +218,9 @@ connects_on_acts numbers true t step socket raddr rport x =
       own = tt;
     })
 
-sends_acts : (numbers : Numbers) (t : ℕ) (step : Step) (socket bytes : List ℕ) (x : Turn)
-    → Acted numbers t step x (on_socket socket (λ (k : ℕ). sends k t bytes) x)
-sends_acts numbers t step socket bytes x = socket_acts numbers t step socket _ x (λ k at. record {
+sends_acts : (starts : Starts) (t : ℕ) (step : Step) (socket bytes : List ℕ) (x : Turn)
+    → Acted starts t step x (on_socket socket (λ (k : ℕ). sends k t bytes) x)
+sends_acts starts t step socket bytes x = socket_acts starts t step socket _ x (λ k at. record {
   act = Calls k (calls.Send _) _;
   may = tt;
   left = refl;
@@ -227,9 +228,9 @@ sends_acts numbers t step socket bytes x = socket_acts numbers t step socket _ x
   own = tt;
 })
 
-receives_acts : (numbers : Numbers) (t : ℕ) (step : Step) (socket : List ℕ) (all : Option ℕ) (x : Turn)
-    → Acted numbers t step x (on_socket socket (λ (k : ℕ). receives k t all) x)
-receives_acts numbers t step socket all x = socket_acts numbers t step socket _ x (λ k at. record {
+receives_acts : (starts : Starts) (t : ℕ) (step : Step) (socket : List ℕ) (all : Option ℕ) (x : Turn)
+    → Acted starts t step x (on_socket socket (λ (k : ℕ). receives k t all) x)
+receives_acts starts t step socket all x = socket_acts starts t step socket _ x (λ k at. record {
   act = Calls k (calls.Recv _) [];
   may = tt;
   left = refl;
@@ -237,40 +238,40 @@ receives_acts numbers t step socket all x = socket_acts numbers t step socket _ 
   own = tt;
 })
 
-pub step_acts : (numbers : Numbers) (address : List ℕ → ℕ) (t : ℕ) (step : Step) (x : Turn)
-    → Acted numbers t step x (step_of numbers address t step x)
-step_acts numbers address t (steps.Listen name port) x = listens_acts numbers (is_listened port x.host) t name port x
-step_acts numbers address t (steps.Accept socket listener) x =
-    accepts_acts numbers (port_of (bound_in x.script.names listener)) t _ socket x
-step_acts numbers address t (steps.Connect socket host port) x =
-    connects_on_acts numbers x.script.begun t _ socket (address host) port x
-step_acts numbers address t (steps.Send socket text) x = sends_acts numbers t _ socket text x
-step_acts numbers address t (steps.Fill socket count) x = sends_acts numbers t _ socket (filling count) x
-step_acts numbers address t (steps.Recv socket count) x = receives_acts numbers t _ socket (Some count) x
-step_acts numbers address t (steps.Drain socket) x = receives_acts numbers t _ socket None x
-step_acts numbers address t (steps.Shut socket) x =
-    socket_acts numbers t _ socket _ x (λ k at. record {
+pub step_acts : (starts : Starts) (address : List ℕ → ℕ) (t : ℕ) (step : Step) (x : Turn)
+    → Acted starts t step x (step_of starts address t step x)
+step_acts starts address t (steps.Listen name port) x = listens_acts starts (is_listened port x.host) t name port x
+step_acts starts address t (steps.Accept socket listener) x =
+    accepts_acts starts (port_of (bound_in x.script.names listener)) t _ socket x
+step_acts starts address t (steps.Connect socket host port) x =
+    connects_on_acts starts x.script.begun t _ socket (address host) port x
+step_acts starts address t (steps.Send socket text) x = sends_acts starts t _ socket text x
+step_acts starts address t (steps.Fill socket count) x = sends_acts starts t _ socket (filling count) x
+step_acts starts address t (steps.Recv socket count) x = receives_acts starts t _ socket (Some count) x
+step_acts starts address t (steps.Drain socket) x = receives_acts starts t _ socket None x
+step_acts starts address t (steps.Shut socket) x =
+    socket_acts starts t _ socket _ x (λ k at. record {
       act = Calls k calls.Shut [];
       may = tt;
       left = refl;
       named = (refl, (socket, at));
       own = tt;
     })
-step_acts numbers address t (steps.Close socket) x =
-    socket_acts numbers t _ socket _ x (λ k at. record {
+step_acts starts address t (steps.Close socket) x =
+    socket_acts starts t _ socket _ x (λ k at. record {
       act = GivesUp k calls.Close;
       may = tt;
       left = refl;
       named = (socket, at, refl);
       own = tt;
     })
-step_acts numbers address t (steps.Abort socket) x =
-    socket_acts numbers t _ socket _ x (λ k at. record {
+step_acts starts address t (steps.Abort socket) x =
+    socket_acts starts t _ socket _ x (λ k at. record {
       act = GivesUp k calls.Abort;
       may = tt;
       left = refl;
       named = (socket, at, refl);
       own = tt;
     })
-step_acts numbers address t (steps.Wait ticks) x =
-    rests numbers t _ x _ refl (done_names (x.script.done + 1 == ticks) (x.script.done + 1) x.script)
+step_acts starts address t (steps.Wait ticks) x =
+    rests starts t _ x _ refl (done_names (x.script.done + 1 == ticks) (x.script.done + 1) x.script)

@@ -9,7 +9,7 @@ use Rattle.tas_model.specs.declared.entry.Call.TheVariants as calls
 use Rattle.tas_model.specs.LegalHistory.{last_tick, replay}
 use Rattle.tas_model.proofs.Tests.{on_cond}
 use Rattle.host_rounds.specs.Lists.{Each}
-use Rattle.host_rounds.specs.Hosts.{Live, is_over, is_running, with_call, flows_of}
+use Rattle.host_rounds.specs.Hosts.{Live, is_over, is_running, with_call, flow_params, flows_of}
 use Rattle.host_rounds.specs.Upkeep.{swept, is_control_tick, controlled_where, timed, timed_unless}
 use Rattle.host_rounds.specs.Passing.{is_tick, IsUpTo}
 use Rattle.host_rounds.specs.Scripts.{Site, Scripts}
@@ -124,7 +124,7 @@ keeps_controlled t = record {
   timed = timed_controlled t;
   swept = swept_controlled t;
   holder = λ holder l p. p;
-  opened = λ host slot tuple holder x plain now. opened_controlled t x host.params plain now;
+  opened = λ host slot tuple scale holder x plain now. opened_controlled t x (flow_params host.params scale) plain now;
 }
 
 -- ----- all flows

@@ -16,7 +16,7 @@ use Rattle.host_rounds.specs.Rounds.{Action, Timer, Frame, Ask, Emission, Deed, 
 use Rattle.host_rounds.specs.Rounds.{timers_from, OfScript, is_by, actions_of}
 use Rattle.scenario_text.specs.declared.scenario.Scenario.{Scenario}
 use Rattle.scenario_runs.specs.Applications.{Script, turn}
-use Rattle.scenario_runs.specs.Worlds.{numbers_of, address_in, scripts_of, asked_of}
+use Rattle.scenario_runs.specs.Worlds.{starts_of, address_in, scripts_of, asked_of}
 use Rattle.scenario_laws.specs.Turns.{OfEachScript, is_ask, is_turn_of, turn_on, HadTurn}
 use Rattle.scenario_laws.proofs.Goes.{turn_goes}
 
@@ -209,12 +209,12 @@ rise_after low (b ∷ bs) (a ∷ az) all rise =
 -- ----- one is asked
 abbrev turned : Scenario → HostParams → ℕ → Host → Script → Script
 turned s p t host x =
-    (turn (numbers_of p) (address_in s.hosts) t (record { host = host; script = x })).script
+    (turn (starts_of p) (address_in s.hosts) t (record { host = host; script = x })).script
 
 turned_number : (s : Scenario) (p : HostParams) (t : ℕ) (host : Host) (x : Script)
     → (turned s p t host x).number ≡ x.number
 turned_number s p t host x =
-    (turn_goes (numbers_of p) (address_in s.hosts) t (record { host = host; script = x })).number
+    (turn_goes (starts_of p) (address_in s.hosts) t (record { host = host; script = x })).number
 
 abbrev asked_where : Scenario → HostParams → ℕ → Host → Option Script → List Script → List Script
 asked_where s p t host None bs = bs
@@ -328,7 +328,7 @@ one_asked s p t k low host (b ∷ bs) rise (Some x) h =
 
 -- ----- a tick
 pub asked_is : (s : Scenario) (p : HostParams) (t : ℕ) (o : Option Script) (site : Site (List Script))
-    → (asked_of (numbers_of p) (address_in s.hosts) t o site).scripts ≡ asked_where s p t site.host o site.scripts
+    → (asked_of (starts_of p) (address_in s.hosts) t o site).scripts ≡ asked_where s p t site.host o site.scripts
 asked_is s p t None site = refl
 asked_is s p t (Some x) site = refl
 
@@ -340,7 +340,7 @@ by_ask s p t k site by b a asked = record {
   none = asked.none;
   asks = λ h. ap Ask (same_number (b.number == k) refl h);
   script = asked.script;
-  host = λ h. ap (λ (o : Option Script). (asked_of (numbers_of p) (address_in s.hosts) t o site).host) (asked.found h);
+  host = λ h. ap (λ (o : Option Script). (asked_of (starts_of p) (address_in s.hosts) t o site).host) (asked.found h);
 } where
   same_number : (c : Bool) → (b.number == k) ≡ c → one_if c ≡ 1 → k ≡ b.number
   same_number true e h = grind (arith, tests, e)

@@ -12,13 +12,14 @@ use Rattle.tas_model.specs.declared.entry.Call.{Call}
 use Rattle.tas_model.specs.declared.entry.Call.TheVariants as calls
 use Rattle.tas_model.specs.Segments.{one_if}
 use Rattle.tas_model.specs.LegalHistory.{last_tick}
+use Rattle.host_rounds.specs.declared.opening.Start.{Start}
 use Rattle.host_rounds.specs.declared.log.LogLine.{LogLine}
 use Rattle.host_rounds.specs.declared.log.LogEvent.{LogEvent}
 use Rattle.host_rounds.specs.declared.log.LogEvent.TheVariants as events
 use Rattle.host_rounds.specs.Lists.{Each, change_at}
 use Rattle.host_rounds.specs.Logs.{HostRun, RunLog}
-use Rattle.host_rounds.specs.Hosts.{Live, Host, Holder, Waiting, Application, GivenUp, Numbers, with_call, flows_of}
-use Rattle.host_rounds.specs.Hosts.{new_flow, opened_in, first_entry, next_number}
+use Rattle.host_rounds.specs.Hosts.{Live, Host, Holder, Waiting, Application, GivenUp, Starts, with_call, flows_of}
+use Rattle.host_rounds.specs.Hosts.{new_flow, opened_in, first_entry, next_start}
 use Rattle.host_rounds.specs.Upkeep.{all_swept, swept, timed, emits}
 use Rattle.host_rounds.specs.Deliveries.{Arrival}
 use Rattle.host_rounds.specs.Passing.{IsUpTo}
@@ -30,7 +31,7 @@ use Rattle.scenario_text.specs.declared.scenario.Scenario.{Scenario}
 use Rattle.scenario_text.specs.declared.scenario.HostLine.{HostLine}
 use Rattle.scenario_runs.specs.Applications.{Script, Turn, is_concerned, aborted_where, is_killed_at, goes_on}
 use Rattle.scenario_runs.specs.Applications.{turn_where}
-use Rattle.scenario_runs.specs.Worlds.{numbers_of, address_in, asked_of, scripts_of, site_of}
+use Rattle.scenario_runs.specs.Worlds.{starts_of, address_in, asked_of, scripts_of, site_of}
 use Rattle.scenario_runs.specs.Runs.{Run}
 use Rattle.scenario_laws.specs.Counts.{is_by_app, calls_in, calls_of, is_told, told_in, calls_at}
 use Rattle.scenario_laws.specs.Turns.{turn_on}
@@ -67,11 +68,11 @@ live_push n u (m ∷ ls) l =
     let rest : calls_live n u (ls ++ l ∷ []) ≡ calls_live n u ls + calls_in n u l.flow.entries = live_push n u ls l in
     omega arith
 
-opened_count : (n u : ℕ) (host : Host) (slot : ℕ) (tuple : FourTuple) (holder : Holder) (x : Entry)
-    → calls_live n u (opened_in host slot tuple holder x).flows
+opened_count : (n u : ℕ) (host : Host) (slot : ℕ) (tuple : FourTuple) (scale : Option ℕ) (holder : Holder) (x : Entry)
+    → calls_live n u (opened_in host slot tuple scale holder x).flows
     ≡ calls_live n u host.flows + one_if (is_by_app n x.caller && x.tick == u)
-opened_count n u host slot tuple holder x =
-    live_push n u host.flows (new_flow host slot tuple holder x) ∙ (omega arith)
+opened_count n u host slot tuple scale holder x =
+    live_push n u host.flows (new_flow host slot tuple scale holder x) ∙ (omega arith)
 
 told_push : (n u : ℕ) (ls : List LogLine) (l : LogLine)
     → told_in n u (ls ++ l ∷ []) ≡ told_in n u ls + one_if (is_told n l.event && l.tick == u)
@@ -139,11 +140,11 @@ work_counts n u t most = record {
       ap (λ (b : Bool). one_if (b && t == u)) (frame_line n event kind) in
       let before : calls_live n u site.host.flows + told_in n u site.host.log ≤ most = i.most in
       record { low = i.low; most = omega arith };
-  syn = λ site slot number frame tuple seg listening i.
-      let same : calls_live n u (opened_for slot number t site.host frame tuple seg).flows
+  syn = λ site slot start frame tuple seg listening i.
+      let same : calls_live n u (opened_for slot start t site.host frame tuple seg).flows
       ≡ calls_live n u site.host.flows + 0 =
-      opened_count n u site.host slot tuple Waiting
-      (first_entry Slow t (calls.Passive frame (record { 0 = number }) seg)) in
+      opened_count n u site.host slot tuple start.scale Waiting
+      (first_entry Slow t (calls.Passive frame start.number seg)) in
       let before : calls_live n u site.host.flows + told_in n u site.host.log ≤ most = i.most in
       record { low = each_push (IsUpTo t) site.host.flows _ i.low (omega arith); most = omega arith };
 }
@@ -193,15 +194,15 @@ called_low : (t k flow : ℕ) (call : Call) (offer : List ℕ) (ls : List Live) 
 called_low t k flow call offer ls low =
     each_at (IsUpTo t) flow _ (λ l one. call_low (App k) t call offer l one) ls low
 
-act_counts : (n u t most k : ℕ) (numbers : Numbers) (host : Host) (act : Act) → NotesOwn k act
-    → Counts n u t most host → Counts n u t (most + added n u t k) (leaves numbers t k host act)
-act_counts n u t most k numbers host Rests own i =
+act_counts : (n u t most k : ℕ) (starts : Starts) (host : Host) (act : Act) → NotesOwn k act
+    → Counts n u t most host → Counts n u t (most + added n u t k) (leaves starts t k host act)
+act_counts n u t most k starts host Rests own i =
     let before : count n u host ≤ most = i.most in record { low = i.low; most = omega arith }
-act_counts n u t most k numbers host (Calls flow call offer) own i =
+act_counts n u t most k starts host (Calls flow call offer) own i =
     let before : count n u host ≤ most = i.most in
     let more = at_adds n u t k flow call offer host.flows i.low in
     record { low = called_low t k flow call offer host.flows i.low; most = omega arith }
-act_counts n u t most k numbers host (Accepts flow) own i =
+act_counts n u t most k starts host (Accepts flow) own i =
     let before : count n u host ≤ most = i.most in
     let more = at_adds n u t k flow calls.Accept [] host.flows i.low in
     let same = held_same n u flow (Application k)
@@ -210,13 +211,14 @@ act_counts n u t most k numbers host (Accepts flow) own i =
       low = each_at (IsUpTo t) flow _ (λ l one. one) _ (called_low t k flow calls.Accept [] host.flows i.low);
       most = omega arith;
     }
-act_counts n u t most k numbers host (Connects slot tuple) own i =
+act_counts n u t most k starts host (Connects slot tuple) own i =
     let before : count n u host ≤ most = i.most in
-    let x : Entry = first_entry (App k) t (calls.Connect (record { 0 = next_number numbers host tuple })) in
-    let more : calls_live n u (opened_in host slot tuple (Application k) x).flows
-    ≡ calls_live n u host.flows + added n u t k = opened_count n u host slot tuple (Application k) x in
+    let start : Start = next_start starts host tuple in
+    let x : Entry = first_entry (App k) t (calls.Connect start.number) in
+    let more : calls_live n u (opened_in host slot tuple start.scale (Application k) x).flows
+    ≡ calls_live n u host.flows + added n u t k = opened_count n u host slot tuple start.scale (Application k) x in
     record { low = each_push (IsUpTo t) host.flows _ i.low (omega arith); most = omega arith }
-act_counts n u t most k numbers host (GivesUp flow call) own i =
+act_counts n u t most k starts host (GivesUp flow call) own i =
     let before : count n u host ≤ most = i.most in
     let more = at_adds n u t k flow call [] host.flows i.low in
     let same = held_same n u flow GivenUp
@@ -225,12 +227,12 @@ act_counts n u t most k numbers host (GivesUp flow call) own i =
       low = each_at (IsUpTo t) flow _ (λ l one. one) _ (called_low t k flow call [] host.flows i.low);
       most = omega arith;
     }
-act_counts n u t most k numbers host (Notes event) own i =
+act_counts n u t most k starts host (Notes event) own i =
     let before : count n u host ≤ most = i.most in
     let one : one_if (is_told n event && t == u) ≡ added n u t k = line_adds n u t k event own in
     let more = told_push n u host.log (record { tick = t; event = event }) in
     record { low = i.low; most = omega arith }
-act_counts n u t most k numbers host (Listens port) own i =
+act_counts n u t most k starts host (Listens port) own i =
     let before : count n u host ≤ most = i.most in
     let more = told_push n u host.log (record { tick = t; event = events.Listen k port true }) in
     record { low = i.low; most = omega arith }
@@ -261,15 +263,15 @@ turn_counts s p n u t most host x i = by_kill (is_killed_at t x.kill) where
   before = i.most
 
   by_left : (left : List Step)
-      → Counts n u t (most + added n u t x.number) (goes_on (numbers_of p) (address_in s.hosts) t left here).host
+      → Counts n u t (most + added n u t x.number) (goes_on (starts_of p) (address_in s.hosts) t left here).host
   by_left [] = record { low = i.low; most = omega arith }
   by_left (step ∷ rest) =
-      let acted = step_acts (numbers_of p) (address_in s.hosts) t step here in
+      let acted = step_acts (starts_of p) (address_in s.hosts) t step here in
       subst (Counts n u t (most + added n u t x.number)) (sym acted.left)
-      (act_counts n u t most x.number (numbers_of p) host acted.act acted.own i)
+      (act_counts n u t most x.number (starts_of p) host acted.act acted.own i)
 
   by_kill : (b : Bool)
-      → Counts n u t (most + added n u t x.number) (turn_where b (numbers_of p) (address_in s.hosts) t here).host
+      → Counts n u t (most + added n u t x.number) (turn_where b (starts_of p) (address_in s.hosts) t here).host
   by_kill true =
       let same = aborted_same n u t (is_concerned x.number host) host.flows in
       record {
@@ -299,7 +301,7 @@ weaker n u t a b host le i =
 
 asked_counts : (s : Scenario) (p : HostParams) (n u t most k : ℕ) (site : At) → Counts n u t most site.host
     → (o : Option Script) → find (λ (b : Script). b.number == k) site.scripts ≡ o
-    → Counts n u t (most + one_if (n == k && t == u)) (asked_of (numbers_of p) (address_in s.hosts) t o site).host
+    → Counts n u t (most + one_if (n == k && t == u)) (asked_of (starts_of p) (address_in s.hosts) t o site).host
 asked_counts s p n u t most k site i None found = weaker n u t most _ site.host (omega arith) i
 asked_counts s p n u t most k site i (Some x) found =
     let number : (x.number == k) ≡ true = found_number k site.scripts x found in

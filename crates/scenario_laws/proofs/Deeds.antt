@@ -16,11 +16,12 @@ use Rattle.tas_model.specs.NextSegment.{Going, going}
 use Rattle.tas_model.specs.LegalHistory.{opened, replay, replay_on}
 use Rattle.tas_model.proofs.Histories.{replay_on_push}
 use Rattle.tas_model.proofs.Tests.{on_cond}
+use Rattle.host_rounds.specs.declared.opening.Start.{Start}
 use Rattle.host_rounds.specs.declared.log.LogEvent.{LogEvent}
 use Rattle.host_rounds.specs.declared.log.LogEvent.TheVariants as events
 use Rattle.host_rounds.specs.Lists.{Each, change_first, change_at}
 use Rattle.host_rounds.specs.Hosts.{Live, Host, Waiting, endpoint, is_over, is_running, with_call, logged}
-use Rattle.host_rounds.specs.Hosts.{is_indexed_as, is_known, is_listening, is_full, lowest_free, next_number}
+use Rattle.host_rounds.specs.Hosts.{is_indexed_as, is_known, is_listening, is_full, lowest_free, next_start}
 use Rattle.host_rounds.specs.Hosts.{first_entry, opened_in}
 use Rattle.host_rounds.specs.Upkeep.{swept, all_swept, is_control_tick, controlled_where, timed, timed_unless, emits}
 use Rattle.host_rounds.specs.Upkeep.{emits_where}
@@ -34,7 +35,7 @@ use Rattle.host_rounds.proofs.ClosedStays.{closed_stays}
 use Rattle.host_rounds.proofs.Grows.{call_grows, grew_low}
 use Rattle.scenario_text.specs.declared.scenario.Scenario.{Scenario}
 use Rattle.scenario_runs.specs.Applications.{Script}
-use Rattle.scenario_runs.specs.Worlds.{numbers_of, address_in, with_turn, asked_of, scripts_of}
+use Rattle.scenario_runs.specs.Worlds.{starts_of, address_in, with_turn, asked_of, scripts_of}
 use Rattle.scenario_laws.specs.Turns.{turn_on}
 use Rattle.scenario_laws.proofs.AllTurned.{NumbersRise, deed_rises}
 
@@ -203,9 +204,9 @@ IsFrameLine (events.Dropped frame backlog) = Unit {0}
 IsFrameLine (events.Refused frame rule) = Unit {0}
 IsFrameLine _ = ⊥
 
-abbrev pub opened_for : (slot number tick : ℕ) → Host → FrameId → FourTuple → Seg → Host
-opened_for slot number t host frame tuple seg =
-    opened_in host slot tuple Waiting (first_entry Slow t (calls.Passive frame (record { 0 = number }) seg))
+abbrev pub opened_for : (slot : ℕ) (start : Start) (tick : ℕ) → Host → FrameId → FourTuple → Seg → Host
+opened_for slot start t host frame tuple seg =
+    opened_in host slot tuple start.scale Waiting (first_entry Slow t (calls.Passive frame start.number seg))
 
 -- Whatever is done in the tick keeps the fact: of flows, by lines, by SYNs and by turns.
 pub record Keeps (s : Scenario) (p : HostParams) (t : ℕ) (I : At → Type 0) : Type 0 where
@@ -213,9 +214,9 @@ pub record Keeps (s : Scenario) (p : HostParams) (t : ℕ) (I : At → Type 0) :
       → I (on_host (λ (host : Host). record host { flows = ms }) site)
   pub line : (site : At) (event : LogEvent) → IsFrameLine event → I site
       → I (on_host (λ (host : Host). logged host t event) site)
-  pub syn : (site : At) (slot number : ℕ) (frame : FrameId) (tuple : FourTuple) (seg : Seg)
+  pub syn : (site : At) (slot : ℕ) (start : Start) (frame : FrameId) (tuple : FourTuple) (seg : Seg)
       → is_listening site.host tuple.lport ≡ true → I site
-      → I (on_host (λ (host : Host). opened_for slot number t host frame tuple seg) site)
+      → I (on_host (λ (host : Host). opened_for slot start t host frame tuple seg) site)
   pub turn : (site : At) (k : ℕ) (x : Script) → find (λ (b : Script). b.number == k) site.scripts ≡ Some x
       → NumbersRise 0 site.scripts → I site → I (with_turn (turn_on s p t site.host x) site.scripts)
 
@@ -225,60 +226,60 @@ pub record WorkKeeps (t : ℕ) (I : At → Type 0) : Type 0 where
       → I (on_host (λ (host : Host). record host { flows = ms }) site)
   pub line : (site : At) (event : LogEvent) → IsFrameLine event → I site
       → I (on_host (λ (host : Host). logged host t event) site)
-  pub syn : (site : At) (slot number : ℕ) (frame : FrameId) (tuple : FourTuple) (seg : Seg)
+  pub syn : (site : At) (slot : ℕ) (start : Start) (frame : FrameId) (tuple : FourTuple) (seg : Seg)
       → is_listening site.host tuple.lport ≡ true → I site
-      → I (on_host (λ (host : Host). opened_for slot number t host frame tuple seg) site)
+      → I (on_host (λ (host : Host). opened_for slot start t host frame tuple seg) site)
 
 work_of : (s : Scenario) (p : HostParams) (t : ℕ) (I : At → Type 0) → Keeps s p t I → WorkKeeps t I
 work_of s p t I keeps = record { flows = keeps.flows; line = keeps.line; syn = keeps.syn }
 
 -- ----- frames
-syn_keeps : (p : HostParams) (I : At → Type 0) (full : Bool) (free : Option ℕ) (number t : ℕ) (site : At)
+syn_keeps : (p : HostParams) (I : At → Type 0) (full : Bool) (free : Option ℕ) (start : Start) (t : ℕ) (site : At)
     (frame : FrameId) (tuple : FourTuple) (seg : Seg) → WorkKeeps t I → is_listening site.host tuple.lport ≡ true
-    → I site → I (on_host (λ (host : Host). opened_by_syn full free number t host frame tuple seg) site)
-syn_keeps p I true free number t site frame tuple seg keeps listening i =
+    → I site → I (on_host (λ (host : Host). opened_by_syn full free start t host frame tuple seg) site)
+syn_keeps p I true free start t site frame tuple seg keeps listening i =
     keeps.line site (events.Dropped frame true) tt i
-syn_keeps p I false None number t site frame tuple seg keeps listening i =
+syn_keeps p I false None start t site frame tuple seg keeps listening i =
     keeps.line site (events.Dropped frame false) tt i
-syn_keeps p I false (Some slot) number t site frame tuple seg keeps listening i =
-    keeps.syn site slot number frame tuple seg listening i
+syn_keeps p I false (Some slot) start t site frame tuple seg keeps listening i =
+    keeps.syn site slot start frame tuple seg listening i
 
 and_left : (a b : Bool) → (a && b) ≡ true → a ≡ true
 and_left true b h = refl
 and_left false b h = absurd (true≢false (sym h))
 
-no_flow_keeps : (p : HostParams) (I : At → Type 0) (opening listening : Bool) (number t : ℕ) (site : At)
+no_flow_keeps : (p : HostParams) (I : At → Type 0) (opening listening : Bool) (start : Start) (t : ℕ) (site : At)
     (frame : FrameId) (tuple : FourTuple) (seg : Seg) → WorkKeeps t I
     → (opening ≡ true → is_listening site.host tuple.lport ≡ true) → I site
-    → I (on_host (λ (host : Host). met_no_flow opening listening number t host frame tuple seg) site)
-no_flow_keeps p I true listening number t site frame tuple seg keeps listens i =
-    syn_keeps p I (is_full site.host tuple.lport) (lowest_free site.host) number t site frame tuple seg keeps
+    → I (on_host (λ (host : Host). met_no_flow opening listening start t host frame tuple seg) site)
+no_flow_keeps p I true listening start t site frame tuple seg keeps listens i =
+    syn_keeps p I (is_full site.host tuple.lport) (lowest_free site.host) start t site frame tuple seg keeps
     (listens refl) i
-no_flow_keeps p I false listening number t site frame tuple seg keeps listens i = keeps.line site _ tt i
+no_flow_keeps p I false listening start t site frame tuple seg keeps listens i = keeps.line site _ tt i
 
-arrived_keeps : (p : HostParams) (I : At → Type 0) (known : Bool) (by : Caller) (number t : ℕ)
+arrived_keeps : (p : HostParams) (I : At → Type 0) (known : Bool) (by : Caller) (start : Start) (t : ℕ)
     (site : At) (frame : FrameId) (tuple : FourTuple) (seg : Seg) → WorkKeeps t I → IsWorker by → I site
-    → I (on_host (λ (host : Host). arrived known (received by t frame seg) number t host frame tuple seg) site)
-arrived_keeps p I true by number t site frame tuple seg keeps worker i =
+    → I (on_host (λ (host : Host). arrived known (received by t frame seg) start t host frame tuple seg) site)
+arrived_keeps p I true by start t site frame tuple seg keeps worker i =
     keeps.flows site _ (first_worked t (is_indexed_as tuple) (received by t frame seg)
     (λ l. called by t (calls.Rx frame seg) l worker tt) site.host.flows) i
-arrived_keeps p I false by number t site frame tuple seg keeps worker i =
-    no_flow_keeps p I (is_listening site.host tuple.lport && opens seg) (is_listening site.host tuple.lport) number t
+arrived_keeps p I false by start t site frame tuple seg keeps worker i =
+    no_flow_keeps p I (is_listening site.host tuple.lport && opens seg) (is_listening site.host tuple.lport) start t
     site frame tuple seg keeps (and_left (is_listening site.host tuple.lport) (opens seg)) i
 
 pub packet_keeps : (p : HostParams) (I : At → Type 0) (by : Caller) (t : ℕ) (site : At) (frame : FrameId)
     (packet : Packet) → WorkKeeps t I → IsWorker by → I site
-    → I (on_host (λ (host : Host). delivered_packet (received by) (numbers_of p) t host frame packet) site)
+    → I (on_host (λ (host : Host). delivered_packet (received by) (starts_of p) t host frame packet) site)
 packet_keeps p I by t site frame (Damaged rule) keeps worker i = keeps.line site (events.Refused frame rule) tt i
 packet_keeps p I by t site frame (Segment tuple seg) keeps worker i =
-    arrived_keeps p I (is_known site.host tuple) by (next_number (numbers_of p) site.host tuple) t site frame tuple
+    arrived_keeps p I (is_known site.host tuple) by (next_start (starts_of p) site.host tuple) t site frame tuple
     seg keeps worker i
 
 -- ----- deeds
 turn_keeps : (s : Scenario) (p : HostParams) (I : At → Type 0) (t k : ℕ) (site : At) → Keeps s p t I
     → NumbersRise 0 site.scripts → I site → (o : Option Script)
     → find (λ (b : Script). b.number == k) site.scripts ≡ o
-    → I (asked_of (numbers_of p) (address_in s.hosts) t o site)
+    → I (asked_of (starts_of p) (address_in s.hosts) t o site)
 turn_keeps s p I t k site keeps rise i None found = i
 turn_keeps s p I t k site keeps rise i (Some x) found = keeps.turn site k x found rise i
 

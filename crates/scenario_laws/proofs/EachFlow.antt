@@ -9,8 +9,9 @@ use Rattle.tas_model.specs.declared.entry.Caller.TheVariants.{Slow, Core, App}
 use Rattle.tas_model.specs.declared.entry.Call.{Call}
 use Rattle.tas_model.specs.declared.entry.Call.TheVariants as calls
 use Rattle.tas_model.specs.NextSegment.{Going, going}
+use Rattle.host_rounds.specs.declared.opening.Start.{Start}
 use Rattle.host_rounds.specs.Lists.{Each}
-use Rattle.host_rounds.specs.Hosts.{Live, Host, Holder, Numbers, next_number, endpoint, with_call, is_known}
+use Rattle.host_rounds.specs.Hosts.{Live, Host, Holder, Starts, next_start, endpoint, with_call, is_known}
 use Rattle.host_rounds.specs.Hosts.{is_indexed_as, is_listening, is_full, lowest_free, new_flow}
 use Rattle.host_rounds.specs.Upkeep.{swept, all_swept, timed, emits, emits_where}
 use Rattle.host_rounds.specs.Deliveries.{Packet, Damaged, Segment, received, opens, opened_by_syn, met_no_flow, arrived}
@@ -35,8 +36,8 @@ pub record Keeps (P : Live → Type 0) (t : ℕ) : Type 0 where
   pub timed : (by : Caller) (l : Live) → P l → P (timed by t l)
   pub swept : (l : Live) → P l → P (swept l)
   pub holder : (holder : Holder) (l : Live) → P l → P (record l { holder = holder })
-  pub opened : (host : Host) (slot : ℕ) (tuple : FourTuple) (holder : Holder) (x : Entry) → IsPlain x.call
-      → x.tick ≡ t → P (new_flow host slot tuple holder x)
+  pub opened : (host : Host) (slot : ℕ) (tuple : FourTuple) (scale : Option ℕ) (holder : Holder) (x : Entry)
+      → IsPlain x.call → x.tick ≡ t → P (new_flow host slot tuple scale holder x)
 
 app_plain : (by : Caller) (call : Call) → IsAppCall by call → IsPlain call
 app_plain Slow calls.Tick h = absurd h
@@ -51,50 +52,50 @@ abbrev On : (Live → Type 0) → Host → Type 0
 On P host = Each P host.flows
 
 -- ----- frames
-syn_on : (P : Live → Type 0) (full : Bool) (free : Option ℕ) (number t : ℕ) (host : Host) (frame : FrameId)
+syn_on : (P : Live → Type 0) (full : Bool) (free : Option ℕ) (start : Start) (t : ℕ) (host : Host) (frame : FrameId)
     (tuple : FourTuple) (seg : Seg) → Keeps P t → On P host
-    → On P (opened_by_syn full free number t host frame tuple seg)
-syn_on P true free number t host frame tuple seg keeps each = each
-syn_on P false None number t host frame tuple seg keeps each = each
-syn_on P false (Some slot) number t host frame tuple seg keeps each =
-    each_push P host.flows _ each (keeps.opened host slot tuple _ _ (record { tick = refl; control = refl }) refl)
+    → On P (opened_by_syn full free start t host frame tuple seg)
+syn_on P true free start t host frame tuple seg keeps each = each
+syn_on P false None start t host frame tuple seg keeps each = each
+syn_on P false (Some slot) start t host frame tuple seg keeps each =
+    each_push P host.flows _ each (keeps.opened host slot tuple _ _ _ (record { tick = refl; control = refl }) refl)
 
-no_flow_on : (P : Live → Type 0) (opening listening : Bool) (number t : ℕ) (host : Host) (frame : FrameId)
+no_flow_on : (P : Live → Type 0) (opening listening : Bool) (start : Start) (t : ℕ) (host : Host) (frame : FrameId)
     (tuple : FourTuple) (seg : Seg) → Keeps P t → On P host
-    → On P (met_no_flow opening listening number t host frame tuple seg)
-no_flow_on P true listening number t host frame tuple seg keeps each =
-    syn_on P (is_full host tuple.lport) (lowest_free host) number t host frame tuple seg keeps each
-no_flow_on P false listening number t host frame tuple seg keeps each = each
+    → On P (met_no_flow opening listening start t host frame tuple seg)
+no_flow_on P true listening start t host frame tuple seg keeps each =
+    syn_on P (is_full host tuple.lport) (lowest_free host) start t host frame tuple seg keeps each
+no_flow_on P false listening start t host frame tuple seg keeps each = each
 
-arrived_on : (P : Live → Type 0) (known : Bool) (by : Caller) (number t : ℕ) (host : Host) (frame : FrameId)
+arrived_on : (P : Live → Type 0) (known : Bool) (by : Caller) (start : Start) (t : ℕ) (host : Host) (frame : FrameId)
     (tuple : FourTuple) (seg : Seg) → Keeps P t → On P host
-    → On P (arrived known (received by t frame seg) number t host frame tuple seg)
-arrived_on P true by number t host frame tuple seg keeps each =
+    → On P (arrived known (received by t frame seg) start t host frame tuple seg)
+arrived_on P true by start t host frame tuple seg keeps each =
     each_first P (is_indexed_as tuple) (received by t frame seg)
     (λ l p. keeps.call by (calls.Rx frame seg) [] l (record { tick = refl; control = refl }) p) host.flows each
-arrived_on P false by number t host frame tuple seg keeps each =
+arrived_on P false by start t host frame tuple seg keeps each =
     no_flow_on P (is_listening host tuple.lport && opens seg) (is_listening host tuple.lport)
-    number t host frame tuple seg keeps each
+    start t host frame tuple seg keeps each
 
-packet_on : (P : Live → Type 0) (by : Caller) (numbers : Numbers) (t : ℕ) (host : Host) (frame : FrameId)
-    (packet : Packet) → Keeps P t → On P host → On P (delivered_packet (received by) numbers t host frame packet)
-packet_on P by numbers t host frame (Damaged rule) keeps each = each
-packet_on P by numbers t host frame (Segment tuple seg) keeps each =
-    arrived_on P (is_known host tuple) by (next_number numbers host tuple) t host frame tuple seg keeps each
+packet_on : (P : Live → Type 0) (by : Caller) (starts : Starts) (t : ℕ) (host : Host) (frame : FrameId)
+    (packet : Packet) → Keeps P t → On P host → On P (delivered_packet (received by) starts t host frame packet)
+packet_on P by starts t host frame (Damaged rule) keeps each = each
+packet_on P by starts t host frame (Segment tuple seg) keeps each =
+    arrived_on P (is_known host tuple) by (next_start starts host tuple) t host frame tuple seg keeps each
 
 -- ----- moves
-move_on : (P : Live → Type 0) (numbers : Numbers) (t : ℕ) (host : Host) (m : Move) → Keeps P t → MayMove host m
-    → On P host → On P (moved numbers t host m)
-move_on P numbers t host (Calls n by call offer) keeps may each =
-    call_cases (On P) numbers t host n by call offer may each
+move_on : (P : Live → Type 0) (starts : Starts) (t : ℕ) (host : Host) (m : Move) → Keeps P t → MayMove host m
+    → On P host → On P (moved starts t host m)
+move_on P starts t host (Calls n by call offer) keeps may each =
+    call_cases (On P) starts t host n by call offer may each
     (λ app. each_at P n (λ (l : Live). with_call l by t call offer)
     (λ l p. keeps.call by call offer l (app_plain by call app) p) host.flows each)
-move_on P numbers t host (Opens slot tuple app) keeps may each =
-    each_push P host.flows _ each (keeps.opened host slot tuple _ _ (record { tick = refl; control = refl }) refl)
-move_on P numbers t host (Notes event) keeps may each = each
-move_on P numbers t host (Holds n holder) keeps may each =
+move_on P starts t host (Opens slot tuple app) keeps may each =
+    each_push P host.flows _ each (keeps.opened host slot tuple _ _ _ (record { tick = refl; control = refl }) refl)
+move_on P starts t host (Notes event) keeps may each = each
+move_on P starts t host (Holds n holder) keeps may each =
     each_at P n (λ (l : Live). record l { holder = holder }) (keeps.holder holder) host.flows each
-move_on P numbers t host (Listens listeners) keeps may each = each
+move_on P starts t host (Listens listeners) keeps may each = each
 
 -- ----- actions
 emits_on : (P : Live → Type 0) (by : Caller) (t : ℕ) (l : Live) → Keeps P t → P l → P (emits by t l)
@@ -109,9 +110,9 @@ done_on : {S A : Type 0} (P : Live → Type 0) (scripts : Scripts S A) (t : ℕ)
 done_on P scripts t site by (Timer n) by_moves keeps legal each =
     each_at P n (timed by t) (keeps.timed by) site.host.flows each
 done_on P scripts t site by (Frame x) by_moves keeps legal each =
-    packet_on P by scripts.numbers t site.host x.frame x.packet keeps each
+    packet_on P by scripts.starts t site.host x.frame x.packet keeps each
 done_on P scripts t site by (Ask a) by_moves keeps legal each =
-    asked_keeps (On P) scripts t by_moves (λ host m lawful may p. move_on P scripts.numbers t host m keeps may p)
+    asked_keeps (On P) scripts t by_moves (λ host m lawful may p. move_on P scripts.starts t host m keeps may p)
     site a legal each
 done_on P scripts t site by (Emission n) by_moves keeps legal each =
     each_at P n (emits by t) (λ l p. emits_on P by t l keeps p) site.host.flows each

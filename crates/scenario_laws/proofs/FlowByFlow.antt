@@ -11,14 +11,14 @@ use Rattle.tas_model.specs.declared.entry.Caller.TheVariants.{App}
 use Rattle.tas_model.specs.declared.entry.Call.{Call}
 use Rattle.tas_model.specs.declared.entry.Call.TheVariants as calls
 use Rattle.host_rounds.specs.Lists.{Each, change_at, change_first}
-use Rattle.host_rounds.specs.Hosts.{Live, Host, Waiting, Application, GivenUp, Numbers, with_call, is_ready}
+use Rattle.host_rounds.specs.Hosts.{Live, Host, Waiting, Application, GivenUp, Starts, with_call, is_ready}
 use Rattle.host_rounds.proofs.AllLegal.{each_first}
 use Rattle.host_rounds.proofs.Rows.{change_twice}
 use Rattle.scenario_text.specs.declared.scenario.Step.{Step}
 use Rattle.scenario_text.specs.declared.scenario.Scenario.{Scenario}
 use Rattle.scenario_runs.specs.Applications.{Script, Turn, is_concerned, aborted_where, is_killed_at, goes_on}
 use Rattle.scenario_runs.specs.Applications.{turn_where, step_of}
-use Rattle.scenario_runs.specs.Worlds.{numbers_of, address_in}
+use Rattle.scenario_runs.specs.Worlds.{starts_of, address_in}
 use Rattle.scenario_laws.specs.Kills.{is_abort_by_slow}
 use Rattle.scenario_laws.specs.Sockets.{holder_after, MayEnter}
 use Rattle.scenario_laws.specs.Turns.{turn_on, GoesOn}
@@ -102,22 +102,22 @@ ready_keeps P f port None keeps ready = tt
 ready_keeps P f port (Some l) keeps ready = keeps l ready
 
 -- ----- acts
-act_keeps : (K : (number at : ℕ) → Type 0) (P : Live → Type 0) (Q : List Live → Type 0) (numbers : Numbers)
+act_keeps : (K : (number at : ℕ) → Type 0) (P : Live → Type 0) (Q : List Live → Type 0) (starts : Starts)
     (t n : ℕ) (step : Step) (host : Host) (act : Act) → KeepsFlow K t P → IsListed t P Q → MayAct step host act
-    → IsOwned host n act → Q host.flows → Q (leaves numbers t n host act).flows
-act_keeps K P Q numbers t n step host Rests keeps listed may own q = q
-act_keeps K P Q numbers t n step host (Calls k call offer) keeps listed may own q =
+    → IsOwned host n act → Q host.flows → Q (leaves starts t n host act).flows
+act_keeps K P Q starts t n step host Rests keeps listed may own q = q
+act_keeps K P Q starts t n step host (Calls k call offer) keeps listed may own q =
     listed.each host.flows _ (at_carry P k (λ (l : Live). with_call l (App n) t call offer) host.flows
     (of_own (λ (l : Live). P l → P (with_call l (App n) t call offer)) n (slice_get host.flows k)
     (λ l mine. keeps.plain l n call offer may mine) own)) q
-act_keeps K P Q numbers t n step host (Accepts k) keeps listed may own q =
+act_keeps K P Q starts t n step host (Accepts k) keeps listed may own q =
     let f : Live → Live = λ (l : Live). record (with_call l (App n) t calls.Accept []) { holder = Application n } in
     subst Q (sym (change_twice k (λ (l : Live). with_call l (App n) t calls.Accept [])
     (λ (l : Live). record l { holder = Application n }) host.flows))
     (listed.each host.flows (change_at k f host.flows) (at_carry P k f host.flows
     (ready_keeps P f may.0 (slice_get host.flows k) (λ l ready. keeps.accept l n may.0 ready)
     (ready_there may.0 host.flows k (slice_get host.flows k) may.1 refl))) q)
-act_keeps K P Q numbers t n step host (Connects slot tuple) keeps listed may own q =
+act_keeps K P Q starts t n step host (Connects slot tuple) keeps listed may own q =
     listed.push host.flows _ (record {
       first = _;
       entries = refl;
@@ -126,14 +126,14 @@ act_keeps K P Q numbers t n step host (Connects slot tuple) keeps listed may own
       holder = refl;
       may = λ s. refl;
     }) q
-act_keeps K P Q numbers t n step host (GivesUp k call) keeps listed may own q =
+act_keeps K P Q starts t n step host (GivesUp k call) keeps listed may own q =
     let f : Live → Live = λ (l : Live). record (with_call l (App n) t call []) { holder = GivenUp } in
     subst Q (sym (change_twice k (λ (l : Live). with_call l (App n) t call [])
     (λ (l : Live). record l { holder = GivenUp }) host.flows))
     (listed.each host.flows (change_at k f host.flows) (at_carry P k f host.flows
     (of_own (λ (l : Live). P l → P (f l)) n (slice_get host.flows k) (λ l mine. keeps.last l n call may mine) own)) q)
-act_keeps K P Q numbers t n step host (Notes event) keeps listed may own q = q
-act_keeps K P Q numbers t n step host (Listens port) keeps listed may own q = q
+act_keeps K P Q starts t n step host (Notes event) keeps listed may own q = q
+act_keeps K P Q starts t n step host (Listens port) keeps listed may own q = q
 
 -- ----- a turn
 turn_keeps : (s : Scenario) (p : HostParams) (K : (number at : ℕ) → Type 0) (P : Live → Type 0)
@@ -144,16 +144,16 @@ turn_keeps s p K P Q t host x keeps listed kills own q = by_kill (is_killed_at t
   here : Turn
   here = record { host = host; script = x }
 
-  by_left : (left : List Step) → Q (goes_on (numbers_of p) (address_in s.hosts) t left here).host.flows
+  by_left : (left : List Step) → Q (goes_on (starts_of p) (address_in s.hosts) t left here).host.flows
   by_left [] = q
   by_left (step ∷ rest) =
-      let acted = step_acts (numbers_of p) (address_in s.hosts) t step here in
+      let acted = step_acts (starts_of p) (address_in s.hosts) t step here in
       subst (λ (h : Host). Q h.flows) (sym acted.left)
-      (act_keeps K P Q (numbers_of p) t x.number step host acted.act keeps listed acted.may
+      (act_keeps K P Q (starts_of p) t x.number step host acted.act keeps listed acted.may
       (act_owned x.number here acted.act _ acted.named own) q)
 
   by_kill : (b : Bool) → is_killed_at t x.kill ≡ b
-      → Q (turn_where b (numbers_of p) (address_in s.hosts) t here).host.flows
+      → Q (turn_where b (starts_of p) (address_in s.hosts) t here).host.flows
   by_kill true h =
       listed.each host.flows _ (map_carry P (λ (l : Live). aborted_where (is_concerned x.number host l) t l)
       (λ l. keeps.killed l x.number host (kills h)) host.flows) q
@@ -168,15 +168,15 @@ turn_leaves s p t host x own m other k h = by_kill (is_killed_at t x.kill) where
   here = record { host = host; script = x }
 
   by_left : (left : List Step)
-      → holder_at (goes_on (numbers_of p) (address_in s.hosts) t left here).host.flows k ≡ Application m
+      → holder_at (goes_on (starts_of p) (address_in s.hosts) t left here).host.flows k ≡ Application m
   by_left [] = h
   by_left (step ∷ rest) =
-      let acted = step_acts (numbers_of p) (address_in s.hosts) t step here in
+      let acted = step_acts (starts_of p) (address_in s.hosts) t step here in
       subst (λ (g : Host). holder_at g.flows k ≡ Application m) (sym acted.left)
-      (others_still (numbers_of p) t x.number step here acted.act _ refl acted.may acted.named own m other k h)
+      (others_still (starts_of p) t x.number step here acted.act _ refl acted.may acted.named own m other k h)
 
   by_kill : (b : Bool)
-      → holder_at (turn_where b (numbers_of p) (address_in s.hosts) t here).host.flows k ≡ Application m
+      → holder_at (turn_where b (starts_of p) (address_in s.hosts) t here).host.flows k ≡ Application m
   by_kill true = kill_leaves x.number t host host.flows m other k h
   by_kill false = by_left x.left
 
@@ -190,15 +190,15 @@ turn_owns s p t host x own = by_kill (is_killed_at t x.kill) where
   here = record { host = host; script = x }
 
   by_left : (left : List Step)
-      → OwnsAs x.number (goes_on (numbers_of p) (address_in s.hosts) t left here)
+      → OwnsAs x.number (goes_on (starts_of p) (address_in s.hosts) t left here)
   by_left [] = own
   by_left (step ∷ rest) =
-      let acted = step_acts (numbers_of p) (address_in s.hosts) t step here in
-      let names : Names = (step_of (numbers_of p) (address_in s.hosts) t step here).script.names in
+      let acted = step_acts (starts_of p) (address_in s.hosts) t step here in
+      let names : Names = (step_of (starts_of p) (address_in s.hosts) t step here).script.names in
       subst (λ (g : Host). AreOwn g.flows x.number names) (sym acted.left)
-      (own_after (numbers_of p) t x.number step here acted.act names acted.may acted.named own)
+      (own_after (starts_of p) t x.number step here acted.act names acted.may acted.named own)
 
-  by_kill : (b : Bool) → OwnsAs x.number (turn_where b (numbers_of p) (address_in s.hosts) t here)
+  by_kill : (b : Bool) → OwnsAs x.number (turn_where b (starts_of p) (address_in s.hosts) t here)
   by_kill true = record { held = tt; apart = tt }
   by_kill false = by_left x.left
 
@@ -277,7 +277,7 @@ flows_keep s p K P Q t keeps listed = record {
     flows = listed.each site.host.flows ms (worked_carry P t site.host.flows ms keeps.worked worked) i.flows;
   };
   line = λ site event kind i. record { scripts = i.scripts; owns = i.owns; flows = i.flows };
-  syn = λ site slot number frame tuple seg listening i. record {
+  syn = λ site slot start frame tuple seg listening i. record {
     scripts = i.scripts;
     owns = each_still site.host.flows _ site.scripts (λ n k h. push_held site.host.flows _ n k h) i.owns;
     flows = listed.push site.host.flows _ (record {
@@ -295,7 +295,7 @@ flows_keep s p K P Q t keeps listed = record {
       let own : Owns site.host.flows x =
       found_has (Owns site.host.flows) (λ (b : Script). b.number == k) site.scripts x found i.owns in
       let goes : GoesOn t x (turn_on s p t site.host x).script =
-      turn_goes (numbers_of p) (address_in s.hosts) t (record { host = site.host; script = x }) in
+      turn_goes (starts_of p) (address_in s.hosts) t (record { host = site.host; script = x }) in
       record {
         scripts = each_first (KnowsKill K) _ _ (λ b each. (λ at kill. subst (λ (n : ℕ). K n at) (sym goes.number)
             (knows at (sym goes.kill ∙ kill)))) site.scripts i.scripts;

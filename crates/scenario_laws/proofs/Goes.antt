@@ -6,7 +6,7 @@ use Rattle.tas_model.specs.declared.entry.Call.TheVariants as calls
 use Rattle.tas_model.specs.declared.entry.Reply.{Reply}
 use Rattle.tas_model.specs.declared.entry.Reply.TheVariants as replies
 use Rattle.tas_model.proofs.Tests.{on_cond}
-use Rattle.host_rounds.specs.Hosts.{Numbers, is_listened, is_ready, lowest_free, first_port, ports_given, answer_of}
+use Rattle.host_rounds.specs.Hosts.{Starts, is_listened, is_ready, lowest_free, first_port, ports_given, answer_of}
 use Rattle.scenario_text.specs.declared.scenario.Step.{Step}
 use Rattle.scenario_text.specs.declared.scenario.Step.TheVariants as steps
 use Rattle.scenario_runs.specs.Applications.{Script, Turn, stepped, done_or, called, listens_where, accepts_one}
@@ -48,17 +48,17 @@ accepts_goes : (port : Option ℕ) (t : ℕ) (socket : List ℕ) (x : Turn) → 
 accepts_goes None t socket x = over x.script
 accepts_goes (Some port) t socket x = one_goes (position (is_ready port) x.host.flows) t socket port x
 
-where_goes : (left : Bool) (numbers : Numbers) (slot port t : ℕ) (socket : List ℕ) (raddr rport : ℕ) (x : Turn)
-    → GoesIn x (opens_where left numbers slot port t socket raddr rport x)
-where_goes true numbers slot port t socket raddr rport x =
+where_goes : (left : Bool) (starts : Starts) (slot port t : ℕ) (socket : List ℕ) (raddr rport : ℕ) (x : Turn)
+    → GoesIn x (opens_where left starts slot port t socket raddr rport x)
+where_goes true starts slot port t socket raddr rport x =
     record { number = refl; kill = refl; steps = (0, omega arith, refl) }
-where_goes false numbers slot port t socket raddr rport x = over x.script
+where_goes false starts slot port t socket raddr rport x = over x.script
 
-connects_goes : (numbers : Numbers) (free : Option ℕ) (t : ℕ) (socket : List ℕ) (raddr rport : ℕ) (x : Turn)
-    → GoesIn x (connects numbers free t socket raddr rport x)
-connects_goes numbers None t socket raddr rport x = over x.script
-connects_goes numbers (Some slot) t socket raddr rport x =
-    where_goes (nat_lt (first_port + ports_given x.host) (2 ^ 16)) numbers slot (first_port + ports_given x.host)
+connects_goes : (starts : Starts) (free : Option ℕ) (t : ℕ) (socket : List ℕ) (raddr rport : ℕ) (x : Turn)
+    → GoesIn x (connects starts free t socket raddr rport x)
+connects_goes starts None t socket raddr rport x = over x.script
+connects_goes starts (Some slot) t socket raddr rport x =
+    where_goes (nat_lt (first_port + ports_given x.host) (2 ^ 16)) starts slot (first_port + ports_given x.host)
     t socket raddr rport x
 
 waits_goes : (n t : ℕ) (call : Call) (x : Turn) → GoesIn x (waits_for n t call x)
@@ -87,48 +87,48 @@ socket_goes : (socket : List ℕ) (act : ℕ → Turn → Turn) (x : Turn) → (
     → GoesIn x (on_socket socket act x)
 socket_goes socket act x each = flow_goes (flow_of (bound_in x.script.names socket)) act x each
 
-connects_on_goes : (numbers : Numbers) (begun : Bool) (t : ℕ) (socket : List ℕ) (raddr rport : ℕ) (x : Turn)
-    → GoesIn x (connects_on numbers begun t socket raddr rport x)
-connects_on_goes numbers false t socket raddr rport x =
-    connects_goes numbers (lowest_free x.host) t socket raddr rport x
-connects_on_goes numbers true t socket raddr rport x = socket_goes socket _ x (λ n. waits_goes n t calls.Ready x)
+connects_on_goes : (starts : Starts) (begun : Bool) (t : ℕ) (socket : List ℕ) (raddr rport : ℕ) (x : Turn)
+    → GoesIn x (connects_on starts begun t socket raddr rport x)
+connects_on_goes starts false t socket raddr rport x =
+    connects_goes starts (lowest_free x.host) t socket raddr rport x
+connects_on_goes starts true t socket raddr rport x = socket_goes socket _ x (λ n. waits_goes n t calls.Ready x)
 
-step_goes : (numbers : Numbers) (address : List ℕ → ℕ) (t : ℕ) (step : Step) (x : Turn)
-    → GoesIn x (step_of numbers address t step x)
-step_goes numbers address t (steps.Listen name port) x = listens_goes (is_listened port x.host) t name port x
-step_goes numbers address t (steps.Accept socket listener) x =
+step_goes : (starts : Starts) (address : List ℕ → ℕ) (t : ℕ) (step : Step) (x : Turn)
+    → GoesIn x (step_of starts address t step x)
+step_goes starts address t (steps.Listen name port) x = listens_goes (is_listened port x.host) t name port x
+step_goes starts address t (steps.Accept socket listener) x =
     accepts_goes (port_of (bound_in x.script.names listener)) t socket x
-step_goes numbers address t (steps.Connect socket host port) x =
-    connects_on_goes numbers x.script.begun t socket (address host) port x
-step_goes numbers address t (steps.Send socket text) x =
+step_goes starts address t (steps.Connect socket host port) x =
+    connects_on_goes starts x.script.begun t socket (address host) port x
+step_goes starts address t (steps.Send socket text) x =
     socket_goes socket _ x (λ n. sent_goes _ (length text) x.script)
-step_goes numbers address t (steps.Fill socket count) x = socket_goes socket _ x (λ n. sent_goes _ _ x.script)
-step_goes numbers address t (steps.Recv socket count) x =
+step_goes starts address t (steps.Fill socket count) x = socket_goes socket _ x (λ n. sent_goes _ _ x.script)
+step_goes starts address t (steps.Recv socket count) x =
     socket_goes socket _ x (λ n. received_goes _ (Some count) x.script)
-step_goes numbers address t (steps.Drain socket) x = socket_goes socket _ x (λ n. received_goes _ None x.script)
-step_goes numbers address t (steps.Shut socket) x = socket_goes socket _ x (λ n. over x.script)
-step_goes numbers address t (steps.Close socket) x =
+step_goes starts address t (steps.Drain socket) x = socket_goes socket _ x (λ n. received_goes _ None x.script)
+step_goes starts address t (steps.Shut socket) x = socket_goes socket _ x (λ n. over x.script)
+step_goes starts address t (steps.Close socket) x =
     socket_goes socket _ x (λ n. record { number = refl; kill = refl; steps = (1, omega arith, refl) })
-step_goes numbers address t (steps.Abort socket) x =
+step_goes starts address t (steps.Abort socket) x =
     socket_goes socket _ x (λ n. record { number = refl; kill = refl; steps = (1, omega arith, refl) })
-step_goes numbers address t (steps.Wait ticks) x = done_goes (x.script.done + 1 == ticks) (x.script.done + 1) x.script
+step_goes starts address t (steps.Wait ticks) x = done_goes (x.script.done + 1 == ticks) (x.script.done + 1) x.script
 
-left_goes : (numbers : Numbers) (address : List ℕ → ℕ) (t : ℕ) (left : List Step) (x : Turn)
-    → GoesIn x (goes_on numbers address t left x)
-left_goes numbers address t [] x = stays x.script
-left_goes numbers address t (step ∷ rest) x = step_goes numbers address t step x
+left_goes : (starts : Starts) (address : List ℕ → ℕ) (t : ℕ) (left : List Step) (x : Turn)
+    → GoesIn x (goes_on starts address t left x)
+left_goes starts address t [] x = stays x.script
+left_goes starts address t (step ∷ rest) x = step_goes starts address t step x
 
-where_turned : (numbers : Numbers) (address : List ℕ → ℕ) (b : Bool) (t : ℕ) (x : Turn)
-    → is_killed_at t x.script.kill ≡ b → GoesOn t x.script (turn_where b numbers address t x).script
-where_turned numbers address true t x h = record {
+where_turned : (starts : Starts) (address : List ℕ → ℕ) (b : Bool) (t : ℕ) (x : Turn)
+    → is_killed_at t x.script.kill ≡ b → GoesOn t x.script (turn_where b starts address t x).script
+where_turned starts address true t x h = record {
   number = refl;
   kill = refl;
   killed = λ g. refl;
   steps = λ g. absurd (true≢false (sym h ∙ g));
 }
-where_turned numbers address false t x h =
-    let goes : Goes x.script (goes_on numbers address t x.script.left x).script =
-    left_goes numbers address t x.script.left x in
+where_turned starts address false t x h =
+    let goes : Goes x.script (goes_on starts address t x.script.left x).script =
+    left_goes starts address t x.script.left x in
     record {
       number = goes.number;
       kill = goes.kill;
@@ -136,6 +136,6 @@ where_turned numbers address false t x h =
       steps = λ g. goes.steps;
     }
 
-pub turn_goes : (numbers : Numbers) (address : List ℕ → ℕ) (t : ℕ) (x : Turn)
-    → GoesOn t x.script (turn numbers address t x).script
-turn_goes numbers address t x = where_turned numbers address (is_killed_at t x.script.kill) t x refl
+pub turn_goes : (starts : Starts) (address : List ℕ → ℕ) (t : ℕ) (x : Turn)
+    → GoesOn t x.script (turn starts address t x).script
+turn_goes starts address t x = where_turned starts address (is_killed_at t x.script.kill) t x refl

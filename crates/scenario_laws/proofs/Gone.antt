@@ -6,7 +6,7 @@ use Rattle.tas_model.specs.declared.entry.HostParams.{HostParams}
 use Rattle.tas_model.specs.declared.entry.Caller.TheVariants.{App}
 use Rattle.tas_model.specs.declared.entry.Call.TheVariants as calls
 use Rattle.host_rounds.specs.Lists.{Each, change_first}
-use Rattle.host_rounds.specs.Hosts.{Live, Host, Holder, Waiting, Application, GivenUp, Numbers, with_call}
+use Rattle.host_rounds.specs.Hosts.{Live, Host, Holder, Waiting, Application, GivenUp, Starts, with_call}
 use Rattle.host_rounds.specs.Upkeep.{all_swept}
 use Rattle.host_rounds.specs.Deliveries.{Arrival}
 use Rattle.host_rounds.specs.Rounds.{Ask, Deed, does, on_host}
@@ -16,7 +16,7 @@ use Rattle.scenario_text.specs.declared.scenario.Scenario.{Scenario}
 use Rattle.scenario_text.specs.declared.scenario.HostLine.{HostLine}
 use Rattle.scenario_runs.specs.Applications.{Script, Turn, is_concerned, let_go, aborted_where, killed, is_killed_at}
 use Rattle.scenario_runs.specs.Applications.{goes_on, turn_where}
-use Rattle.scenario_runs.specs.Worlds.{numbers_of, address_in, asked_of, scripts_of, scripts_on, site_of}
+use Rattle.scenario_runs.specs.Worlds.{starts_of, address_in, asked_of, scripts_of, scripts_on, site_of}
 use Rattle.scenario_laws.specs.Kills.{IsKilled}
 use Rattle.scenario_laws.specs.Turns.{OfEachScript, reached, turn_on, HadTurn, HadTurns, GoesOn}
 use Rattle.scenario_laws.proofs.Goes.{turn_goes}
@@ -48,22 +48,22 @@ all_not n t [] (m ∷ ms) all each = absurd all
 all_not n t (l ∷ ls) [] all each = absurd all
 all_not n t (l ∷ ls) (m ∷ ms) all each = ((λ h. each.0 (sym all.0.holder ∙ h)), all_not n t ls ms all.1 each.1)
 
-act_not : (n t k : ℕ) (numbers : Numbers) (host : Host) (act : Act) → (k ≡ n → ⊥) → Each (IsNotOf n) host.flows
-    → Each (IsNotOf n) (leaves numbers t k host act).flows
-act_not n t k numbers host Rests other each = each
-act_not n t k numbers host (Calls flow call offer) other each =
+act_not : (n t k : ℕ) (starts : Starts) (host : Host) (act : Act) → (k ≡ n → ⊥) → Each (IsNotOf n) host.flows
+    → Each (IsNotOf n) (leaves starts t k host act).flows
+act_not n t k starts host Rests other each = each
+act_not n t k starts host (Calls flow call offer) other each =
     each_at (IsNotOf n) flow (λ (l : Live). with_call l (App k) t call offer) (λ l no_one. no_one) host.flows each
-act_not n t k numbers host (Accepts flow) other each =
+act_not n t k starts host (Accepts flow) other each =
     each_at (IsNotOf n) flow (λ (l : Live). record l { holder = Application k }) (λ l no_one. not_other k n other) _
     (each_at (IsNotOf n) flow (λ (l : Live). with_call l (App k) t calls.Accept []) (λ l no_one. no_one) host.flows
     each)
-act_not n t k numbers host (Connects slot tuple) other each =
+act_not n t k starts host (Connects slot tuple) other each =
     each_push (IsNotOf n) host.flows _ each (not_other k n other)
-act_not n t k numbers host (GivesUp flow call) other each =
+act_not n t k starts host (GivesUp flow call) other each =
     each_at (IsNotOf n) flow (λ (l : Live). record l { holder = GivenUp }) (λ l no_one. not_given n) _
     (each_at (IsNotOf n) flow (λ (l : Live). with_call l (App k) t call []) (λ l no_one. no_one) host.flows each)
-act_not n t k numbers host (Notes event) other each = each
-act_not n t k numbers host (Listens port) other each = each
+act_not n t k starts host (Notes event) other each = each
+act_not n t k starts host (Listens port) other each = each
 
 aborted_not : (n t : ℕ) (concerned : Bool) (l : Live) → IsNotOf n l → IsNotOf n (aborted_where concerned t l)
 aborted_not n t true l no_one = not_let_go n l.holder
@@ -81,17 +81,17 @@ turn_gone s p n t host x none each = by_kill (is_killed_at t x.kill) where
   here = record { host = host; script = x }
 
   by_left : (left : List Step) → x.left ≡ left
-      → Each (IsNotOf n) (goes_on (numbers_of p) (address_in s.hosts) t left here).host.flows
+      → Each (IsNotOf n) (goes_on (starts_of p) (address_in s.hosts) t left here).host.flows
   by_left [] same = each
   by_left (step ∷ rest) same =
-      let acted = step_acts (numbers_of p) (address_in s.hosts) t step here in
+      let acted = step_acts (starts_of p) (address_in s.hosts) t step here in
       subst (λ (h : Host). Each (IsNotOf n) h.flows) (sym acted.left)
-      (act_not n t x.number (numbers_of p) host acted.act (λ mine. no_step (sym same ∙ none mine)) each)
+      (act_not n t x.number (starts_of p) host acted.act (λ mine. no_step (sym same ∙ none mine)) each)
     where
       no_step : (step ∷ rest) ≡ [] → ⊥
       no_step e = absurd (cc (e))
 
-  by_kill : (b : Bool) → Each (IsNotOf n) (turn_where b (numbers_of p) (address_in s.hosts) t here).host.flows
+  by_kill : (b : Bool) → Each (IsNotOf n) (turn_where b (starts_of p) (address_in s.hosts) t here).host.flows
   by_kill true =
       each_map (IsNotOf n) (λ (l : Live). aborted_where (is_concerned x.number host l) t l)
       (λ l no_one. aborted_not n t (is_concerned x.number host l) l no_one) host.flows each
@@ -110,7 +110,7 @@ gone_keeps : (s : Scenario) (p : HostParams) (n t : ℕ) → Keeps s p t (IsGone
 gone_keeps s p n t = record {
   flows = λ site ms worked i. record { left = i.left; flows = all_not n t site.host.flows ms worked i.flows };
   line = λ site event kind i. record { left = i.left; flows = i.flows };
-  syn = λ site slot number frame tuple seg listening i. record {
+  syn = λ site slot start frame tuple seg listening i. record {
     left = i.left;
     flows = each_push (IsNotOf n) site.host.flows _ i.flows (not_waiting n);
   };
@@ -118,7 +118,7 @@ gone_keeps s p n t = record {
       let none : HasNone n x =
       found_has (HasNone n) (λ (b : Script). b.number == k) site.scripts x found i.left in
       let goes : GoesOn t x (turn_on s p t site.host x).script =
-      turn_goes (numbers_of p) (address_in s.hosts) t (record { host = site.host; script = x }) in
+      turn_goes (starts_of p) (address_in s.hosts) t (record { host = site.host; script = x }) in
       record {
         left = each_first (HasNone n) _ _ (λ b each mine. goes_left n t x _ goes none mine) site.scripts i.left;
         flows = turn_gone s p n t site.host x none i.flows;
@@ -133,12 +133,12 @@ kills_keep : (s : Scenario) (p : HostParams) (n at t : ℕ) → Keeps s p t (λ 
 kills_keep s p n at t = record {
   flows = λ site ms worked i. i;
   line = λ site event kind i. i;
-  syn = λ site slot number frame tuple seg listening i. i;
+  syn = λ site slot start frame tuple seg listening i. i;
   turn = λ site k x found rise i. (
       let kill : KilledAt n at x =
       found_has (KilledAt n at) (λ (b : Script). b.number == k) site.scripts x found i in
       let goes : GoesOn t x (turn_on s p t site.host x).script =
-      turn_goes (numbers_of p) (address_in s.hosts) t (record { host = site.host; script = x }) in
+      turn_goes (starts_of p) (address_in s.hosts) t (record { host = site.host; script = x }) in
       each_first (KilledAt n at) _ _ (λ b each mine. goes.kill ∙ kill (sym goes.number ∙ mine)) site.scripts i);
 }
 
@@ -172,7 +172,7 @@ not_found n (b ∷ bs) h = by_test (b.number == n) refl h (λ later. not_found n
 ask_left : (s : Scenario) (p : HostParams) (n t : ℕ) (site : At) → NumbersRise 0 site.scripts
     → Each (KilledAt n t) site.scripts → (o : Option Script)
     → find (λ (b : Script). b.number == n) site.scripts ≡ o
-    → Each (HasNone n) (asked_of (numbers_of p) (address_in s.hosts) t o site).scripts
+    → Each (HasNone n) (asked_of (starts_of p) (address_in s.hosts) t o site).scripts
 ask_left s p n t site rise kills None found = not_found n site.scripts found
 ask_left s p n t site rise kills (Some x) found =
     only_one 0 site.scripts rise
@@ -187,7 +187,7 @@ ask_left s p n t site rise kills (Some x) found =
     y = (turn_on s p t site.host x).script
 
     goes : GoesOn t x y
-    goes = turn_goes (numbers_of p) (address_in s.hosts) t (record { host = site.host; script = x })
+    goes = turn_goes (starts_of p) (address_in s.hosts) t (record { host = site.host; script = x })
 
     now : is_killed_at t x.kill ≡ true
     now = let e : (t == t) ≡ true = grind (arith, tests) in ap (is_killed_at t) kill ∙ e
@@ -263,7 +263,7 @@ turn_ends s p n t site deeds b a workers rise kills had mine kill =
     host_next =
         sym (ap (λ (x : At). x.host) (fold_append (does (scripts_of s p) t) site had.one.earlier (asks ∷ [])))
         ∙ had.host
-        ∙ ap (λ (c : Bool). (turn_where c (numbers_of p) (address_in s.hosts) t (record {
+        ∙ ap (λ (c : Bool). (turn_where c (starts_of p) (address_in s.hosts) t (record {
           host = found.host;
           script = b;
         })).host) now

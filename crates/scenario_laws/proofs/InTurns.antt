@@ -12,7 +12,7 @@ use Rattle.scenario_text.specs.declared.scenario.HostLine.{HostLine}
 use Rattle.scenario_text.specs.declared.scenario.AppLine.{AppLine}
 use Rattle.scenario_text.specs.declared.scenario.KillLine.{KillLine}
 use Rattle.scenario_runs.specs.Applications.{Script}
-use Rattle.scenario_runs.specs.Worlds.{World, at_start, site_of, scripts_on, kill_tick, numbers_of, address_in, due_at}
+use Rattle.scenario_runs.specs.Worlds.{World, at_start, site_of, scripts_on, kill_tick, starts_of, address_in, due_at}
 use Rattle.scenario_runs.specs.Runs.{AreRounds, End, RunsFrom, Run}
 use Rattle.scenario_laws.specs.Ticks.{HostTick, OfEachHost, FromTick, InEachTick}
 use Rattle.scenario_laws.specs.Turns.{OfEachScript, reached, HadTurn, HadTurns, GoesOn}
@@ -110,7 +110,7 @@ ticks_asked s log run = ticks_turned s log run (HadTurns s) (λ t frames b a had
 turn_steps : (s : Scenario) (p : HostParams) (t : ℕ) (site : Site (List Script)) (deeds : List (Deed ℕ)) (b a : Script)
     → HadTurn s p t site deeds b a → GoesOn t b a
 turn_steps s p t site deeds b a had =
-    subst (GoesOn t b) (sym had.script) (turn_goes (numbers_of p) (address_in s.hosts) t (record {
+    subst (GoesOn t b) (sym had.script) (turn_goes (starts_of p) (address_in s.hosts) t (record {
       host = (reached s p t site had.one.earlier).host;
       script = b;
     }))

@@ -13,7 +13,7 @@ use Rattle.scenario_text.specs.declared.scenario.HostLine.{HostLine}
 use Rattle.scenario_text.specs.declared.scenario.AppLine.{AppLine}
 use Rattle.scenario_text.specs.declared.scenario.KillLine.{KillLine}
 use Rattle.scenario_runs.specs.Applications.{Script, is_concerned, aborted_where, killed, is_killed_at, turn_where}
-use Rattle.scenario_runs.specs.Worlds.{numbers_of, address_in, scripts_of, scripts_on, kill_tick, site_of}
+use Rattle.scenario_runs.specs.Worlds.{starts_of, address_in, scripts_of, scripts_on, kill_tick, site_of}
 use Rattle.scenario_runs.specs.Runs.{Run}
 use Rattle.scenario_laws.specs.Ticks.{HostTick, InEachTick}
 use Rattle.scenario_laws.specs.Turns.{reached, HadTurn, HadTurns, at_first}
@@ -128,7 +128,7 @@ turn_kills s p K t site deeds b a workers rise once had kill =
         sym (ap (λ (x : At). x.host) (fold_append (does (scripts_of s p) t) site had.one.earlier
         (record { by = had.one.by; action = Ask b.number } ∷ [])))
         ∙ had.host
-        ∙ ap (λ (c : Bool). (turn_where c (numbers_of p) (address_in s.hosts) t (record {
+        ∙ ap (λ (c : Bool). (turn_where c (starts_of p) (address_in s.hosts) t (record {
           host = found.host;
           script = b;
         })).host) kill

@@ -9,9 +9,10 @@ use Rattle.tas_model.specs.declared.entry.FrameId.{FrameId}
 use Rattle.tas_model.specs.declared.entry.Seg.{Seg}
 use Rattle.tas_model.specs.declared.entry.Entry.{Entry}
 use Rattle.tas_model.specs.declared.entry.Caller.{Caller}
+use Rattle.host_rounds.specs.declared.opening.Start.{Start}
 use Rattle.host_rounds.specs.Lists.{change_first, change_at}
 use Rattle.host_rounds.specs.Logs.{RunLog}
-use Rattle.host_rounds.specs.Hosts.{Live, Host, Holder, Numbers, next_number, with_call, is_known, is_indexed_as}
+use Rattle.host_rounds.specs.Hosts.{Live, Host, Holder, Starts, next_start, with_call, is_known, is_indexed_as}
 use Rattle.host_rounds.specs.Hosts.{is_listening, is_full, is_in_slot, free_from, lowest_free, opened_in}
 use Rattle.host_rounds.specs.Upkeep.{swept, all_swept, timed, emits}
 use Rattle.host_rounds.specs.Deliveries.{Packet, Damaged, Segment, received, opens, opened_by_syn, met_no_flow, arrived}
@@ -149,9 +150,10 @@ length_push : (xs : Taken) (o : Option ℕ) → length (xs ++ o ∷ []) ≡ leng
 length_push [] o = refl
 length_push (x ∷ xs) o = let rest : length (xs ++ o ∷ []) ≡ length xs + 1 = length_push xs o in omega arith
 
-opens_lowest : (slots n : ℕ) (host : Host) (slot : ℕ) (tuple : FourTuple) (holder : Holder) (x : Entry)
-    → Gives slots n host → lowest_free host ≡ Some slot → Gives slots n (opened_in host slot tuple holder x)
-opens_lowest slots n host slot tuple holder x gives free =
+opens_lowest : (slots n : ℕ) (host : Host) (slot : ℕ) (tuple : FourTuple) (scale : Option ℕ) (holder : Holder)
+    (x : Entry) → Gives slots n host → lowest_free host ≡ Some slot
+    → Gives slots n (opened_in host slot tuple scale holder x)
+opens_lowest slots n host slot tuple scale holder x gives free =
     let last : IsLowestFree slots slot (slots_of host.flows) =
     subst (λ (k : ℕ). IsLowestFree k slot (slots_of host.flows)) gives.slots (lowest_is host slot free) in
     let few : n ≤ length (slots_of host.flows) = gives.few in
@@ -186,50 +188,50 @@ at_same zero f keeps (l ∷ ls) = ap (λ (o : Option ℕ). o ∷ slots_of ls) (s
 at_same (suc k) f keeps (l ∷ ls) = ap (λ (xs : Taken). slot_of l ∷ xs) (at_same k f keeps ls)
 
 -- ----- frames
-syn_gives : (slots n : ℕ) (full : Bool) (free : Option ℕ) (number t : ℕ) (host : Host) (frame : FrameId)
+syn_gives : (slots n : ℕ) (full : Bool) (free : Option ℕ) (start : Start) (t : ℕ) (host : Host) (frame : FrameId)
     (tuple : FourTuple) (seg : Seg) → lowest_free host ≡ free → Gives slots n host
-    → Gives slots n (opened_by_syn full free number t host frame tuple seg)
-syn_gives slots n true free number t host frame tuple seg found gives = same_slots slots n host _ gives refl refl
-syn_gives slots n false None number t host frame tuple seg found gives = same_slots slots n host _ gives refl refl
-syn_gives slots n false (Some slot) number t host frame tuple seg found gives =
-    opens_lowest slots n host slot tuple _ _ gives found
+    → Gives slots n (opened_by_syn full free start t host frame tuple seg)
+syn_gives slots n true free start t host frame tuple seg found gives = same_slots slots n host _ gives refl refl
+syn_gives slots n false None start t host frame tuple seg found gives = same_slots slots n host _ gives refl refl
+syn_gives slots n false (Some slot) start t host frame tuple seg found gives =
+    opens_lowest slots n host slot tuple _ _ _ gives found
 
-no_flow_gives : (slots n : ℕ) (opening listening : Bool) (number t : ℕ) (host : Host) (frame : FrameId)
+no_flow_gives : (slots n : ℕ) (opening listening : Bool) (start : Start) (t : ℕ) (host : Host) (frame : FrameId)
     (tuple : FourTuple) (seg : Seg) → Gives slots n host
-    → Gives slots n (met_no_flow opening listening number t host frame tuple seg)
-no_flow_gives slots n true listening number t host frame tuple seg gives =
-    syn_gives slots n (is_full host tuple.lport) (lowest_free host) number t host frame tuple seg refl gives
-no_flow_gives slots n false listening number t host frame tuple seg gives = same_slots slots n host _ gives refl refl
+    → Gives slots n (met_no_flow opening listening start t host frame tuple seg)
+no_flow_gives slots n true listening start t host frame tuple seg gives =
+    syn_gives slots n (is_full host tuple.lport) (lowest_free host) start t host frame tuple seg refl gives
+no_flow_gives slots n false listening start t host frame tuple seg gives = same_slots slots n host _ gives refl refl
 
-arrived_gives : (slots n : ℕ) (known : Bool) (by : Caller) (number t : ℕ) (host : Host) (frame : FrameId)
+arrived_gives : (slots n : ℕ) (known : Bool) (by : Caller) (start : Start) (t : ℕ) (host : Host) (frame : FrameId)
     (tuple : FourTuple) (seg : Seg) → Gives slots n host
-    → Gives slots n (arrived known (received by t frame seg) number t host frame tuple seg)
-arrived_gives slots n true by number t host frame tuple seg gives =
+    → Gives slots n (arrived known (received by t frame seg) start t host frame tuple seg)
+arrived_gives slots n true by start t host frame tuple seg gives =
     same_slots slots n host _ gives refl
     (first_same (is_indexed_as tuple) (received by t frame seg) (λ l. (refl, refl)) host.flows)
-arrived_gives slots n false by number t host frame tuple seg gives =
-    no_flow_gives slots n (is_listening host tuple.lport && opens seg) (is_listening host tuple.lport) number t host
+arrived_gives slots n false by start t host frame tuple seg gives =
+    no_flow_gives slots n (is_listening host tuple.lport && opens seg) (is_listening host tuple.lport) start t host
     frame tuple seg gives
 
-packet_gives : (slots n : ℕ) (by : Caller) (numbers : Numbers) (t : ℕ) (host : Host) (frame : FrameId)
+packet_gives : (slots n : ℕ) (by : Caller) (starts : Starts) (t : ℕ) (host : Host) (frame : FrameId)
     (packet : Packet) → Gives slots n host
-    → Gives slots n (delivered_packet (received by) numbers t host frame packet)
-packet_gives slots n by numbers t host frame (Damaged rule) gives = same_slots slots n host _ gives refl refl
-packet_gives slots n by numbers t host frame (Segment tuple seg) gives =
-    arrived_gives slots n (is_known host tuple) by (next_number numbers host tuple) t host frame tuple seg gives
+    → Gives slots n (delivered_packet (received by) starts t host frame packet)
+packet_gives slots n by starts t host frame (Damaged rule) gives = same_slots slots n host _ gives refl refl
+packet_gives slots n by starts t host frame (Segment tuple seg) gives =
+    arrived_gives slots n (is_known host tuple) by (next_start starts host tuple) t host frame tuple seg gives
 
 -- ----- moves
-move_gives : (slots n : ℕ) (numbers : Numbers) (t : ℕ) (host : Host) (m : Move) → MayMove host m → Gives slots n host
-    → Gives slots n (moved numbers t host m)
-move_gives slots n numbers t host (Calls k by call offer) may gives =
+move_gives : (slots n : ℕ) (starts : Starts) (t : ℕ) (host : Host) (m : Move) → MayMove host m → Gives slots n host
+    → Gives slots n (moved starts t host m)
+move_gives slots n starts t host (Calls k by call offer) may gives =
     same_slots slots n host _ gives refl
     (at_same k (λ (l : Live). with_call l by t call offer) (λ l. (refl, refl)) host.flows)
-move_gives slots n numbers t host (Opens slot tuple app) may gives = opens_lowest slots n host slot tuple _ _ gives may
-move_gives slots n numbers t host (Notes event) may gives = same_slots slots n host _ gives refl refl
-move_gives slots n numbers t host (Holds k holder) may gives =
+move_gives slots n starts t host (Opens slot tuple app) may gives = opens_lowest slots n host slot tuple _ _ _ gives may
+move_gives slots n starts t host (Notes event) may gives = same_slots slots n host _ gives refl refl
+move_gives slots n starts t host (Holds k holder) may gives =
     same_slots slots n host _ gives refl
     (at_same k (λ (l : Live). record l { holder = holder }) (λ l. (refl, refl)) host.flows)
-move_gives slots n numbers t host (Listens listeners) may gives = same_slots slots n host _ gives refl refl
+move_gives slots n starts t host (Listens listeners) may gives = same_slots slots n host _ gives refl refl
 
 -- ----- ticks
 done_gives : {S A : Type 0} (slots n : ℕ) (scripts : Scripts S A) (t : ℕ) (site : Site S) (by : Caller)
@@ -238,10 +240,10 @@ done_gives : {S A : Type 0} (slots n : ℕ) (scripts : Scripts S A) (t : ℕ) (s
 done_gives slots n scripts t site by (Timer k) by_moves legal gives =
     same_slots slots n site.host _ gives refl (at_same k (timed by t) (timed_place by t) site.host.flows)
 done_gives slots n scripts t site by (Frame x) by_moves legal gives =
-    packet_gives slots n by scripts.numbers t site.host x.frame x.packet gives
+    packet_gives slots n by scripts.starts t site.host x.frame x.packet gives
 done_gives slots n scripts t site by (Ask a) by_moves legal gives =
     asked_keeps (Gives slots n) scripts t by_moves
-    (λ host m each may g. move_gives slots n scripts.numbers t host m may g) site a legal gives
+    (λ host m each may g. move_gives slots n scripts.starts t host m may g) site a legal gives
 done_gives slots n scripts t site by (Emission k) by_moves legal gives =
     same_slots slots n site.host _ gives refl (at_same k (emits by t) (emits_place by t) site.host.flows)
 

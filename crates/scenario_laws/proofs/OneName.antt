@@ -15,7 +15,7 @@ use Rattle.tas_model.specs.Segments.{one_if}
 use Rattle.host_rounds.specs.declared.log.LogLine.{LogLine}
 use Rattle.host_rounds.specs.Lists.{Each}
 use Rattle.host_rounds.specs.Logs.{RunLog}
-use Rattle.host_rounds.specs.Hosts.{Live, Numbers}
+use Rattle.host_rounds.specs.Hosts.{Live, Starts}
 use Rattle.host_rounds.specs.Openings.{Opening, AreOpened}
 use Rattle.host_rounds.proofs.Keeps.{openings, length_is}
 use Rattle.host_rounds.specs.Deliveries.{same_frame}
@@ -28,7 +28,7 @@ use Rattle.link_script.specs.DueFrames.{act_on, is_due, copies_under, coming_of,
 use Rattle.scenario_text.specs.declared.scenario.Scenario.{Scenario}
 use Rattle.scenario_runs.specs.Worlds.{World, host_at, frames_of_segments, frames_of_entries, frames_of_flows, no_flow}
 use Rattle.scenario_runs.specs.Worlds.{answer_on, frames_of_answer, frames_of_log, frames_of_hosts, sent_in, arrival}
-use Rattle.scenario_runs.specs.Worlds.{at_start, arrivals_at, numbers_of}
+use Rattle.scenario_runs.specs.Worlds.{at_start, arrivals_at, starts_of}
 use Rattle.scenario_text.specs.declared.scenario.HostLine.{HostLine}
 use Rattle.scenario_runs.specs.Runs.{AreRounds, End, RunsFrom, Run}
 use Rattle.scenario_laws.specs.Ticks.{HostTick, OfEachHost, FromTick, InEachTick}
@@ -472,14 +472,14 @@ AreFew [] = Unit {0}
 AreFew (site ∷ sites) = (length site.host.flows ≤ no_flow) × AreFew sites
 
 -- fewer flows are opened than may be named
-opened_few : (numbers : Numbers) (p : HostParams) (before os : List Opening) → AreOpened numbers p before os
+opened_few : (starts : Starts) (p : HostParams) (before os : List Opening) → AreOpened starts p before os
     → length before ≤ no_flow → length before + length os ≤ no_flow
-opened_few numbers p before [] opened few = omega arith
-opened_few numbers p before (o ∷ os) opened few =
+opened_few starts p before [] opened few = omega arith
+opened_few starts p before (o ∷ os) opened few =
     let one : length before < no_flow = opened.0.few in
     let more : length (before ++ o ∷ []) ≡ length before + 1 = length-append before (o ∷ []) in
     let rest : length (before ++ o ∷ []) + length os ≤ no_flow =
-    opened_few numbers p (before ++ o ∷ []) os opened.1 (omega arith) in omega arith
+    opened_few starts p (before ++ o ∷ []) os opened.1 (omega arith) in omega arith
 
 pub all_few : (t : ℕ) (lines : List HostLine) (world : World) → AllStand t lines world → AreFew world
 all_few t [] [] stand = tt
@@ -487,7 +487,7 @@ all_few t [] (site ∷ sites) stand = absurd stand
 all_few t (l ∷ ls) [] stand = absurd stand
 all_few t (l ∷ ls) (site ∷ sites) stand =
     let few : 0 + length (openings site.host.flows) ≤ no_flow =
-    opened_few (numbers_of l.params) l.params [] (openings site.host.flows) stand.0.right.opened (omega arith) in
+    opened_few (starts_of l.params) l.params [] (openings site.host.flows) stand.0.right.opened (omega arith) in
     let same : length (openings site.host.flows) ≡ length site.host.flows = length_is site.host.flows in
     (omega arith, all_few t ls sites stand.1)
 

@@ -15,7 +15,7 @@ use Rattle.host_rounds.proofs.AllGrown.{round_went}
 use Rattle.host_rounds.proofs.AllStanding.{round_apart}
 use Rattle.scenario_text.specs.declared.scenario.Scenario.{Scenario}
 use Rattle.scenario_runs.specs.Applications.{Script}
-use Rattle.scenario_runs.specs.Worlds.{numbers_of, scripts_of}
+use Rattle.scenario_runs.specs.Worlds.{starts_of, scripts_of}
 use Rattle.scenario_runs.proofs.ByMoves.{scenarios_by_moves}
 use Rattle.scenario_laws.specs.Ends.{AllBefore, LinesBefore}
 use Rattle.scenario_laws.proofs.AllControlled.{AreAllControlled, round_controlled}
@@ -57,7 +57,7 @@ flows_before t (l ∷ ls) (m ∷ ms) low grew =
 
 -- Before the tick with this number.
 pub record Stands (p : HostParams) (t : ℕ) (host : Host) : Type 0 where
-  pub right : IsRight (numbers_of p) p host
+  pub right : IsRight (starts_of p) p host
   pub flows : Each (FlowBefore t) host.flows
   pub lines : LinesBefore t host.log
   pub apart : AreApart host.flows

@@ -13,7 +13,7 @@ use Rattle.host_rounds.specs.declared.log.LogEvent.{LogEvent}
 use Rattle.host_rounds.specs.declared.log.LogEvent.TheVariants as events
 use Rattle.host_rounds.specs.Lists.{Each, change_at}
 use Rattle.host_rounds.specs.Logs.{RunLog, HostRun, Flow}
-use Rattle.host_rounds.specs.Hosts.{Live, Host, Holder, Application, GivenUp, Listener, Numbers, with_call, logged}
+use Rattle.host_rounds.specs.Hosts.{Live, Host, Holder, Application, GivenUp, Listener, Starts, with_call, logged}
 use Rattle.host_rounds.specs.Hosts.{is_listening, first_port, ports_given, flows_of}
 use Rattle.host_rounds.proofs.AllLegal.{each_first, each_push}
 use Rattle.scenario_text.specs.declared.scenario.Step.{Step}
@@ -26,7 +26,7 @@ use Rattle.scenario_ranges.specs.Ranges.{IsStepInRange, IsHostInRange, IsInRange
 use Rattle.scenario_runs.specs.Applications.{Script, Turn, is_concerned, aborted_where, killed, is_killed_at}
 use Rattle.scenario_runs.specs.Applications.{goes_on, turn_where}
 use Rattle.scenario_runs.specs.Applications.{opens_where, connects, refused}
-use Rattle.scenario_runs.specs.Worlds.{numbers_of, address_in, scripts_on, kill_tick}
+use Rattle.scenario_runs.specs.Worlds.{starts_of, address_in, scripts_on, kill_tick}
 use Rattle.scenario_runs.specs.Runs.{Run}
 use Rattle.scenario_laws.specs.Ports.{begins_by_connect, connect_ports, ports_from, all_ports, is_port_wanting}
 use Rattle.scenario_laws.specs.Ports.{had_no_port}
@@ -155,21 +155,21 @@ listen_below step name port same range =
     let here : IsStepInRange (steps.Listen name port) = subst IsStepInRange same range in
     let most : port ≤ 49151 = here.1 in omega arith
 
-act_right : (numbers : Numbers) (t n : ℕ) (step : Step) (host : Host) (act : Act) → MayAct step host act
-    → IsStepInRange step → HostRight host → HostRight (leaves numbers t n host act)
-act_right numbers t n step host Rests may range right = right
-act_right numbers t n step host (Calls k call offer) may range right =
+act_right : (starts : Starts) (t n : ℕ) (step : Step) (host : Host) (act : Act) → MayAct step host act
+    → IsStepInRange step → HostRight host → HostRight (leaves starts t n host act)
+act_right starts t n step host Rests may range right = right
+act_right starts t n step host (Calls k call offer) may range right =
     flows_right host _ (at_alike k (λ (l : Live). with_call l (App n) t call offer)
     (λ l. plain_call call may l n t offer) host.flows) right
-act_right numbers t n step host (Accepts k) may range right =
+act_right starts t n step host (Accepts k) may range right =
     passed_right host k _ _ (λ l. called_alike l (App n) t calls.Accept [] refl) (held_alike (Application n)) right
-act_right numbers t n step host (Connects slot tuple) may range right =
+act_right starts t n step host (Connects slot tuple) may range right =
     flow_right host _ (connect_right host.flows _ right.flows refl may.0 may.1) right
-act_right numbers t n step host (GivesUp k call) may range right =
+act_right starts t n step host (GivesUp k call) may range right =
     passed_right host k _ _ (λ l. last_call call may l n t) (held_alike GivenUp) right
-act_right numbers t n step host (Notes event) may range right =
+act_right starts t n step host (Notes event) may range right =
     line_right host t event (note_wants host event may right) right
-act_right numbers t n step host (Listens port) may range right =
+act_right starts t n step host (Listens port) may range right =
     listeners_right (logged host t (events.Listen n port true)) _
     (each_push IsBelow host.listeners _ right.listens (listen_below step may.0 port may.1 range))
     (line_right host t (events.Listen n port true) (λ h. absurd (true≢false (sym h))) right)
@@ -200,13 +200,13 @@ turn_right s p t host x range right = by_kill (is_killed_at t x.kill) where
   here = record { host = host; script = x }
 
   by_left : (left : List Step) → Each IsStepInRange left
-      → HostRight (goes_on (numbers_of p) (address_in s.hosts) t left here).host
+      → HostRight (goes_on (starts_of p) (address_in s.hosts) t left here).host
   by_left [] each = right
   by_left (step ∷ rest) each =
-      let acted = step_acts (numbers_of p) (address_in s.hosts) t step here in
-      subst HostRight (sym acted.left) (act_right (numbers_of p) t x.number step host acted.act acted.may each.0 right)
+      let acted = step_acts (starts_of p) (address_in s.hosts) t step here in
+      subst HostRight (sym acted.left) (act_right (starts_of p) t x.number step host acted.act acted.may each.0 right)
 
-  by_kill : (b : Bool) → HostRight (turn_where b (numbers_of p) (address_in s.hosts) t here).host
+  by_kill : (b : Bool) → HostRight (turn_where b (starts_of p) (address_in s.hosts) t here).host
   by_kill true = killed_right t here right
   by_kill false = by_left x.left range
 
@@ -219,7 +219,7 @@ turn_in_range : (s : Scenario) (p : HostParams) (t : ℕ) (host : Host) (x : Scr
     → AllInRange (turn_on s p t host x).script
 turn_in_range s p t host x range = by_kill (is_killed_at t x.kill) refl where
   goes : GoesOn t x (turn_on s p t host x).script
-  goes = turn_goes (numbers_of p) (address_in s.hosts) t (record { host = host; script = x })
+  goes = turn_goes (starts_of p) (address_in s.hosts) t (record { host = host; script = x })
 
   by_kill : (b : Bool) → is_killed_at t x.kill ≡ b → AllInRange (turn_on s p t host x).script
   by_kill true h = subst (λ (left : List Step). Each IsStepInRange left) (sym (goes.killed h)) tt
@@ -261,7 +261,7 @@ ports_keep s p t = record {
     host = line_right site.host t event (λ h. absurd (true≢false (sym h ∙ not_wanting event kind))) right.host;
     scripts = right.scripts;
   };
-  syn = λ site slot number frame tuple seg listening right. record {
+  syn = λ site slot start frame tuple seg listening right. record {
     host = flow_right site.host _ (syn_right site.host.flows _ right.host.flows refl
         (listening_below site.host tuple.lport right.host listening)) right.host;
     scripts = right.scripts;
@@ -359,15 +359,15 @@ ports_of_listeners s log range run =
     (ports_stay s range) (λ t l site right. low_flows site.host.flows right.host.flows.low)
 
 -- ----- no port left
-where_none : (left : Bool) (numbers : Numbers) (slot port t : ℕ) (socket : List ℕ) (raddr rport : ℕ) (x : Turn)
-    → left ≡ false → opens_where left numbers slot port t socket raddr rport x ≡ refused true t raddr rport x
-where_none true numbers slot port t socket raddr rport x h = absurd (true≢false h)
-where_none false numbers slot port t socket raddr rport x h = refl
+where_none : (left : Bool) (starts : Starts) (slot port t : ℕ) (socket : List ℕ) (raddr rport : ℕ) (x : Turn)
+    → left ≡ false → opens_where left starts slot port t socket raddr rport x ≡ refused true t raddr rport x
+where_none true starts slot port t socket raddr rport x h = absurd (true≢false h)
+where_none false starts slot port t socket raddr rport x h = refl
 
-pub none_left_refused : (numbers : Numbers) (slot t : ℕ) (socket : List ℕ) (raddr rport : ℕ) (x : Turn)
+pub none_left_refused : (starts : Starts) (slot t : ℕ) (socket : List ℕ) (raddr rport : ℕ) (x : Turn)
     → ports_given x.host ≡ all_ports
-    → connects numbers (Some slot) t socket raddr rport x ≡ refused true t raddr rport x
-none_left_refused numbers slot t socket raddr rport x h =
+    → connects starts (Some slot) t socket raddr rport x ≡ refused true t raddr rport x
+none_left_refused starts slot t socket raddr rport x h =
     let past : 65536 ≤ first_port + ports_given x.host = omega arith in
-    where_none (nat_lt (first_port + ports_given x.host) (2 ^ 16)) numbers slot (first_port + ports_given x.host) t
+    where_none (nat_lt (first_port + ports_given x.host) (2 ^ 16)) starts slot (first_port + ports_given x.host) t
     socket raddr rport x (grind (arith, tests, past))

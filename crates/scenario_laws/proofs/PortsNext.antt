@@ -7,13 +7,13 @@ use Rattle.tas_model.specs.declared.entry.Caller.TheVariants.{App}
 use Rattle.tas_model.specs.declared.entry.Call.TheVariants as calls
 use Rattle.host_rounds.specs.Lists.{Each, change_at}
 use Rattle.host_rounds.specs.Logs.{HostRun, RunLog}
-use Rattle.host_rounds.specs.Hosts.{Live, Host, Application, GivenUp, Numbers, with_call, first_port, flows_of}
+use Rattle.host_rounds.specs.Hosts.{Live, Host, Application, GivenUp, Starts, with_call, first_port, flows_of}
 use Rattle.scenario_text.specs.declared.scenario.Step.{Step}
 use Rattle.scenario_text.specs.declared.scenario.Scenario.{Scenario}
 use Rattle.scenario_text.specs.declared.scenario.HostLine.{HostLine}
 use Rattle.scenario_runs.specs.Applications.{Script, Turn, is_concerned, aborted_where, is_killed_at, goes_on}
 use Rattle.scenario_runs.specs.Applications.{turn_where}
-use Rattle.scenario_runs.specs.Worlds.{numbers_of, address_in, site_of}
+use Rattle.scenario_runs.specs.Worlds.{starts_of, address_in, site_of}
 use Rattle.scenario_runs.specs.Runs.{Run}
 use Rattle.scenario_laws.specs.Ports.{begins_by_connect, HaveNext}
 use Rattle.scenario_laws.specs.Turns.{turn_on}
@@ -55,19 +55,19 @@ passed_next ls k f g one two next =
     next_alike 0 ls (change_at k g (change_at k f ls))
     (all_both ls (change_at k f ls) _ (at_alike k f one ls) (at_alike k g two (change_at k f ls))) next
 
-act_next : (numbers : Numbers) (t n : ℕ) (step : Step) (host : Host) (act : Act) → MayAct step host act
-    → IsNext 0 host.flows → IsNext 0 (leaves numbers t n host act).flows
-act_next numbers t n step host Rests may next = next
-act_next numbers t n step host (Calls k call offer) may next =
+act_next : (starts : Starts) (t n : ℕ) (step : Step) (host : Host) (act : Act) → MayAct step host act
+    → IsNext 0 host.flows → IsNext 0 (leaves starts t n host act).flows
+act_next starts t n step host Rests may next = next
+act_next starts t n step host (Calls k call offer) may next =
     next_alike 0 host.flows _ (at_alike k (λ (l : Live). with_call l (App n) t call offer)
     (λ l. plain_call call may l n t offer) host.flows) next
-act_next numbers t n step host (Accepts k) may next =
+act_next starts t n step host (Accepts k) may next =
     passed_next host.flows k _ _ (λ l. called_alike l (App n) t calls.Accept [] refl) (held_alike (Application n)) next
-act_next numbers t n step host (Connects slot tuple) may next = next_push 0 host.flows _ (λ h. may.0) next
-act_next numbers t n step host (GivesUp k call) may next =
+act_next starts t n step host (Connects slot tuple) may next = next_push 0 host.flows _ (λ h. may.0) next
+act_next starts t n step host (GivesUp k call) may next =
     passed_next host.flows k _ _ (λ l. last_call call may l n t) (held_alike GivenUp) next
-act_next numbers t n step host (Notes event) may next = next
-act_next numbers t n step host (Listens port) may next = next
+act_next starts t n step host (Notes event) may next = next
+act_next starts t n step host (Listens port) may next = next
 
 turn_next : (s : Scenario) (p : HostParams) (t : ℕ) (host : Host) (x : Script) → IsNext 0 host.flows
     → IsNext 0 (turn_on s p t host x).host.flows
@@ -75,14 +75,14 @@ turn_next s p t host x next = by_kill (is_killed_at t x.kill) where
   here : Turn
   here = record { host = host; script = x }
 
-  by_left : (left : List Step) → IsNext 0 (goes_on (numbers_of p) (address_in s.hosts) t left here).host.flows
+  by_left : (left : List Step) → IsNext 0 (goes_on (starts_of p) (address_in s.hosts) t left here).host.flows
   by_left [] = next
   by_left (step ∷ rest) =
-      let acted = step_acts (numbers_of p) (address_in s.hosts) t step here in
+      let acted = step_acts (starts_of p) (address_in s.hosts) t step here in
       subst (λ (h : Host). IsNext 0 h.flows) (sym acted.left)
-      (act_next (numbers_of p) t x.number step host acted.act acted.may next)
+      (act_next (starts_of p) t x.number step host acted.act acted.may next)
 
-  by_kill : (b : Bool) → IsNext 0 (turn_where b (numbers_of p) (address_in s.hosts) t here).host.flows
+  by_kill : (b : Bool) → IsNext 0 (turn_where b (starts_of p) (address_in s.hosts) t here).host.flows
   by_kill true =
       next_alike 0 host.flows _ (map_alike (λ (l : Live). aborted_where (is_concerned x.number host l) t l)
       (λ l. aborted_alike (is_concerned x.number host l) t l) host.flows) next
@@ -97,7 +97,7 @@ next_keeps s p t = record {
   flows = λ site ms worked next.
       next_alike 0 site.host.flows ms (all_worked_alike t site.host.flows ms worked) next;
   line = λ site event kind next. next;
-  syn = λ site slot number frame tuple seg listening next.
+  syn = λ site slot start frame tuple seg listening next.
       next_push 0 site.host.flows _ (λ h. absurd (true≢false (sym h))) next;
   turn = λ site k x found rise next. turn_next s p t site.host x next;
 }

@@ -22,7 +22,7 @@ use Rattle.scenario_text.specs.declared.scenario.Step.{Step}
 use Rattle.scenario_text.specs.declared.scenario.Step.TheVariants as steps
 use Rattle.scenario_runs.specs.Applications.{Script, Turn, done_or, sent_on, sends, most, flow_of}
 use Rattle.scenario_runs.specs.Applications.{bound_in, filling, is_killed_at, goes_on, turn_where, on_flow}
-use Rattle.scenario_runs.specs.Worlds.{numbers_of, address_in}
+use Rattle.scenario_runs.specs.Worlds.{starts_of, address_in}
 use Rattle.scenario_runs.specs.Runs.{Run}
 use Rattle.scenario_laws.specs.Ticks.{InEachTick}
 use Rattle.scenario_laws.specs.Turns.{OfEachScript, turn_on, HadTurn, reached}
@@ -145,8 +145,8 @@ turn_next s p t host x socket text took flow alive sent at answer = by_kill (is_
   here = record { host = host; script = x }
 
   by_left : (left : List Step) → sending left ≡ Some (socket, text)
-      → answer_of flow (goes_on (numbers_of p) (address_in s.hosts) t left here).host ≡ replies.Took took
-      → TakesNext text x took (goes_on (numbers_of p) (address_in s.hosts) t left here).script
+      → answer_of flow (goes_on (starts_of p) (address_in s.hosts) t left here).host ≡ replies.Took took
+      → TakesNext text x took (goes_on (starts_of p) (address_in s.hosts) t left here).script
   by_left [] same h = absurd (no_pair socket text same)
   by_left (steps.Send other words ∷ rest) same h =
       let name : other ≡ socket = (same_pair other words socket text same).0 in
@@ -173,8 +173,8 @@ turn_next s p t host x socket text took flow alive sent at answer = by_kill (is_
   by_left (steps.Wait count ∷ rest) same h = absurd (no_pair socket text same)
 
   by_kill : (b : Bool) → b ≡ false
-      → answer_of flow (turn_where b (numbers_of p) (address_in s.hosts) t here).host ≡ replies.Took took
-      → TakesNext text x took (turn_where b (numbers_of p) (address_in s.hosts) t here).script
+      → answer_of flow (turn_where b (starts_of p) (address_in s.hosts) t here).host ≡ replies.Took took
+      → TakesNext text x took (turn_where b (starts_of p) (address_in s.hosts) t here).script
   by_kill true dead h = absurd (true≢false dead)
   by_kill false dead h = by_left x.left sent h
 

@@ -11,7 +11,7 @@ use Rattle.tas_model.specs.declared.entry.Call.TheVariants as calls
 use Rattle.tas_model.specs.LegalHistory.{last_tick}
 use Rattle.host_rounds.specs.Lists.{Each}
 use Rattle.host_rounds.specs.Logs.{Flow, HostRun, RunLog}
-use Rattle.host_rounds.specs.Hosts.{Live, Host, Holder, Application, GivenUp, Numbers, with_call, flows_of}
+use Rattle.host_rounds.specs.Hosts.{Live, Host, Holder, Application, GivenUp, Starts, with_call, flows_of}
 use Rattle.host_rounds.specs.Passing.{IsUpTo}
 use Rattle.host_rounds.specs.Rounds.{IsWorker}
 use Rattle.host_rounds.proofs.AllLegal.{each_map, each_first, each_at, each_push}
@@ -22,7 +22,7 @@ use Rattle.scenario_text.specs.declared.scenario.AppLine.{AppLine}
 use Rattle.scenario_text.specs.declared.scenario.KillLine.{KillLine}
 use Rattle.scenario_runs.specs.Applications.{Script, Turn, is_concerned, let_go, aborted_where, is_killed_at, goes_on}
 use Rattle.scenario_runs.specs.Applications.{turn_where}
-use Rattle.scenario_runs.specs.Worlds.{numbers_of, address_in, scripts_on, kill_tick, site_of}
+use Rattle.scenario_runs.specs.Worlds.{starts_of, address_in, scripts_on, kill_tick, site_of}
 use Rattle.scenario_runs.specs.Runs.{Run}
 use Rattle.scenario_laws.specs.Kills.{IsKilled, CalledBefore}
 use Rattle.scenario_laws.specs.Turns.{OfEachScript, turn_on, GoesOn}
@@ -89,27 +89,27 @@ AllSilent n at t ls = Each (IsSilent n at t) ls
 same_number : (k n : ℕ) → App k ≡ App n → k ≡ n
 same_number k n same = cc (same)
 
-act_silent : (n at t k : ℕ) (numbers : Numbers) (host : Host) (act : Act) → (k ≡ n → t < at)
-    → AllSilent n at t host.flows → AllSilent n at t (leaves numbers t k host act).flows
-act_silent n at t k numbers host Rests may all = all
-act_silent n at t k numbers host (Calls flow call offer) may all =
+act_silent : (n at t k : ℕ) (starts : Starts) (host : Host) (act : Act) → (k ≡ n → t < at)
+    → AllSilent n at t host.flows → AllSilent n at t (leaves starts t k host act).flows
+act_silent n at t k starts host Rests may all = all
+act_silent n at t k starts host (Calls flow call offer) may all =
     each_at (IsSilent n at t) flow _
     (λ l. call_silent n at t (App k) call offer l (λ same. may (same_number k n same))) host.flows all
-act_silent n at t k numbers host (Accepts flow) may all =
+act_silent n at t k starts host (Accepts flow) may all =
     each_at (IsSilent n at t) flow _ (held_silent n at t (Application k)) _
     (each_at (IsSilent n at t) flow _
     (λ l. call_silent n at t (App k) calls.Accept [] l (λ same. may (same_number k n same))) host.flows all)
-act_silent n at t k numbers host (Connects slot tuple) may all =
+act_silent n at t k starts host (Connects slot tuple) may all =
     each_push (IsSilent n at t) host.flows _ all (record {
       called = ((λ same. may (same_number k n same)), tt);
       low = omega arith;
     })
-act_silent n at t k numbers host (GivesUp flow call) may all =
+act_silent n at t k starts host (GivesUp flow call) may all =
     each_at (IsSilent n at t) flow _ (held_silent n at t GivenUp) _
     (each_at (IsSilent n at t) flow _
     (λ l. call_silent n at t (App k) call [] l (λ same. may (same_number k n same))) host.flows all)
-act_silent n at t k numbers host (Notes event) may all = all
-act_silent n at t k numbers host (Listens port) may all = all
+act_silent n at t k starts host (Notes event) may all = all
+act_silent n at t k starts host (Listens port) may all = all
 
 -- a script of this number is killed then, and has no step left behind that
 pub record Ends (n at t : ℕ) (b : Script) : Type 0 where
@@ -131,12 +131,12 @@ turn_silent s p n at t host x ends all = by_kill (is_killed_at t x.kill) refl wh
   here = record { host = host; script = x }
 
   by_left : (left : List Step) → x.left ≡ left → is_killed_at t x.kill ≡ false
-      → AllSilent n at t (goes_on (numbers_of p) (address_in s.hosts) t left here).host.flows
+      → AllSilent n at t (goes_on (starts_of p) (address_in s.hosts) t left here).host.flows
   by_left [] same h = all
   by_left (step ∷ rest) same h =
-      let acted = step_acts (numbers_of p) (address_in s.hosts) t step here in
+      let acted = step_acts (starts_of p) (address_in s.hosts) t step here in
       subst (λ (h : Host). AllSilent n at t h.flows) (sym acted.left)
-      (act_silent n at t x.number (numbers_of p) host acted.act (λ mine. early mine) all)
+      (act_silent n at t x.number (starts_of p) host acted.act (λ mine. early mine) all)
     where
       no_step : (step ∷ rest) ≡ [] → ⊥
       no_step e = absurd (cc (e))
@@ -148,7 +148,7 @@ turn_silent s p n at t host x ends all = by_kill (is_killed_at t x.kill) refl wh
           omega (arith, other, not_before)
 
   by_kill : (b : Bool) → is_killed_at t x.kill ≡ b
-      → AllSilent n at t (turn_where b (numbers_of p) (address_in s.hosts) t here).host.flows
+      → AllSilent n at t (turn_where b (starts_of p) (address_in s.hosts) t here).host.flows
   by_kill true h =
       each_map (IsSilent n at t) (λ (l : Live). aborted_where (is_concerned x.number host l) t l)
       (λ l silent. aborted_silent n at t (is_concerned x.number host l) l silent) host.flows all
@@ -188,7 +188,7 @@ silence_keeps s p n at t = record {
     flows = all_worked n at t site.host.flows ms worked i.flows;
   };
   line = λ site event kind i. record { scripts = i.scripts; flows = i.flows };
-  syn = λ site slot number frame tuple seg listening i. record {
+  syn = λ site slot start frame tuple seg listening i. record {
     scripts = i.scripts;
     flows = each_push (IsSilent n at t) site.host.flows _ i.flows (record {
       called = ((λ same. absurd (not_worker n Slow tt same)), tt);
@@ -199,7 +199,7 @@ silence_keeps s p n at t = record {
       let ends : Ends n at t x =
       found_has (Ends n at t) (λ (b : Script). b.number == k) site.scripts x found i.scripts in
       let goes : GoesOn t x (turn_on s p t site.host x).script =
-      turn_goes (numbers_of p) (address_in s.hosts) t (record { host = site.host; script = x }) in
+      turn_goes (starts_of p) (address_in s.hosts) t (record { host = site.host; script = x }) in
       record {
         scripts = each_first (Ends n at t) _ _ (λ b each. goes_ends n at t x _ goes ends) site.scripts i.scripts;
         flows = turn_silent s p n at t site.host x ends i.flows;

@@ -5,7 +5,7 @@ use Rattle.std.proofs.Common.{subst, ap, ◌∙◌, ◌&&◌, true≢false, arit
 use Rattle.std.proofs.lemmas.List.Quantifiers.{position-Some}
 use Rattle.std.proofs.lemmas.Option.{get_or_from_slice_get}
 use Rattle.host_rounds.specs.Lists.{Each, change_at}
-use Rattle.host_rounds.specs.Hosts.{Live, Host, Holder, Waiting, Application, GivenUp, Numbers, is_ready, is_waiting_by}
+use Rattle.host_rounds.specs.Hosts.{Live, Host, Holder, Waiting, Application, GivenUp, Starts, is_ready, is_waiting_by}
 use Rattle.host_rounds.specs.Hosts.{is_running}
 use Rattle.host_rounds.proofs.AllLegal.{each_push}
 use Rattle.scenario_text.specs.declared.scenario.Step.{Step}
@@ -272,50 +272,50 @@ same_number : (m n : ℕ) → Application m ≡ Application n → m ≡ n
 same_number m n h = cc (h)
 
 -- The act of one application leaves the others their sockets,
-pub others_still : (numbers : Numbers) (t n : ℕ) (step : Step) (x : Turn) (act : Act) (after : Names)
+pub others_still : (starts : Starts) (t n : ℕ) (step : Step) (x : Turn) (act : Act) (after : Names)
     → x.script.number ≡ n → MayAct step x.host act → MayName x act after → AreOwn x.host.flows n x.script.names
     → (m : ℕ) → (m ≡ n → ⊥) → (k : ℕ) → holder_at x.host.flows k ≡ Application m
-    → holder_at (leaves numbers t n x.host act).flows k ≡ Application m
-others_still numbers t n step x Rests after mine may named own m other k h = h
-others_still numbers t n step x (Calls i call offer) after mine may named own m other k h =
+    → holder_at (leaves starts t n x.host act).flows k ≡ Application m
+others_still starts t n step x Rests after mine may named own m other k h = h
+others_still starts t n step x (Calls i call offer) after mine may named own m other k h =
     at_same i _ (λ l. refl) x.host.flows k ∙ h
-others_still numbers t n step x (Accepts i) after mine may named own m other k h =
+others_still starts t n step x (Accepts i) after mine may named own m other k h =
     passed_other i _ _ x.host.flows k (λ same. not_waiting m
     (sym (ready_holder may.0 x.host.flows i may.1 _ refl) ∙ ap (holder_at x.host.flows) same ∙ h)) ∙ h
-others_still numbers t n step x (Connects slot tuple) after mine may named own m other k h =
+others_still starts t n step x (Connects slot tuple) after mine may named own m other k h =
     push_held x.host.flows _ m k h
-others_still numbers t n step x (GivesUp i call) after mine may named own m other k h =
+others_still starts t n step x (GivesUp i call) after mine may named own m other k h =
     passed_other i _ _ x.host.flows k (λ same. other (same_number m n
     (sym h ∙ ap (holder_at x.host.flows) (sym same)
     ∙ named_held x.host.flows n x.script.names i own (named.0, named.1)))) ∙ h
-others_still numbers t n step x (Notes event) after mine may named own m other k h = h
-others_still numbers t n step x (Listens port) after mine may named own m other k h = h
+others_still starts t n step x (Notes event) after mine may named own m other k h = h
+others_still starts t n step x (Listens port) after mine may named own m other k h = h
 
 -- and its names stand for its own.
-pub own_after : (numbers : Numbers) (t n : ℕ) (step : Step) (x : Turn) (act : Act) (after : Names)
+pub own_after : (starts : Starts) (t n : ℕ) (step : Step) (x : Turn) (act : Act) (after : Names)
     → MayAct step x.host act → MayName x act after → AreOwn x.host.flows n x.script.names
-    → AreOwn (leaves numbers t n x.host act).flows n after
-own_after numbers t n step x Rests after may named own = subst (AreOwn x.host.flows n) (sym named) own
-own_after numbers t n step x (Calls i call offer) after may named own =
-    subst (AreOwn (leaves numbers t n x.host (Calls i call offer)).flows n) (sym named.0)
+    → AreOwn (leaves starts t n x.host act).flows n after
+own_after starts t n step x Rests after may named own = subst (AreOwn x.host.flows n) (sym named) own
+own_after starts t n step x (Calls i call offer) after may named own =
+    subst (AreOwn (leaves starts t n x.host (Calls i call offer)).flows n) (sym named.0)
     (own_still x.host.flows _ n x.script.names (λ k h. at_same i _ (λ l. refl) x.host.flows k ∙ h) own)
-own_after numbers t n step x (Accepts i) after may named own =
+own_after starts t n step x (Accepts i) after may named own =
     let free : holder_at x.host.flows i ≡ Waiting = ready_holder may.0 x.host.flows i may.1 _ refl in
-    subst (AreOwn (leaves numbers t n x.host (Accepts i)).flows n) (sym named.1)
+    subst (AreOwn (leaves starts t n x.host (Accepts i)).flows n) (sym named.1)
     (socket_comes x.host.flows _ n i named.0 x.script.names free
     (λ k h. passed_other i _ _ x.host.flows k (λ same. not_waiting n
     (sym free ∙ ap (holder_at x.host.flows) same ∙ h)) ∙ h)
     (passed_set i _ (Application n) x.host.flows (ready_inside may.0 x.host.flows i may.1)) own)
-own_after numbers t n step x (Connects slot tuple) after may named own =
-    subst (AreOwn (leaves numbers t n x.host (Connects slot tuple)).flows n) (sym named.1)
+own_after starts t n step x (Connects slot tuple) after may named own =
+    subst (AreOwn (leaves starts t n x.host (Connects slot tuple)).flows n) (sym named.1)
     (socket_comes x.host.flows _ n (length x.host.flows) named.0 x.script.names (past_end x.host.flows)
     (λ k h. push_held x.host.flows _ n k h) (push_new x.host.flows _) own)
-own_after numbers t n step x (GivesUp i call) after may named own =
-    subst (AreOwn (leaves numbers t n x.host (GivesUp i call)).flows n) (sym named.2)
+own_after starts t n step x (GivesUp i call) after may named own =
+    subst (AreOwn (leaves starts t n x.host (GivesUp i call)).flows n) (sym named.2)
     (socket_goes x.host.flows _ n i named.0 x.script.names (λ j other. passed_other i _ _ x.host.flows j other) named.1
     own)
-own_after numbers t n step x (Notes event) after may named own = subst (AreOwn x.host.flows n) (sym named) own
-own_after numbers t n step x (Listens port) after may named own =
+own_after starts t n step x (Notes event) after may named own = subst (AreOwn x.host.flows n) (sym named) own
+own_after starts t n step x (Listens port) after may named own =
     subst (AreOwn x.host.flows n) (sym named.1) (record {
       held = each_push (λ (b : List ℕ × Bound). IsHeld x.host.flows n b.1) x.script.names _ own.held tt;
       apart = listener_apart port named.0 x.script.names own.apart;

@@ -7,7 +7,7 @@ use Rattle.host_rounds.specs.Logs.{Flow, HostRun, RunLog}
 use Rattle.host_rounds.specs.Openings.{AreOpened, openings_of}
 use Rattle.scenario_text.specs.declared.scenario.Scenario.{Scenario}
 use Rattle.scenario_text.specs.declared.scenario.HostLine.{HostLine}
-use Rattle.scenario_runs.specs.Worlds.{World, numbers_of}
+use Rattle.scenario_runs.specs.Worlds.{World, starts_of}
 use Rattle.scenario_runs.specs.Runs.{Run}
 
 -- ----- hosts and their lines
@@ -23,7 +23,7 @@ IsNamed l h = (h.name ≡ l.name) × (h.addr ≡ l.params.addr)
 
 -- Its flows were opened with its line's parameters, slots, generations and first numbers.
 abbrev pub HasOpened : HostLine → HostRun → Type 0
-HasOpened l h = AreOpened (numbers_of l.params) l.params [] (openings_of h.flows)
+HasOpened l h = AreOpened (starts_of l.params) l.params [] (openings_of h.flows)
 
 -- ----- ticks
 -- each of these entries is of an earlier tick, and each of these lines

@@ -9,7 +9,7 @@ use Rattle.host_rounds.specs.Scripts.{Site}
 use Rattle.host_rounds.specs.Rounds.{Action, Ask, Deed, does, Round}
 use Rattle.scenario_text.specs.declared.scenario.Scenario.{Scenario}
 use Rattle.scenario_runs.specs.Applications.{Script, Turn, is_killed_at, turn}
-use Rattle.scenario_runs.specs.Worlds.{numbers_of, address_in, scripts_of}
+use Rattle.scenario_runs.specs.Worlds.{starts_of, address_in, scripts_of}
 use Rattle.scenario_laws.specs.Ticks.{HostTick}
 
 -- Script by script, in their order; none comes or goes.
@@ -44,7 +44,7 @@ reached s params t site deeds = fold (does (scripts_of s params) t) site deeds
 -- What a turn leaves of the script and of its host.
 abbrev pub turn_on : Scenario → HostParams → (tick : ℕ) → Host → Script → Turn
 turn_on s params t host script =
-    turn (numbers_of params) (address_in s.hosts) t (record { host = host; script = script })
+    turn (starts_of params) (address_in s.hosts) t (record { host = host; script = script })
 
 -- Among the deeds, which begin with this site, the script has one turn: on its own host as the deeds before that turn
 -- left it. The turn makes of the script what it is after the tick, and of the host what the deeds behind it find.

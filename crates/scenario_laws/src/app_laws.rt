@@ -1,7 +1,7 @@
 ghost use Rattle.std.specs.Prelude.{◌≡◌, ℕ, ◌≤◌, ◌<◌, List, [], ◌∷◌, length, true, false, Some};
 ghost use Rattle.host_rounds.specs.Logs.{HostRun, Flow, RunLog};
 ghost use Rattle.host_rounds.specs.Lists.{Each};
-ghost use Rattle.host_rounds.specs.Hosts.{Numbers, first_port, ports_given, Waiting, Application};
+ghost use Rattle.host_rounds.specs.Hosts.{Starts, first_port, ports_given, Waiting, Application};
 ghost use Rattle.scenario_text.specs.declared.scenario.Scenario.{Scenario};
 ghost use Rattle.scenario_ranges.specs.Ranges.{IsInRange};
 ghost use Rattle.scenario_runs.specs.Applications.{Turn, connects, refused};
@@ -25,9 +25,9 @@ pub fn connects_have_ports_in_order()
     ensures most { (s : Scenario) (log : RunLog) → IsInRange s → Run s log → Each (λ (h : HostRun).
         length (connect_ports h.flows) ≤ all_ports) log.hosts }
     // and where so many were given, a connect that finds a free slot is refused for want of a port.
-    ensures refused { (numbers : Numbers) (slot t : ℕ) (socket : List ℕ) (raddr rport : ℕ) (x : Turn)
+    ensures refused { (starts : Starts) (slot t : ℕ) (socket : List ℕ) (raddr rport : ℕ) (x : Turn)
         → ports_given x.host ≡ all_ports
-        → connects numbers (Some slot) t socket raddr rport x ≡ refused true t raddr rport x }
+        → connects starts (Some slot) t socket raddr rport x ≡ refused true t raddr rport x }
     // A connect was refused so only where all of them were given.
     ensures wanting { (s : Scenario) (log : RunLog) → IsInRange s → Run s log → Each (λ (h : HostRun).
         had_no_port h.log ≡ true → length (connect_ports h.flows) ≡ all_ports) log.hosts }

@@ -1,15 +1,12 @@
 -- What holds of every run of a scenario, and that the serial one is among them.
-use Rattle.std.proofs.Common.{◌≡◌, ℕ, zero, suc, ◌+◌, not, Bool, true, false, List, [], ◌∷◌, map, refl, sym, subst}
-use Rattle.std.proofs.Common.{ap, ◌∙◌, true≢false}
+use Rattle.std.proofs.Common.{◌≡◌, ℕ, zero, suc, ◌+◌, Bool, true, false, List, [], ◌∷◌, map, refl, sym, subst}
+use Rattle.std.proofs.Common.{◌∙◌, true≢false}
 use Rattle.tas_model.specs.declared.entry.HostParams.{HostParams}
-use Rattle.tas_model.specs.Valid.{InRange}
 use Rattle.host_rounds.specs.Logs.{HostRun, RunLog}
 use Rattle.host_rounds.specs.Lists.{Each}
-use Rattle.host_rounds.specs.Hosts.{Live, Host}
 use Rattle.host_rounds.specs.Scripts.{Site}
 use Rattle.host_rounds.specs.Rounds.{Round}
-use Rattle.host_rounds.specs.SerialOrder.{serial_tick}
-use Rattle.host_rounds.specs.Histories.{HasHistory, IsSound, HasSentAll}
+use Rattle.host_rounds.specs.Histories.{HasHistory, IsSound}
 use Rattle.host_rounds.proofs.AllLegal.{round_kept}
 use Rattle.host_rounds.proofs.SerialRounds.{serial_round}
 use Rattle.host_rounds.proofs.AllOpened.{IsRight, round_right}
@@ -17,9 +14,9 @@ use Rattle.host_rounds.proofs.Runs.{flows_sound}
 use Rattle.scenario_text.specs.declared.scenario.Scenario.{Scenario}
 use Rattle.scenario_text.specs.declared.scenario.HostLine.{HostLine}
 use Rattle.scenario_runs.specs.Applications.{Script}
-use Rattle.scenario_runs.specs.Worlds.{World, site_of, at_start, numbers_of, scripts_of, due_at, all_ended, is_at_rest}
+use Rattle.scenario_runs.specs.Worlds.{World, site_of, at_start, starts_of, scripts_of, due_at, is_at_rest}
 use Rattle.scenario_runs.specs.Runs.{AreRounds, IsTick, serial_sites, serial_world, End, RunsFrom, serial_from}
-use Rattle.scenario_runs.specs.Runs.{hosts_of, scenario_log, Run, serial_run}
+use Rattle.scenario_runs.specs.Runs.{hosts_of, Run, serial_run}
 use Rattle.scenario_runs.specs.Histories.{AreInRange, AreSound}
 use Rattle.scenario_runs.proofs.ByMoves.{scenarios_by_moves}
 
@@ -104,7 +101,7 @@ abbrev AllRight : List HostLine → World → Type 0
 AllRight [] [] = Unit {0}
 AllRight [] (site ∷ sites) = ⊥
 AllRight (h ∷ hs) [] = ⊥
-AllRight (h ∷ hs) (site ∷ sites) = IsRight (numbers_of h.params) h.params site.host × AllRight hs sites
+AllRight (h ∷ hs) (site ∷ sites) = IsRight (starts_of h.params) h.params site.host × AllRight hs sites
 
 start_right : (s : Scenario) (hosts : List HostLine) → AllRight hosts (map (site_of s) hosts)
 start_right s [] = tt
@@ -112,7 +109,7 @@ start_right s (h ∷ hs) = (record { params = refl; legal = tt; opened = tt }, s
 
 site_right : (s : Scenario) (whole : World) (t h : ℕ) (p : HostParams) (b a : Site (List Script))
     → Round (scripts_of s b.host.params) t (due_at s whole t h b.scripts) b a
-    → IsRight (numbers_of p) p b.host → IsRight (numbers_of p) p a.host
+    → IsRight (starts_of p) p b.host → IsRight (starts_of p) p a.host
 site_right s whole t h p b a round right =
     let same : Round (scripts_of s p) t (due_at s whole t h b.scripts) b a =
     subst (λ (q : HostParams). Round (scripts_of s q) t (due_at s whole t h b.scripts) b a) right.params round in
@@ -148,7 +145,8 @@ hosts_sound : (hosts : List HostLine) (world : World) → AreInRange hosts → A
 hosts_sound [] world fits right = tt
 hosts_sound (h ∷ hs) [] fits right = tt
 hosts_sound (h ∷ hs) (site ∷ sites) fits right = (
-  flows_sound (numbers_of h.params) h.params [] site.host.flows fits.0 right.0.opened right.0.legal,
+  flows_sound
+      (starts_of h.params) h.params [] site.host.flows fits.0 (λ tuple k n. tt) right.0.opened right.0.legal,
   hosts_sound hs sites fits.1 right.1,
 )
 

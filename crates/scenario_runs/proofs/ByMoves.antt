@@ -1,23 +1,22 @@
 -- Whatever an application of a scenario asks is a row of moves.
-use Rattle.std.proofs.Common.{◌≡◌, ℕ, zero, suc, ◌+◌, ◌==◌, ◌&&◌, not, Bool, true, false, List, [], ◌∷◌, ◌++◌, length}
+use Rattle.std.proofs.Common.{◌≡◌, ℕ, ◌+◌, ◌==◌, ◌&&◌, not, Bool, true, false, List, [], ◌∷◌, ◌++◌, length}
 use Rattle.std.proofs.Common.{map, filter, position, slice_get, nat_lt, ◌^◌, Option, Some, None, IfSome, refl, sym}
-use Rattle.std.proofs.Common.{subst, ap, ◌∙◌, true≢false, arith, length-append, append_assoc, if◌then◌else◌}
-use Rattle.std.specs.List.{list_any, find}
+use Rattle.std.proofs.Common.{subst, ap, ◌∙◌, true≢false, arith, length-append, append_assoc}
+use Rattle.std.specs.List.{find}
 use Rattle.std.proofs.lemmas.List.Quantifiers.{position-Some}
 use Rattle.std.proofs.lemmas.Option.{get_or_from_slice_get}
-use Rattle.tas_model.specs.declared.entry.FourTuple.{FourTuple}
 use Rattle.tas_model.specs.declared.entry.HostParams.{HostParams}
 use Rattle.tas_model.specs.declared.entry.Caller.TheVariants.{Slow, App}
 use Rattle.tas_model.specs.declared.entry.Call.{Call}
 use Rattle.tas_model.specs.declared.entry.Call.TheVariants as calls
-use Rattle.tas_model.specs.LegalHistory.{Offers, shown}
+use Rattle.tas_model.specs.LegalHistory.{shown}
 use Rattle.host_rounds.specs.declared.log.LogEvent.TheVariants as events
 use Rattle.host_rounds.specs.Lists.{change_at}
-use Rattle.host_rounds.specs.Hosts.{Live, Host, Holder, Application, Waiting, GivenUp, Listener, Numbers, endpoint}
-use Rattle.host_rounds.specs.Hosts.{is_over, is_running, is_waiting_by, with_call, at_flow, is_known, lowest_free}
-use Rattle.host_rounds.specs.Hosts.{is_listened, is_ready, first_port, ports_given, answer_of}
+use Rattle.host_rounds.specs.Hosts.{Live, Host, Application, GivenUp, Listener, Starts, endpoint}
+use Rattle.host_rounds.specs.Hosts.{is_running, with_call, lowest_free}
+use Rattle.host_rounds.specs.Hosts.{is_listened, is_ready, first_port, ports_given}
 use Rattle.host_rounds.specs.Scripts.{Site}
-use Rattle.host_rounds.specs.Moves.{Move, Calls, Opens, Notes, Holds, Listens, MayCall, MayMove, moved, AreMoves}
+use Rattle.host_rounds.specs.Moves.{Calls, Opens, Notes, Holds, Listens, MayCall, MayMove}
 use Rattle.host_rounds.specs.Moves.{AreByMoves}
 use Rattle.host_rounds.proofs.Steps.{accept_steps, ready_steps, send_steps, shut_steps, close_steps, abort_steps}
 use Rattle.host_rounds.proofs.Steps.{recv_steps}
@@ -25,13 +24,13 @@ use Rattle.host_rounds.proofs.Rows.{Row, none, joined, with_flows}
 use Rattle.scenario_text.specs.declared.scenario.Scenario.{Scenario}
 use Rattle.scenario_text.specs.declared.scenario.Step.{Step}
 use Rattle.scenario_text.specs.declared.scenario.Step.TheVariants as steps
-use Rattle.scenario_runs.specs.Applications.{Script, Turn, on_script, stepped, called, holds, listens_where, listens}
+use Rattle.scenario_runs.specs.Applications.{Script, Turn, called, listens_where}
 use Rattle.scenario_runs.specs.Applications.{accepts_one, accepts}
-use Rattle.scenario_runs.specs.Applications.{refused, opens, opens_where, connects, waits_for, is_not_yet}
-use Rattle.scenario_runs.specs.Applications.{sends, receives, asks_for, most, once, ends, on_flow, on_socket}
+use Rattle.scenario_runs.specs.Applications.{opens_where, connects, waits_for}
+use Rattle.scenario_runs.specs.Applications.{sends, receives, once, ends, on_flow, on_socket}
 use Rattle.scenario_runs.specs.Applications.{connects_on, step_of, is_concerned, let_go, aborted_where, killed}
-use Rattle.scenario_runs.specs.Applications.{is_killed_at, goes_on, turn_where, turn, bound_in, flow_of, port_of}
-use Rattle.scenario_runs.specs.Worlds.{numbers_of, address_in, with_turn, asked_of, scripts_of}
+use Rattle.scenario_runs.specs.Applications.{is_killed_at, goes_on, turn_where, bound_in, flow_of, port_of}
+use Rattle.scenario_runs.specs.Worlds.{starts_of, address_in, asked_of, scripts_of}
 
 -- ----- a call
 -- a call that is always a step, of whatever stands there
@@ -64,19 +63,19 @@ slow_abort_may : (l : Live) → MayCall l Slow calls.Abort []
 slow_abort_may l = record { kind = tt; offers = tt; steps = λ u. abort_steps (endpoint l) u (shown (endpoint l) []) }
 
 -- what a turn leaves of the host is a row
-abbrev Moves : Numbers → ℕ → Turn → Turn → Type 0
-Moves numbers t x y = Row numbers t x.host y.host
+abbrev Moves : Starts → ℕ → Turn → Turn → Type 0
+Moves starts t x y = Row starts t x.host y.host
 
-called_row : (numbers : Numbers) (n t : ℕ) (call : Call) (offer : List ℕ) (x : Turn)
-    → ((l : Live) → MayCall l (App x.script.number) call offer) → Moves numbers t x (called n t call offer x)
-called_row numbers n t call offer x each =
+called_row : (starts : Starts) (n t : ℕ) (call : Call) (offer : List ℕ) (x : Turn)
+    → ((l : Live) → MayCall l (App x.script.number) call offer) → Moves starts t x (called n t call offer x)
+called_row starts n t call offer x each =
     (Calls n (App x.script.number) call offer ∷ [], (may_there x.host n x.script.number call offer each, refl))
 
 -- ----- listen, accept
-listens_row : (numbers : Numbers) (taken : Bool) (t : ℕ) (name : List ℕ) (port : ℕ) (x : Turn)
-    → Moves numbers t x (listens_where taken t name port x)
-listens_row numbers true t name port x = (Notes (events.Listen x.script.number port false) ∷ [], (tt, refl))
-listens_row numbers false t name port x = (
+listens_row : (starts : Starts) (taken : Bool) (t : ℕ) (name : List ℕ) (port : ℕ) (x : Turn)
+    → Moves starts t x (listens_where taken t name port x)
+listens_row starts true t name port x = (Notes (events.Listen x.script.number port false) ∷ [], (tt, refl))
+listens_row starts false t name port x = (
   Notes (events.Listen x.script.number port true)
       ∷ Listens (x.host.listeners ++ (record { port = port; app = x.script.number }) ∷ []) ∷ [],
   (tt, (tt, refl)),
@@ -105,95 +104,95 @@ accept_there : (k port : ℕ) (found : Option Live) → IfSome found (λ l. is_r
 accept_there k port None ready = tt
 accept_there k port (Some l) ready = accept_may k port l ready
 
-accepts_one_row : (numbers : Numbers) (ready : Option ℕ) (t : ℕ) (socket : List ℕ) (port : ℕ) (x : Turn)
-    → position (is_ready port) x.host.flows ≡ ready → Moves numbers t x (accepts_one ready t socket port x)
-accepts_one_row numbers None t socket port x at = (Notes (events.AcceptNotYet x.script.number port) ∷ [], (tt, refl))
-accepts_one_row numbers (Some n) t socket port x at =
+accepts_one_row : (starts : Starts) (ready : Option ℕ) (t : ℕ) (socket : List ℕ) (port : ℕ) (x : Turn)
+    → position (is_ready port) x.host.flows ≡ ready → Moves starts t x (accepts_one ready t socket port x)
+accepts_one_row starts None t socket port x at = (Notes (events.AcceptNotYet x.script.number port) ∷ [], (tt, refl))
+accepts_one_row starts (Some n) t socket port x at =
     let may : MayMove x.host (Calls n (App x.script.number) calls.Accept []) =
     accept_there x.script.number port (slice_get x.host.flows n)
     (ready_there port x.host.flows n (slice_get x.host.flows n) at refl) in
     (Calls n (App x.script.number) calls.Accept [] ∷ Holds n (Application x.script.number) ∷ [], (may, (tt, refl)))
 
-accepts_row : (numbers : Numbers) (port : Option ℕ) (t : ℕ) (socket : List ℕ) (x : Turn)
-    → Moves numbers t x (accepts port t socket x)
-accepts_row numbers None t socket x = none numbers t x.host
-accepts_row numbers (Some port) t socket x =
-    accepts_one_row numbers (position (is_ready port) x.host.flows) t socket port x refl
+accepts_row : (starts : Starts) (port : Option ℕ) (t : ℕ) (socket : List ℕ) (x : Turn)
+    → Moves starts t x (accepts port t socket x)
+accepts_row starts None t socket x = none starts t x.host
+accepts_row starts (Some port) t socket x =
+    accepts_one_row starts (position (is_ready port) x.host.flows) t socket port x refl
 
 -- ----- connect
-where_row : (numbers : Numbers) (left : Bool) (slot port t : ℕ) (socket : List ℕ) (raddr rport : ℕ) (x : Turn)
+where_row : (starts : Starts) (left : Bool) (slot port t : ℕ) (socket : List ℕ) (raddr rport : ℕ) (x : Turn)
     → lowest_free x.host ≡ Some slot
-    → Moves numbers t x (opens_where left numbers slot port t socket raddr rport x)
-where_row numbers true slot port t socket raddr rport x free = (Opens slot _ x.script.number ∷ [], (free, refl))
-where_row numbers false slot port t socket raddr rport x free =
+    → Moves starts t x (opens_where left starts slot port t socket raddr rport x)
+where_row starts true slot port t socket raddr rport x free = (Opens slot _ x.script.number ∷ [], (free, refl))
+where_row starts false slot port t socket raddr rport x free =
     (Notes (events.ConnectRefused x.script.number raddr rport true) ∷ [], (tt, refl))
 
-connects_row : (numbers : Numbers) (o : Option ℕ) (t : ℕ) (socket : List ℕ) (raddr rport : ℕ) (x : Turn)
+connects_row : (starts : Starts) (o : Option ℕ) (t : ℕ) (socket : List ℕ) (raddr rport : ℕ) (x : Turn)
     → lowest_free x.host ≡ o
-    → Moves numbers t x (connects numbers o t socket raddr rport x)
-connects_row numbers None t socket raddr rport x free =
+    → Moves starts t x (connects starts o t socket raddr rport x)
+connects_row starts None t socket raddr rport x free =
     (Notes (events.ConnectRefused x.script.number raddr rport false) ∷ [], (tt, refl))
-connects_row numbers (Some slot) t socket raddr rport x free =
-    where_row numbers (nat_lt (first_port + ports_given x.host) (2 ^ 16)) slot
+connects_row starts (Some slot) t socket raddr rport x free =
+    where_row starts (nat_lt (first_port + ports_given x.host) (2 ^ 16)) slot
     (first_port + ports_given x.host) t socket raddr rport x free
 
 -- ----- calls of a socket
-waits_row : (numbers : Numbers) (n t : ℕ) (x : Turn) → Moves numbers t x (waits_for n t calls.Ready x)
-waits_row numbers n t x = called_row numbers n t calls.Ready [] x (ready_may x.script.number)
+waits_row : (starts : Starts) (n t : ℕ) (x : Turn) → Moves starts t x (waits_for n t calls.Ready x)
+waits_row starts n t x = called_row starts n t calls.Ready [] x (ready_may x.script.number)
 
-sends_row : (numbers : Numbers) (n t : ℕ) (bytes : List ℕ) (x : Turn) → Moves numbers t x (sends n t bytes x)
-sends_row numbers n t bytes x = called_row numbers n t (calls.Send _) _ x (send_may x.script.number _)
+sends_row : (starts : Starts) (n t : ℕ) (bytes : List ℕ) (x : Turn) → Moves starts t x (sends n t bytes x)
+sends_row starts n t bytes x = called_row starts n t (calls.Send _) _ x (send_may x.script.number _)
 
-receives_row : (numbers : Numbers) (n t : ℕ) (all : Option ℕ) (x : Turn) → Moves numbers t x (receives n t all x)
-receives_row numbers n t all x = called_row numbers n t (calls.Recv _) [] x (recv_may x.script.number _)
+receives_row : (starts : Starts) (n t : ℕ) (all : Option ℕ) (x : Turn) → Moves starts t x (receives n t all x)
+receives_row starts n t all x = called_row starts n t (calls.Recv _) [] x (recv_may x.script.number _)
 
-once_row : (numbers : Numbers) (n t : ℕ) (x : Turn) → Moves numbers t x (once n t calls.Shut x)
-once_row numbers n t x = called_row numbers n t calls.Shut [] x (shut_may x.script.number)
+once_row : (starts : Starts) (n t : ℕ) (x : Turn) → Moves starts t x (once n t calls.Shut x)
+once_row starts n t x = called_row starts n t calls.Shut [] x (shut_may x.script.number)
 
-ends_row : (numbers : Numbers) (n t : ℕ) (call : Call) (socket : List ℕ) (x : Turn)
-    → ((l : Live) → MayCall l (App x.script.number) call []) → Moves numbers t x (ends n t call socket x)
-ends_row numbers n t call socket x each = (
+ends_row : (starts : Starts) (n t : ℕ) (call : Call) (socket : List ℕ) (x : Turn)
+    → ((l : Live) → MayCall l (App x.script.number) call []) → Moves starts t x (ends n t call socket x)
+ends_row starts n t call socket x each = (
   Calls n (App x.script.number) call [] ∷ Holds n GivenUp ∷ [],
   (may_there x.host n x.script.number call [] each, (tt, refl)),
 )
 
-flow_row : (numbers : Numbers) (t : ℕ) (o : Option ℕ) (act : ℕ → Turn → Turn) (x : Turn)
-    → ((n : ℕ) → Moves numbers t x (act n x)) → Moves numbers t x (on_flow o act x)
-flow_row numbers t None act x each = none numbers t x.host
-flow_row numbers t (Some n) act x each = each n
+flow_row : (starts : Starts) (t : ℕ) (o : Option ℕ) (act : ℕ → Turn → Turn) (x : Turn)
+    → ((n : ℕ) → Moves starts t x (act n x)) → Moves starts t x (on_flow o act x)
+flow_row starts t None act x each = none starts t x.host
+flow_row starts t (Some n) act x each = each n
 
-socket_row : (numbers : Numbers) (t : ℕ) (socket : List ℕ) (act : ℕ → Turn → Turn) (x : Turn)
-    → ((n : ℕ) → Moves numbers t x (act n x)) → Moves numbers t x (on_socket socket act x)
-socket_row numbers t socket act x each = flow_row numbers t (flow_of (bound_in x.script.names socket)) act x each
+socket_row : (starts : Starts) (t : ℕ) (socket : List ℕ) (act : ℕ → Turn → Turn) (x : Turn)
+    → ((n : ℕ) → Moves starts t x (act n x)) → Moves starts t x (on_socket socket act x)
+socket_row starts t socket act x each = flow_row starts t (flow_of (bound_in x.script.names socket)) act x each
 
 -- ----- one step
-connects_on_row : (numbers : Numbers) (begun : Bool) (t : ℕ) (socket : List ℕ) (raddr rport : ℕ) (x : Turn)
-    → Moves numbers t x (connects_on numbers begun t socket raddr rport x)
-connects_on_row numbers false t socket raddr rport x =
-    connects_row numbers (lowest_free x.host) t socket raddr rport x refl
-connects_on_row numbers true t socket raddr rport x =
-    socket_row numbers t socket (λ (n : ℕ). waits_for n t calls.Ready) x (λ n. waits_row numbers n t x)
+connects_on_row : (starts : Starts) (begun : Bool) (t : ℕ) (socket : List ℕ) (raddr rport : ℕ) (x : Turn)
+    → Moves starts t x (connects_on starts begun t socket raddr rport x)
+connects_on_row starts false t socket raddr rport x =
+    connects_row starts (lowest_free x.host) t socket raddr rport x refl
+connects_on_row starts true t socket raddr rport x =
+    socket_row starts t socket (λ (n : ℕ). waits_for n t calls.Ready) x (λ n. waits_row starts n t x)
 
-step_row : (numbers : Numbers) (address : List ℕ → ℕ) (t : ℕ) (step : Step) (x : Turn)
-    → Moves numbers t x (step_of numbers address t step x)
-step_row numbers address t (steps.Listen name port) x = listens_row numbers (is_listened port x.host) t name port x
-step_row numbers address t (steps.Accept socket listener) x =
-    accepts_row numbers (port_of (bound_in x.script.names listener)) t socket x
-step_row numbers address t (steps.Connect socket host port) x =
-    connects_on_row numbers x.script.begun t socket (address host) port x
-step_row numbers address t (steps.Send socket text) x = socket_row numbers t socket _ x (λ n. sends_row numbers n t _ x)
-step_row numbers address t (steps.Fill socket count) x =
-    socket_row numbers t socket _ x (λ n. sends_row numbers n t _ x)
-step_row numbers address t (steps.Recv socket count) x =
-    socket_row numbers t socket _ x (λ n. receives_row numbers n t (Some count) x)
-step_row numbers address t (steps.Drain socket) x =
-    socket_row numbers t socket _ x (λ n. receives_row numbers n t None x)
-step_row numbers address t (steps.Shut socket) x = socket_row numbers t socket _ x (λ n. once_row numbers n t x)
-step_row numbers address t (steps.Close socket) x =
-    socket_row numbers t socket _ x (λ n. ends_row numbers n t calls.Close socket x (close_may x.script.number))
-step_row numbers address t (steps.Abort socket) x =
-    socket_row numbers t socket _ x (λ n. ends_row numbers n t calls.Abort socket x (abort_may x.script.number))
-step_row numbers address t (steps.Wait ticks) x = none numbers t x.host
+step_row : (starts : Starts) (address : List ℕ → ℕ) (t : ℕ) (step : Step) (x : Turn)
+    → Moves starts t x (step_of starts address t step x)
+step_row starts address t (steps.Listen name port) x = listens_row starts (is_listened port x.host) t name port x
+step_row starts address t (steps.Accept socket listener) x =
+    accepts_row starts (port_of (bound_in x.script.names listener)) t socket x
+step_row starts address t (steps.Connect socket host port) x =
+    connects_on_row starts x.script.begun t socket (address host) port x
+step_row starts address t (steps.Send socket text) x = socket_row starts t socket _ x (λ n. sends_row starts n t _ x)
+step_row starts address t (steps.Fill socket count) x =
+    socket_row starts t socket _ x (λ n. sends_row starts n t _ x)
+step_row starts address t (steps.Recv socket count) x =
+    socket_row starts t socket _ x (λ n. receives_row starts n t (Some count) x)
+step_row starts address t (steps.Drain socket) x =
+    socket_row starts t socket _ x (λ n. receives_row starts n t None x)
+step_row starts address t (steps.Shut socket) x = socket_row starts t socket _ x (λ n. once_row starts n t x)
+step_row starts address t (steps.Close socket) x =
+    socket_row starts t socket _ x (λ n. ends_row starts n t calls.Close socket x (close_may x.script.number))
+step_row starts address t (steps.Abort socket) x =
+    socket_row starts t socket _ x (λ n. ends_row starts n t calls.Abort socket x (abort_may x.script.number))
+step_row starts address t (steps.Wait ticks) x = none starts t x.host
 
 -- ----- a kill
 get_past : {X : Type 0} (pre : List X) (x : X) (xs : List X) → slice_get (pre ++ x ∷ xs) (length pre) ≡ Some x
@@ -212,9 +211,9 @@ length_push n pre x h = grind (arith, length-append pre (x ∷ []), h)
 abbrev aborted : ℕ → Live → Live
 aborted t l = aborted_where true t l
 
-abort_row : (numbers : Numbers) (t n : ℕ) (host : Host) (pre : List Live) (l : Live) (ls : List Live) → n ≡ length pre
-    → Row numbers t (with_flows host (pre ++ l ∷ ls)) (with_flows host (pre ++ aborted t l ∷ ls))
-abort_row numbers t n host pre l ls h =
+abort_row : (starts : Starts) (t n : ℕ) (host : Host) (pre : List Live) (l : Live) (ls : List Live) → n ≡ length pre
+    → Row starts t (with_flows host (pre ++ l ∷ ls)) (with_flows host (pre ++ aborted t l ∷ ls))
+abort_row starts t n host pre l ls h =
     let m : Live = with_call l Slow t calls.Abort [] in
     let here : slice_get (pre ++ l ∷ ls) n ≡ Some l = rw h (get_past pre l ls) in
     let may : MayMove (with_flows host (pre ++ l ∷ ls)) (Calls n Slow calls.Abort []) = rw here (slow_abort_may l) in
@@ -228,56 +227,56 @@ abort_row numbers t n host pre l ls h =
     ap (change_at n (λ (k : Live). record k { holder = let_go l.holder })) one ∙ two in
     (Calls n Slow calls.Abort [] ∷ Holds n (let_go l.holder) ∷ [], (may, (tt, ap (with_flows host) both)))
 
-where_aborted : (numbers : Numbers) (b : Bool) (t n : ℕ) (host : Host) (pre : List Live) (l : Live) (ls : List Live)
+where_aborted : (starts : Starts) (b : Bool) (t n : ℕ) (host : Host) (pre : List Live) (l : Live) (ls : List Live)
     → n ≡ length pre
-    → Row numbers t (with_flows host (pre ++ l ∷ ls)) (with_flows host (pre ++ aborted_where b t l ∷ ls))
-where_aborted numbers true t n host pre l ls h = abort_row numbers t n host pre l ls h
-where_aborted numbers false t n host pre l ls h = none numbers t (with_flows host (pre ++ l ∷ ls))
+    → Row starts t (with_flows host (pre ++ l ∷ ls)) (with_flows host (pre ++ aborted_where b t l ∷ ls))
+where_aborted starts true t n host pre l ls h = abort_row starts t n host pre l ls h
+where_aborted starts false t n host pre l ls h = none starts t (with_flows host (pre ++ l ∷ ls))
 
-flows_aborted : (numbers : Numbers) (test : Live → Bool) (t n : ℕ) (host : Host) (pre ls : List Live) → n ≡ length pre
-    → Row numbers t (with_flows host (pre ++ ls))
+flows_aborted : (starts : Starts) (test : Live → Bool) (t n : ℕ) (host : Host) (pre ls : List Live) → n ≡ length pre
+    → Row starts t (with_flows host (pre ++ ls))
     (with_flows host (pre ++ map (λ (l : Live). aborted_where (test l) t l) ls))
-flows_aborted numbers test t n host pre [] h = none numbers t (with_flows host (pre ++ []))
-flows_aborted numbers test t n host pre (l ∷ ls) h =
+flows_aborted starts test t n host pre [] h = none starts t (with_flows host (pre ++ []))
+flows_aborted starts test t n host pre (l ∷ ls) h =
     let m : Live = aborted_where (test l) t l in
     let rest : List Live = map (λ (k : Live). aborted_where (test k) t k) ls in
-    let one : Row numbers t (with_flows host (pre ++ l ∷ ls)) (with_flows host (pre ++ m ∷ ls)) =
-    where_aborted numbers (test l) t n host pre l ls h in
-    let next : Row numbers t (with_flows host ((pre ++ m ∷ []) ++ ls)) (with_flows host ((pre ++ m ∷ []) ++ rest)) =
-    flows_aborted numbers test t (n + 1) host (pre ++ m ∷ []) ls (length_push n pre m h) in
-    let moved_on : Row numbers t (with_flows host (pre ++ m ∷ ls)) (with_flows host (pre ++ m ∷ rest)) =
-    subst (λ (zs : List Live). Row numbers t (with_flows host zs) (with_flows host (pre ++ m ∷ rest)))
+    let one : Row starts t (with_flows host (pre ++ l ∷ ls)) (with_flows host (pre ++ m ∷ ls)) =
+    where_aborted starts (test l) t n host pre l ls h in
+    let next : Row starts t (with_flows host ((pre ++ m ∷ []) ++ ls)) (with_flows host ((pre ++ m ∷ []) ++ rest)) =
+    flows_aborted starts test t (n + 1) host (pre ++ m ∷ []) ls (length_push n pre m h) in
+    let moved_on : Row starts t (with_flows host (pre ++ m ∷ ls)) (with_flows host (pre ++ m ∷ rest)) =
+    subst (λ (zs : List Live). Row starts t (with_flows host zs) (with_flows host (pre ++ m ∷ rest)))
     (append_assoc pre (m ∷ []) ls)
-    (subst (λ (zs : List Live). Row numbers t (with_flows host ((pre ++ m ∷ []) ++ ls)) (with_flows host zs))
+    (subst (λ (zs : List Live). Row starts t (with_flows host ((pre ++ m ∷ []) ++ ls)) (with_flows host zs))
     (append_assoc pre (m ∷ []) rest) next) in
-    joined numbers t (with_flows host (pre ++ l ∷ ls)) (with_flows host (pre ++ m ∷ ls))
+    joined starts t (with_flows host (pre ++ l ∷ ls)) (with_flows host (pre ++ m ∷ ls))
     (with_flows host (pre ++ m ∷ rest)) one.0 one.1 moved_on
 
-killed_row : (numbers : Numbers) (t : ℕ) (x : Turn) → Moves numbers t x (killed t x)
-killed_row numbers t x =
+killed_row : (starts : Starts) (t : ℕ) (x : Turn) → Moves starts t x (killed t x)
+killed_row starts t x =
     let gone : List Listener = filter (λ (l : Listener). not (l.app == x.script.number)) x.host.listeners in
-    let rest : Row numbers t (record x.host { listeners = gone }) (killed t x).host =
-    flows_aborted numbers (is_concerned x.script.number x.host) t 0
+    let rest : Row starts t (record x.host { listeners = gone }) (killed t x).host =
+    flows_aborted starts (is_concerned x.script.number x.host) t 0
     (record x.host { listeners = gone }) [] x.host.flows refl in
     (Listens gone ∷ rest.0, (tt, rest.1))
 
 -- ----- a tick
-goes_on_row : (numbers : Numbers) (address : List ℕ → ℕ) (t : ℕ) (left : List Step) (x : Turn)
-    → Moves numbers t x (goes_on numbers address t left x)
-goes_on_row numbers address t [] x = none numbers t x.host
-goes_on_row numbers address t (step ∷ rest) x = step_row numbers address t step x
+goes_on_row : (starts : Starts) (address : List ℕ → ℕ) (t : ℕ) (left : List Step) (x : Turn)
+    → Moves starts t x (goes_on starts address t left x)
+goes_on_row starts address t [] x = none starts t x.host
+goes_on_row starts address t (step ∷ rest) x = step_row starts address t step x
 
-turn_row : (numbers : Numbers) (b : Bool) (address : List ℕ → ℕ) (t : ℕ) (x : Turn)
-    → Moves numbers t x (turn_where b numbers address t x)
-turn_row numbers true address t x = killed_row numbers t x
-turn_row numbers false address t x = goes_on_row numbers address t x.script.left x
+turn_row : (starts : Starts) (b : Bool) (address : List ℕ → ℕ) (t : ℕ) (x : Turn)
+    → Moves starts t x (turn_where b starts address t x)
+turn_row starts true address t x = killed_row starts t x
+turn_row starts false address t x = goes_on_row starts address t x.script.left x
 
-asked_row : (numbers : Numbers) (address : List ℕ → ℕ) (t : ℕ) (found : Option Script) (site : Site (List Script))
-    → Row numbers t site.host (asked_of numbers address t found site).host
-asked_row numbers address t None site = none numbers t site.host
-asked_row numbers address t (Some s) site =
-    turn_row numbers (is_killed_at t s.kill) address t (record { host = site.host; script = s })
+asked_row : (starts : Starts) (address : List ℕ → ℕ) (t : ℕ) (found : Option Script) (site : Site (List Script))
+    → Row starts t site.host (asked_of starts address t found site).host
+asked_row starts address t None site = none starts t site.host
+asked_row starts address t (Some s) site =
+    turn_row starts (is_killed_at t s.kill) address t (record { host = site.host; script = s })
 
 pub scenarios_by_moves : (s : Scenario) (params : HostParams) → AreByMoves (scripts_of s params)
 scenarios_by_moves s params t site k each =
-    asked_row (numbers_of params) (address_in s.hosts) t (find (λ (x : Script). x.number == k) site.scripts) site
+    asked_row (starts_of params) (address_in s.hosts) t (find (λ (x : Script). x.number == k) site.scripts) site

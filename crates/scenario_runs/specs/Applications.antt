@@ -1,17 +1,17 @@
 -- What an application of a scenario asks of its host: one call in a tick, as the step says that is under way.
 use Rattle.std.specs.Prelude.{ℕ, ◌+◌, ◌-◌, ◌%◌, ◌==◌, ◌&&◌, not, Bool, true, false, List, [], ◌∷◌, ◌++◌, length, take}
-use Rattle.std.specs.Prelude.{drop, map, filter, count_by, min, nat_le, nat_lt, ◌^◌, position, slice_get, bytes_eq}
+use Rattle.std.specs.Prelude.{drop, map, filter, min, nat_lt, ◌^◌, position, bytes_eq}
 use Rattle.std.specs.Prelude.{Option, Some, None, if◌then◌else◌}
 use Rattle.std.specs.List.{list_any, range_with_len}
 use Rattle.tas_model.specs.declared.entry.FourTuple.{FourTuple}
-use Rattle.tas_model.specs.declared.entry.Entry.{Entry}
 use Rattle.tas_model.specs.declared.entry.Caller.TheVariants.{Slow, App}
 use Rattle.tas_model.specs.declared.entry.Call.{Call}
 use Rattle.tas_model.specs.declared.entry.Call.TheVariants as calls
 use Rattle.tas_model.specs.declared.entry.Reply.{Reply}
 use Rattle.tas_model.specs.declared.entry.Reply.TheVariants as replies
+use Rattle.host_rounds.specs.declared.opening.Start.{Start}
 use Rattle.host_rounds.specs.declared.log.LogEvent.TheVariants as events
-use Rattle.host_rounds.specs.Hosts.{Live, Host, Holder, Waiting, Application, GivenUp, Listener, Numbers, next_number}
+use Rattle.host_rounds.specs.Hosts.{Live, Host, Holder, Waiting, Application, GivenUp, Listener, Starts, next_start}
 use Rattle.host_rounds.specs.Hosts.{is_over, with_call, logged, at_flow, lowest_free}
 use Rattle.host_rounds.specs.Hosts.{first_entry, opened_in, is_listened, is_ready, first_port, ports_given, answer_of}
 use Rattle.scenario_text.specs.declared.scenario.Step.{Step}
@@ -109,27 +109,28 @@ abbrev pub refused : (no_port : Bool) → (tick raddr rport : ℕ) → Turn → 
 refused no_port t raddr rport x =
     on_script stepped (record x { host = logged x.host t (events.ConnectRefused x.script.number raddr rport no_port) })
 
-abbrev pub opens : Numbers → (slot tick : ℕ) → (socket : List ℕ) → FourTuple → Turn → Turn
-opens numbers slot t socket tuple x =
+abbrev pub opens : Starts → (slot tick : ℕ) → (socket : List ℕ) → FourTuple → Turn → Turn
+opens starts slot t socket tuple x =
+    let start : Start = next_start starts x.host tuple in
     record {
       host =
-          opened_in x.host slot tuple (Application x.script.number)
-          (first_entry (App x.script.number) t (calls.Connect (record { 0 = next_number numbers x.host tuple })));
+          opened_in x.host slot tuple start.scale (Application x.script.number)
+          (first_entry (App x.script.number) t (calls.Connect start.number));
       script = record (bind socket (ASocket (length x.host.flows)) x.script) { begun = true };
     }
 
-abbrev pub opens_where : (left : Bool) → Numbers → (slot port tick : ℕ) → (socket : List ℕ)
+abbrev pub opens_where : (left : Bool) → Starts → (slot port tick : ℕ) → (socket : List ℕ)
     → (raddr rport : ℕ) → Turn → Turn
-opens_where true numbers slot port t socket raddr rport x =
-    opens numbers slot t socket (record { laddr = x.host.params.addr; lport = port; raddr = raddr; rport = rport }) x
-opens_where false numbers slot port t socket raddr rport x = refused true t raddr rport x
+opens_where true starts slot port t socket raddr rport x =
+    opens starts slot t socket (record { laddr = x.host.params.addr; lport = port; raddr = raddr; rport = rport }) x
+opens_where false starts slot port t socket raddr rport x = refused true t raddr rport x
 
 -- The slot is looked at first, and then the port.
-abbrev pub connects : Numbers → (free : Option ℕ) → (tick : ℕ) → (socket : List ℕ) → (raddr rport : ℕ) → Turn → Turn
-connects numbers None t socket raddr rport x = refused false t raddr rport x
-connects numbers (Some slot) t socket raddr rport x =
+abbrev pub connects : Starts → (free : Option ℕ) → (tick : ℕ) → (socket : List ℕ) → (raddr rport : ℕ) → Turn → Turn
+connects starts None t socket raddr rport x = refused false t raddr rport x
+connects starts (Some slot) t socket raddr rport x =
     let port : ℕ = first_port + ports_given x.host in
-    opens_where (nat_lt port (2 ^ 16)) numbers slot port t socket raddr rport x
+    opens_where (nat_lt port (2 ^ 16)) starts slot port t socket raddr rport x
 
 abbrev pub is_not_yet : Reply → Bool
 is_not_yet replies.NotYet = true
@@ -197,25 +198,25 @@ abbrev pub on_socket : (socket : List ℕ) → ((flow : ℕ) → Turn → Turn) 
 on_socket socket act x = on_flow (flow_of (bound_in x.script.names socket)) act x
 
 -- Connect opens the flow, and asks Ready from the next tick on until the answer is another than NotYet.
-abbrev pub connects_on : Numbers → (begun : Bool) → (tick : ℕ) → (socket : List ℕ) → (raddr rport : ℕ) → Turn → Turn
-connects_on numbers false t socket raddr rport x = connects numbers (lowest_free x.host) t socket raddr rport x
-connects_on numbers true t socket raddr rport x = on_socket socket (λ (n : ℕ). waits_for n t calls.Ready) x
+abbrev pub connects_on : Starts → (begun : Bool) → (tick : ℕ) → (socket : List ℕ) → (raddr rport : ℕ) → Turn → Turn
+connects_on starts false t socket raddr rport x = connects starts (lowest_free x.host) t socket raddr rport x
+connects_on starts true t socket raddr rport x = on_socket socket (λ (n : ℕ). waits_for n t calls.Ready) x
 
 -- `address` tells the address of a host by its name.
-abbrev pub step_of : Numbers → (address : List ℕ → ℕ) → (tick : ℕ) → Step → Turn → Turn
-step_of numbers address t (steps.Listen name port) x = listens t name port x
-step_of numbers address t (steps.Accept socket listener) x =
+abbrev pub step_of : Starts → (address : List ℕ → ℕ) → (tick : ℕ) → Step → Turn → Turn
+step_of starts address t (steps.Listen name port) x = listens t name port x
+step_of starts address t (steps.Accept socket listener) x =
     accepts (port_of (bound_in x.script.names listener)) t socket x
-step_of numbers address t (steps.Connect socket host port) x =
-    connects_on numbers x.script.begun t socket (address host) port x
-step_of numbers address t (steps.Send socket text) x = on_socket socket (λ (n : ℕ). sends n t text) x
-step_of numbers address t (steps.Fill socket count) x = on_socket socket (λ (n : ℕ). sends n t (filling count)) x
-step_of numbers address t (steps.Recv socket count) x = on_socket socket (λ (n : ℕ). receives n t (Some count)) x
-step_of numbers address t (steps.Drain socket) x = on_socket socket (λ (n : ℕ). receives n t None) x
-step_of numbers address t (steps.Shut socket) x = on_socket socket (λ (n : ℕ). once n t calls.Shut) x
-step_of numbers address t (steps.Close socket) x = on_socket socket (λ (n : ℕ). ends n t calls.Close socket) x
-step_of numbers address t (steps.Abort socket) x = on_socket socket (λ (n : ℕ). ends n t calls.Abort socket) x
-step_of numbers address t (steps.Wait ticks) x =
+step_of starts address t (steps.Connect socket host port) x =
+    connects_on starts x.script.begun t socket (address host) port x
+step_of starts address t (steps.Send socket text) x = on_socket socket (λ (n : ℕ). sends n t text) x
+step_of starts address t (steps.Fill socket count) x = on_socket socket (λ (n : ℕ). sends n t (filling count)) x
+step_of starts address t (steps.Recv socket count) x = on_socket socket (λ (n : ℕ). receives n t (Some count)) x
+step_of starts address t (steps.Drain socket) x = on_socket socket (λ (n : ℕ). receives n t None) x
+step_of starts address t (steps.Shut socket) x = on_socket socket (λ (n : ℕ). once n t calls.Shut) x
+step_of starts address t (steps.Close socket) x = on_socket socket (λ (n : ℕ). ends n t calls.Close socket) x
+step_of starts address t (steps.Abort socket) x = on_socket socket (λ (n : ℕ). ends n t calls.Abort socket) x
+step_of starts address t (steps.Wait ticks) x =
     on_script (λ (s : Script). done_or (s.done + 1 == ticks) (s.done + 1) s) x
 
 -- ----- a kill
@@ -255,14 +256,14 @@ abbrev pub is_killed_at : (tick : ℕ) → Option ℕ → Bool
 is_killed_at t None = false
 is_killed_at t (Some at) = at == t
 
-abbrev pub goes_on : Numbers → (address : List ℕ → ℕ) → (tick : ℕ) → List Step → Turn → Turn
-goes_on numbers address t [] x = x
-goes_on numbers address t (step ∷ rest) x = step_of numbers address t step x
+abbrev pub goes_on : Starts → (address : List ℕ → ℕ) → (tick : ℕ) → List Step → Turn → Turn
+goes_on starts address t [] x = x
+goes_on starts address t (step ∷ rest) x = step_of starts address t step x
 
-abbrev pub turn_where : (killed_now : Bool) → Numbers → (address : List ℕ → ℕ) → (tick : ℕ) → Turn → Turn
-turn_where true numbers address t x = killed t x
-turn_where false numbers address t x = goes_on numbers address t x.script.left x
+abbrev pub turn_where : (killed_now : Bool) → Starts → (address : List ℕ → ℕ) → (tick : ℕ) → Turn → Turn
+turn_where true starts address t x = killed t x
+turn_where false starts address t x = goes_on starts address t x.script.left x
 
 -- What the application asks in this tick: it is killed, or makes the call of its step; one that has ended asks nothing.
-abbrev pub turn : Numbers → (address : List ℕ → ℕ) → (tick : ℕ) → Turn → Turn
-turn numbers address t x = turn_where (is_killed_at t x.script.kill) numbers address t x
+abbrev pub turn : Starts → (address : List ℕ → ℕ) → (tick : ℕ) → Turn → Turn
+turn starts address t x = turn_where (is_killed_at t x.script.kill) starts address t x

@@ -1,13 +1,11 @@
 -- The runs of a scenario: which logs are those of one, and the one in serial order.
-use Rattle.std.specs.Prelude.{◌≡◌, ℕ, zero, suc, ◌+◌, ◌==◌, ◌||◌, not, Bool, true, false, List, [], ◌∷◌, ⊤}
+use Rattle.std.specs.Prelude.{◌≡◌, ℕ, zero, suc, ◌+◌, not, Bool, true, false, List, [], ◌∷◌, ⊤}
 use Rattle.host_rounds.specs.Logs.{HostRun, RunLog}
 use Rattle.host_rounds.specs.Hosts.{run_of}
-use Rattle.host_rounds.specs.Scripts.{Site}
 use Rattle.host_rounds.specs.Rounds.{Round}
 use Rattle.host_rounds.specs.SerialOrder.{serial_tick}
 use Rattle.scenario_text.specs.declared.scenario.Scenario.{Scenario}
 use Rattle.scenario_text.specs.declared.scenario.HostLine.{HostLine}
-use Rattle.scenario_runs.specs.Applications.{Script}
 use Rattle.scenario_runs.specs.Worlds.{World, at_start, scripts_of, due_at, all_ended, is_at_rest}
 
 -- ----- one tick

@@ -6,7 +6,6 @@ use Rattle.std.specs.Prelude.{if◌then◌else◌}
 use Rattle.std.specs.List.{list_any, list_all, find}
 use Rattle.tas_model.specs.declared.entry.HostParams.{HostParams}
 use Rattle.tas_model.specs.declared.entry.FourTuple.{FourTuple}
-use Rattle.tas_model.specs.declared.entry.FrameId.{FrameId}
 use Rattle.tas_model.specs.declared.entry.Head.{Head}
 use Rattle.tas_model.specs.declared.entry.Seg.{Seg}
 use Rattle.tas_model.specs.declared.entry.Entry.{Entry}
@@ -17,7 +16,7 @@ use Rattle.host_rounds.specs.declared.log.LogLine.{LogLine}
 use Rattle.host_rounds.specs.declared.log.LogEvent.{LogEvent}
 use Rattle.host_rounds.specs.declared.log.LogEvent.TheVariants as events
 use Rattle.host_rounds.specs.Lists.{change_first}
-use Rattle.host_rounds.specs.Hosts.{Live, Host, Numbers, is_over}
+use Rattle.host_rounds.specs.Hosts.{Live, Starts, is_over}
 use Rattle.host_rounds.specs.Deliveries.{Arrival, Packet}
 use Rattle.host_rounds.specs.Deliveries.{Damaged as damaged, Segment as segment}
 use Rattle.host_rounds.specs.Scripts.{Scripts, Site}
@@ -70,9 +69,9 @@ abbrev pub address_in : List HostLine → (name : List ℕ) → ℕ
 address_in [] name = 0
 address_in (h ∷ hs) name = elim (bytes_eq h.name name) [ true ↦ h.params.addr | false ↦ address_in hs name ]
 
--- The first numbers of a host's flows are 64,000 apart, from its own on.
-abbrev pub numbers_of : HostParams → Numbers
-numbers_of params tuple k n = (params.iss + 64000 * n) % 2 ^ 32
+-- The first numbers of a host's flows are 64,000 apart, from its own on, and their scale is the host's.
+abbrev pub starts_of : HostParams → Starts
+starts_of params tuple k n = record { number = record { 0 = (params.iss + 64000 * n) % 2 ^ 32 }; scale = None }
 
 abbrev pub with_turn : Turn → List Script → Site (List Script)
 with_turn x scripts =
@@ -82,20 +81,20 @@ with_turn x scripts =
           (λ (s : Script). s.number == x.script.number) (λ (s : Script). x.script) scripts;
     }
 
-abbrev pub asked_of : Numbers → (address : List ℕ → ℕ) → (tick : ℕ) → Option Script → Site (List Script)
+abbrev pub asked_of : Starts → (address : List ℕ → ℕ) → (tick : ℕ) → Option Script → Site (List Script)
     → Site (List Script)
-asked_of numbers address t None site = site
-asked_of numbers address t (Some s) site =
-    with_turn (turn numbers address t (record { host = site.host; script = s })) site.scripts
+asked_of starts address t None site = site
+asked_of starts address t (Some s) site =
+    with_turn (turn starts address t (record { host = site.host; script = s })) site.scripts
 
 -- The scripts of a host's applications; an application is asked by its number.
 abbrev pub scripts_of : Scenario → HostParams → Scripts (List Script) ℕ
 scripts_of s params =
     record {
-      numbers = numbers_of params;
+      starts = starts_of params;
       agent = λ (k : ℕ). k;
       asked = λ (t : ℕ) (site : Site (List Script)) (k : ℕ).
-          asked_of (numbers_of params) (address_in s.hosts) t (find (λ (x : Script). x.number == k) site.scripts) site;
+          asked_of (starts_of params) (address_in s.hosts) t (find (λ (x : Script). x.number == k) site.scripts) site;
     }
 
 -- ----- what was sent

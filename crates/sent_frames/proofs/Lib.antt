@@ -4,3 +4,4 @@ pub mod Starting
 pub mod Addresses
 pub mod Answering
 pub mod Paced
+pub mod Packets

@@ -26,7 +26,7 @@ use Rattle.phase_orders.specs.Collecting.{collected}
 use Rattle.phase_orders.specs.CoreTurns.{arrivals_of, frame_in, lines_of}
 use Rattle.phase_orders.proofs.Collecting.{broken_lines}
 use Rattle.slow_rounds.specs.Collecting.{IsLaneCollected, AreCollected}
-use Rattle.slow_rounds.specs.Rests.{numbers_by, rest_of, IsCounted}
+use Rattle.slow_rounds.specs.Rests.{starts_by, rest_of, IsCounted}
 use Rattle.slow_rounds.proofs.FirstTurns.{same_host}
 use Rattle.slow_rounds.proofs.LaterTurns.{later_made}
 
@@ -114,7 +114,7 @@ module _ {S A : Type 0} (scripts : Scripts S A) (h : CoreHost) (tick : ℕ) (bef
       (ap (λ (x : Worker). (host_of (with_slow x h)).flows) more.rest)
       ∙ sym (broken_lines scripts tick h.slow.check_sums (host_of h) (joined frames_of before))
 
-  pub left_made : (ns : FirstNumbers) (c : cores.Common) (w : Worker) → scripts.numbers ≡ numbers_by ns → IsCounted h
+  pub left_made : (ns : FirstNumbers) (c : cores.Common) (w : Worker) → scripts.starts ≡ starts_by ns → IsCounted h
       → length h.books + length (all_passed after) < 4294967295 → IsTurn true ns c tick u w
       → (ids : List FlowId) × (length ids ≤ length (all_passed after))
       × IsHostSound (with_opened ids w h) × IsCounted (with_opened ids w h)
@@ -130,7 +130,7 @@ module _ {S A : Type 0} (scripts : Scripts S A) (h : CoreHost) (tick : ℕ) (bef
         r.3,
         r.4
             ∙ ((λ i. rest_phase scripts tick (with_lines i) (rest i))
-            ∙ sym (fold_append (delivered (received Slow) scripts.numbers tick) (host_of h)
+            ∙ sym (fold_append (delivered (received Slow) scripts.starts tick) (host_of h)
             (arrivals_of h.slow.check_sums (all_broken h.slow.check_sums before))
             (arrivals_of h.slow.check_sums (map frame_in (all_passed after))))),
       )

@@ -18,7 +18,7 @@ use Rattle.host_rounds.specs.declared.log.LogLine.{LogLine}
 use Rattle.host_rounds.specs.declared.log.LogEvent.TheVariants as events
 use Rattle.host_rounds.specs.Deliveries as runs
 use Rattle.host_rounds.specs.Deliveries.{Arrival, Packet, delivered, delivered_packet, arrived}
-use Rattle.host_rounds.specs.Hosts.{Live, Host, Numbers, changed, is_indexed_as, next_number}
+use Rattle.host_rounds.specs.Hosts.{Live, Host, Starts, changed, is_indexed_as, next_start}
 use Rattle.host_rounds.specs.Scripts.{Scripts}
 use Rattle.host_rounds.proofs.Lists.{map_append}
 use Rattle.core_rounds.specs.CoreTicks.{rest_phase}
@@ -49,7 +49,7 @@ use Rattle.sound_turns.specs.Serving.{quiet, without_frames, ids_of, syn_book, b
 use Rattle.sound_turns.proofs.Serving.{At, IsServedSound, one_served, like_sound}
 use Rattle.sound_turns.proofs.Whole.{posted_like}
 use Rattle.phase_orders.specs.CoreTurns.{arrivals_of, frame_in}
-use Rattle.slow_rounds.specs.Rests.{numbers_by, rest_of, IsCounted}
+use Rattle.slow_rounds.specs.Rests.{starts_by, rest_of, IsCounted}
 use Rattle.slow_rounds.proofs.FirstTurns.{same_host}
 use Rattle.slow_rounds.proofs.Found.{first_changes, first_any, none_indexed, placed}
 use Rattle.slow_rounds.proofs.Meeting.{met_made}
@@ -74,7 +74,7 @@ module _ (h : CoreHost) (v : Worker) (books : List Book) (at : Setting) (f : Pas
   After b = host_of (At h v (books_opened (ids_of b) books) m)
 
   abbrev Meets : Packet → Host
-  Meets p = delivered_packet (runs.received Slow) (numbers_by at.numbers) at.tick before f.frame.id p
+  Meets p = delivered_packet (runs.received Slow) (starts_by at.numbers) at.tick before f.frame.id p
 
   -- ----- a flow has its four-tuple
   module _ (seg : Segment) (id : FlowId) (led : flow_with (tuple_of seg) s.flows ≡ Some id) where
@@ -99,7 +99,7 @@ module _ (h : CoreHost) (v : Worker) (books : List Book) (at : Setting) (f : Pas
         (flows_moved place.0 id Slow at.tick (Rx f.frame.id seg) s.pass.view m.pass.view got.flow books sound.alone
         place.1 got.own got.given
         ∙ sym (first_changes (is_indexed_as (tuple_of seg)) taking place.0 before.flows place.2))
-        ∙ ap (λ c. arrived c taking (next_number (numbers_by at.numbers) before (tuple_of seg)) at.tick before
+        ∙ ap (λ c. arrived c taking (next_start (starts_by at.numbers) before (tuple_of seg)) at.tick before
         f.frame.id (tuple_of seg) (seg_of seg))
         (sym (first_any (is_indexed_as (tuple_of seg)) place.0 before.flows place.2)))
       where
@@ -119,7 +119,7 @@ module _ (h : CoreHost) (v : Worker) (books : List Book) (at : Setting) (f : Pas
   taken seg None led b e is =
       met_made h v books at f.frame.id seg s m b sound few counted is
       ∙ ap (λ c. arrived c (runs.received Slow at.tick f.frame.id (seg_of seg))
-      (next_number (numbers_by at.numbers) before (tuple_of seg)) at.tick before f.frame.id (tuple_of seg) (seg_of seg))
+      (next_start (starts_by at.numbers) before (tuple_of seg)) at.tick before f.frame.id (tuple_of seg) (seg_of seg))
       (sym (none_indexed s.pass.view.base (tuple_of seg) books (apart_of h.table.slots [] books sound.numbered)
       (ap (flow_with (tuple_of seg)) (sym sound.kept.flows) ∙ led)))
 
@@ -139,7 +139,7 @@ module _ (h : CoreHost) (v : Worker) (books : List Book) (at : Setting) (f : Pas
 
   pub one_made : IsOneServed at f s m a
       → After a
-      ≡ delivered (runs.received Slow) (numbers_by at.numbers) at.tick before (arrival_of at.check_sums f.frame)
+      ≡ delivered (runs.received Slow) (starts_by at.numbers) at.tick before (arrival_of at.check_sums f.frame)
   one_made is = by_reading (refusal at.check_sums f.frame.packet) refl is
 
   -- ----- what is counted
@@ -192,7 +192,7 @@ module _ (h : CoreHost) (v : Worker) (books : List Book) (at : Setting) (f : Pas
 -- ----- all frames
 module _ (h : CoreHost) (v : Worker) (at : Setting) where
   abbrev Comes : Host → Arrival → Host
-  Comes = delivered (runs.received Slow) (numbers_by at.numbers) at.tick
+  Comes = delivered (runs.received Slow) (starts_by at.numbers) at.tick
 
   record AreMade (books : List Book) (s n : Sight) (fs kept : List PassedFrame) : Type 0 where
     pub ids : List FlowId
@@ -262,7 +262,7 @@ module _ (h : CoreHost) (v : Worker) (at : Setting) where
 
 -- ----- the whole turn
 pub later_made : {S A : Type 0} (scripts : Scripts S A) (h : CoreHost) (ns : FirstNumbers) (c : cores.Common) (tick : ℕ)
-    (w : Worker) → scripts.numbers ≡ numbers_by ns → IsHostSound (without_frames h) → IsCounted h
+    (w : Worker) → scripts.starts ≡ starts_by ns → IsHostSound (without_frames h) → IsCounted h
     → length h.books + length (waiting h.slow) < 4294967295 → IsTurn true ns c tick h.slow w
     → (ids : List FlowId) × (length ids ≤ length (waiting h.slow))
     × IsHostSound (with_opened ids w h) × IsCounted (with_opened ids w h)

@@ -19,7 +19,8 @@ use Rattle.host_rounds.specs.declared.log.LogEvent.{LogEvent}
 use Rattle.host_rounds.specs.declared.log.LogEvent.TheVariants as events
 use Rattle.host_rounds.specs.Hosts as hosts
 use Rattle.host_rounds.specs.Hosts.{Host, Waiting, logged, is_full, lowest_free}
-use Rattle.host_rounds.specs.Hosts.{next_number, opened_in, first_entry}
+use Rattle.host_rounds.specs.declared.opening.Start.{Start}
+use Rattle.host_rounds.specs.Hosts.{next_start, opened_in, first_entry}
 use Rattle.host_rounds.specs.Deliveries as runs
 use Rattle.host_rounds.specs.Deliveries.{opens, met_no_flow, opened_by_syn, answer_in}
 use Rattle.flow_lock.specs.Answers.{next_in, next_of, is_free}
@@ -43,7 +44,7 @@ use Rattle.sound_hosts.specs.Sound.{IsHostSound}
 use Rattle.sound_turns.specs.Serving.{ids_of, books_opened}
 use Rattle.sound_turns.proofs.Lists.{any_map}
 use Rattle.sound_turns.proofs.Serving.{At}
-use Rattle.slow_rounds.specs.Rests.{numbers_by}
+use Rattle.slow_rounds.specs.Rests.{starts_by}
 use Rattle.slow_rounds.proofs.Opens as openings
 use Rattle.slow_rounds.proofs.Slots.{waits_count}
 
@@ -69,8 +70,8 @@ module _ (h : CoreHost) (v : Worker) (books : List Book) (at : Setting) (frame :
   abbrev port : ℕ
   port = seg.dport
 
-  abbrev number : ℕ
-  number = next_number (numbers_by at.numbers) before (tuple_of seg)
+  abbrev start : Start
+  start = next_start (starts_by at.numbers) before (tuple_of seg)
 
   listening : hosts.is_listening before port ≡ is_listening s.path port
   listening =
@@ -120,8 +121,8 @@ module _ (h : CoreHost) (v : Worker) (books : List Book) (at : Setting) (frame :
     begins n = first_entry Slow at.tick (calls.Passive frame (at.numbers (tuple_of seg) n) (seg_of seg))
 
     opened_made : after
-        ≡ opened_in before id.slot (tuple_of seg) Waiting
-        (first_entry Slow at.tick (calls.Passive frame (record { 0 = number }) (seg_of seg)))
+        ≡ opened_in before id.slot (tuple_of seg) start.scale Waiting
+        (first_entry Slow at.tick (calls.Passive frame start.number (seg_of seg)))
     opened_made =
         (λ i. host_of (At h v (books_opened (ap ids_of is i) books) m))
         ∙ (openings.opened_made (At h v books s) sound few id next Waiting history (begins s.pass.view.opened)
@@ -129,19 +130,19 @@ module _ (h : CoreHost) (v : Worker) (books : List Book) (at : Setting) (frame :
         (ap (λ (x : Sight). x.path.params) opened.after)
         (ap (λ (x : Sight). x.path.listeners) opened.after)
         (ap (λ (x : Sight). x.log) opened.after)
-        ∙ ap (λ n. opened_in before id.slot (tuple_of seg) Waiting (begins n)) count)
+        ∙ ap (λ n. opened_in before id.slot (tuple_of seg) None Waiting (begins n)) count)
 
   abbrev By : Bool → Bool → Host
-  By opening l = met_no_flow opening l number at.tick before frame (tuple_of seg) (seg_of seg)
+  By opening l = met_no_flow opening l start at.tick before frame (tuple_of seg) (seg_of seg)
 
   abbrev ByOpening : Bool → Host
-  ByOpening f = opened_by_syn f (lowest_free before) number at.tick before frame (tuple_of seg) (seg_of seg)
+  ByOpening f = opened_by_syn f (lowest_free before) start at.tick before frame (tuple_of seg) (seg_of seg)
 
   opening : IsOpenedIn (next_in s.pass.view.marks) at.numbers at.tick frame seg s m a → after ≡ ByOpening false
   opening is = by (position is_free s.pass.view.marks) refl
     where
       WithFree : Option ℕ → Host
-      WithFree o = opened_by_syn false o number at.tick before frame (tuple_of seg) (seg_of seg)
+      WithFree o = opened_by_syn false o start at.tick before frame (tuple_of seg) (seg_of seg)
 
       by : (o : Option ℕ) → position is_free s.pass.view.marks ≡ o → after ≡ ByOpening false
       by None e =

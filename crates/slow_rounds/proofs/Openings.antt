@@ -8,7 +8,8 @@ use Rattle.tas_model.specs.declared.entry.Call.TheVariants as calls
 use Rattle.tas_model.specs.declared.entry.Caller.TheVariants.{App}
 use Rattle.tas_model.specs.declared.entry.FlowId.{FlowId}
 use Rattle.tas_model.specs.declared.entry.FourTuple.{FourTuple}
-use Rattle.host_rounds.specs.Hosts.{Live, Numbers, Holder, Application, next_number, first_entry, opened_in}
+use Rattle.host_rounds.specs.declared.opening.Start.{Start}
+use Rattle.host_rounds.specs.Hosts.{Live, Starts, Holder, Application, next_start, first_entry, opened_in}
 use Rattle.host_rounds.specs.Lists.{Each, change_at}
 use Rattle.host_rounds.specs.Moves.{Opens, Holds, MayMove, moved}
 use Rattle.flow_lock.specs.Orders.{same_flow}
@@ -31,9 +32,9 @@ use Rattle.slow_rounds.specs.Rests.{IsCounted}
 use Rattle.slow_rounds.proofs.Opens.{free, opened_made}
 
 -- ----- a connect
-module _ (numbers : Numbers) (h : CoreHost) (tick app : ℕ) (tuple : FourTuple) (iss : Seq) (id : FlowId) (w : Worker)
+module _ (starts : Starts) (h : CoreHost) (tick app : ℕ) (tuple : FourTuple) (iss : Seq) (id : FlowId) (w : Worker)
     (sound : IsHostSound h) (few : length h.books < 4294967295) (opening : IsOpening tuple iss tick app id h.slow w)
-    (number : iss.0 ≡ next_number numbers (host_of h) tuple) where
+    (start : next_start starts (host_of h) tuple ≡ record { number = iss; scale = None }) where
   abbrev history : History
   history = first_history tuple h.slow.path.params (App app) tick iss
 
@@ -44,7 +45,7 @@ module _ (numbers : Numbers) (h : CoreHost) (tick app : ℕ) (tuple : FourTuple)
 
   pub opening_moves : MayMove (host_of h) (Opens id.slot tuple app)
       × (host_of (with_book (new_book id (Application app)) w h)
-      ≡ moved numbers tick (host_of h) (Opens id.slot tuple app))
+      ≡ moved starts tick (host_of h) (Opens id.slot tuple app))
       × (IsCounted h → IsCounted (with_book (new_book id (Application app)) w h))
   opening_moves = (
     free h sound few id opening.opened.0,
@@ -53,8 +54,8 @@ module _ (numbers : Numbers) (h : CoreHost) (tick app : ℕ) (tuple : FourTuple)
         (ap (λ (x : Worker). x.path.params) opening.rest ∙ ap (λ (o : Openings). o.params) opening.path)
         (ap (λ (x : Worker). x.path.listeners) opening.rest ∙ ap (λ (o : Openings). o.listeners) opening.path)
         (ap (λ (x : Worker). x.log) opening.rest)
-        ∙ ap (λ n. opened_in (host_of h) id.slot tuple (Application app)
-        (first_entry (App app) tick (calls.Connect (record { 0 = n })))) number,
+        ∙ ap (λ (s : Start). opened_in (host_of h) id.slot tuple s.scale (Application app)
+        (first_entry (App app) tick (calls.Connect s.number))) (sym start),
     λ counted. ap (λ (o : Opener). o.pass.view.opened) opening.opened.1
         ∙ (ap (λ n. n + 1) counted ∙ sym (length-append h.books (new_book id (Application app) ∷ []))),
   )
@@ -91,9 +92,9 @@ held_at (suc n) id x known (b ∷ bs) at =
     apart : same_flow b.id id ≡ false
     apart = mirror ∙ at.0
 
-pub holder_moves : (numbers : Numbers) (s : Setting) (known : List Held) (tick n : ℕ) (id : FlowId) (x : Holder)
+pub holder_moves : (starts : Starts) (s : Setting) (known : List Held) (tick n : ℕ) (id : FlowId) (x : Holder)
     → IsAt n id s.books
     → host_books.host_of (record s { books = map (reheld (reheld_as id x)) s.books }) known
-    ≡ moved numbers tick (host_books.host_of s known) (Holds n x)
-holder_moves numbers s known tick n id x at =
+    ≡ moved starts tick (host_books.host_of s known) (Holds n x)
+holder_moves starts s known tick n id x at =
     ap (λ (ls : List Live). record (host_books.host_of s known) { flows = ls }) (held_at n id x known s.books at)

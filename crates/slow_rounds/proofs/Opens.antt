@@ -94,7 +94,7 @@ module _ (h : CoreHost) (sound : IsHostSound h) (few : length h.books < 42949672
       own : known_of id (record { flow = id; history = k } ∷ known_in h) ≡ k
       own = ap (λ c. cond c k (known_of id (known_in h))) (same_self id)
 
-      new_one : live_as (new_book id holder) k ≡ new_flow (host_of h) id.slot k.tuple holder x
+      new_one : live_as (new_book id holder) k ≡ new_flow (host_of h) id.slot k.tuple None holder x
       new_one = λ i. record {
         flow = record {
           id = record { slot = id.slot; generation = named i };
@@ -113,7 +113,7 @@ module _ (h : CoreHost) (sound : IsHostSound h) (few : length h.books < 42949672
               (sym (count_map (live_in (known_in h)) (λ (l : Live). l.flow.id.slot == id.slot) h.books))
 
       flows : map (live_in w.pass.view.base) (h.books ++ new_book id holder ∷ [])
-          ≡ (host_of h).flows ++ new_flow (host_of h) id.slot k.tuple holder x ∷ []
+          ≡ (host_of h).flows ++ new_flow (host_of h) id.slot k.tuple None holder x ∷ []
       flows =
           ap (λ (known : List Held). map (live_in known) (h.books ++ new_book id holder ∷ [])) base
           ∙ (map_append (live_in (record { flow = id; history = k } ∷ known_in h)) h.books (new_book id holder ∷ [])
@@ -121,9 +121,9 @@ module _ (h : CoreHost) (sound : IsHostSound h) (few : length h.books < 42949672
           ++ (ap (live_as (new_book id holder)) own ∙ new_one) i ∷ []))
 
       pub opened_made : host_of (with_book (new_book id holder) w h)
-          ≡ opened_in (host_of h) id.slot k.tuple holder x
+          ≡ opened_in (host_of h) id.slot k.tuple None holder x
       opened_made = same_host (host_of (with_book (new_book id holder) w h))
-          (opened_in (host_of h) id.slot k.tuple holder x)
+          (opened_in (host_of h) id.slot k.tuple None holder x)
           params
           (ap (map listener_of) listeners)
           log

@@ -1,15 +1,16 @@
 -- The frames that wait at the slow path, in the words of a run.
-use Rattle.std.specs.Prelude.{◌≡◌, List, length, map}
+use Rattle.std.specs.Prelude.{◌≡◌, List, length, map, None}
 use Rattle.host_rounds.specs.Deliveries.{Arrival}
-use Rattle.host_rounds.specs.Hosts.{Numbers}
+use Rattle.host_rounds.specs.Hosts.{Starts}
 use Rattle.slow_handshake.specs.Numbers.{FirstNumbers}
 use Rattle.slow_worker.specs.Workers.{Worker, waiting}
 use Rattle.sound_hosts.specs.Hosts.{CoreHost}
 use Rattle.phase_orders.specs.CoreTurns.{arrivals_of, frame_in}
 
--- the first numbers of flows, where those go by the number of flows that the host opened alone
-abbrev pub numbers_by : FirstNumbers → Numbers
-numbers_by ns tuple k n = (ns tuple n).0
+-- what flows are given at their opening, where first numbers go by the number of flows that the host opened alone, and
+-- no flow has a scale of its own
+abbrev pub starts_by : FirstNumbers → Starts
+starts_by ns tuple k n = record { number = ns tuple n; scale = None }
 
 -- the frames that wait, as they came to the host: the exceptions, and then the deferred ones
 abbrev pub rest_of : Worker → List Arrival

@@ -15,7 +15,7 @@ ghost use Rattle.sound_turns.specs.Serving.{with_opened};
 ghost use Rattle.phase_orders.specs.Collecting.{log_of, all_broken, all_passed, collected};
 ghost use Rattle.phase_orders.specs.CoreTurns.{lines_of};
 ghost use Rattle.slow_rounds.specs.Collecting.{AreCollected};
-ghost use Rattle.slow_rounds.specs.Rests.{numbers_by, IsCounted};
+ghost use Rattle.slow_rounds.specs.Rests.{starts_by, IsCounted};
 
 /// Where the slow path of a sound host collected what the lanes of a phase left, and then made a later turn alone, the
 /// host is what a run makes of it where all that they left comes to it: the frames whose packets break a rule of
@@ -27,7 +27,7 @@ ghost use Rattle.slow_rounds.specs.Rests.{numbers_by, IsCounted};
 /// [`left_frames_are_collected`]: phase_orders::left_frames_are_collected
 pub fn left_frames_are_rest_phases<S, A>()
     ensures { (scripts : Scripts S A) (h : CoreHost) (tick : ℕ) (before after : List Lane) (u w : Worker)
-        (ns : FirstNumbers) (c : cores.Common) → scripts.numbers ≡ numbers_by ns → IsHostSound h → IsCounted h
+        (ns : FirstNumbers) (c : cores.Common) → scripts.starts ≡ starts_by ns → IsHostSound h → IsCounted h
         → AreCollected after h.slow u
         → joined log_of after ≡ lines_of h.slow.check_sums tick (all_broken h.slow.check_sums before)
         → length h.books + length (all_passed after) < 4294967295 → IsTurn true ns c tick u w

@@ -3,7 +3,7 @@ ghost use Rattle.std.specs.Prelude.{◌≡◌, ◌∷◌, ◌++◌, ◌<◌, ◌
 ghost use Rattle.tas_num.specs.declared.seq.Seq.{Seq};
 ghost use Rattle.tas_model.specs.declared.entry.FlowId.{FlowId};
 ghost use Rattle.tas_model.specs.declared.entry.FourTuple.{FourTuple};
-ghost use Rattle.host_rounds.specs.Hosts.{Numbers, Holder, Application, is_ready, next_number};
+ghost use Rattle.host_rounds.specs.Hosts.{Starts, Holder, Application, is_ready, next_start};
 ghost use Rattle.host_rounds.specs.Moves.{Opens, Holds, MayMove, moved};
 ghost use Rattle.flow_lock.specs.Orders.{total, at_slot};
 ghost use Rattle.flow_lock.specs.Steps.{IsAlone};
@@ -26,25 +26,25 @@ ghost use Rattle.slow_rounds.specs.Opening.{IsOpening, reheld_as};
 ghost use Rattle.slow_rounds.specs.Rests.{IsCounted};
 
 /// A flow that an application opened alone, with what [`App::connect`] says of one that it opened, is one that a run's
-/// connect opens, where its first number is the run's. The slow path counts it.
+/// connect opens, where its first number is the run's, which gives it no scale of its own. The slow path counts it.
 ///
 /// [`App::connect`]: libtas_sockets::App::connect
 pub fn opened_flows_are_moves()
-    ensures { (numbers : Numbers) (h : CoreHost) (tick app : ℕ) (tuple : FourTuple) (iss : Seq) (id : FlowId)
+    ensures { (starts : Starts) (h : CoreHost) (tick app : ℕ) (tuple : FourTuple) (iss : Seq) (id : FlowId)
         (w : Worker) → IsHostSound h → length h.books < 4294967295 → IsOpening tuple iss tick app id h.slow w
-        → iss.0 ≡ next_number numbers (host_of h) tuple
+        → next_start starts (host_of h) tuple ≡ record { number = iss; scale = None }
         → MayMove (host_of h) (Opens id.slot tuple app)
         × (host_of (with_book (new_book id (Application app)) w h)
-        ≡ moved numbers tick (host_of h) (Opens id.slot tuple app))
+        ≡ moved starts tick (host_of h) (Opens id.slot tuple app))
         × (IsCounted h → IsCounted (with_book (new_book id (Application app)) w h)) }
 {}
 
 /// Where the socket of a flow changes hands in the books, it does so in a run.
 pub fn holders_are_moves()
-    ensures { (numbers : Numbers) (s : Setting) (known : List Held) (tick n : ℕ) (id : FlowId) (x : Holder)
+    ensures { (starts : Starts) (s : Setting) (known : List Held) (tick n : ℕ) (id : FlowId) (x : Holder)
         → IsAt n id s.books
         → host_books.host_of (record s { books = map (reheld (reheld_as id x)) s.books }) known
-        ≡ moved numbers tick (host_books.host_of s known) (Holds n x) }
+        ≡ moved starts tick (host_books.host_of s known) (Holds n x) }
 {}
 
 /// The flow that an accept finds at a port of a sound host is the first of a run's host that is ready there, and it

@@ -18,7 +18,7 @@ ghost use Rattle.sound_hosts.specs.Sound.{IsHostSound};
 ghost use Rattle.sound_turns.specs.Passing.{AreSwept, with_books};
 ghost use Rattle.sound_turns.specs.Serving.{without_frames, with_opened};
 ghost use Rattle.phase_orders.specs.CoreTurns.{arrivals_of, broken_in, lines_of};
-ghost use Rattle.slow_rounds.specs.Rests.{numbers_by, rest_of, IsCounted};
+ghost use Rattle.slow_rounds.specs.Rests.{starts_by, rest_of, IsCounted};
 
 /// What the first turn of a tick of the slow path's worker, made alone, makes of a sound host is the slow path's phase
 /// of that tick in a run: closed flows are given up, and time passes for the others. It is so with what
@@ -42,7 +42,7 @@ pub fn first_turns_are_slow_phases()
 /// [`SlowWorker::turn`]: slow_worker::SlowWorker::turn
 pub fn later_turns_are_rest_phases<S, A>()
     ensures { (scripts : Scripts S A) (h : CoreHost) (ns : FirstNumbers) (c : cores.Common) (tick : ℕ) (w : Worker)
-        → scripts.numbers ≡ numbers_by ns → IsHostSound (without_frames h) → IsCounted h
+        → scripts.starts ≡ starts_by ns → IsHostSound (without_frames h) → IsCounted h
         → length h.books + length (waiting h.slow) < 4294967295 → IsTurn true ns c tick h.slow w
         → (ids : List FlowId) × (length ids ≤ length (waiting h.slow))
         × IsHostSound (with_opened ids w h) × IsCounted (with_opened ids w h)

@@ -14,3 +14,4 @@ pub mod Pushes
 pub mod WorkedReplays
 pub mod WorkedRecords
 pub mod WorkedOrders
+pub mod WorkedScales

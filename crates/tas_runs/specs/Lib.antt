@@ -12,3 +12,4 @@ pub mod WorkedTexts
 pub mod WorkedReplays
 pub mod WorkedRecords
 pub mod WorkedOrders
+pub mod WorkedScales

@@ -1,5 +1,5 @@
 -- What the local host of a replay gives its flows: what its own SYN segments in the capture show, where it has them.
-use Rattle.std.specs.Prelude.{ℕ, ◌*◌, ◌%◌, ◌^◌, ◌==◌, ◌&&◌, List, [], ◌∷◌, ◌++◌, slice_get, fold, filter_map, min}
+use Rattle.std.specs.Prelude.{◌*◌, ◌%◌, ◌^◌, ◌==◌, ◌&&◌, List, [], ◌∷◌, ◌++◌, slice_get, fold, filter_map, min}
 use Rattle.std.specs.Prelude.{Option, Some, None, option_map, if◌then◌else◌}
 use Rattle.std.specs.List.{list_any}
 use Rattle.tas_model.specs.declared.entry.FourTuple.{FourTuple}

@@ -13,4 +13,4 @@ pub use laws::{
     serial_order_is_right,
 };
 pub use run_laws::batches_take_up_to_64;
-pub use worked::{worked_orders, worked_records, worked_replays};
+pub use worked::{worked_orders, worked_records, worked_replays, worked_scales};

@@ -18,6 +18,8 @@ ghost use Rattle.tas_runs.specs.WorkedRecords.{late_segment_report};
 ghost use Rattle.tas_runs.specs.WorkedOrders.{second_number_capture, second_number_report, syn_with_data_capture};
 ghost use Rattle.tas_runs.specs.WorkedOrders.{syn_with_data_report, local_gap_capture, local_gap_report};
 ghost use Rattle.tas_runs.specs.WorkedOrders.{strays_last_capture, strays_last_sent};
+ghost use Rattle.tas_runs.specs.WorkedScales.{scaled_upload_capture, scaled_upload_report, own_scales_capture};
+ghost use Rattle.tas_runs.specs.WorkedScales.{own_scales_report};
 
 /// Reports that another program wrote for captures of single connections are those of the run in serial order.
 pub fn worked_replays()
@@ -58,4 +60,12 @@ pub fn worked_orders()
     ensures local_gap { replayed host_address local_gap_capture false ≡ local_gap_report }
     // The capture of what was sent.
     ensures strays_last { capture_or_none (serial_replay host_address strays_last_capture false) ≡ strays_last_sent }
+{}
+
+/// Replays whose windows are scaled: which shift a flow has, and what its segments offer.
+pub fn worked_scales()
+    // Both SYN segments bear a shift. The report was written by another program.
+    ensures scaled_upload { replayed host_address scaled_upload_capture false ≡ scaled_upload_report }
+    // A shift above 10, two SYN segments with one number, and a second flow without a shift, worked by hand.
+    ensures own_scales { replayed host_address own_scales_capture false ≡ own_scales_report }
 {}

@@ -14,11 +14,12 @@ use Rattle.tas_model.specs.NextSegment.{Going, going}
 use Rattle.tas_model.specs.Segments.{bare}
 use Rattle.tas_model.specs.Outputs.{segments_in, sent}
 use Rattle.tas_model.proofs.Tests.{on_cond}
+use Rattle.host_rounds.specs.declared.opening.Start.{Start}
 use Rattle.host_rounds.specs.declared.log.LogLine.{LogLine}
 use Rattle.host_rounds.specs.declared.log.LogEvent.{LogEvent}
 use Rattle.host_rounds.specs.declared.log.LogEvent.TheVariants as events
 use Rattle.host_rounds.specs.Lists.{Each}
-use Rattle.host_rounds.specs.Hosts.{Live, Host, Numbers, next_number, endpoint, is_over, with_call, logged, is_known}
+use Rattle.host_rounds.specs.Hosts.{Live, Host, Starts, next_start, endpoint, is_over, with_call, logged, is_known}
 use Rattle.host_rounds.specs.Hosts.{is_indexed_as, is_listening, is_full, lowest_free}
 use Rattle.host_rounds.specs.Upkeep.{swept, all_swept, controlled, timed, timed_unless, emits, emits_where}
 use Rattle.host_rounds.specs.Deliveries.{Packet, Damaged, Segment, received, opens, opened_by_syn, met_no_flow, arrived}
@@ -90,54 +91,54 @@ module _ (Q : FourTuple → Seg → Type 0) where
   push_back host l s = record { flows = (each_split SentLive host.flows l s.flows).0; lines = s.lines }
 
   -- ----- frames
-  syn_back : (full : Bool) (free : Option ℕ) (number t : ℕ) (host : Host) (frame : FrameId) (tuple : FourTuple)
+  syn_back : (full : Bool) (free : Option ℕ) (start : Start) (t : ℕ) (host : Host) (frame : FrameId) (tuple : FourTuple)
       (seg : Seg)
-      → SentHost (opened_by_syn full free number t host frame tuple seg) → SentHost host
-  syn_back true free number t host frame tuple seg s = line_back t host _ s
-  syn_back false None number t host frame tuple seg s = line_back t host _ s
-  syn_back false (Some slot) number t host frame tuple seg s = push_back host _ s
+      → SentHost (opened_by_syn full free start t host frame tuple seg) → SentHost host
+  syn_back true free start t host frame tuple seg s = line_back t host _ s
+  syn_back false None start t host frame tuple seg s = line_back t host _ s
+  syn_back false (Some slot) start t host frame tuple seg s = push_back host _ s
 
-  no_flow_back : (opening listening : Bool) (number t : ℕ) (host : Host) (frame : FrameId) (tuple : FourTuple)
+  no_flow_back : (opening listening : Bool) (start : Start) (t : ℕ) (host : Host) (frame : FrameId) (tuple : FourTuple)
       (seg : Seg)
-      → SentHost (met_no_flow opening listening number t host frame tuple seg) → SentHost host
-  no_flow_back true listening number t host frame tuple seg s =
-      syn_back (is_full host tuple.lport) (lowest_free host) number t host frame tuple seg s
-  no_flow_back false listening number t host frame tuple seg s = line_back t host _ s
+      → SentHost (met_no_flow opening listening start t host frame tuple seg) → SentHost host
+  no_flow_back true listening start t host frame tuple seg s =
+      syn_back (is_full host tuple.lport) (lowest_free host) start t host frame tuple seg s
+  no_flow_back false listening start t host frame tuple seg s = line_back t host _ s
 
-  arrived_back : (known : Bool) (by : Caller) (number t : ℕ) (host : Host) (frame : FrameId) (tuple : FourTuple)
-      (seg : Seg)
-      → SentHost (arrived known (received by t frame seg) number t host frame tuple seg) → SentHost host
-  arrived_back true by number t host frame tuple seg s =
+  arrived_back : (known : Bool) (by : Caller) (start : Start) (t : ℕ) (host : Host) (frame : FrameId)
+      (tuple : FourTuple) (seg : Seg)
+      → SentHost (arrived known (received by t frame seg) start t host frame tuple seg) → SentHost host
+  arrived_back true by start t host frame tuple seg s =
       flows_back host _
       (first_back SentLive (is_indexed_as tuple) (received by t frame seg)
       (call_back by t (calls.Rx frame seg) []) host.flows) s
-  arrived_back false by number t host frame tuple seg s =
+  arrived_back false by start t host frame tuple seg s =
       no_flow_back (is_listening host tuple.lport && opens seg)
-      (is_listening host tuple.lport) number t host frame tuple seg s
+      (is_listening host tuple.lport) start t host frame tuple seg s
 
-  packet_back : (by : Caller) (numbers : Numbers) (t : ℕ) (host : Host) (frame : FrameId) (packet : Packet)
-      → SentHost (delivered_packet (received by) numbers t host frame packet) → SentHost host
-  packet_back by numbers t host frame (Damaged rule) s = line_back t host _ s
-  packet_back by numbers t host frame (Segment tuple seg) s =
-      arrived_back (is_known host tuple) by (next_number numbers host tuple) t host frame tuple seg s
+  packet_back : (by : Caller) (starts : Starts) (t : ℕ) (host : Host) (frame : FrameId) (packet : Packet)
+      → SentHost (delivered_packet (received by) starts t host frame packet) → SentHost host
+  packet_back by starts t host frame (Damaged rule) s = line_back t host _ s
+  packet_back by starts t host frame (Segment tuple seg) s =
+      arrived_back (is_known host tuple) by (next_start starts host tuple) t host frame tuple seg s
 
   -- ----- moves
-  move_back : (numbers : Numbers) (t : ℕ) (host : Host) (m : Move) → SentHost (moved numbers t host m) → SentHost host
-  move_back numbers t host (Calls n by call offer) s =
+  move_back : (starts : Starts) (t : ℕ) (host : Host) (m : Move) → SentHost (moved starts t host m) → SentHost host
+  move_back starts t host (Calls n by call offer) s =
       flows_back host _
       (at_back SentLive n (λ (l : Live). with_call l by t call offer) (call_back by t call offer) host.flows) s
-  move_back numbers t host (Opens slot tuple app) s = push_back host _ s
-  move_back numbers t host (Notes event) s = line_back t host event s
-  move_back numbers t host (Holds n holder) s =
+  move_back starts t host (Opens slot tuple app) s = push_back host _ s
+  move_back starts t host (Notes event) s = line_back t host event s
+  move_back starts t host (Holds n holder) s =
       flows_back host _ (at_back SentLive n (λ (l : Live). record l { holder = holder }) (λ l all. all) host.flows) s
-  move_back numbers t host (Listens listeners) s = record { flows = s.flows; lines = s.lines }
+  move_back starts t host (Listens listeners) s = record { flows = s.flows; lines = s.lines }
 
   asked_back : {S A : Type 0} (scripts : Scripts S A) (t : ℕ) (site : Site S) (a : A) → AreByMoves scripts
       → AreLegal site.host
       → SentHost (scripts.asked t site a).host → SentHost site.host
   asked_back scripts t site a by_moves legal =
       asked_keeps (λ (host : Host). SentHost host → SentHost site.host) scripts t by_moves
-      (λ host m each may back s. back (move_back scripts.numbers t host m s)) site a legal (λ s. s)
+      (λ host m each may back s. back (move_back scripts.starts t host m s)) site a legal (λ s. s)
 
   -- ----- ticks
   done_back : {S A : Type 0} (scripts : Scripts S A) (t : ℕ) (site : Site S) (by : Caller) (action : Action A)
@@ -145,7 +146,7 @@ module _ (Q : FourTuple → Seg → Type 0) where
       → SentHost (done_by scripts t site by action).host → SentHost site.host
   done_back scripts t site by (Timer n) by_moves legal s =
       flows_back site.host _ (at_back SentLive n (timed by t) (timed_back by t) site.host.flows) s
-  done_back scripts t site by (Frame x) by_moves legal s = packet_back by scripts.numbers t site.host x.frame x.packet s
+  done_back scripts t site by (Frame x) by_moves legal s = packet_back by scripts.starts t site.host x.frame x.packet s
   done_back scripts t site by (Ask a) by_moves legal s = asked_back scripts t site a by_moves legal s
   done_back scripts t site by (Emission n) by_moves legal s =
       flows_back site.host _ (at_back SentLive n (emits by t) (emits_back by t) site.host.flows) s

@@ -18,16 +18,17 @@ use Rattle.host_rounds.specs.declared.log.LogEvent.{LogEvent}
 use Rattle.host_rounds.specs.declared.log.LogEvent.TheVariants as events
 use Rattle.host_rounds.specs.Lists.{Each}
 use Rattle.host_rounds.specs.Logs.{Flow, HostRun, RunLog}
-use Rattle.host_rounds.specs.Hosts.{Live, Numbers, same_tuple, flows_of}
+use Rattle.host_rounds.specs.Hosts.{Live, Starts, same_tuple, flows_of}
 use Rattle.host_rounds.specs.Passing.{ticks_in}
 use Rattle.host_rounds.specs.Histories.{HasHistory}
-use Rattle.host_rounds.specs.Openings.{Opening, opening_of, AreOpened}
+use Rattle.host_rounds.specs.Openings.{Opening, opening_of, openings_as, HaveShifts, AreOpened}
 use Rattle.host_rounds.specs.Scripts.{Site}
+use Rattle.host_rounds.proofs.Runs.{flow_in_range}
 use Rattle.host_rounds.proofs.Keeps.{openings}
 use Rattle.scenario_text.specs.declared.scenario.Scenario.{Scenario}
 use Rattle.scenario_text.specs.declared.scenario.HostLine.{HostLine}
 use Rattle.scenario_runs.specs.Applications.{Script}
-use Rattle.scenario_runs.specs.Worlds.{World, numbers_of, at_start}
+use Rattle.scenario_runs.specs.Worlds.{World, starts_of, at_start}
 use Rattle.scenario_runs.specs.Runs.{hosts_of, End, RunsFrom, Run}
 use Rattle.scenario_runs.specs.Histories.{AreInRange}
 use Rattle.sent_streams.specs.Streams.{IsOf, Takes, AllTaken}
@@ -94,13 +95,18 @@ pub record IsKnown (t : ℕ) (f : Flow) : Type 0 where
   pub legal : Legal f.params f.entries
   pub ticks : ticks_in f.entries ≤ t
 
-flows_known : (t : ℕ) (numbers : Numbers) (p : HostParams) (before : List Opening) (ls : List Live) → InRange p
-    → AreOpened numbers p before (openings ls)
+flows_known : (t : ℕ) (starts : Starts) (p : HostParams) (before : List Opening) (ls : List Live) → InRange p
+    → HaveShifts starts → AreOpened starts p before (openings ls)
     → Each HasHistory ls → Each (HasTicks t) ls → Each (λ (l : Live). IsKnown t l.flow) ls
-flows_known t numbers p before [] fits opened legal ticks = tt
-flows_known t numbers p before (l ∷ ls) fits opened legal ticks = (
-  record { fits = subst InRange (sym opened.0.params) fits; legal = legal.0; ticks = ticks.0 },
-  flows_known t numbers p (before ++ opening_of l.flow ∷ []) ls fits opened.1 legal.1 ticks.1,
+flows_known t starts p before [] fits shifts opened legal ticks = tt
+flows_known t starts p before (l ∷ ls) fits shifts opened legal ticks = (
+  record {
+    fits = subst InRange (sym opened.0.params)
+        (flow_in_range p _ fits (shifts l.flow.tuple (openings_as l.flow.tuple before) (length before)));
+    legal = legal.0;
+    ticks = ticks.0;
+  },
+  flows_known t starts p (before ++ opening_of l.flow ∷ []) ls fits shifts opened.1 legal.1 ticks.1,
 )
 
 world_known : (t : ℕ) (hosts : List HostLine) (world : World) → AreInRange hosts → AllRight t hosts world
@@ -109,8 +115,8 @@ world_known t [] [] fits right = tt
 world_known t [] (site ∷ sites) fits right = absurd right
 world_known t (h ∷ hs) [] fits right = absurd right
 world_known t (h ∷ hs) (site ∷ sites) fits right = (
-  flows_known t
-      (numbers_of h.params) h.params [] site.host.flows fits.0 right.0.right.opened right.0.right.legal right.0.ticks,
+  flows_known t (starts_of h.params) h.params [] site.host.flows fits.0 (λ tuple k n. tt) right.0.right.opened
+      right.0.right.legal right.0.ticks,
   world_known t hs sites fits.1 right.1,
 )
 

@@ -16,11 +16,12 @@ use Rattle.tas_model.specs.declared.entry.Reply.{Reply}
 use Rattle.tas_model.specs.NextSegment.{Going, going}
 use Rattle.tas_model.specs.Segments.{bare, is_syn, is_rst, is_ack}
 use Rattle.tas_model.proofs.Tests.{on_cond}
+use Rattle.host_rounds.specs.declared.opening.Start.{Start}
 use Rattle.host_rounds.specs.declared.log.LogLine.{LogLine}
 use Rattle.host_rounds.specs.declared.log.LogEvent.{LogEvent}
 use Rattle.host_rounds.specs.declared.log.LogEvent.TheVariants as events
 use Rattle.host_rounds.specs.Lists.{Each}
-use Rattle.host_rounds.specs.Hosts.{Live, Host, Numbers, next_number, endpoint, is_over, with_call, logged, is_known}
+use Rattle.host_rounds.specs.Hosts.{Live, Host, Starts, next_start, endpoint, is_over, with_call, logged, is_known}
 use Rattle.host_rounds.specs.Hosts.{same_tuple, is_indexed_as, is_listening, is_full, lowest_free}
 use Rattle.host_rounds.specs.Upkeep.{swept, all_swept, controlled, timed, timed_unless, emits, emits_where}
 use Rattle.host_rounds.specs.Deliveries.{Packet, Damaged, Segment, Arrival, same_frame, received, opens, answer_in}
@@ -168,45 +169,45 @@ module _ (Q : FourTuple → Seg → Type 0) where
   push_heard host l one h = record { flows = each_push HeardLive host.flows l h.flows one; lines = h.lines }
 
   -- ----- frames
-  syn_heard : (full : Bool) (free : Option ℕ) (number t : ℕ) (host : Host) (frame : FrameId) (tuple : FourTuple)
-      (seg : Seg)
+  syn_heard : (full : Bool) (free : Option ℕ) (start : Start) (t : ℕ) (host : Host) (frame : FrameId)
+      (tuple : FourTuple) (seg : Seg)
       → Q (reversed tuple) seg → opens seg ≡ true → HeardHost host
-      → HeardHost (opened_by_syn full free number t host frame tuple seg)
-  syn_heard true free number t host frame tuple seg q syn h = line_heard t host _ tt h
-  syn_heard false None number t host frame tuple seg q syn h = line_heard t host _ tt h
-  syn_heard false (Some slot) number t host frame tuple seg q syn h =
+      → HeardHost (opened_by_syn full free start t host frame tuple seg)
+  syn_heard true free start t host frame tuple seg q syn h = line_heard t host _ tt h
+  syn_heard false None start t host frame tuple seg q syn h = line_heard t host _ tt h
+  syn_heard false (Some slot) start t host frame tuple seg q syn h =
       let two : (is_syn seg && not (is_rst seg)) ≡ true = and_left _ (not (is_ack seg)) syn in
       push_heard host _ ((q, not_true (is_rst seg) (and_right (is_syn seg) _ two), and_left (is_syn seg) _ two), tt) h
 
-  no_flow_heard : (opening listening : Bool) (number t : ℕ) (host : Host) (frame : FrameId) (tuple : FourTuple)
+  no_flow_heard : (opening listening : Bool) (start : Start) (t : ℕ) (host : Host) (frame : FrameId) (tuple : FourTuple)
       (seg : Seg)
       → Q (reversed tuple) seg → (opening ≡ true → opens seg ≡ true) → HeardHost host
-      → HeardHost (met_no_flow opening listening number t host frame tuple seg)
-  no_flow_heard true listening number t host frame tuple seg q syn h =
-      syn_heard (is_full host tuple.lport) (lowest_free host) number t host frame tuple seg q (syn refl) h
-  no_flow_heard false listening number t host frame tuple seg q syn h =
+      → HeardHost (met_no_flow opening listening start t host frame tuple seg)
+  no_flow_heard true listening start t host frame tuple seg q syn h =
+      syn_heard (is_full host tuple.lport) (lowest_free host) start t host frame tuple seg q (syn refl) h
+  no_flow_heard false listening start t host frame tuple seg q syn h =
       line_heard t host _ (stray_resets listening seg) h
 
-  arrived_heard : (known : Bool) (by : Caller) (number t : ℕ) (host : Host) (frame : FrameId) (tuple : FourTuple)
-      (seg : Seg)
+  arrived_heard : (known : Bool) (by : Caller) (start : Start) (t : ℕ) (host : Host) (frame : FrameId)
+      (tuple : FourTuple) (seg : Seg)
       → Q (reversed tuple) seg → HeardHost host
-      → HeardHost (arrived known (received by t frame seg) number t host frame tuple seg)
-  arrived_heard true by number t host frame tuple seg q h =
+      → HeardHost (arrived known (received by t frame seg) start t host frame tuple seg)
+  arrived_heard true by start t host frame tuple seg q h =
       flows_heard host _ h (first_there HeardLive (is_indexed_as tuple) (received by t frame seg)
       (λ l is all. call_heard by t (calls.Rx frame seg) [] l
       (subst (λ (u : FourTuple). Q (reversed u) seg)
       (same_is tuple l.flow.tuple (and_right l.indexed (same_tuple tuple l.flow.tuple) is)) q) all)
       host.flows h.flows)
-  arrived_heard false by number t host frame tuple seg q h =
+  arrived_heard false by start t host frame tuple seg q h =
       no_flow_heard (is_listening host tuple.lport && opens seg)
-      (is_listening host tuple.lport) number t host frame tuple seg q
+      (is_listening host tuple.lport) start t host frame tuple seg q
       (λ both. and_right (is_listening host tuple.lport) (opens seg) both) h
 
-  packet_heard : (by : Caller) (numbers : Numbers) (t : ℕ) (host : Host) (frame : FrameId) (packet : Packet)
-      → Comes packet → HeardHost host → HeardHost (delivered_packet (received by) numbers t host frame packet)
-  packet_heard by numbers t host frame (Damaged rule) q h = line_heard t host _ tt h
-  packet_heard by numbers t host frame (Segment tuple seg) q h =
-      arrived_heard (is_known host tuple) by (next_number numbers host tuple) t host frame tuple seg q h
+  packet_heard : (by : Caller) (starts : Starts) (t : ℕ) (host : Host) (frame : FrameId) (packet : Packet)
+      → Comes packet → HeardHost host → HeardHost (delivered_packet (received by) starts t host frame packet)
+  packet_heard by starts t host frame (Damaged rule) q h = line_heard t host _ tt h
+  packet_heard by starts t host frame (Segment tuple seg) q h =
+      arrived_heard (is_known host tuple) by (next_start starts host tuple) t host frame tuple seg q h
 
   -- ----- moves
   app_call_heard : (by : Caller) (call : Call) (tuple : FourTuple) → IsAppCall by call → Heard tuple call
@@ -222,25 +223,25 @@ module _ (Q : FourTuple → Seg → Type 0) where
   call_line_heard (events.Stray frame tuple seg answer) is = absurd is
   call_line_heard _ is = tt
 
-  move_heard : (numbers : Numbers) (t : ℕ) (host : Host) (m : Move) → MayMove host m → HeardHost host
-      → HeardHost (moved numbers t host m)
-  move_heard numbers t host (Calls n by call offer) may h =
-      call_cases HeardHost numbers t host n by call offer may h
+  move_heard : (starts : Starts) (t : ℕ) (host : Host) (m : Move) → MayMove host m → HeardHost host
+      → HeardHost (moved starts t host m)
+  move_heard starts t host (Calls n by call offer) may h =
+      call_cases HeardHost starts t host n by call offer may h
       (λ kind. flows_heard host _ h (each_at HeardLive n (λ (l : Live). with_call l by t call offer)
       (λ l all. call_heard by t call offer l (app_call_heard by call l.flow.tuple kind) all) host.flows h.flows))
-  move_heard numbers t host (Opens slot tuple app) may h = push_heard host _ (tt, tt) h
-  move_heard numbers t host (Notes event) may h = line_heard t host event (call_line_heard event may) h
-  move_heard numbers t host (Holds n holder) may h =
+  move_heard starts t host (Opens slot tuple app) may h = push_heard host _ (tt, tt) h
+  move_heard starts t host (Notes event) may h = line_heard t host event (call_line_heard event may) h
+  move_heard starts t host (Holds n holder) may h =
       flows_heard host _ h
       (each_at HeardLive n (λ (l : Live). record l { holder = holder }) (λ l all. all) host.flows h.flows)
-  move_heard numbers t host (Listens listeners) may h = record { flows = h.flows; lines = h.lines }
+  move_heard starts t host (Listens listeners) may h = record { flows = h.flows; lines = h.lines }
 
   asked_heard : {S A : Type 0} (scripts : Scripts S A) (t : ℕ) (site : Site S) (a : A) → AreByMoves scripts
       → AreLegal site.host
       → HeardHost site.host → HeardHost (scripts.asked t site a).host
   asked_heard scripts t site a by_moves legal h =
       asked_keeps HeardHost scripts t by_moves
-      (λ host m each may p. move_heard scripts.numbers t host m may p) site a legal h
+      (λ host m each may p. move_heard scripts.starts t host m may p) site a legal h
 
   -- ----- what is due
   abbrev Fit : {A : Type 0} → Action A → Type 0
@@ -289,7 +290,7 @@ module _ (Q : FourTuple → Seg → Type 0) where
   done_heard scripts t site by (Timer n) by_moves legal fit h =
       flows_heard site.host _ h (each_at HeardLive n (timed by t) (timed_heard by t) site.host.flows h.flows)
   done_heard scripts t site by (Frame x) by_moves legal fit h =
-      packet_heard by scripts.numbers t site.host x.frame x.packet fit h
+      packet_heard by scripts.starts t site.host x.frame x.packet fit h
   done_heard scripts t site by (Ask a) by_moves legal fit h = asked_heard scripts t site a by_moves legal h
   done_heard scripts t site by (Emission n) by_moves legal fit h =
       flows_heard site.host _ h (each_at HeardLive n (emits by t) (emits_heard by t) site.host.flows h.flows)

@@ -14,7 +14,7 @@ use Rattle.host_rounds.proofs.AllTimed.{round_timed}
 use Rattle.scenario_text.specs.declared.scenario.Scenario.{Scenario}
 use Rattle.scenario_text.specs.declared.scenario.HostLine.{HostLine}
 use Rattle.scenario_runs.specs.Applications.{Script}
-use Rattle.scenario_runs.specs.Worlds.{World, site_of, at_start, numbers_of, scripts_of, due_at, is_at_rest}
+use Rattle.scenario_runs.specs.Worlds.{World, site_of, at_start, starts_of, scripts_of, due_at, is_at_rest}
 use Rattle.scenario_runs.specs.Runs.{AreRounds, IsTick, End, RunsFrom}
 use Rattle.scenario_runs.proofs.ByMoves.{scenarios_by_moves}
 use Rattle.two_ends.specs.Ends.{IsFaithful}
@@ -30,7 +30,7 @@ HasTicks most l = ticks_of l ≤ most
 
 -- The host is right, with the parameters of its line, and after so many ticks.
 pub record IsRightSite (t : ℕ) (p : HostParams) (site : Site (List Script)) : Type 0 where
-  pub right : IsRight (numbers_of p) p site.host
+  pub right : IsRight (starts_of p) p site.host
   pub ticks : Each (HasTicks t) site.host.flows
 
 abbrev pub AllRight : (t : ℕ) → List HostLine → World → Type 0

@@ -13,7 +13,7 @@ use Rattle.tas_model.specs.LegalHistory.{step, replay}
 use Rattle.host_rounds.specs.SerialOrder.{serial_tick, serial_ticks}
 use Rattle.tas_runs.specs.Records.{items_of}
 use Rattle.tas_runs.specs.Batches.{batches_of}
-use Rattle.tas_runs.specs.FirstNumbers.{first_number}
+use Rattle.tas_runs.specs.Starts.{first_start}
 use Rattle.tas_runs.specs.SerialOrder.{serial_replay}
 use Rattle.tas_runs.specs.Report.{flags_text, report}
 use Rattle.tas_runs.specs.WorkedTexts.{host_address, replayed}
@@ -33,5 +33,5 @@ letters_are = refl
 
 pub broken_are : replayed host_address broken_capture false ≡ broken_report
 unfolding digits nearest refusal mss_of scale_of rx rx_later rx_syn_sent going ticks control step replay form_of
-    first_record capture_of items_of batches_of first_number serial_tick serial_ticks serial_replay report
+    first_record capture_of items_of batches_of first_start serial_tick serial_ticks serial_replay report
 broken_are = refl

@@ -1,7 +1,7 @@
 use Rattle.std.proofs.Common.{sym, ◌∙◌}
 use Rattle.pcap_frames.specs.Views.{form_in, record_in}
 use Rattle.capture_items.proofs.Scanning.{syn_of_packet}
-use Rattle.capture_items.proofs.numbers.local_syn.Goals as goal
+use Rattle.capture_items.proofs.starts.local_syn.Goals as goal
 
 pub returns : goal.returns
 returns c = λ t loose.

@@ -1,7 +1,8 @@
-use Rattle.std.proofs.Common.{◌∙◌}
+use Rattle.std.proofs.Common.{ap, ◌∙◌}
+use Rattle.flow_lock.specs.Passes.{Seen}
 use Rattle.flow_clock.proofs.Keeping.{after_use, kept_after_refusal}
 use Rattle.flow_clock.proofs.Serving.{busy_there, timed_there, closed_there, unkicked_there, untold_there, kept_timed}
-use Rattle.flow_clock.proofs.Serving.{on_err_stopped}
+use Rattle.flow_clock.proofs.Serving.{on_err_stopped, refused_there}
 use Rattle.flow_clock.proofs.walking.serve_at.Goals as goal
 
 pub returns-in-Err-Busy-clause-kept : goal.returns-in-Err-Busy-clause-kept
@@ -53,6 +54,14 @@ returns-clause-served c =
     c.args.path.now c.pass_time.new.path c.close_at.new.path
     c.in-Closed.is c.pin.ensures c.in-Ok.ensures.timed
     (e.told c.pin.result.now c.pin.ensures) e.rest (e.swept c.pin.result.now c.pin.ensures) e.index
+
+pub returns-in_err-close_at-clause-refused : goal.returns-in_err-close_at-clause-refused
+returns-in_err-close_at-clause-refused c =
+    on_err_stopped c.from_residual.result
+    (refused_there c.args.tick c.args.at c.pin.result.now c.in-Closed.tuple c.in-Ok.timed c.args.slow.now.view
+    c.pass_time.new.slow.view c.close_at.new.slow.view c.args.pins.now.list c.args.kicks.now.list
+    c.pass_time.new.kicks.list c.args.path.now c.pass_time.new.path c.in-Closed.is c.pin.ensures c.in-Ok.ensures.timed
+    (ap (λ (s : Seen). s.view) c.in_err-close_at.ensures.unchanged))
 
 pub returns-in_err-close_at-clause-unkicked : goal.returns-in_err-close_at-clause-unkicked
 returns-in_err-close_at-clause-unkicked c =

@@ -1,6 +1,6 @@
 use Rattle.std.proofs.Common.{◌≡◌, ◌+◌, ◌∙◌, ℕ, suc, List, Some, slice_get, get_or, drop, set}
 use Rattle.std.proofs.Common.{refl, sym, subst, ap, arith}
-use Rattle.scenario_runs.specs.Worlds.{numbers_of, address_in}
+use Rattle.scenario_runs.specs.Worlds.{starts_of, address_in}
 use Rattle.scenario_host.specs.Resting.{scripts_in, seen}
 use Rattle.scenario_host.specs.Sound.{IsSound}
 use Rattle.scenario_host.specs.Turns.{site_with}
@@ -12,7 +12,7 @@ pub loop-k-init : goal.loop-k-init
 loop-k-init c = record {
   walk = (
     0,
-    turning_start (numbers_of c.args.numbers.now.params) (address_in c.args.s.now.hosts) c.args.tick c.args.scripts.now
+    turning_start (starts_of c.args.starts.now.params) (address_in c.args.s.now.hosts) c.args.tick c.args.scripts.now
         c.args.host.now c.requires.sound c.requires.kept c.requires.left,
   );
   asleep = refl;
@@ -31,7 +31,7 @@ index_mut-requires c =
     get_at awake k place (omega (arith, c.len-k-end.ensures, c.loop-k.auto.k-end, c.loop-k-test.true))
     ∙ (ap (λ v. Some (get_or v.items k place)) (sym c.loop-k.invariant.awake) ∙ ap Some (sym c.index-place.ensures)) in
     let next =
-    next_awake (numbers_of c.args.numbers.now.params) (address_in c.args.s.now.hosts) c.args.tick scripts.passed
+    next_awake (starts_of c.args.starts.now.params) (address_in c.args.s.now.hosts) c.args.tick scripts.passed
     scripts.turns c.loop-k.invariant.walk.0 k place scripts.asleep.items
     (site_with c.args.host.now (scripts_in scripts)) awake c.loop-k.host c.loop-k.scripts.items.items c.requires.left at
     c.loop-k.invariant.walk.1 in
@@ -47,14 +47,14 @@ ask_one-requires-clause-fit c =
     get_at awake k place (omega (arith, c.len-k-end.ensures, c.loop-k.auto.k-end, c.loop-k-test.true))
     ∙ (ap (λ v. Some (get_or v.items k place)) (sym c.loop-k.invariant.awake) ∙ ap Some (sym c.index-place.ensures)) in
     let next =
-    next_awake (numbers_of c.args.numbers.now.params) (address_in c.args.s.now.hosts) c.args.tick scripts.passed
+    next_awake (starts_of c.args.starts.now.params) (address_in c.args.s.now.hosts) c.args.tick scripts.passed
     scripts.turns c.loop-k.invariant.walk.0 k place scripts.asleep.items
     (site_with c.args.host.now (scripts_in scripts)) awake c.loop-k.host c.loop-k.scripts.items.items c.requires.left at
     c.loop-k.invariant.walk.1 in
     let here : slice_get c.loop-k.scripts.items.items place ≡ Some c.index_mut.result.now =
     get_at c.loop-k.scripts.items.items place c.index_mut.result.now next.below
     ∙ ap Some (sym c.index_mut.ensures.value) in
-    next_fit (numbers_of c.args.numbers.now.params) (address_in c.args.s.now.hosts) c.args.tick scripts.passed
+    next_fit (starts_of c.args.starts.now.params) (address_in c.args.s.now.hosts) c.args.tick scripts.passed
     scripts.turns place scripts.asleep.items (site_with c.args.host.now (scripts_in scripts)) (drop (suc k) awake)
     c.loop-k.host c.loop-k.scripts.items.items c.index_mut.result.now next here
 
@@ -68,7 +68,7 @@ loop-k-preserved c =
     get_at awake k place (omega (arith, c.len-k-end.ensures, c.loop-k.auto.k-end, c.loop-k-test.true))
     ∙ (ap (λ v. Some (get_or v.items k place)) (sym c.loop-k.invariant.awake) ∙ ap Some (sym c.index-place.ensures)) in
     let next =
-    next_awake (numbers_of c.args.numbers.now.params) (address_in c.args.s.now.hosts) c.args.tick scripts.passed
+    next_awake (starts_of c.args.starts.now.params) (address_in c.args.s.now.hosts) c.args.tick scripts.passed
     scripts.turns c.loop-k.invariant.walk.0 k place scripts.asleep.items
     (site_with c.args.host.now (scripts_in scripts)) awake c.loop-k.host c.loop-k.scripts.items.items c.requires.left at
     c.loop-k.invariant.walk.1 in
@@ -76,17 +76,17 @@ loop-k-preserved c =
     get_at c.loop-k.scripts.items.items place c.index_mut.result.now next.below
     ∙ ap Some (sym c.index_mut.ensures.value) in
     let one_more : suc k ≡ k + 1 = omega arith in
-    let numbers = numbers_of c.args.numbers.now.params in
+    let starts = starts_of c.args.starts.now.params in
     let address = address_in c.args.s.now.hosts in
     let start = site_with c.args.host.now (scripts_in scripts) in
     let items = c.loop-k.scripts.items.items in
     record {
       walk = (
         suc place,
-        subst (λ (n : ℕ). Turning numbers address c.args.tick scripts.passed scripts.turns (suc place)
+        subst (λ (n : ℕ). Turning starts address c.args.tick scripts.passed scripts.turns (suc place)
             scripts.asleep.items start (drop n awake) c.ask_one.new.host (set items place c.ask_one.new.script))
             one_more
-            (turning_on numbers address c.args.tick scripts.passed scripts.turns place scripts.asleep.items start
+            (turning_on starts address c.args.tick scripts.passed scripts.turns place scripts.asleep.items start
             (drop (suc k) awake) c.loop-k.host c.ask_one.new.host items c.index_mut.result.now c.ask_one.new.script
             next.walk next.mark here c.in_ok-one_rests.ensures),
       );
@@ -102,10 +102,10 @@ returns-clause-made c =
     let items = c.loop-k.scripts.items.items in
     let awake = scripts.awake.items in
     let end =
-    turned (numbers_of c.args.numbers.now.params) (address_in c.args.s.now.hosts) c.args.tick scripts.passed
+    turned (starts_of c.args.starts.now.params) (address_in c.args.s.now.hosts) c.args.tick scripts.passed
     scripts.turns c.loop-k.invariant.walk.0 scripts.asleep.items (site_with c.args.host.now (scripts_in scripts))
     c.loop-k.host items c.requires.sound c.requires.left
-    (subst (λ (left : List ℕ). Turning (numbers_of c.args.numbers.now.params) (address_in c.args.s.now.hosts)
+    (subst (λ (left : List ℕ). Turning (starts_of c.args.starts.now.params) (address_in c.args.s.now.hosts)
     c.args.tick scripts.passed scripts.turns c.loop-k.invariant.walk.0 scripts.asleep.items
     (site_with c.args.host.now (scripts_in scripts)) left c.loop-k.host items)
     (drop_end awake c.loop-k.k (omega (arith, c.len-k-end.ensures, c.loop-k.auto.k-end, c.loop-k-test.false)))
@@ -120,10 +120,10 @@ returns-clause-sound c =
     let items = c.loop-k.scripts.items.items in
     let awake = scripts.awake.items in
     let end =
-    turned (numbers_of c.args.numbers.now.params) (address_in c.args.s.now.hosts) c.args.tick scripts.passed
+    turned (starts_of c.args.starts.now.params) (address_in c.args.s.now.hosts) c.args.tick scripts.passed
     scripts.turns c.loop-k.invariant.walk.0 scripts.asleep.items (site_with c.args.host.now (scripts_in scripts))
     c.loop-k.host items c.requires.sound c.requires.left
-    (subst (λ (left : List ℕ). Turning (numbers_of c.args.numbers.now.params) (address_in c.args.s.now.hosts)
+    (subst (λ (left : List ℕ). Turning (starts_of c.args.starts.now.params) (address_in c.args.s.now.hosts)
     c.args.tick scripts.passed scripts.turns c.loop-k.invariant.walk.0 scripts.asleep.items
     (site_with c.args.host.now (scripts_in scripts)) left c.loop-k.host items)
     (drop_end awake c.loop-k.k (omega (arith, c.len-k-end.ensures, c.loop-k.auto.k-end, c.loop-k-test.false)))

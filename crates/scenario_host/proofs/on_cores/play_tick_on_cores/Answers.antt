@@ -31,11 +31,11 @@ go_on_all-requires g c =
 
 pub ask_rest-requires : goal.ask_rest-requires
 ask_rest-requires g c = record {
-  sound = sound_before c.args.s.now c.args.numbers.now.params c.args.cores.now.count c.args.tick
+  sound = sound_before c.args.s.now c.args.starts.now.params c.args.cores.now.count c.args.tick
       (map arrival_in c.args.arrivals.now)
       (map arrival_in c.in_ok-side.side.rest.items) c.in_ok-side.side.attempts.items
       c.args.host.now c.deliver_rest.new.host c.args.scripts.now.items c.go_on_all.new.scripts.items
-      (before_rest c.args.s.now c.args.numbers.now.params c.args.cores.now.count c.args.tick c.args.host.now
+      (before_rest c.args.s.now c.args.starts.now.params c.args.cores.now.count c.args.tick c.args.host.now
       c.pass_time_on_cores.new.self
       c.work_on_cores.new.host c.deliver_rest.new.host c.in_ok-side.ensures.made.0 (map arrival_in c.args.arrivals.now)
       (map arrival_in c.deref-2.result.now) (map arrival_in c.in_ok-side.side.rest.items) c.in_ok-tries.tries.items
@@ -50,12 +50,12 @@ pub returns-clause-made : goal.returns-clause-made
 returns-clause-made g c =
     ok_by c.send_all_on_cores.result
     (λ made.
-    played_on_cores c.args.s.now c.args.numbers.now.params c.args.cores.now.count c.args.tick
+    played_on_cores c.args.s.now c.args.starts.now.params c.args.cores.now.count c.args.tick
     (map arrival_in c.args.arrivals.now)
     (map arrival_in c.in_ok-side.side.rest.items) c.in_ok-side.side.attempts.items
     c.deref-3.result.now c.args.host.now c.deliver_rest.new.host c.ask_rest.new.host c.send_all_on_cores.new.self
     c.args.scripts.now.items c.go_on_all.new.scripts.items c.ask_rest.new.scripts.items
-    (before_rest c.args.s.now c.args.numbers.now.params c.args.cores.now.count c.args.tick c.args.host.now
+    (before_rest c.args.s.now c.args.starts.now.params c.args.cores.now.count c.args.tick c.args.host.now
     c.pass_time_on_cores.new.self
     c.work_on_cores.new.host c.deliver_rest.new.host c.in_ok-side.ensures.made.0 (map arrival_in c.args.arrivals.now)
     (map arrival_in c.deref-2.result.now) (map arrival_in c.in_ok-side.side.rest.items) c.in_ok-tries.tries.items
@@ -74,11 +74,11 @@ returns-clause-params g c =
     (λ made.
     c.send_all_on_cores.ensures.params
     ∙ (c.in_ok-ask_rest.ensures.params
-    ∙ (lasts_before c.args.s.now c.args.numbers.now.params c.args.cores.now.count c.args.tick
+    ∙ (lasts_before c.args.s.now c.args.starts.now.params c.args.cores.now.count c.args.tick
     (map arrival_in c.args.arrivals.now)
     (map arrival_in c.in_ok-side.side.rest.items) c.in_ok-side.side.attempts.items
     c.args.host.now c.deliver_rest.new.host c.args.scripts.now.items c.go_on_all.new.scripts.items
-    (before_rest c.args.s.now c.args.numbers.now.params c.args.cores.now.count c.args.tick c.args.host.now
+    (before_rest c.args.s.now c.args.starts.now.params c.args.cores.now.count c.args.tick c.args.host.now
     c.pass_time_on_cores.new.self
     c.work_on_cores.new.host c.deliver_rest.new.host c.in_ok-side.ensures.made.0 (map arrival_in c.args.arrivals.now)
     (map arrival_in c.deref-2.result.now) (map arrival_in c.in_ok-side.side.rest.items) c.in_ok-tries.tries.items

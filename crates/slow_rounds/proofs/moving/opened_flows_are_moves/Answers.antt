@@ -3,5 +3,5 @@ use Rattle.slow_rounds.proofs.Openings.{opening_moves}
 use Rattle.slow_rounds.proofs.moving.opened_flows_are_moves.Goals as goal
 
 pub returns : goal.returns
-returns c numbers h tick app tuple iss id w sound few opening number =
-    opening_moves numbers h tick app tuple iss id w sound few opening number
+returns c starts h tick app tuple iss id w sound few opening start =
+    opening_moves starts h tick app tuple iss id w sound few opening start

@@ -1,14 +1,14 @@
 use Rattle.std.proofs.Common.{sym, ap, subst}
 use Rattle.host_rounds.specs.Hosts.{same_tuple}
-use Rattle.capture_items.specs.Numbers.{AreOf, with_one}
+use Rattle.capture_items.specs.Starts.{AreOf, with_one}
 use Rattle.capture_items.proofs.Scanning.{ok_then, with_syn}
-use Rattle.capture_items.proofs.numbers.Numbering.take_up.Goals as goal
+use Rattle.capture_items.proofs.starts.Numbering.take_up.Goals as goal
 
 pub returns-in-Some : goal.returns-in-Some
 returns-in-Some c = record {
   ok = ok_then c.note.result
       (λ noted t list loose are. subst (AreOf c.note.new.self t)
-      (sym (with_syn (same_tuple t c.in-Some.tuple) list c.in-Some.number.0 _ (c.in-Some.ensures t loose)))
+      (sym (with_syn (same_tuple t c.in-Some.tuple) list c.in-Some.syn _ (c.in-Some.ensures t loose)))
       (noted t list are)) c.note.ensures.ok;
 }
 

@@ -1,4 +1,4 @@
-use Rattle.scenario_runs.specs.Worlds.{numbers_of, address_in}
+use Rattle.scenario_runs.specs.Worlds.{starts_of, address_in}
 use Rattle.scenario_host.specs.Turns.{turn_of}
 use Rattle.local_host.proofs.Places.{ok_by}
 use Rattle.scenario_host.proofs.Stepping.{send_step, fill_step}
@@ -7,7 +7,7 @@ use Rattle.scenario_host.proofs.script.AppScript.take_step.Goals as goal
 pub returns-in-Send : goal.returns-in-Send
 returns-in-Send g c =
     ok_by c.send.result
-    (send_step (numbers_of c.args.numbers.now.params) (address_in c.args.hosts.now) c.args.tick c.args.step.now
+    (send_step (starts_of c.args.starts.now.params) (address_in c.args.hosts.now) c.args.tick c.args.step.now
     c.in-Send.socket c.in-Send.text c.as_slice-in-Send.result.now c.as_slice-in-Send-2.result.now
     (turn_of (g.H.AskedHost.seen c.args.host.now) c.args.self.now) (turn_of (g.H.AskedHost.seen c.send.new.host)
     c.send.new.self) c.in-Send.is
@@ -17,7 +17,7 @@ returns-in-Send g c =
 pub returns-in-Fill : goal.returns-in-Fill
 returns-in-Fill g c =
     ok_by c.fill.result
-    (fill_step (numbers_of c.args.numbers.now.params) (address_in c.args.hosts.now) c.args.tick c.args.step.now
+    (fill_step (starts_of c.args.starts.now.params) (address_in c.args.hosts.now) c.args.tick c.args.step.now
     c.in-Fill.socket c.as_slice-in-Fill.result.now c.in-Fill.count (turn_of (g.H.AskedHost.seen c.args.host.now)
     c.args.self.now)
     (turn_of (g.H.AskedHost.seen c.fill.new.host) c.fill.new.self) c.in-Fill.is c.as_slice-in-Fill.ensures)

@@ -1,5 +1,5 @@
 ghost use Rattle.std.specs.Prelude.{◌≡◌};
-ghost use Rattle.scenario_runs.specs.Worlds.{numbers_of};
+ghost use Rattle.scenario_runs.specs.Worlds.{starts_of};
 
 use host_rounds::Start;
 use local_host::StartSource;
@@ -9,15 +9,15 @@ use tas_num::Seq;
 /// How far apart the first numbers of a host's flows are.
 const APART: u32 = 64_000;
 
-/// The first numbers of the flows of a host with these parameters, from its own first number on. No flow has a window
-/// scale of its own: all have the host's.
+/// What a host with these parameters gives its flows: first numbers from its own on, and no window scale of their own,
+/// as all have the host's.
 #[derive(Clone, Copy, Debug)]
-pub struct HostNumbers {
+pub struct HostStarts {
     pub params: HostParams,
 }
 
-impl StartSource for HostNumbers {
-    ghost starts = { λ source. numbers_of source.params };
+impl StartSource for HostStarts {
+    ghost starts = { λ source. starts_of source.params };
 
     fn start(&self, _tuple: FourTuple, _k: usize, n: u32) -> Start {
         Start {

@@ -1,0 +1,12 @@
+use Rattle.std.proofs.Common.{◌≡◌, sym, ap, ◌∙◌}
+use Rattle.report_lines.specs.Views.{seen_reply}
+use Rattle.flow_judge.specs.Making.{bare_of}
+use Rattle.flow_judge.proofs.Whole.{same_reply}
+use Rattle.flow_judge.proofs.replies.is_reply.Goals as goal
+
+pub returns : goal.returns
+returns c = λ m answered bytes.
+    let bare : c.bare_answer.result ≡ c.bare_reply.result = c.are_one.ensures.same c.if-not-are_one.false in
+    same_reply m (seen_reply c.args.reply.now) c.args.bytes.now c.in_ok-same.same
+    (ap bare_of (sym answered) ∙ (sym c.bare_answer.ensures ∙ (bare ∙ c.bare_reply.ensures))) bytes
+    c.in_ok-same.ensures
