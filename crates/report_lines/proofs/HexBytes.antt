@@ -1,8 +1,8 @@
 -- The bytes of digits, one after the other.
 use Rattle.std.proofs.Common.{◌≡◌, ℕ, ◌+◌, ◌*◌, ◌/◌, ◌≤◌, ◌<◌, List, [], ◌∷◌, ◌++◌, length, get_or, drop}
-use Rattle.std.proofs.Common.{length-drop}
+use Rattle.std.proofs.Common.{length-drop, take, slice_set}
 use Rattle.std.proofs.Common.{refl, sym, ap, ◌∙◌, arith, append_assoc}
-use Rattle.std.proofs.lemmas.List.{append-nil, drop_more}
+use Rattle.std.proofs.lemmas.List.{append-nil, drop_more, take_all, take_more_set}
 use Rattle.report_lines.specs.Fronts.{hex_value, bytes_in}
 
 -- half as many as the digits
@@ -44,3 +44,16 @@ all_bytes digits done all i h so_far =
     let short : length (drop (2 * i) digits) ≤ 1 = omega (arith, h, length-drop (2 * i) digits) in
     sym (append-nil done) ∙ (ap (λ (w : List ℕ). done ++ w) (sym (nothing_left (drop (2 * i) digits) short))
     ∙ so_far)
+
+-- the same, where they are written one after the other
+pub one_written : (digits bytes : List ℕ) (i byte : ℕ) → i < length digits / 2 → i < length bytes
+    → byte ≡ hex_value (get_or digits (2 * i) 0) * 16 + hex_value (get_or digits (2 * i + 1) 0)
+    → take i bytes ++ bytes_in (drop (2 * i) digits) ≡ bytes_in digits
+    → take (i + 1) (slice_set bytes i byte) ++ bytes_in (drop (2 * (i + 1)) digits) ≡ bytes_in digits
+one_written digits bytes i byte h fits is so_far = rw (take_more_set bytes i byte fits)
+    (one_byte digits (take i bytes) (bytes_in digits) i byte h is so_far)
+
+pub all_written : (digits bytes : List ℕ) (i : ℕ) → length digits / 2 ≤ i → length bytes ≡ length digits / 2
+    → take i bytes ++ bytes_in (drop (2 * i) digits) ≡ bytes_in digits → bytes ≡ bytes_in digits
+all_written digits bytes i h long so_far =
+    sym (take_all i bytes (omega (arith, h, long))) ∙ all_bytes digits (take i bytes) (bytes_in digits) i h so_far

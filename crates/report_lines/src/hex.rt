@@ -1,9 +1,10 @@
-ghost use Rattle.std.specs.Prelude.{◌≡◌, ◌≤◌, ◌<◌, ◌+◌, ◌*◌, ◌++◌, not, length, position, None, Some};
+ghost use Rattle.std.specs.Prelude.{◌≡◌, ◌≤◌, ◌<◌, ◌+◌, ◌*◌, ◌/◌, ◌++◌, not, false, length, position, slice_index, None, Some};
 ghost use Rattle.std.specs.Prelude.{MatchOption, OnOk};
-ghost use Rattle.std.specs.List.{prefix_len, take_while};
+ghost use Rattle.std.specs.List.{list_all, prefix_len, take_while};
 ghost use Rattle.report_lines.specs.Fronts as rules;
 
 use crate::fronts::behind;
+use memchr::memchr;
 use std::alloc::AllocError;
 use std::marker::Model;
 
@@ -57,11 +58,20 @@ fn count_of(digits: &[u8]) -> usize
 fn append_bytes(digits: &[u8], out: &mut Vec<u8>) -> Result<(), AllocError>
     ensures { OnOk result (out.new.items ≡ out.old.items ++ rules.bytes_in digits.now) }
 {
-    out.reserve(digits.len() / 2)?;
-    'bytes: for i in 0..digits.len() / 2 {
-        out.push(byte_of(digits[2 * i], digits[2 * i + 1]))?;
-    }
+    let start = out.len();
+    out.resize(start + digits.len() / 2, 0)?;
+    decode(digits, &mut out[start..]);
     Ok(())
+}
+
+/// Writes the bytes of digits. Nothing ends the loop early, so that it can be done by vectors.
+fn decode(digits: &[u8], bytes: &mut [u8])
+    requires { length bytes.old ≡ length digits.now / 2 }
+    ensures { bytes.new ≡ rules.bytes_in digits.now }
+{
+    'bytes: for i in 0..digits.len() / 2 {
+        bytes[i] = byte_of(digits[2 * i], digits[2 * i + 1]);
+    }
 }
 
 /// What a digit is worth.
@@ -103,11 +113,34 @@ fn first_other(text: &[u8]) -> Option<usize>
     text.iter().position(|c| !is_hex(*c))
 }
 
-/// How many digits a text begins with.
+/// Whether all bytes are digits. Nothing ends the loop early, so that it can be done by vectors.
+fn are_hex(text: &[u8]) -> bool
+    ensures { result ≡ list_all rules.is_hex text.now }
+{
+    let mut all = true;
+    'bytes: for i in 0..text.len() {
+        all &= is_hex(text[i]);
+    }
+    all
+}
+
+/// How many bytes stand before the first space, or all where none does.
+fn word_length(text: &[u8]) -> usize
+    ensures within { result ≤ length text.now }
+    ensures ended { result < length text.now → rules.is_hex (slice_index text.now result) ≡ false }
+{
+    memchr(b' ', text).unwrap_or(text.len())
+}
+
+/// How many digits a text begins with. Mostly these are all bytes before a space.
 fn digits_in(text: &[u8]) -> usize
     ensures count { result ≡ prefix_len rules.is_hex text.now }
     ensures within { result ≤ length text.now }
 {
+    let end = word_length(text);
+    if are_hex(&text[..end]) {
+        return end;
+    }
     first_other(text).unwrap_or(text.len())
 }
 

@@ -1,11 +1,13 @@
 ghost use Rattle.std.specs.Prelude.{◌≡◌, ◌<◌, ◌+◌, ◌++◌, ◌∷◌, [], ◌==◌, position, length, IfSome, MatchOption, ℕ, List};
 ghost use Rattle.trace_audit.specs.TextLines.{text_lines, is_mark as model_is_mark};
 
+use memchr::memchr;
+
 /// Where the first LF stands.
 fn end_of(text: &[u8]) -> Option<usize>
     ensures { result ≡ position (λ c. c == 10) text.now }
 {
-    text.iter().position(|c| *c == b'\n')
+    memchr(b'\n', text)
 }
 
 /// The first line of a text, with the LF that ends it, and what stands behind it; `None` where no text is left.
