@@ -1,6 +1,6 @@
--- An entry that may not follow makes the flow that is shown wrong.
-use Rattle.std.proofs.Common.{◌≡◌, List, [], ◌∷◌, ◌++◌, Option, Some}
-use Rattle.std.proofs.Common.{ap, subst}
+-- An entry that may follow leaves the flow that is shown right, and one that may not makes it wrong.
+use Rattle.std.proofs.Common.{◌≡◌, List, [], ◌∷◌, ◌++◌, Option, Some, None}
+use Rattle.std.proofs.Common.{ap, subst, sym, ◌∙◌}
 use Rattle.std.specs.Prelude.{slice_get, IfSome}
 use Rattle.std.specs.Option.{option_map}
 use Rattle.tas_model.specs.declared.entry.Entry.{Entry}
@@ -11,8 +11,8 @@ use Rattle.flow_judge.specs.Judging.{Judge, HasJudged}
 use Rattle.flow_judge.proofs.Entries.{last_may}
 use Rattle.report_lines.specs.Lines.{Made}
 use Rattle.trace_audit.specs.Shown.{ShownFlow, Now, with_entry, with_line}
-use Rattle.trace_audit.specs.Right.{IsFromPeer, AreLegal, IsRight, IsRightNow}
-use Rattle.trace_audit.specs.Watching.{IsJudged}
+use Rattle.trace_audit.specs.Right.{IsFromPeer, AreLegal, IsRight, IsRightNow, IsStateOf, IsReadOf}
+use Rattle.trace_audit.specs.Watching.{IsJudged, IsOpen}
 use Rattle.trace_audit.proofs.Lists.{same_head}
 
 -- ----- what is right now
@@ -42,3 +42,26 @@ judged_wrong hosts j n x is wrong right =
     let legal = legal_of hosts j.params is.shown.tuple (is.shown.entries ++ x ∷ []) is.some.0 (is.some.1 ++ x ∷ [])
     (ap (λ (l : List Entry). l ++ x ∷ []) is.some.2) now.legal in
     wrong is.shown.entries is.judged (last_may j.params is.shown.entries x is.judged.legal legal.0)
+
+pub judged_right : (hosts : List HostParams) (j k : Judge) (n : Now) (x : Entry) → IsJudged hosts j n
+    → IfSome n.flow IsOpen → k.params ≡ j.params
+    → ((h : List Entry) → HasJudged j h → MayFollow j.params h x × HasJudged k (h ++ x ∷ []))
+    → IsJudged hosts k (with_line n (Made x))
+judged_right hosts j k n x is opens same next =
+    let judged : HasJudged k (is.shown.entries ++ x ∷ []) = (next is.shown.entries is.judged).1 in
+    let unended : IsOpen is.shown = subst (λ (o : Option ShownFlow). IfSome o IsOpen) is.flow opens in
+    let begun = legal_of hosts j.params is.shown.tuple is.shown.entries is.some.0 is.some.1 is.some.2 is.right.legal in
+    let legal : Legal k.params ((is.some.0 ∷ is.some.1) ++ x ∷ []) =
+    subst (λ (l : List Entry). Legal k.params (l ++ x ∷ [])) is.some.2 judged.legal in record {
+      shown = with_entry x is.shown;
+      flow = ap (option_map (with_entry x)) is.flow;
+      params = is.params ∙ ap (λ (p : HostParams). Some p) (sym same);
+      some = (is.some.0, is.some.1 ++ x ∷ [], ap (λ (l : List Entry). l ++ x ∷ []) is.some.2);
+      judged = judged;
+      right = record {
+        legal = subst (λ (l : List Entry). AreLegal hosts k.params is.shown.tuple (l ++ x ∷ [])) (sym is.some.2)
+            (legal, begun.1);
+        state = subst (λ o. IfSome o (IsStateOf k.params (is.shown.entries ++ x ∷ []))) (sym unended.0) tt;
+        read = subst (λ o. IfSome o (IsReadOf (is.shown.entries ++ x ∷ []))) (sym unended.1) tt;
+      };
+    }

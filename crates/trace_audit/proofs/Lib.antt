@@ -9,3 +9,4 @@ pub mod NamedLines
 pub mod HostNames
 pub mod OneForm
 pub mod Whole
+pub mod Firsts
