@@ -1,13 +1,14 @@
 -- A store's map, as its hash map's calls change it. A key is looked up by its bytes.
-use Rattle.std.proofs.Common.{◌≡◌, ℕ, suc, ◌+◌, Bool, true, false, cond, List, [], ◌∷◌, length, map, Vec, Option, Some, None}
+use Rattle.std.proofs.Common.{◌≡◌, ℕ, suc, ◌+◌, Bool, true, false, cond, List, [], ◌∷◌, length, map, Vec, Option}
+use Rattle.std.proofs.Common.{Some, None}
 use Rattle.std.proofs.Common.{is_some, refl, sym, ap, ◌∙◌, arith}
 use Rattle.std.specs.Prelude.{option_map, bytes_eq}
-use Rattle.std.specs.Ordering.{nat_cmp, eq_by_cmp}
+use Rattle.std.specs.Ordering.{nat_cmp}
 use Rattle.std.specs.Cmp.Lexicographic.{slice_cmp, nat_list_cmp_total, nat_list_eq_equiv, bytes_decides, texts_ties}
-use Rattle.std.specs.FinMap.{FinMap, find, get, insert, remove, len, contains_key, from_entries, same_map}
+use Rattle.std.specs.FinMap.{find, get, insert, remove, len, contains_key, same_map}
 use Rattle.std.specs.FinMap.{nat_cmp-IsAntisymmetric, slice_cmp-IsAntisymmetric}
 use Rattle.std.specs.FinMap.{get-from_entries, get-insert, get-remove, len-insert, len-empty}
-use Rattle.std.specs.Map.{lookup, keys_of, KeepsOthers, IsKeyTest, AreApart}
+use Rattle.std.specs.Map.{lookup, keys_of, KeepsOthers}
 use Rattle.std.specs.List.{IsDistinct, AllByRecursion}
 use Rattle.std.specs.declared.alloc.Global.{Global}
 use Rattle.kv_sessions.specs.Stored.{Item, Map}
@@ -39,7 +40,8 @@ find_is bytes (e ∷ es) =
     rw (← texts_ties bytes e.0.items)
     (found_by (bytes_eq bytes e.0.items) e.1 (lookup (is_at bytes) es) _ (find_is bytes es))
 
-pub get_is : (es : List (Key × Held)) (bytes : List ℕ) → get (map_of es) bytes ≡ option_map item_of (lookup (is_at bytes) es)
+pub get_is : (es : List (Key × Held)) (bytes : List ℕ)
+    → get (map_of es) bytes ≡ option_map item_of (lookup (is_at bytes) es)
 get_is es bytes = get-from_entries nat_list_cmp_total _ bytes ∙ find_is bytes es
 
 -- ----- what a change leaves
@@ -96,7 +98,8 @@ removed_is bytes old new keeps here = same _ _ (λ q.
     ∙ ap (option_map item_of) (looked_up bytes old new None keeps here q)
     ∙ gone_by (bytes_eq q bytes) (lookup (is_at q) old) (get (map_of old) q) (get_is old q)
     ∙ ap (λ (b : Bool). cond b None (get (map_of old) q))
-    (nat_list_eq_equiv.symm q bytes ∙ texts_ties bytes q ∙ sym (texts_ties bytes q) ∙ nat_list_eq_equiv.symm bytes q ∙ texts_ties q bytes)
+    (nat_list_eq_equiv.symm q bytes ∙ texts_ties bytes q ∙ sym (texts_ties bytes q)
+    ∙ nat_list_eq_equiv.symm bytes q ∙ texts_ties q bytes)
     ∙ sym (get-remove nat_list_cmp_total (map_of old) bytes q))
 
 -- ----- how many keys

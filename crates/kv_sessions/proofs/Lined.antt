@@ -1,15 +1,15 @@
 -- A line that is whole stays so, whatever comes behind it.
-use Rattle.std.proofs.Common.{◌≡◌, ℕ, zero, suc, ◌+◌, ◌-◌, ◌<◌, ◌≤◌, Bool, true, false, not, cond, eqb, ltb, leb, List, [], ◌∷◌}
+use Rattle.std.proofs.Common.{◌≡◌, ℕ, ◌+◌, ◌-◌, ◌<◌, ◌≤◌, Bool, true, false, not, cond, eqb, leb, List, [], ◌∷◌}
 use Rattle.std.proofs.Common.{◌++◌, length, take, drop, Option, Some, None, refl, sym, ap, ◌∙◌, arith, nat_lt, nat_le}
 use Rattle.std.proofs.Common.{length-append, length-take, length-drop}
 use Rattle.std.specs.Prelude.{position}
-use Rattle.std.specs.List.{position_or_len, prefix_len}
+use Rattle.std.specs.List.{position_or_len}
 use Rattle.std.proofs.lemmas.Bool.Decides.{nat_tests}
 use Rattle.std.proofs.lemmas.List.{take-append-le, drop-append-le, take_all}
 use Rattle.std.proofs.lemmas.List.Folds.{prefix_len-append}
 use Rattle.std.proofs.lemmas.List.Sums.{prefix_len-le-length}
 use Rattle.std.proofs.Math.Seq.{take-append-add, drop-append-add, take-append_seam}
-use Rattle.kv_sessions.specs.Lines.{FirstLine, Unended, TooLong, Line, first_line, line_at, text_of, is_line_feed}
+use Rattle.kv_sessions.specs.Lines.{Unended, TooLong, Line, first_line, line_at, text_of, is_line_feed}
 
 -- ----- the place of the first byte that passes
 place_by : (at n e : ℕ) (b : Bool) → cond b (Some at) None ≡ Some e → b ≡ nat_lt at n → (at ≡ e) × (at < n)
@@ -96,8 +96,14 @@ line_stays bytes more text rest h = by_end (position is_line_feed (take 514 byte
         let within : e < length bytes = end_within bytes e at in
         let before : e ≤ length bytes = omega arith in
         let behind : e + 1 ≤ length bytes = omega arith in
-        rw (place_kept 514 is_line_feed bytes more e at, take-append-le e bytes more before, drop-append-le (e + 1) bytes more behind)
-        (line_by (nat_le (length (text_of (take e bytes))) 512) (text_of (take e bytes)) (drop (e + 1) bytes) text rest more g)
+        rw (
+          place_kept 514 is_line_feed bytes more e at,
+          take-append-le e bytes more before,
+          drop-append-le
+              (e + 1) bytes more behind,
+        )
+        (line_by (nat_le (length (text_of (take e bytes))) 512) (text_of (take e bytes)) (drop
+        (e + 1) bytes) text rest more g)
 
 pub long_stays : (bytes more : List ℕ) → first_line bytes ≡ TooLong → first_line (bytes ++ more) ≡ TooLong
 long_stays bytes more h = by_end (position is_line_feed (take 514 bytes)) refl h
@@ -132,7 +138,8 @@ line_shortens bytes text rest h = by_end (position is_line_feed (take 514 bytes)
     by_end None at g = absurd (open_or_long _ text rest g)
     by_end (Some e) at g =
         let within : e < length bytes = end_within bytes e at in
-        let same = line_rest (nat_le (length (text_of (take e bytes))) 512) (text_of (take e bytes)) (drop (e + 1) bytes) g in
+        let same = line_rest (nat_le (length (text_of (take e bytes))) 512) (text_of (take e bytes)) (drop
+        (e + 1) bytes) g in
         omega (arith, length-drop (e + 1) bytes, ap length same)
 
 -- ----- bytes that end with the line's LF

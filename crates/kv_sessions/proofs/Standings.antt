@@ -1,6 +1,8 @@
 -- How a session goes on, in whatever pieces its stream comes.
-use Rattle.std.proofs.Common.{◌≡◌, ℕ, zero, suc, ◌+◌, ◌-◌, ◌<◌, ◌≤◌, Bool, true, false, cond, List, [], ◌∷◌, ◌++◌, length, take, drop}
-use Rattle.std.proofs.Common.{refl, sym, ap, ◌∙◌, subst, arith, nat_lt, nat_le, ◌==◌, append_assoc, length-append, get_or, add-one}
+use Rattle.std.proofs.Common.{◌≡◌, ℕ, ◌+◌, ◌-◌, ◌<◌, ◌≤◌, Bool, true, false, cond, List, [], ◌∷◌, ◌++◌, length, take}
+use Rattle.std.proofs.Common.{drop}
+use Rattle.std.proofs.Common.{refl, sym, ap, ◌∙◌, subst, arith, nat_lt, nat_le, ◌==◌, append_assoc, length-append}
+use Rattle.std.proofs.Common.{get_or, add-one}
 use Rattle.std.proofs.lemmas.Bool.Decides.{nat_tests}
 use Rattle.std.proofs.lemmas.List.{append-nil, take_all, take-append-drop}
 use Rattle.std.proofs.Math.ListN.{drop_of_length-le}
@@ -11,13 +13,13 @@ use Rattle.std.specs.Borrow.{Bor}
 use Rattle.kv_sessions.specs.Stored.{Map}
 use Rattle.kv_sessions.specs.Lines.{FirstLine, Unended, TooLong, Line, first_line, words_of}
 use Rattle.kv_sessions.specs.Commands.{Command, Set, Get, Delete, Quit, Unknown, command_of, block_len}
-use Rattle.kv_sessions.specs.Outcomes.{Outcome, outcome, too_long}
-use Rattle.kv_sessions.specs.Answers.{Next, Waits, LineTooLong, Whole, with_block, next_by, next_command}
-use Rattle.kv_sessions.specs.Answers.{Answers, over, behind, then_later, by_next, answers, answers_of, more_by}
+use Rattle.kv_sessions.specs.Outcomes.{Outcome, outcome}
+use Rattle.kv_sessions.specs.Answers.{Waits, Whole, with_block, next_by, next_command}
+use Rattle.kv_sessions.specs.Answers.{Answers, then_later, by_next, answers, answers_of, more_by}
 use Rattle.kv_sessions.specs.Answers.{and_more}
 use Rattle.kv_sessions.specs.Sessions.{Standing, InLine, InBlock, InDropped, Over, is_over, in_block, in_line, at_left}
 use Rattle.kv_sessions.specs.Sessions.{at_end, standing, IsAfter, Answered, HasWhole}
-use Rattle.kv_sessions.specs.Steps.{Step, stays, done, command_step, line_step, block_step, dropped_step, IsLast, ended_line, open_line, Leads}
+use Rattle.kv_sessions.specs.Steps.{Step, stays, done, command_step, line_step, block_step, dropped_step, IsLast, Leads}
 use Rattle.kv_sessions.proofs.Lined.{line_stays}
 use Rattle.kv_sessions.proofs.Streams.{later_answers, one_command, goes_on, leaves_none}
 
@@ -39,7 +41,8 @@ in_line_goes_on left Unended e = refl
 in_line_goes_on left TooLong e = absurd (cc (e))
 in_line_goes_on left (Line text rest) e = in_block_goes_on (command_of (words_of text)) rest
 
-over_by : (ended : Bool) (left : List ℕ) → (ended ≡ false → next_command left ≡ Waits) → ended ≡ is_over (at_end ended left)
+over_by : (ended : Bool) (left : List ℕ) → (ended ≡ false → next_command left ≡ Waits)
+    → ended ≡ is_over (at_end ended left)
 over_by true left h = refl
 over_by false left h = sym (in_line_goes_on left (first_line left) (h refl))
 
@@ -67,7 +70,8 @@ leads_by true left map front taken session store replies later later_store later
     absurd (cc (goes, ap is_over t))
 leads_by false left map front taken session store replies later later_store later_replies said goes f s t w h =
     let took = h left (w refl) (sym t) in
-    let here : answers store (left ++ taken) ≡ answers map (left ++ taken) = ap (λ (m : Map). answers m (left ++ taken)) s in (
+    let here : answers store (left ++ taken)
+    ≡ answers map (left ++ taken) = ap (λ (m : Map). answers m (left ++ taken)) s in (
       ap (λ (rs : List ℕ). said ++ rs) took.says
           ∙ sym (append_assoc said replies (answers store (left ++ taken)).replies)
           ∙ ap (λ (rs : List ℕ). rs ++ (answers store (left ++ taken)).replies) f
@@ -110,7 +114,8 @@ over_leads store replies taken = λ m stream said after.
     }
 
 -- nothing taken
-pub none_leads : (session : Standing) (store : Map) (replies : List ℕ) → Leads session store replies [] session store replies
+pub none_leads : (session : Standing) (store : Map) (replies : List ℕ)
+    → Leads session store replies [] session store replies
 none_leads session store replies = λ m stream said after.
     subst (λ (s : List ℕ). IsAfter m s (said ++ replies) session store) (sym (append-nil stream)) after
 
@@ -159,7 +164,8 @@ line_is m got (Line text rest) e last =
     subst (λ (r : List ℕ). Is (by_next later_answers m got (with_block command r)) (command_step m command)) (sym last)
     (command_is m got command (ap (in_line got) e ∙ ap (in_block command) last))
 
-pub line_answers : (m : Map) (got : List ℕ) → IsLast (first_line got) → Is (answers m got) (line_step m got (first_line got))
+pub line_answers : (m : Map) (got : List ℕ) → IsLast (first_line got)
+    → Is (answers m got) (line_step m got (first_line got))
 line_answers m got last =
     subst (λ (a : Answers). Is a (line_step m got (first_line got))) (sym (one_command m got))
     (line_is m got (first_line got) refl last)
@@ -176,7 +182,8 @@ whole_at_once command got none e =
     let here : Whole command (take (block_len command) got) (drop (block_len command) got) ≡ Waits = rw t at e in
     cc (here)
 
-no_line : (command : Command) (got line : List ℕ) → with_block command got ≡ Waits → in_block command got ≡ InLine line → ⊥
+no_line : (command : Command) (got line : List ℕ) → with_block command got ≡ Waits
+    → in_block command got ≡ InLine line → ⊥
 no_line (Set key flags len) got line w e = waits_in_block _ key got flags len _ line e
 no_line (Get keys) got line w e = whole_at_once (Get keys) got refl w
 no_line (Delete key) got line w e = whole_at_once (Delete key) got refl w
@@ -263,7 +270,8 @@ set_at left key got taken flags len begun =
 -- bytes of a set's block, to its end at most
 set_by : (m : Map) (bytes key got : List ℕ) (flags len : ℕ) (b : Bool) → nat_lt (length got) (len + 2) ≡ b
     → length got ≤ len + 2
-    → Is (by_next later_answers m bytes (cond b Waits (Whole (Set key flags len) (take (len + 2) got) (drop (len + 2) got))))
+    → Is (by_next later_answers m bytes (cond b Waits (Whole (Set key flags len) (take (len + 2) got) (drop
+    (len + 2) got))))
     (cond b (stays m (at_left bytes)) (done (outcome m (Set key flags len) got)))
 set_by m bytes key got flags len true t h = record { replies = refl; map = refl; stands = refl }
 set_by m bytes key got flags len false t h =
@@ -273,10 +281,12 @@ set_by m bytes key got flags len false t h =
 
 block_answers : (m : Map) (left key got taken : List ℕ) (flags len : ℕ) → SetLine left key flags len got
     → length (got ++ taken) ≤ len + 2
-    → Is (answers m (left ++ taken)) (cond (nat_lt (length (got ++ taken)) (len + 2)) (stays m (at_left (left ++ taken)))
+    → Is (answers m (left ++ taken)) (cond (nat_lt (length (got ++ taken)) (len + 2)) (stays m (at_left (left
+    ++ taken)))
     (done (outcome m (Set key flags len) (got ++ taken))))
 block_answers m left key got taken flags len begun h =
-    let all : answers m (left ++ taken) ≡ by_next later_answers m (left ++ taken) (with_block (Set key flags len) (got ++ taken)) =
+    let all : answers m (left ++ taken)
+    ≡ by_next later_answers m (left ++ taken) (with_block (Set key flags len) (got ++ taken)) =
     one_command m (left ++ taken)
     ∙ ap (by_next later_answers m (left ++ taken)) (set_next left key got taken flags len begun) in
     subst (λ (a : Answers). Is a (cond (nat_lt (length (got ++ taken)) (len + 2)) (stays m (at_left (left ++ taken)))
@@ -291,7 +301,8 @@ block_step_is : (m : Map) (left key got taken : List ℕ) (flags len : ℕ) → 
 block_step_is m left key got taken flags len begun =
     let here : at_left (left ++ taken) ≡ InBlock key flags len (got ++ taken) =
     set_at left key got taken flags len begun.begun
-    ∙ ap (λ (b : Bool). cond b (InBlock key flags len (got ++ taken)) (InDropped (len + 2 - length (got ++ taken)))) begun.small in
+    ∙ ap (λ (b : Bool). cond b (InBlock key flags len (got ++ taken)) (InDropped (len + 2 - length (got
+    ++ taken)))) begun.small in
     ap (λ (s : Standing). cond (nat_lt (length (got ++ taken)) (len + 2)) (stays m s)
     (done (outcome m (Set key flags len) (got ++ taken)))) here
 
@@ -392,7 +403,8 @@ drop_leads taken missing_before missing store replies later later_store later_re
     let is_missing : missing ≡ d.len + 2 - length (d.got ++ taken) = omega (arith, d.left_over, d.short, h, joined) in
     let here : at_left (rest ++ taken) ≡ InDropped missing =
     set_at rest d.key d.got taken d.flags d.len d.begun
-    ∙ ap (λ (b : Bool). cond b (InBlock d.key d.flags d.len (d.got ++ taken)) (InDropped (d.len + 2 - length (d.got ++ taken)))) d.large
+    ∙ ap (λ (b : Bool). cond b (InBlock d.key d.flags d.len (d.got
+    ++ taken)) (InDropped (d.len + 2 - length (d.got ++ taken)))) d.large
     ∙ ap (λ (n : ℕ). InDropped n) (sym is_missing) in
     let is : Is (answers store (rest ++ taken)) (dropped_step store missing) =
     subst (Is (answers store (rest ++ taken)))
@@ -407,13 +419,15 @@ drop_leads taken missing_before missing store replies later later_store later_re
 
 -- ----- a piece, command by command
 -- some of the bytes were taken, and these are the rest
-pub record Reached (session : Standing) (store : Map) (bytes rest replies : List ℕ) (later : Standing) (later_store : Map) :
+pub record Reached (session : Standing) (store : Map) (bytes rest replies : List ℕ) (later : Standing)
+    (later_store : Map) :
     Type 0 where
   pub taken : List ℕ
   pub parts : bytes ≡ taken ++ rest
   pub answered : Answered session store taken replies later later_store
 
-pub reached_first : (session : Standing) (store : Map) (bytes : List ℕ) → Reached session store bytes bytes [] session store
+pub reached_first : (session : Standing) (store : Map) (bytes : List ℕ)
+    → Reached session store bytes bytes [] session store
 reached_first session store bytes = record {
   taken = [];
   parts = refl;
@@ -422,7 +436,8 @@ reached_first session store bytes = record {
       (subst (λ (r : List ℕ). IsAfter m stream r session store) (sym (append-nil said)) after);
 }
 
-pub reached_next : (s0 : Standing) (m0 : Map) (bytes rest r1 : List ℕ) (s1 : Standing) (m1 : Map) (n : ℕ) (s2 : Standing)
+pub reached_next : (s0 : Standing) (m0 : Map) (bytes rest r1 : List ℕ) (s1 : Standing) (m1 : Map) (n : ℕ)
+    (s2 : Standing)
     (m2 : Map) (r2 : List ℕ)
     → Reached s0 m0 bytes rest r1 s1 m1 → Leads s1 m1 r1 (take n rest) s2 m2 r2
     → Reached s0 m0 bytes (drop n rest) r2 s2 m2
@@ -442,7 +457,8 @@ no_rest bytes taken (c ∷ cs) h e = absurd (omega (arith, h))
 pub reached_all : (s0 : Standing) (m0 : Map) (bytes rest replies : List ℕ) (s1 : Standing) (m1 : Map)
     → length rest ≡ 0 → Reached s0 m0 bytes rest replies s1 m1 → Answered s0 m0 bytes replies s1 m1
 reached_all s0 m0 bytes rest replies s1 m1 none here = λ m stream said after.
-    subst (λ (b : List ℕ). IsAfter m (stream ++ b) (said ++ replies) s1 m1) (no_rest bytes here.taken rest none here.parts)
+    subst (λ (b : List ℕ). IsAfter m (stream ++ b) (said
+    ++ replies) s1 m1) (no_rest bytes here.taken rest none here.parts)
     (here.answered m stream said after)
 
 pub reached_whole : (s0 : Standing) (m0 : Map) (bytes rest replies : List ℕ) (s1 : Standing) (m1 : Map)
@@ -481,7 +497,8 @@ over_fed (InLine line) store bytes reply e none = absurd (cc (e))
 over_fed (InBlock key flags len got) store bytes reply e none = absurd (cc (e))
 over_fed (InDropped missing) store bytes reply e none = absurd (cc (e))
 
-pub answered_from : (session same : Standing) (store : Map) (bytes reply : List ℕ) (later : Standing) (later_store : Map)
+pub answered_from : (session same : Standing) (store : Map) (bytes reply : List ℕ) (later : Standing)
+    (later_store : Map)
     → same ≡ session → Answered same store bytes reply later later_store
     → Answered session store bytes reply later later_store
 answered_from session same store bytes reply later later_store e h =
@@ -506,7 +523,8 @@ joined_next pieces i d h =
     ∙ ap (λ (xs : List ℕ). joined (take i pieces) ++ xs) (append-nil (get_or pieces i d).now)
 
 -- a piece behind others
-pub piece_next : (m : Map) (pieces : List Piece) (i : ℕ) (d : Piece) (said reply longer : List ℕ) (session later : Standing)
+pub piece_next : (m : Map) (pieces : List Piece) (i : ℕ) (d : Piece) (said reply longer : List ℕ)
+    (session later : Standing)
     (store later_store : Map)
     → i < length pieces → longer ≡ said ++ reply
     → IsAfter m (joined (take i pieces)) said session store
@@ -514,5 +532,6 @@ pub piece_next : (m : Map) (pieces : List Piece) (i : ℕ) (d : Piece) (said rep
     → IsAfter m (joined (take (i + 1) pieces)) longer later later_store
 piece_next m pieces i d said reply longer session later store later_store h same after answered =
     subst (λ (s : List ℕ). IsAfter m s longer later later_store) (sym (joined_next pieces i d h))
-    (subst (λ (r : List ℕ). IsAfter m (joined (take i pieces) ++ (get_or pieces i d).now) r later later_store) (sym same)
+    (subst (λ (r : List ℕ). IsAfter m (joined (take i pieces)
+    ++ (get_or pieces i d).now) r later later_store) (sym same)
     (answered m (joined (take i pieces)) said after))

@@ -1,15 +1,15 @@
 -- Commands that are whole stay so, whatever comes behind them: what a stream is answered goes on from what its
 -- beginning was answered.
-use Rattle.std.proofs.Common.{◌≡◌, ℕ, zero, suc, ◌+◌, ◌<◌, ◌≤◌, Bool, true, false, cond, List, [], ◌∷◌, ◌++◌, length, take, drop}
+use Rattle.std.proofs.Common.{◌≡◌, ℕ, zero, suc, ◌<◌, ◌≤◌, Bool, true, false, cond, List, [], ◌∷◌, ◌++◌, length, drop}
 use Rattle.std.proofs.Common.{refl, sym, ap, ◌∙◌, arith, nat_lt, append_assoc, length-append, length-drop}
 use Rattle.std.proofs.lemmas.Bool.Decides.{nat_tests}
 use Rattle.std.proofs.lemmas.List.{take-append-le, drop-append-le}
 use Rattle.kv_sessions.specs.Stored.{Map}
 use Rattle.kv_sessions.specs.Lines.{FirstLine, Unended, TooLong, Line, first_line, words_of}
 use Rattle.kv_sessions.specs.Commands.{Command, command_of, block_len}
-use Rattle.kv_sessions.specs.Outcomes.{Outcome, outcome, too_long}
+use Rattle.kv_sessions.specs.Outcomes.{Outcome, outcome}
 use Rattle.kv_sessions.specs.Answers.{Next, Waits, LineTooLong, Whole, with_block, next_by, next_command}
-use Rattle.kv_sessions.specs.Answers.{Answers, waiting, over, behind, then_later, by_next, answers_of, answers}
+use Rattle.kv_sessions.specs.Answers.{Answers, behind, then_later, by_next, answers_of, answers}
 use Rattle.kv_sessions.specs.Answers.{more_by, and_more}
 use Rattle.kv_sessions.proofs.Lined.{line_stays, long_stays, line_shortens}
 
@@ -45,7 +45,8 @@ whole_stays bytes more command block rest h = by_line (first_line bytes) refl h
         rw (line_stays bytes more text behind_line e)
         (block_stays (command_of (words_of text)) command behind_line more block rest g)
 
-pub too_long_stays : (bytes more : List ℕ) → next_command bytes ≡ LineTooLong → next_command (bytes ++ more) ≡ LineTooLong
+pub too_long_stays : (bytes more : List ℕ) → next_command bytes ≡ LineTooLong
+    → next_command (bytes ++ more) ≡ LineTooLong
 too_long_stays bytes more h = by_line (first_line bytes) refl h
   where
     by_line : (f : FirstLine) → first_line bytes ≡ f → next_by f ≡ LineTooLong
@@ -79,7 +80,8 @@ alike_later true o f g h = refl
 alike_later false o f g h = ap (behind o.reply) (h o.map)
 
 alike_next : (f g : List ℕ → Map → Answers) (m : Map) (bytes : List ℕ) (next : Next)
-    → ((command : Command) (block rest : List ℕ) → next ≡ Whole command block rest → (later : Map) → f rest later ≡ g rest later)
+    → ((command : Command) (block rest : List ℕ) → next ≡ Whole command block rest → (later : Map)
+    → f rest later ≡ g rest later)
     → by_next f m bytes next ≡ by_next g m bytes next
 alike_next f g m bytes Waits h = refl
 alike_next f g m bytes LineTooLong h = refl
@@ -164,7 +166,8 @@ left_later true o later h e = absurd (cc (e))
 left_later false o later h e = h e
 
 left_next : (m : Map) (bytes : List ℕ) (next : Next) → next_command bytes ≡ next
-    → ((command : Command) (block rest : List ℕ) → next ≡ Whole command block rest → (later : Map) → LeavesNone (answers later rest))
+    → ((command : Command) (block rest : List ℕ) → next ≡ Whole command block rest → (later : Map)
+    → LeavesNone (answers later rest))
     → LeavesNone (by_next later_answers m bytes next)
 left_next m bytes Waits e h i = e
 left_next m bytes LineTooLong e h i = absurd (cc (i))
@@ -176,7 +179,8 @@ left_within : (n : ℕ) (m : Map) (bytes : List ℕ) → length bytes ≤ n → 
 unfolding answers_of
 left_within zero m [] h = λ _. refl
 left_within zero m (c ∷ cs) h = absurd (omega (arith, h))
-left_within (suc n) m bytes h = rw (one_command m bytes) (left_next m bytes (next_command bytes) refl (λ command block rest e later.
+left_within (suc n) m bytes h = rw (one_command m bytes) (left_next m bytes (next_command bytes) refl
+    (λ command block rest e later.
     let shorter : length rest < length bytes = whole_shortens bytes command block rest e in
     left_within n later rest (omega arith)))
 

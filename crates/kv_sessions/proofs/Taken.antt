@@ -1,9 +1,9 @@
 -- What the code takes of a line, and which step that is.
-use Rattle.std.proofs.Common.{◌≡◌, ℕ, suc, ◌+◌, ◌-◌, ◌<◌, ◌≤◌, Bool, true, false, not, cond, eqb, List, [], ◌∷◌, ◌++◌, length}
-use Rattle.std.proofs.Common.{take, drop, get_or, Option, Some, None, Ok, Err, OnErr, refl, sym, ap, ◌∙◌, subst, arith}
+use Rattle.std.proofs.Common.{◌≡◌, ℕ, ◌+◌, ◌<◌, ◌≤◌, Bool, true, false, not, cond, eqb, List, [], ◌∷◌, ◌++◌, length}
+use Rattle.std.proofs.Common.{take, get_or, Some, None, Ok, Err, OnErr, refl, sym, ap, ◌∙◌, subst, arith}
 use Rattle.std.proofs.Common.{add-one, append_assoc, length-append, length-take, nat_lt, nat_le}
 use Rattle.std.specs.Prelude.{position, Result}
-use Rattle.std.specs.List.{position_or_len, prefix_len}
+use Rattle.std.specs.List.{position_or_len}
 use Rattle.std.proofs.lemmas.Bool.Decides.{nat_tests}
 use Rattle.std.proofs.lemmas.List.Folds.{prefix_len-append}
 use Rattle.std.proofs.lemmas.List.Sums.{prefix_len_is, prefix_len_passes, prefix_len_stops, prefix_len-le-length}
@@ -12,7 +12,7 @@ use Rattle.std.proofs.Math.Seq.{take-suc}
 use Rattle.kv_sessions.specs.Stored.{Map}
 use Rattle.kv_sessions.specs.Lines.{FirstLine, Unended, TooLong, Line, first_line, text_of, is_line_feed}
 use Rattle.kv_sessions.specs.Sessions.{Standing, InLine, InBlock, InDropped, Over}
-use Rattle.kv_sessions.specs.Steps.{Step, Made, IsLast, ended_line, open_line, line_step, block_step, dropped_step, Leads}
+use Rattle.kv_sessions.specs.Steps.{Made, IsLast, ended_line, open_line, line_step, block_step, dropped_step, Leads}
 use Rattle.kv_sessions.specs.Steps.{standing_in}
 use Rattle.kv_sessions.specs.declared.mode.Mode.{Mode}
 use Rattle.kv_sessions.proofs.Lined.{place, no_place, at_none, line_ends, line_open}
@@ -63,7 +63,8 @@ ends_at bytes room e h =
     let here = place is_line_feed (take room bytes) e h in
     let inside : e < room = omega (arith, here.0, here.1, length-take room bytes) in
     let within : e < length bytes = omega (arith, here.0, here.1, length-take room bytes) in
-    let stops : not (is_line_feed (get_or (take room bytes) (position_or_len is_line_feed (take room bytes)) 0)) ≡ false =
+    let stops : not (is_line_feed (get_or (take room bytes) (position_or_len is_line_feed (take room bytes)) 0))
+    ≡ false =
     prefix_len_stops (fails is_line_feed) (take room bytes) 0 here.1 in
     let there : is_line_feed (get_or bytes e 0) ≡ true =
     ap (λ (c : ℕ). is_line_feed c) (sym (get_or-take room bytes e 0 inside))
@@ -76,7 +77,8 @@ ends_at bytes room e h =
       inside = inside;
       seam = ap (λ (k : ℕ). take k bytes) (add-one e) ∙ take-suc bytes e 0 within
           ∙ ap (λ (c : ℕ). take e bytes ++ c ∷ []) byte;
-      none = subst (λ (xs : List ℕ). position is_line_feed xs ≡ None) less (none_before is_line_feed (take room bytes) e h);
+      none = subst (λ (xs : List ℕ). position is_line_feed xs
+          ≡ None) less (none_before is_line_feed (take room bytes) e h);
     }
 
 -- ----- steps of a line
@@ -103,17 +105,20 @@ leads_on line taken m before after store mode last made =
     line_leads line taken m before (standing_in mode) store after last made.replies made.map made.stands
 
 -- no line feed among the bytes that are taken
-pub stays_open : (line bytes : List ℕ) (room : ℕ) (got : List ℕ) (m : Map) (before after : List ℕ) (store : Map) (mode : Mode)
+pub stays_open : (line bytes : List ℕ) (room : ℕ) (got : List ℕ) (m : Map) (before after : List ℕ) (store : Map)
+    (mode : Mode)
     → position is_line_feed line ≡ None → position is_line_feed (take room bytes) ≡ None
     → length (line ++ take room bytes) ≤ 514 → got ≡ line ++ take room bytes
     → Made (line_step m got (open_line got)) before after store mode
     → Leads (InLine line) m before (take room bytes) (standing_in mode) store after
 stays_open line bytes room got m before after store mode h g size same made =
     let all : List ℕ = line ++ take room bytes in
-    let is : first_line all ≡ open_line all = line_open all (none_joined is_line_feed line (take room bytes) h g) size in
+    let is : first_line all
+    ≡ open_line all = line_open all (none_joined is_line_feed line (take room bytes) h g) size in
     leads_on line (take room bytes) m before after store mode
     (subst IsLast (sym is) (open_last_by (nat_lt (length all) 514)))
-    (along m all got (first_line all) (open_line got) before after store mode (sym same) (is ∙ ap open_line (sym same)) made)
+    (along m all got (first_line all) (open_line got) before after store mode (sym same) (is
+    ∙ ap open_line (sym same)) made)
 
 -- the line feed stands at e
 pub ends_line : (line bytes : List ℕ) (room e : ℕ) (m : Map) (before after : List ℕ) (store : Map) (mode : Mode)
@@ -145,7 +150,8 @@ pub in_block : (mode : Mode) (key got bytes : List ℕ) (flags len n : ℕ) (m :
     → Leads (standing_in mode) m before (take n bytes) (standing_in later) store after
 in_block mode key got bytes flags len n m before after store later e h made =
     subst (λ (s : Standing). Leads s m before (take n bytes) (standing_in later) store after) (sym e)
-    (block_leads key got (take n bytes) flags len m before (standing_in later) store after h made.replies made.map made.stands)
+    (block_leads key got (take n bytes) flags len m before
+    (standing_in later) store after h made.replies made.map made.stands)
 
 pub in_dropped : (mode : Mode) (bytes : List ℕ) (missing left n : ℕ) (m : Map) (before after : List ℕ) (later : Mode)
     → standing_in mode ≡ InDropped missing → left + length (take n bytes) ≡ missing

@@ -1,6 +1,7 @@
 -- The words of a line, cut off one by one, and numbers as words.
-use Rattle.std.proofs.Common.{◌≡◌, ℕ, suc, ◌+◌, ◌-◌, ◌*◌, ◌^◌, ◌<◌, ◌≤◌, Bool, true, false, not, cond, ◌&&◌, eqb, ltb, List, [], ◌∷◌}
-use Rattle.std.proofs.Common.{length, take, drop, get_or, fold, Option, Some, None, refl, sym, ◌∙◌, ap, subst, arith, nat_lt}
+use Rattle.std.proofs.Common.{◌≡◌, ℕ, suc, ◌+◌, ◌-◌, ◌*◌, ◌^◌, ◌<◌, ◌≤◌, Bool, true, false, not, cond, ◌&&◌, List, []}
+use Rattle.std.proofs.Common.{◌∷◌}
+use Rattle.std.proofs.Common.{length, take, drop, get_or, fold, Option, Some, None, refl, sym, ◌∙◌, ap, arith, nat_lt}
 use Rattle.std.specs.Prelude.{position}
 use Rattle.std.specs.List.{slice_split, onto_first, position_or_len}
 use Rattle.std.proofs.lemmas.List.Splits.{slice_split_first}
@@ -49,7 +50,8 @@ pub too_high : (v i r : ℕ) (word : List ℕ) → i < length word
     → None ≡ number_of word
 too_high v i r word h e is above =
     let here : drop i word ≡ get_or word i 0 ∷ drop (suc i) word = drop-cons word i 0 h in
-    let next : fold step (step v (get_or word i 0)) (drop (suc i) word) ≡ value_of word = sym (ap (fold step v) here) ∙ e in
+    let next : fold step (step v (get_or word i 0)) (drop (suc i) word)
+    ≡ value_of word = sym (ap (fold step v) here) ∙ e in
     let grown : step v (get_or word i 0) ≤ fold step (step v (get_or word i 0)) (drop (suc i) word) =
     value_grows (step v (get_or word i 0)) (drop (suc i) word) in
     let past : nat_lt (value_of word) (2 ^ 32) ≡ false =

@@ -1,9 +1,9 @@
 -- What a session is at, and how that follows from the stream that it was fed.
-use Rattle.std.specs.Prelude.{◌≡◌, ◌≤◌, ℕ, ◌+◌, ◌-◌, Bool, true, false, nat_le, List, [], ◌∷◌, ◌++◌, length, take}
+use Rattle.std.specs.Prelude.{◌≡◌, ◌≤◌, ℕ, ◌+◌, ◌-◌, Bool, true, false, nat_le, List, [], ◌++◌, length, take}
 use Rattle.std.specs.Prelude.{if◌then◌else◌}
 use Rattle.kv_sessions.specs.Stored.{Map}
 use Rattle.kv_sessions.specs.Lines.{FirstLine, Unended, TooLong, Line, first_line, words_of}
-use Rattle.kv_sessions.specs.Commands.{Command, Set, Get, Delete, Quit, Unknown, command_of}
+use Rattle.kv_sessions.specs.Commands.{Command, Set, command_of}
 use Rattle.kv_sessions.specs.Answers.{Answers, answers}
 use Rattle.kv_sessions.specs.declared.TheConstants.{MOST_DATA}
 

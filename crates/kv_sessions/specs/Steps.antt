@@ -1,6 +1,7 @@
 -- How a session goes on from what it is at, piece by piece.
-use Rattle.std.specs.Prelude.{◌≡◌, ◌<◌, ◌≤◌, ◌+◌, ◌^◌, ℕ, Bool, true, false, nat_lt, nat_le, ◌==◌, List, [], ◌++◌, length, position, None, ⊤}
-use Rattle.std.specs.Prelude.{if◌then◌else◌, vec_len}
+use Rattle.std.specs.Prelude.{◌≡◌, ◌<◌, ◌≤◌, ◌+◌, ◌^◌, ℕ, nat_lt, nat_le, ◌==◌, List, [], ◌++◌, length, position}
+use Rattle.std.specs.Prelude.{None, ⊤}
+use Rattle.std.specs.Prelude.{if◌then◌else◌}
 use Rattle.kv_sessions.specs.Stored.{Map}
 use Rattle.kv_sessions.specs.Lines.{FirstLine, Unended, TooLong, Line, text_of, words_of, is_line_feed}
 use Rattle.kv_sessions.specs.Commands as commands

@@ -39,7 +39,8 @@ fn say_head(replies: &mut Vec<u8>, key: &[u8], held: &Held) -> Result<(), AllocE
 
 /// Puts what is held at a key behind the replies.
 fn say_value(replies: &mut Vec<u8>, key: &[u8], held: &Held) -> Result<(), AllocError>
-    ensures { OnOk result (replies.new.items ≡ replies.old.items ++ outcomes.value_text key.now (Some (item_of held.now))) }
+    ensures { OnOk result (replies.new.items
+        ≡ replies.old.items ++ outcomes.value_text key.now (Some (item_of held.now))) }
 {
     say_head(replies, key, held)?;
     say(replies, &held.bytes)?;
@@ -68,7 +69,8 @@ pub(crate) fn say_values(
 
 /// Answers a delete, and forgets the key. After an error nothing is forgotten.
 pub(crate) fn delete(replies: &mut Vec<u8>, key: &[u8], store: &mut Store) -> Result<(), AllocError>
-    ensures replies { OnOk result (replies.new.items ≡ replies.old.items ++ (outcomes.delete_outcome store.old key.now).reply) }
+    ensures replies { OnOk result (replies.new.items
+        ≡ replies.old.items ++ (outcomes.delete_outcome store.old key.now).reply) }
     ensures store { OnOk result (store.new ≡ (outcomes.delete_outcome store.old key.now).map) }
     ensures err { OnErr result (store.new ≡ store.old) }
 {

@@ -77,7 +77,8 @@ pub fn answer_pieces(
     store: &mut Store,
     pieces: &[&[u8]],
 ) -> Result<Vec<u8>, AllocError>
-    ensures replies { IfOk result (λ said. said.items ≡ (answers store.old (flat_map (λ p. p.now) pieces.now)).replies) }
+    ensures replies { IfOk result (λ said. said.items
+        ≡ (answers store.old (flat_map (λ p. p.now) pieces.now)).replies) }
     ensures map { OnOk result (store.new ≡ (answers store.old (flat_map (λ p. p.now) pieces.now)).map) }
 {
     let mut session = Session::new(alloc)?;

@@ -136,7 +136,8 @@ fn end_line(
 fn wait_for_end(line: Vec<u8>, replies: &mut Vec<u8>) -> Result<Mode, AllocError>
     requires within { length line.items ≤ LONGEST_LINE + 2 }
     requires open { position lines.is_line_feed line.items ≡ None }
-    ensures made { IfOk result (λ mode. (m : Map) → steps.Made (steps.line_step m line.items (steps.open_line line.items))
+    ensures made { IfOk result (λ mode. (m : Map)
+        → steps.Made (steps.line_step m line.items (steps.open_line line.items))
         replies.old.items replies.new.items m mode) }
 {
     if line.len() < LONGEST_LINE + 2 {
@@ -198,7 +199,8 @@ fn answer(
 /// What a session is at behind the line of a set. The block's memory is taken at once, so that its bytes are copied
 /// once.
 fn begin_block(alloc: Global, key: &[u8], flags: u32, len: u32) -> Result<Mode, AllocError>
-    ensures stands { IfOk result (λ mode. steps.standing_in mode ≡ sessions.in_block (commands.Set key.now flags len) []) }
+    ensures stands { IfOk result (λ mode. steps.standing_in mode
+        ≡ sessions.in_block (commands.Set key.now flags len) []) }
     ensures short { IfOk result steps.IsShort }
 {
     if len > MOST_DATA {

@@ -1,4 +1,4 @@
-use Rattle.std.proofs.Common.{◌∙◌, ◌+◌, sym, arith, take, length-append, length-take}
+use Rattle.std.proofs.Common.{◌∙◌, sym, arith, take, length-append, length-take}
 use Rattle.kv_sessions.proofs.Taken.{stays_open, ends_line, none_in}
 use Rattle.kv_sessions.proofs.taking.take_line.Goals as goal
 

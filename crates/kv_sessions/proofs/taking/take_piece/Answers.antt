@@ -1,7 +1,6 @@
-use Rattle.std.proofs.Common.{arith, ap, ◌∙◌}
 use Rattle.std.proofs.lemmas.List.{take_rest}
 use Rattle.kv_sessions.specs.Steps.{standing_in}
-use Rattle.kv_sessions.proofs.Standings.{reached_first, reached_next, reached_all, reached_whole, whole_at}
+use Rattle.kv_sessions.proofs.Standings.{reached_next, reached_all, reached_whole, whole_at}
 use Rattle.kv_sessions.proofs.Taken.{on_err, none_of}
 use Rattle.kv_sessions.proofs.taking.take_piece.Goals as goal
 
@@ -25,5 +24,6 @@ loop-rest-preserved c = record {
 pub returns-clause-answered : goal.returns-clause-answered
 returns-clause-answered c =
     reached_all (standing_in c.args.mode) c.args.store.now c.args.bytes.now c.loop-rest.rest.now
-    c.loop-rest.replies.items (standing_in c.loop-rest.mode) c.loop-rest.store (none_of _ _ c.is_empty.ensures c.loop-rest-test.false)
+    c.loop-rest.replies.items (standing_in c.loop-rest.mode) c.loop-rest.store
+    (none_of _ _ c.is_empty.ensures c.loop-rest-test.false)
     c.loop-rest.invariant.reached

@@ -1,5 +1,4 @@
-use Rattle.std.proofs.Common.{◌≡◌, ◌++◌, List, ℕ, length}
-use Rattle.kv_sessions.specs.Sessions.{Answered}
+use Rattle.std.proofs.Common.{length}
 use Rattle.kv_sessions.specs.Steps.{standing_in, IsShort}
 use Rattle.kv_sessions.proofs.Standings.{Reached}
 use Rattle.kv_sessions.proofs.taking.take_piece.Given as goal

@@ -1,6 +1,5 @@
-use Rattle.std.proofs.Common.{ap, subst, arith, ◌++◌, take, length-append, length-take}
+use Rattle.std.proofs.Common.{ap, subst, arith, take, length-append, length-take}
 use Rattle.kv_sessions.specs.Steps.{standing_in, IsShort}
-use Rattle.kv_sessions.specs.declared.mode.Mode.{Mode}
 use Rattle.kv_sessions.proofs.Taken.{in_block, in_dropped, in_over}
 use Rattle.kv_sessions.proofs.taking.take_some.Goals as goal
 
@@ -42,4 +41,5 @@ returns-in_ok-later-in-Dropped-clause-short c = (c.in_ok-later-in-Dropped.ensure
 
 pub returns-in-Over-clause-leads : goal.returns-in-Over-clause-leads
 returns-in-Over-clause-leads c =
-    in_over c.args.mode (take _ c.args.bytes.now) c.args.store.now c.args.replies.now.items (ap standing_in c.in-Over.is)
+    in_over c.args.mode (take _ c.args.bytes.now) c.args.store.now c.args.replies.now.items
+    (ap standing_in c.in-Over.is)

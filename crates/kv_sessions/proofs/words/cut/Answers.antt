@@ -1,4 +1,4 @@
-use Rattle.std.proofs.Common.{◌∙◌, ◌+◌, sym, Some, None, eqb, ℕ}
+use Rattle.std.proofs.Common.{◌∙◌, ◌+◌, sym, eqb, ℕ}
 use Rattle.std.proofs.lemmas.List.{take_rest}
 use Rattle.kv_sessions.proofs.Worded.{parts_at, one_part}
 use Rattle.kv_sessions.proofs.words.cut.Goals as goal

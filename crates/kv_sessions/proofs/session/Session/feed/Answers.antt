@@ -6,7 +6,8 @@ use Rattle.kv_sessions.proofs.session.Session.feed.Goals as goal
 
 pub returns-then-ended-clause-answered : goal.returns-then-ended-clause-answered
 returns-then-ended-clause-answered c =
-    over_fed c.args.self.now c.args.store.now c.args.bytes.now c.new.result.items (sym c.ended.ensures ∙ c.if-ended.true)
+    over_fed c.args.self.now c.args.store.now c.args.bytes.now c.new.result.items (sym c.ended.ensures
+    ∙ c.if-ended.true)
     c.new.ensures.items
 
 pub returns-in_err-mode-clause-whole : goal.returns-in_err-mode-clause-whole

@@ -1,5 +1,5 @@
-use Rattle.std.proofs.Common.{subst, sym, ap}
-use Rattle.kv_sessions.specs.Sessions.{Standing, InLine}
+use Rattle.std.proofs.Common.{ap}
+use Rattle.kv_sessions.specs.Sessions.{InLine}
 use Rattle.kv_sessions.proofs.Standings.{begun_at}
 use Rattle.kv_sessions.proofs.session.Session.new.Goals as goal
 
