@@ -15,7 +15,8 @@ use Rattle.tas_model.proofs.Tests.{on_cond}
 use Rattle.host_rounds.specs.declared.opening.Start.{Start}
 use Rattle.host_rounds.specs.Hosts.{Live, Host, Holder, Application, GivenUp, Starts, answer_of}
 use Rattle.host_rounds.specs.Hosts.{is_ready}
-use Rattle.host_rounds.specs.Hosts.{is_listened, lowest_free, first_port, ports_given, new_flow, first_entry, next_start}
+use Rattle.host_rounds.specs.Hosts.{is_listened, lowest_free, first_port, ports_given, new_flow, first_entry}
+use Rattle.host_rounds.specs.Hosts.{next_start}
 use Rattle.scenario_text.specs.declared.scenario.Step.{Step}
 use Rattle.scenario_text.specs.declared.scenario.Step.TheVariants as steps
 use Rattle.scenario_runs.specs.Applications.{AListener, ASocket, Script, Turn, bind, unbind, stepped, called}
@@ -120,7 +121,8 @@ opens_goes true starts slot port t socket raddr rport x fine =
     let first : Entry =
     first_entry (App x.script.number) t (calls.Connect start.number) in
     let after : Turn = opens starts slot t socket tuple x in
-    let lasts : Lasts x.host after.host = lasts_opened x.host slot tuple start.scale (Application x.script.number) first in
+    let lasts : Lasts x.host after.host =
+    lasts_opened x.host slot tuple start.scale (Application x.script.number) first in
     let bound : IsFit (length after.host.flows) (bind socket (ASocket (length x.host.flows)) x.script) =
     fit_bound (length after.host.flows) socket (ASocket (length x.host.flows)) x.script
     (omega (

@@ -64,7 +64,8 @@ syn_kept true free start t host frame tuple seg = kept_flows host _ refl refl
 syn_kept false None start t host frame tuple seg = kept_flows host _ refl refl
 syn_kept false (Some slot) start t host frame tuple seg = kept_opened host slot tuple _ _ _
 
-no_flow_kept : (opening listening : Bool) (start : Start) (t : ℕ) (host : Host) (frame : FrameId) (tuple : FourTuple) (seg : Seg)
+no_flow_kept : (opening listening : Bool) (start : Start) (t : ℕ) (host : Host) (frame : FrameId) (tuple : FourTuple)
+    (seg : Seg)
     → Kept host (met_no_flow opening listening start t host frame tuple seg)
 no_flow_kept true listening start t host frame tuple seg =
     syn_kept (is_full host tuple.lport) (lowest_free host) start t host frame tuple seg
