@@ -152,7 +152,7 @@ sound_before s params count t frames rest attempts start met scripts now b =
     let lasts : Lasts start met = lasts_before s params count t frames rest attempts start met scripts now b in
     record {
       listens = ap (λ (p : HostParams). p.fixed) lasts.params ∙ b.sound.listens;
-      starts = b.side.leads.rising;
+      numbers = b.side.leads.rising;
       scripts = fits_later b.after met now (lasts_rest params t rest b.after met b.came) b.side.leads.fit;
     }
 

@@ -354,7 +354,7 @@ pub turning_start : (starts : Starts) (address : List ℕ → ℕ) (t : ℕ) (k 
     → Turning starts address t k.passed k.turns 0 k.asleep.items (site_with host (scripts_in k)) k.awake.items host
     k.items.items
 turning_start starts address t k host sound kept left = record {
-  walks = walks_start starts address t (site_with host (scripts_in k)) sound.starts sound.scripts;
+  walks = walks_start starts address t (site_with host (scripts_in k)) sound.numbers sound.scripts;
   awake = (kept.marked left).places;
   resting = kept.resting;
   marks = (kept.marked left).marks;
@@ -432,7 +432,7 @@ turned starts address t n turns p bs start host ss sound below turning =
       params = walks.lasts.params;
       sound = record {
         listens = ap (λ (p : HostParams). p.fixed) walks.lasts.params ∙ sound.listens;
-        starts = walks.rising;
+        numbers = walks.rising;
         scripts = walks.fit;
       };
     }
