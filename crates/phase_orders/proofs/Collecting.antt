@@ -171,10 +171,10 @@ module _ {S A : Type 0} (scripts : Scripts S A) (t : ℕ) (check : Bool) where
   AreLines host fs = rest_phase scripts t host (arrivals_of check fs) ≡ with_lines host (lines_of check t fs)
 
   one_line : (host : Host) (f : Frame) (r : Refused) → refusal check f.packet ≡ Some r
-      → delivered (received Slow) scripts.numbers t host (arrival_of check f)
+      → delivered (received Slow) scripts.starts t host (arrival_of check f)
       ≡ with_lines host (line_for t f.id (refusal check f.packet))
   one_line host f r e =
-      ap (λ (o : Option Refused). delivered_packet (received Slow) scripts.numbers t host f.id (packet_by o f.packet)) e
+      ap (λ (o : Option Refused). delivered_packet (received Slow) scripts.starts t host f.id (packet_by o f.packet)) e
       ∙ sym (ap (λ (o : Option Refused). with_lines host (line_for t f.id o)) e)
 
   pub broken_lines : (host : Host) (fs : List Frame) → AreLines host (broken_in check fs)
