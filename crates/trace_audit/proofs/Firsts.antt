@@ -23,8 +23,8 @@ nowhere test (x ∷ xs) none =
     rw (position_or_len, none 0 (omega arith), more) (omega arith)
 
 fails : (b : Bool) → (b ≡ true → ⊥) → b ≡ false
-fails true no = absurd (no refl)
-fails false no = refl
+fails true never = absurd (never refl)
+fails false _ = refl
 
 at_place : (n len : ℕ) → n < len → nat_lt n len ≡ true
 at_place n len h = grind (arith, tests, h)

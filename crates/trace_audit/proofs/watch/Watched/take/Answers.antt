@@ -12,4 +12,7 @@ returns-in_ok-may-in-Judged-clause-wrong c = λ may n flow comes right.
     (c.in_ok-may-in-Judged.ensures.wrong may) right
 
 pub returns-in_ok-may-in-Judged-clause-right : goal.returns-in_ok-may-in-Judged-clause-right
-returns-in_ok-may-in-Judged-clause-right c = ?
+returns-in_ok-may-in-Judged-clause-right c = λ may n flow comes.
+    judged_right c.args.hosts.now c.in-Judged.judge _ n (seen_entry c.args.entry.now)
+    (subst (λ (w : Watched). FlowWatched c.args.hosts.now w n) c.in-Judged.is flow) comes
+    c.in_ok-may-in-Judged.ensures.params (c.in_ok-may-in-Judged.ensures.right may)
