@@ -1,11 +1,13 @@
-use Rattle.std.proofs.Common.{ap, sym, ◌∙◌, subst, ◌++◌, ◌∷◌, []}
+use Rattle.std.proofs.Common.{ap, sym, ◌∙◌, subst, refl, ◌++◌, ◌∷◌, []}
 use Rattle.std.specs.Prelude.{◌≡◌, Some}
 use Rattle.tas_model.specs.Valid.{InRange}
 use Rattle.flow_lock.specs.Answers.{next_in}
 use Rattle.app_reaper.specs.OneCall.{history}
 use Rattle.slow_handshake.specs.Openings.{Openings}
 use Rattle.slow_worker.specs.Workers.{Worker, sight_of, IsSound}
+use Rattle.flow_clock.proofs.Serving.{on_err_stopped}
 use Rattle.slow_worker.proofs.Keeping.{opened_kept}
+use Rattle.slow_worker.proofs.Unopened.{unopened_of}
 use Rattle.slow_worker.proofs.worker.SlowWorker.open.Goals as goal
 
 pub returns-clause-kept : goal.returns-clause-kept
@@ -26,3 +28,11 @@ returns-clause-kept g c =
     c.reserve-2.ensures.list)
     kept.0 in
     (after, subst InRange (sym params) kept.1)
+
+pub returns-in_err-show-clause-unopened : goal.returns-in_err-show-clause-unopened
+returns-in_err-show-clause-unopened g c =
+    on_err_stopped c.from_residual-in_err-show.result
+    (unopened_of c.args.seg.now c.args.id c.tuple_of-tuple.result _ c.args.self.now c.next_iss.new.self
+    c.reserve.new.self.list c.reserve-2.new.self.list c.reserve-3.new.self.list _ c.self.view_is
+    c.next_iss.ensures.next c.in_ok-reserve.ensures.list c.in_ok-reserve-2.ensures.list
+    c.in_ok-reserve-3.ensures.list c.tuple_of-tuple.ensures c.in_err-show.ensures.touched refl)
