@@ -26,8 +26,6 @@ use Rattle.flow_lock.specs.declared.view.View.{View}
 use Rattle.core_worker.specs.Workers.{Common}
 use Rattle.slow_handshake.specs.Openings.{Openings}
 use Rattle.slow_worker.specs.Workers.{Worker, AreKept}
-use Rattle.slow_worker.specs.declared.known.KnownFlow.{KnownFlow}
-use Rattle.flow_clock.proofs.Keeping.{still_kept}
 use Rattle.libtas_sockets.specs.Accepting.{IsAcceptance}
 use Rattle.libtas_sockets.specs.Apps.{Application, IsSocket, flow_of, with_view}
 use Rattle.libtas_sockets.specs.Calling.{HasCalled}
@@ -37,6 +35,7 @@ use Rattle.tas_model.specs.declared.entry.Reply.{Reply}
 use Rattle.app_reaper.specs.declared.one_call.CallFault.{CallFault}
 use Rattle.app_reaper.specs.declared.one_call.CallFault.TheVariants.{Busy, OutOfMemory}
 use Rattle.talk_tests.specs.Ends.{IsSlow, turns_of}
+use Rattle.talk_tests.proofs.Phases.{kept_alike}
 
 -- ----- turns by their names
 named_by : (p : ℕ) (ts : List Turn) → total (λ (t : Turn). cond {A = ℕ} (t.name == p) 1 0) ts
@@ -127,16 +126,6 @@ accept_names id tick a b s (u, w, pinned, (r, after, own, made, used), after_is,
     ∙ still_named a.pass.view u [] (id ∷ []) [] (ap (λ (x : View). x.turns) pinned.3))
 
 -- ----- what is left when the turn is back
--- a pass that is alone, with the same pins and marks, is kept as well
-pub kept_alike : (t : TableId) (s n : Seen) (doomed pins : List FlowId) (flows : List KnownFlow)
-    → n.table ≡ t → IsAlone n.view → n.view.held ≡ s.view.held → n.view.pins ≡ s.view.pins
-    → n.view.marks ≡ s.view.marks → AreKept t s doomed pins flows → AreKept t n doomed pins flows
-kept_alike t s n doomed pins flows table alone held own marks is = record {
-  ready = (table, inr alone, held ∙ is.ready.2);
-  owned = still_kept t.slots s n doomed pins own marks is.owned;
-  known = is.known;
-}
-
 -- the slow path's worker with its pass as it was learned, other openings and an index that shows as much
 pub slow_after : (c : Common) (tick : ℕ) (v w : Worker) (s : Seen) (o : Openings) (order : Order) (x : View)
     → IsSlow c tick v → w ≡ record v { path = o; pass = s } → s.table ≡ c.table → InRange o.params

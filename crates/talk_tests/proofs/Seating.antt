@@ -53,7 +53,8 @@ use Rattle.talk_tests.specs.declared.ends.Plan.{Plan}
 use Rattle.talk_tests.specs.declared.ends.Step.{Step}
 use Rattle.talk_tests.specs.declared.ends.Team.{Team}
 use Rattle.talk_tests.proofs.Calls.{app_rests, app_turned, accept_turned, accept_names, called_names, called_turned}
-use Rattle.talk_tests.proofs.Calls.{lent_named, one_back, learned_alone, has_two, still_named, pins_turned, kept_alike}
+use Rattle.talk_tests.proofs.Calls.{lent_named, one_back, learned_alone, has_two, still_named, pins_turned}
+use Rattle.talk_tests.proofs.Phases.{kept_alike}
 
 pub of_some : {A : Type 0} (P : A → Type 0) (o : Option A) (x : A) → o ≡ Some x → IfSome o P → P x
 of_some P o x e h = subst (λ q. IfSome q P) e h

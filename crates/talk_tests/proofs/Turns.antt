@@ -15,6 +15,7 @@ use Rattle.flow_clock.specs.Walks as walks
 use Rattle.flow_clock.proofs.Keeping.{after_use, after_refusal, after_sweep}
 use Rattle.core_worker.specs.Workers as cores
 use Rattle.core_worker.specs.declared.frames.PassedFrame.{PassedFrame}
+use Rattle.slow_handshake.specs.Numbers.{FirstNumbers}
 use Rattle.slow_handshake.specs.declared.openings.SynAnswer.{SynAnswer}
 use Rattle.slow_handshake.specs.declared.openings.SynAnswer.TheVariants as syn
 use Rattle.slow_worker.specs.Clocks.{HasRisen, last_tick, served_in}
@@ -72,27 +73,27 @@ entered at frame seg id s n (served.Dropped b) h = absurd h
 entered at frame seg id s n served.Stray h = absurd h
 entered at frame seg id s n (served.Refused k) h = absurd h
 
-opened_in : (next : Option FlowId) (tick : ℕ) (frame : FrameId) (seg : Segment) (s n : Sight) (a : Served)
-    → IsOpenedIn next tick frame seg s n a → Keeps s.pass.view n.pass.view
-opened_in None tick frame seg s n a h = passes_same s n _ h.1 refl
-opened_in (Some id) tick frame seg s n a h = λ alone.
+opened_in : (next : Option FlowId) (ns : FirstNumbers) (tick : ℕ) (frame : FrameId) (seg : Segment) (s n : Sight)
+    (a : Served) → IsOpenedIn next ns tick frame seg s n a → Keeps s.pass.view n.pass.view
+opened_in None ns tick frame seg s n a h = passes_same s n _ h.1 refl
+opened_in (Some id) ns tick frame seg s n a h = λ alone.
     let e = ap (λ (x : Sight). x.pass.view) h.1.after in (
       ap (λ (v : View). v.baton) e ∙ alone.0,
       ap (λ (v : View). v.turns) e ∙ ap (noted _ (id ∷ []) []) alone.1,
       ap (λ (v : View). v.made) e ∙ alone.2,
     )
 
-met : (asked : Option SynAnswer) (tick : ℕ) (frame : FrameId) (seg : Segment) (s n : Sight) (a : Served)
-    → IsMet asked tick frame seg s n a → Keeps s.pass.view n.pass.view
-met None tick frame seg s n a h = passes_same s n _ h.1 refl
-met (Some syn.Opens) tick frame seg s n a h = opened_in (next_in s.pass.view.marks) tick frame seg s n a h
-met (Some (syn.BacklogFull k)) tick frame seg s n a h = passes_same s n _ h.1 refl
-met (Some syn.NoListener) tick frame seg s n a h = passes_same s n _ h.1 refl
+met : (asked : Option SynAnswer) (ns : FirstNumbers) (tick : ℕ) (frame : FrameId) (seg : Segment) (s n : Sight)
+    (a : Served) → IsMet asked ns tick frame seg s n a → Keeps s.pass.view n.pass.view
+met None ns tick frame seg s n a h = passes_same s n _ h.1 refl
+met (Some syn.Opens) ns tick frame seg s n a h = opened_in (next_in s.pass.view.marks) ns tick frame seg s n a h
+met (Some (syn.BacklogFull k)) ns tick frame seg s n a h = passes_same s n _ h.1 refl
+met (Some syn.NoListener) ns tick frame seg s n a h = passes_same s n _ h.1 refl
 
 taken : (flow : Option FlowId) (at : Setting) (frame : FrameId) (seg : Segment) (s n : Sight) (a : Served)
     → IsTaken flow at frame seg s n a → Keeps s.pass.view n.pass.view
 taken (Some id) at frame seg s n a h = entered at frame seg id s n a h.entered
-taken None at frame seg s n a h = met (asked_of s.path seg) at.tick frame seg s n a h
+taken None at frame seg s n a h = met (asked_of s.path seg) at.numbers at.tick frame seg s n a h
 
 served_by : (r : Option Refused) (at : Setting) (frame : FrameId) (packet : List ℕ) (s n : Sight) (a : Served)
     → IsServedBy r at frame packet s n a → Keeps s.pass.view n.pass.view
@@ -107,16 +108,16 @@ all_served at (f ∷ fs) s n kept (m, a, more, one, rest, is) = λ alone.
     all_served at fs m n more rest (served_by _ at f.frame.id f.frame.packet s m a one alone)
 
 -- ----- a turn
-worked : (later : Bool) (c : cores.Common) (tick : ℕ) (v w : Worker) → IsWork later c tick v w
-    → Keeps v.pass.view w.pass.view
-worked false c tick v w h =
+worked : (later : Bool) (ns : FirstNumbers) (c : cores.Common) (tick : ℕ) (v w : Worker)
+    → IsWork later ns c tick v w → Keeps v.pass.view w.pass.view
+worked false ns c tick v w h =
     tick_done tick (served_in tick v.time) (ledger_of v v.index.pending) (ledger_of w h.changes) h.done
-worked true c tick v w h = all_served (setting_of c tick v) (waiting v) (sight_of v) (sight_of w) _ h.served
+worked true ns c tick v w h = all_served (setting_of ns c tick v) (waiting v) (sight_of v) (sight_of w) _ h.served
 
-pub turn_alone : (later : Bool) (c : cores.Common) (tick : ℕ) (v w : Worker) → IsTurn later c tick v w
-    → IsAlone v.pass.view → IsAlone w.pass.view
-turn_alone later c tick v w (m, work, kicks) alone =
-    subst (λ (x : Worker). IsAlone x.pass.view) (sym kicks.rest) (worked later c tick v m work alone)
+pub turn_alone : (later : Bool) (ns : FirstNumbers) (c : cores.Common) (tick : ℕ) (v w : Worker)
+    → IsTurn later ns c tick v w → IsAlone v.pass.view → IsAlone w.pass.view
+turn_alone later ns c tick v w (m, work, kicks) alone =
+    subst (λ (x : Worker). IsAlone x.pass.view) (sym kicks.rest) (worked later ns c tick v m work alone)
 
 -- ----- ticks
 pub risen_by : (tick later : ℕ) (c : Clock) → last_tick c ≡ Some tick → tick ≤ later → HasRisen later c

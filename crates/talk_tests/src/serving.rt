@@ -13,12 +13,14 @@ use fast_tx::FastTx;
 use flow_state::CallIn;
 use frame_steering::hand_out;
 use segment_fields::read;
+use slow_handshake::SpacedNumbers;
 use slow_worker::SlowWorker;
 use std::alloc::Global;
 use std::collections::VecDeque;
 use std::sync::Wait;
 use steering::group;
 use tas_model::Caller;
+use tas_num::Seq;
 
 /// How many cores a host has.
 pub const CORES: u32 = 2;
@@ -26,12 +28,20 @@ pub const CORES: u32 = 2;
 /// How many segments a flow sends in one tick at most.
 const SEGMENTS: u32 = 16;
 
+/// The first numbers of the flows of a scenario's host.
+fn numbers_of(slow: &SlowWorker) -> SpacedNumbers {
+    SpacedNumbers {
+        first: Seq(slow.path.params().iss),
+    }
+}
+
 /// The slow path's next turn in this tick, of which the first is for the time. `None` where memory is wanting.
 pub fn turn<R: Wait>(rt: &R, slow: &mut SlowWorker, shared: &Shared, tick: u32) -> Option<()>
     requires { IsSlow shared.now tick slow.old }
     ensures { IfSome result (λ _. IsSlow shared.now tick slow.new) }
 {
-    let Ok(()) = slow.turn(rt, shared, tick) else {
+    let numbers = numbers_of(slow);
+    let Ok(()) = slow.turn(rt, shared, &numbers, tick) else {
         return None;
     };
     Some(())

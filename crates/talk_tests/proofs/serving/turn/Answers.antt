@@ -12,5 +12,6 @@ returns g c =
       risen = risen_by c.args.tick c.args.tick c.turn.new.self.time done.time same;
       senders = done.senders;
       kickers = done.kickers;
-      alone = turn_alone _ c.args.shared.now c.args.tick c.args.slow.now c.turn.new.self done.turned c.requires.alone;
+      alone = turn_alone _ _ c.args.shared.now c.args.tick c.args.slow.now c.turn.new.self done.turned
+          c.requires.alone;
     }
