@@ -166,7 +166,8 @@ opened_is : (id : FlowId) (h : History) (s l b d : Seen) (pins later : List Flow
     → opener d later ≡ record { pass = record b { view = opened id h b.view }; pins = pins ++ id ∷ [] }
     → d ≡ opened_two id h s
 opened_is id h s l b d pins later lend again e =
-    ap (λ (x : Opener). x.pass) e ∙ ap (λ (x : Seen). record x { view = opened id h x.view }) (lent_two s l b lend again)
+    ap (λ (x : Opener). x.pass) e
+    ∙ ap (λ (x : Seen). record x { view = opened id h x.view }) (lent_two s l b lend again)
 
 -- both have their turns
 opened_names : (id : FlowId) (h : History) (s : Seen) → IsAlone s.view
@@ -212,8 +213,8 @@ opened_back id h s d e n w order alone is back table ordered =
 
 -- From what was lent to a connection that stands: the slow path's pass before, with its turn, and after it lent
 -- another one; after the connect, after the turn came back, and after the barrier.
-module _ (c : Common) (tick raddr rport : ℕ) (o : Openings) (target : Target) (a l m : Application) (s s1 s2 s3 s4 : Seen)
-    (pins later : List FlowId) (q : Socket) (table : s.table ≡ c.table) (alone : IsAlone s.view)
+module _ (c : Common) (tick raddr rport : ℕ) (o : Openings) (target : Target) (a l m : Application)
+    (s s1 s2 s3 s4 : Seen) (pins later : List FlowId) (q : Socket) (table : s.table ≡ c.table) (alone : IsAlone s.view)
     (idle : IsIdleApp c a) (none : a.begun ≡ [])
     (lend : s1 ≡ record s { view = with_turns (lender s.view) (lent s.view) })
     (again : s2 ≡ record s1 { view = lender s1.view })

@@ -18,5 +18,6 @@ returns c =
           (ap (λ (x : Application). x.begun) same)
           (no_socket c.go_on.new.plan.step
           (record (c.args.end.now.team.app)
-          { app = c.listen_alone.new.app; socket = c.args.end.now.team.app.socket }) (c.go_on.ensures.first c.requires.step)),
+          { app = c.listen_alone.new.app; socket = c.args.end.now.team.app.socket })
+          (c.go_on.ensures.first c.requires.step)),
     )

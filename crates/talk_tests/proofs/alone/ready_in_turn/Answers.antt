@@ -20,8 +20,8 @@ ready-ready-requires-clause-socket c =
 pub learn-requires : goal.learn-requires
 learn-requires c =
     let back =
-    may_learn c.args.shared.now.table c.args.pass.now c.lend.new.slow c.collect.new.slow c.ready-ready.new.self.pass.view
-    c.requires.slow.0 c.requires.slow.1 c.lend.ensures.slow c.collect.ensures.slow
+    may_learn c.args.shared.now.table c.args.pass.now c.lend.new.slow c.collect.new.slow
+    c.ready-ready.new.self.pass.view c.requires.slow.0 c.requires.slow.1 c.lend.ensures.slow c.collect.ensures.slow
     (called_names c.lend.new.self c.ready-ready.new.self c.args.socket c.args.tick _ _ _ c.ready-ready.ensures.made
     ∙ lent_names c.args.app.now c.lend.new.self c.args.pass.now.view 0 c.requires.app.0.turns c.requires.slow.1.2
     c.lend.ensures.lent) in
