@@ -260,7 +260,9 @@ fn lanes_of(
     })
 }
 
-fn core_lane(shared: Arc<Shared, Global>, worker: CoreWorker) -> CoreLane {
+fn core_lane(shared: Arc<Shared, Global>, worker: CoreWorker) -> CoreLane
+    ensures { (result.shared ≡ shared) × (result.worker ≡ worker) }
+{
     CoreLane {
         shared,
         worker,
