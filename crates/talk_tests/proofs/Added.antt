@@ -1,6 +1,7 @@
 -- An application that is added to a new host of two cores, and the turns that are then given back.
-use Rattle.std.proofs.Common.{◌≡◌, ℕ, zero, suc, ◌+◌, true, false, List, [], ◌∷◌, ◌++◌, length, take, refl}
+use Rattle.std.proofs.Common.{◌≡◌, ◌<◌, ℕ, zero, suc, ◌+◌, true, false, List, [], ◌∷◌, ◌++◌, length, take, refl}
 use Rattle.std.proofs.Common.{sym, ap, ◌∙◌, subst, inl}
+use Rattle.std.specs.Arc.{arc_value}
 use Rattle.atomic_table.specs.Seated.{TableId}
 use Rattle.flow_lock.specs.Orders.{Order}
 use Rattle.flow_lock.specs.Passes.{Seen, new_turn, peeled, with_turns}
@@ -20,10 +21,11 @@ use Rattle.shared_host.specs.Applications.{split_from, new_app, with_queue, AreG
 use Rattle.shared_host.specs.Cores.{AreTurned}
 use Rattle.shared_host.specs.SlowPaths.{with_app, IsNewSlow}
 use Rattle.tas_model.specs.declared.entry.HostParams.{HostParams}
-use Rattle.core_phase.specs.Lanes.{IsIdleApp}
+use Rattle.core_phase.specs.Lanes.{IsIdleApp, IsIdleCore}
 use Rattle.core_phase.specs.declared.lane.AppLane.{AppLane}
 use Rattle.talk_tests.specs.declared.ends.Step.{Step}
-use Rattle.talk_tests.specs.Ends.{IsSlow, IsFresh, AreNewCores, HasSocket, has_socket}
+use Rattle.talk_tests.specs.declared.ends.Team.{Team}
+use Rattle.talk_tests.specs.Ends.{IsSlow, IsFresh, IsTeam, AreNewCores, HasSocket, has_socket, common_in}
 use Rattle.talk_tests.specs.Starting.{IsFull, IsNewApp, IsNewCore, gathered}
 use Rattle.talk_tests.proofs.AllBack.{all_back}
 use Rattle.talk_tests.proofs.Phases.{kept_alike}
@@ -189,3 +191,20 @@ app_rests c a b is e = (
 -- a step without a socket
 pub no_socket : (step : Step) (l : AppLane) → has_socket step ≡ false → HasSocket step l
 no_socket step l none = λ has. absurd (cc (has, none))
+
+-- ----- workers and an application as a team
+pub team_made : (c : Common) (t : Team) → t.part.lanes ≡ 3 → arc_value t.part.shared ≡ c
+    → arc_value t.first.shared ≡ c → arc_value t.second.shared ≡ c → arc_value t.app.shared ≡ c
+    → IsIdleCore c t.first.worker → IsIdleCore c t.second.worker → IsIdleApp c t.app.app → t.app.app.begun ≡ []
+    → t.app.host < 67108863 → IsTeam t × (common_in t ≡ c)
+team_made c t count part first second third one two app begun host = (
+  record {
+    count = count;
+    first = (first ∙ sym part, subst (λ (x : Common). IsIdleCore x t.first.worker) (sym part) one);
+    second = (second ∙ sym part, subst (λ (x : Common). IsIdleCore x t.second.worker) (sym part) two);
+    app = (third ∙ sym part, subst (λ (x : Common). IsIdleApp x t.app.app) (sym part) app);
+    host = host;
+    begun = begun;
+  },
+  part,
+)

@@ -1,5 +1,6 @@
 -- Two teams that played in one list of lanes.
-use Rattle.std.proofs.Common.{◌≡◌, ◌==◌, ℕ, suc, arith, tests, List, [], ◌∷◌, ◌++◌, length, ap, sym, ◌∙◌, subst, refl, Bool, true}
+use Rattle.std.proofs.Common.{◌≡◌, ℕ, List, [], ◌∷◌, ◌++◌, ap, sym, ◌∙◌, subst}
+use Rattle.std.proofs.lemmas.List.{append_assoc}
 use Rattle.std.specs.Prelude.{All}
 use Rattle.core_phase.specs.Hosts.{ByHosts, BetweenHosts, IsIdleHost, IsHostPhase}
 use Rattle.core_phase.specs.Attempts.{MayTry}
@@ -79,13 +80,17 @@ both_played a b c d hs gs ls ms one two before lanes after others idle between =
     (subst (λ (l : List Lane). BetweenHosts IsHostPhase hs gs l (six c d)) lanes
     (subst (λ (l : List Lane). BetweenHosts IsHostPhase hs gs ls l) others between))))
 
--- two parts were taken off the end, and nothing is left
-pub two_off : {X : Type 0} (xs ys zs ps qs : List X) → xs ≡ ys ++ qs → ys ≡ zs ++ ps → zs ≡ [] → xs ≡ ps ++ qs
-two_off xs ys zs ps qs e f none = e ∙ ap (λ l. l ++ qs) (f ∙ ap (λ l. l ++ ps) none)
+-- ----- lists of which the last ones were taken off
+two_off : {X : Type 0} (xs ys zs : List X) (a b : X) → xs ≡ ys ++ b ∷ [] → ys ≡ zs ++ a ∷ []
+    → xs ≡ zs ++ a ∷ b ∷ []
+two_off xs ys zs a b last before =
+    last ∙ (ap (λ l. l ++ b ∷ []) before ∙ append_assoc zs (a ∷ []) (b ∷ []))
 
-pub none_left : {X : Type 0} (xs : List X) (n : ℕ) (b : Bool) → n ≡ length xs → b ≡ (n == 0) → b ≡ true → xs ≡ []
-none_left [] n b long is holds = refl
-none_left (x ∷ xs) n b long is holds = absurd (no_zero n (length xs) long (sym is ∙ holds))
-  where
-    no_zero : (n k : ℕ) → n ≡ suc k → (n == 0) ≡ true → ⊥
-    no_zero n k long holds = grind (arith, tests, long, holds)
+pub three_off : {X : Type 0} (xs ys zs ws : List X) (a b c : X) → xs ≡ ys ++ c ∷ [] → ys ≡ zs ++ b ∷ []
+    → zs ≡ ws ++ a ∷ [] → xs ≡ ws ++ a ∷ b ∷ c ∷ []
+three_off xs ys zs ws a b c last second first =
+    last ∙ (ap (λ l. l ++ c ∷ []) (two_off ys zs ws a b second first) ∙ append_assoc ws (a ∷ b ∷ []) (c ∷ []))
+
+-- both parts of a list, of which nothing is left
+pub both_off : {X : Type 0} (xs ys zs ps qs : List X) → xs ≡ ys ++ qs → ys ≡ zs ++ ps → zs ≡ [] → xs ≡ ps ++ qs
+both_off xs ys zs ps qs second first none = second ∙ ap (λ l. l ++ qs) (first ∙ ap (λ l. l ++ ps) none)

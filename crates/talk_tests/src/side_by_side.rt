@@ -6,7 +6,7 @@ ghost use Rattle.std.specs.Prelude.{All};
 ghost use Rattle.talk_tests.specs.Ends.{IsSlow, IsTrying, IsAnswered, IsLent, HasPlayed, common_in, lanes_of};
 
 use crate::ends::{End, Plan, Team};
-use core_phase::{HostPart, Lane, play_phases};
+use core_phase::{AppLane, CoreLane, HostPart, Lane, play_phases};
 use crew::Crew;
 use slow_worker::SlowWorker;
 use std::alloc::Global;
@@ -93,13 +93,19 @@ fn both_play<R: Wait, G: Gate>(
 fn hosts_of(alloc: Global, hosts: [HostPart; 2]) -> Option<Vec<HostPart>>
     ensures { IfSome result (λ v. v.items ≡ hosts) }
 {
-    Vec::from_array(alloc, hosts).ok()
+    let Ok(hosts) = Vec::from_array(alloc, hosts) else {
+        return None;
+    };
+    Some(hosts)
 }
 
 fn list_of(alloc: Global, lanes: [Lane; 6]) -> Option<Vec<Lane>>
     ensures { IfSome result (λ v. v.items ≡ lanes) }
 {
-    Vec::from_array(alloc, lanes).ok()
+    let Ok(lanes) = Vec::from_array(alloc, lanes) else {
+        return None;
+    };
+    Some(lanes)
 }
 
 /// The teams of two hosts that these lists are made of. `None` where they are not.
@@ -111,11 +117,16 @@ fn teams_of(hosts: Vec<HostPart>, lanes: Vec<Lane>) -> Option<(Team, Team)>
     let mut lanes = lanes;
     let two = last_team(&mut hosts, &mut lanes)?;
     let one = last_team(&mut hosts, &mut lanes)?;
-    if hosts.is_empty() && lanes.is_empty() {
-        Some((one, two))
-    } else {
-        None
-    }
+    is_used_up(hosts.as_slice())?;
+    is_used_up(lanes.as_slice())?;
+    Some((one, two))
+}
+
+/// `None` where something is left of the list.
+pub fn is_used_up<T>(left: &[T]) -> Option<()>
+    ensures { IfSome result (λ _. left.now ≡ []) }
+{
+    if left.is_empty() { Some(()) } else { None }
 }
 
 fn play<R: Wait, G: Gate>(
@@ -143,19 +154,34 @@ fn last_team(hosts: &mut Vec<HostPart>, lanes: &mut Vec<Lane>) -> Option<Team>
     ensures hosts { IfSome result (λ t. hosts.old.items ≡ hosts.new.items ++ t.part ∷ []) }
     ensures lanes { IfSome result (λ t. lanes.old.items ≡ lanes.new.items ++ lanes_of t) }
 {
-    let Lane::App(app) = lanes.pop()? else {
-        return None;
-    };
-    let Lane::Core(second) = lanes.pop()? else {
-        return None;
-    };
-    let Lane::Core(first) = lanes.pop()? else {
-        return None;
-    };
+    let app = last_app(lanes)?;
+    let second = last_core(lanes)?;
+    let first = last_core(lanes)?;
+    let part = hosts.pop()?;
     Some(Team {
-        part: hosts.pop()?,
+        part,
         first,
         second,
         app,
     })
+}
+
+/// The last lane, where it is an application.
+fn last_app(lanes: &mut Vec<Lane>) -> Option<AppLane>
+    ensures { IfSome result (λ l. lanes.old.items ≡ lanes.new.items ++ Lane.App l ∷ []) }
+{
+    match lanes.pop() {
+        Some(Lane::App(lane)) => Some(lane),
+        _ => None,
+    }
+}
+
+/// The last lane, where it is a core.
+fn last_core(lanes: &mut Vec<Lane>) -> Option<CoreLane>
+    ensures { IfSome result (λ l. lanes.old.items ≡ lanes.new.items ++ Lane.Core l ∷ []) }
+{
+    match lanes.pop() {
+        Some(Lane::Core(lane)) => Some(lane),
+        _ => None,
+    }
 }

@@ -12,6 +12,7 @@ ghost use Rattle.talk_tests.specs.Starting.{IsFull, IsNewApp, IsNewCore, gathere
 
 use crate::ends::{End, Plan, Step, Team};
 use crate::serving::CORES;
+use crate::side_by_side::is_used_up;
 use core_phase::{Answered, AppLane, Attempt, CoreLane, HostPart};
 use core_worker::{CoreWorker, Shared};
 use flow_lock::{FlowTable, SlowPass};
@@ -163,11 +164,8 @@ fn both_of(workers: Vec<CoreWorker>) -> Option<(CoreWorker, CoreWorker)>
     let mut workers = workers;
     let second = workers.pop()?;
     let first = workers.pop()?;
-    if workers.is_empty() {
-        Some((first, second))
-    } else {
-        None
-    }
+    is_used_up(workers.as_slice())?;
+    Some((first, second))
 }
 
 /// All turns are given back, and the slow path learns what was done in them.
@@ -262,7 +260,9 @@ fn lanes_of(
     })
 }
 
-fn core_lane(shared: Arc<Shared, Global>, worker: CoreWorker) -> CoreLane {
+fn core_lane(shared: Arc<Shared, Global>, worker: CoreWorker) -> CoreLane
+    ensures { (result.shared ≡ shared) × (result.worker ≡ worker) }
+{
     CoreLane {
         shared,
         worker,

@@ -21,5 +21,6 @@ returns-clause-phases g c =
     subst (λ (hs : List HostPart). BetweenHosts IsHostPhase old.items hs c.args.lanes.now.items
     c.play_phases.new.lanes.items)
     (sym (written new (drop (length new) old.items) old.len long))
-    (subst (λ (hs : List HostPart). BetweenHosts IsHostPhase hs new c.args.lanes.now.items c.play_phases.new.lanes.items)
+    (subst (λ (hs : List HostPart). BetweenHosts IsHostPhase hs new c.args.lanes.now.items
+    c.play_phases.new.lanes.items)
     c.as_mut_slice.ensures.value c.in-Ok.ensures.phases)
