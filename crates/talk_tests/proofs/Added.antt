@@ -22,10 +22,8 @@ use Rattle.shared_host.specs.Cores.{AreTurned}
 use Rattle.shared_host.specs.SlowPaths.{with_app, IsNewSlow}
 use Rattle.tas_model.specs.declared.entry.HostParams.{HostParams}
 use Rattle.core_phase.specs.Lanes.{IsIdleApp, IsIdleCore}
-use Rattle.core_phase.specs.declared.lane.AppLane.{AppLane}
-use Rattle.talk_tests.specs.declared.ends.Step.{Step}
 use Rattle.talk_tests.specs.declared.ends.Team.{Team}
-use Rattle.talk_tests.specs.Ends.{IsSlow, IsFresh, IsTeam, AreNewCores, HasSocket, has_socket, common_in}
+use Rattle.talk_tests.specs.Ends.{IsSlow, IsFresh, IsTeam, AreNewCores, common_in}
 use Rattle.talk_tests.specs.Starting.{IsFull, IsNewApp, IsNewCore, gathered}
 use Rattle.talk_tests.proofs.AllBack.{all_back}
 use Rattle.talk_tests.proofs.Phases.{kept_alike}
@@ -187,10 +185,6 @@ app_rests c a b is e = (
   },
   ap (λ (x : Application). x.begun) e ∙ is.begun,
 )
-
--- a step without a socket
-pub no_socket : (step : Step) (l : AppLane) → has_socket step ≡ false → HasSocket step l
-no_socket step l none = λ has. absurd (cc (has, none))
 
 -- ----- workers and an application as a team
 pub team_made : (c : Common) (t : Team) → t.part.lanes ≡ 3 → arc_value t.part.shared ≡ c

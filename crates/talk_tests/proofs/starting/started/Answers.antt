@@ -1,16 +1,16 @@
 -- Answers of the proof of starting/started.
-use Rattle.std.proofs.Common.{◌≡◌, Bool, true, false, ap, sym, ◌∙◌}
+use Rattle.std.proofs.Common.{ap, sym, ◌∙◌, true≢false}
 use Rattle.steering.specs.Tables as steering
-use Rattle.talk_tests.proofs.Added.{fresh, no_socket}
+use Rattle.talk_tests.proofs.Added.{fresh}
 use Rattle.talk_tests.proofs.starting.started.Goals as goal
 
-pub team_of-requires-clause-slow : goal.team_of-requires-clause-slow
-team_of-requires-clause-slow g c =
+pub team_of-team-requires-clause-slow : goal.team_of-team-requires-clause-slow
+team_of-team-requires-clause-slow g c =
     fresh c.in-Ok.assembled.shared c.params_of.result c.in-Ok.assembled.slow c.in-Ok.ensures.slow
     c.in-Ok.ensures.sound c.in-Ok.ensures.apps c.in-Ok.ensures.can
 
-pub team_of-requires-clause-cores : goal.team_of-requires-clause-cores
-team_of-requires-clause-cores g c = record {
+pub team_of-team-requires-clause-cores : goal.team_of-team-requires-clause-cores
+team_of-team-requires-clause-cores g c = record {
   free = c.in-Ok.ensures.free;
   queues = c.in-Ok.ensures.queues;
   senders = c.in-Ok.ensures.senders;
@@ -27,6 +27,6 @@ returns-in-Some g c = (
       steer = ap (λ (s : steering.Sight). s.place) c.in-Ok.ensures.steer ∙ sym c.in-Some.ensures.steering;
       cores = ap (λ (p : steering.Place). p.cores) c.in-Some.ensures.steering ∙ c.in-Ok.ensures.steering;
     };
-    socket = no_socket c.args.beginning.step _ c.requires.step;
+    socket = λ has. absurd (true≢false (sym has ∙ c.requires.step));
   },
 )
