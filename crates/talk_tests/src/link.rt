@@ -47,6 +47,7 @@ fn packet_of(alloc: Global, ends: FourTuple, seg: SegView<'_>) -> Option<Bytes> 
         flags: Flags(seg.head.flags),
         window: seg.head.window,
         mss: seg.head.mss,
+        scale: seg.head.scale,
         payload: seg.bytes,
     };
     let mut buf = [0; ROOM];

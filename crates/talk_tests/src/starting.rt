@@ -50,6 +50,7 @@ fn params_of(beginning: Beginning) -> HostParams
         slots: 1024,
         backlog: 16,
         fixed: false,
+        scale: None,
     }
 }
 

@@ -9,4 +9,5 @@ returns c = record {
   rto = (omega arith, omega arith);
   slots = (omega arith, omega arith);
   backlog = (omega arith, omega arith);
+  scale = tt;
 }
