@@ -5,3 +5,4 @@ pub mod Moves
 pub mod Serving
 pub mod Ticks
 pub mod Kicks
+pub mod Walks

@@ -6,6 +6,7 @@ mod collecting;
 mod entering;
 mod kicking;
 mod known;
+mod looking;
 mod meeting;
 mod opening;
 mod queues;
