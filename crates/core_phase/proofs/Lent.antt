@@ -1,6 +1,7 @@
 -- A phase by its steps: for the law played_parts_are_phases.
 use Rattle.std.proofs.Common.{◌≡◌, List, length, refl, sym, subst}
-use Rattle.std.specs.Prelude.{All, AllZip}
+use Rattle.std.specs.Prelude.{All}
+use Rattle.std.specs.List.{AllZip}
 use Rattle.flow_lock.specs.Orders.{Order}
 use Rattle.flow_lock.specs.Plays.{IsOrdered, IsCounted}
 use Rattle.flow_lock.specs.Steps.{IsAlone, HasAll}

@@ -1,5 +1,6 @@
 //! A phase whose lanes are lent, played and collected by who has the slow path's pass.
-ghost use Rattle.std.specs.Prelude.{◌≡◌, ℕ, List, All, AllZip};
+ghost use Rattle.std.specs.Prelude.{◌≡◌, List, All};
+ghost use Rattle.std.specs.List.{AllZip};
 ghost use Rattle.flow_lock.specs.Orders.{Order};
 ghost use Rattle.flow_lock.specs.Plays.{IsOrdered, IsCounted};
 ghost use Rattle.flow_lock.specs.Steps.{IsAlone, HasAll};

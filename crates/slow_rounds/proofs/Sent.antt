@@ -33,7 +33,7 @@ use Rattle.sound_hosts.proofs.OneFlow.{used_leads, words_same}
 use Rattle.sound_hosts.proofs.Reheld.{StaysWaiting, waiting_same}
 use Rattle.sound_turns.proofs.Steps.{same_led}
 use Rattle.sound_turns.proofs.Sweeps.{base_leads}
-use Rattle.slow_rounds.specs.Rests.{IsCounted}
+use Rattle.sound_hosts.specs.Counting.{IsCounted}
 use Rattle.slow_rounds.specs.Sending.{IsSent, AreSent, with_view}
 
 -- ----- histories

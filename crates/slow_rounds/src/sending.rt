@@ -9,7 +9,7 @@ ghost use Rattle.host_books.specs.Books.{Setting, host_of};
 ghost use Rattle.host_books.specs.Indexes.{AreIndexed};
 ghost use Rattle.sound_hosts.specs.Hosts.{CoreHost};
 ghost use Rattle.sound_hosts.specs.Sound.{IsHostSound};
-ghost use Rattle.slow_rounds.specs.Rests.{IsCounted};
+ghost use Rattle.sound_hosts.specs.Counting.{IsCounted};
 ghost use Rattle.slow_rounds.specs.Sending.{AreSent, IsSilent, with_view};
 
 use core_phase::deeds_leave_the_column;

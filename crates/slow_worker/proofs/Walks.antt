@@ -2,7 +2,7 @@
 use Rattle.std.proofs.Common.{◌≡◌, ap, sym, ◌∙◌, refl, subst, ℕ, zero, suc, ◌+◌, ◌<◌, ◌≤◌, cond, Bool, true, false}
 use Rattle.std.proofs.Common.{List, [], ◌∷◌, ◌++◌, append_assoc, append-nil, length, take, drop, arith}
 use Rattle.std.proofs.lemmas.List.{take-append-drop}
-use Rattle.std.specs.Prelude.{◌==◌, Option, Some, None, slice_get}
+use Rattle.std.specs.Prelude.{◌==◌, Option, Some, None, Result, Ok, Err, OnOk, OnErr, slice_get}
 use mathlib.Core.Option as O
 use lib.ListN.{get_elem?}
 use Rattle.atomic_table.specs.Seated.{TableId}
@@ -25,9 +25,11 @@ use Rattle.host_rounds.specs.Lists.{Each}
 use Rattle.flow_clock.specs.Ledgers as clock
 use Rattle.flow_clock.proofs.Keeping.{after_use, each_at}
 use Rattle.flow_clock.proofs.Serving.{take_more}
+use Rattle.core_worker.specs.Sending.{IsAllSent, IsPartSent}
 use Rattle.core_worker.specs.Kicks.{kick_of, one_kick}
 use Rattle.core_worker.specs.declared.kicks.Kick.{Kick}
 use Rattle.slow_worker.specs.Alone.{IsUsed, AreUsed, IsAsItWas, kicks_due, IsLookedAt, IsLookStopped}
+use Rattle.slow_worker.specs.Alone.{IsSendStopped}
 use Rattle.slow_worker.specs.Workers.{Worker, AreKept}
 use Rattle.slow_worker.specs.declared.known.KnownFlow.{KnownFlow}
 use Rattle.slow_worker.proofs.Found.{both, same_number}
@@ -47,6 +49,19 @@ pub kick_put : (id : FlowId) (r : Flow) (v : View) (kicks kicks' : List Kick) (k
 kick_put id r v kicks kicks' k own alone of put =
     put ∙ ap (λ x. kicks ++ one_kick x)
         (of ∙ (ap (λ f. kick_of f (history r)) own.own ∙ ap (kick_of id) (own.known alone)))
+
+-- with all that became of it, or a part
+pub all_used : {A E : Type 0} (became : History → History → Type 0) (id : FlowId) (r : Flow) (k : History)
+    (v u w : View) (x : Result A E) → IsOwn id v r → IsTaken id (history r) v u → w ≡ gave id k u
+    → OnOk x (became (history r) k) → OnOk x (IsUsed became id v w)
+all_used became id r k v u w (Ok a) own taken given is = (r, k, own, is, used id r k v u w taken given)
+all_used became id r k v u w (Err e) own taken given is = tt
+
+pub part_used : {A E : Type 0} (became : History → History → Type 0) (id : FlowId) (r : Flow) (k : History)
+    (v u w : View) (x : Result A E) → IsOwn id v r → IsTaken id (history r) v u → w ≡ gave id k u
+    → OnErr x (became (history r) k) → OnErr x (IsUsed became id v w)
+part_used became id r k v u w (Ok a) own taken given is = tt
+part_used became id r k v u w (Err e) own taken given is = (r, k, own, is, used id r k v u w taken given)
 
 -- ----- what stays
 pub record Stays (v w : View) : Type 0 where
@@ -179,3 +194,22 @@ look_stopped u v n count is table looked =
       looked = looked;
       rest = ap (λ t. record u { pass = record { table = t; view = n.view } }) table;
     })
+
+-- what was sent, or a part of it
+pub sent_kept : {A E : Type 0} (tick : ℕ) (t : TableId) (s n : Seen) (doomed pins : List FlowId)
+    (flows : List KnownFlow) (x : Result A E) → n.table ≡ s.table
+    → OnOk x (AreUsed (IsAllSent 0 tick) pins s.view n.view) → OnErr x (IsSendStopped tick pins s.view n.view)
+    → AreKept t s doomed pins flows → AreKept t n doomed pins flows
+sent_kept tick t s n doomed pins flows (Ok a) table sent part k =
+    used_kept (IsAllSent 0 tick) t pins s n doomed pins flows table sent k
+sent_kept tick t s n doomed pins flows (Err e) table sent part k =
+    let m : Seen = record s { view = part.before } in
+    used_kept (IsPartSent 0 tick) t (part.at ∷ []) m n doomed pins flows table (n.view, part.part, refl)
+    (used_kept (IsAllSent 0 tick) t part.done s m doomed pins flows refl part.sent k)
+
+pub sent_alone : {A E : Type 0} (tick : ℕ) (pins : List FlowId) (v w : View) (x : Result A E)
+    → OnOk x (AreUsed (IsAllSent 0 tick) pins v w) → OnErr x (IsSendStopped tick pins v w) → IsAlone v → IsAlone w
+sent_alone tick pins v w (Ok a) sent part alone = (all_stay (IsAllSent 0 tick) pins v w sent).alone alone
+sent_alone tick pins v w (Err e) sent part alone =
+    (one_stays (IsPartSent 0 tick) part.at part.before w part.part).alone
+    ((all_stay (IsAllSent 0 tick) part.done v part.before part.sent).alone alone)

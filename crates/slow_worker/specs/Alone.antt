@@ -1,5 +1,5 @@
 -- What the slow path does with its flows where it is alone: each record is taken and given back, one after the other.
-use Rattle.std.specs.Prelude.{◌≡◌, List, [], ◌∷◌, ◌++◌}
+use Rattle.std.specs.Prelude.{◌≡◌, ℕ, List, [], ◌∷◌, ◌++◌}
 use Rattle.tas_model.specs.declared.entry.FlowId.{FlowId}
 use Rattle.flow_state.specs.Flow.{Flow}
 use Rattle.flow_lock.specs.Orders.{known_of}
@@ -8,6 +8,7 @@ use Rattle.flow_lock.specs.declared.view.History.{History}
 use Rattle.flow_lock.specs.declared.view.View.{View}
 use Rattle.app_reaper.specs.OneCall.{history, IsOwn, IsUse}
 use Rattle.core_worker.specs.Kicks.{kick_of, one_kick}
+use Rattle.core_worker.specs.Sending.{IsAllSent, IsPartSent}
 use Rattle.core_worker.specs.Workers.{Common}
 use Rattle.core_worker.specs.declared.kicks.Kick.{Kick}
 use Rattle.slow_worker.specs.Turns.{AreKicksPosted}
@@ -26,6 +27,17 @@ AreUsed became (id ∷ ids) v w = (u : View) × IsUsed became id v u × AreUsed 
 -- the history stayed
 abbrev pub IsAsItWas : History → History → Type 0
 IsAsItWas h k = k ≡ h
+
+-- ----- segments
+-- Memory was wanting at one flow. All that may go was sent of those before it, and a part of that one's.
+pub record IsSendStopped (tick : ℕ) (pins : List FlowId) (v w : View) : Type 0 where
+  pub done : List FlowId
+  pub at : FlowId
+  pub left : List FlowId
+  pub all : pins ≡ done ++ at ∷ left
+  pub before : View
+  pub sent : AreUsed (IsAllSent 0 tick) done v before
+  pub part : IsUsed (IsPartSent 0 tick) at before w
 
 -- ----- kicks
 -- One kick for each of these flows of which a segment may go, in their order.

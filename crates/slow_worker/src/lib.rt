@@ -3,6 +3,7 @@
 
 mod clock;
 mod collecting;
+mod emitting;
 mod entering;
 mod kicking;
 mod known;
