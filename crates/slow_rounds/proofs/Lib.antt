@@ -15,3 +15,4 @@ pub mod Openings
 pub mod Ready
 pub mod Sent
 pub mod GivenUp
+mod SentRest
