@@ -14,4 +14,4 @@ pub use calls::{
 pub use changing::holders_change_at_a_place;
 pub use kills::kills_keep_it;
 pub use listeners::listens_keep_it;
-pub use opened::connects_keep_it;
+pub use opened::{connects_alone_keep_it, connects_keep_it};
