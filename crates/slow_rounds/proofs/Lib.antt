@@ -16,3 +16,4 @@ pub mod Ready
 pub mod Sent
 pub mod GivenUp
 mod SentRest
+mod Kicked

@@ -12,7 +12,8 @@ pub use moving::{
     reaped_flows_are_given_up,
 };
 pub use sending::{
-    emissions_alone_are_emit_phases, emissions_alone_keep_it, rests_sent_alone_are_emit_phases,
+    emissions_alone_are_emit_phases, emissions_alone_keep_it, kicks_alone_keep_it,
+    rests_sent_alone_are_emit_phases,
 };
 pub use turns::{
     collected_lines_are_refusals, first_turns_are_slow_phases, later_turns_are_rest_phases,
