@@ -1,7 +1,7 @@
 -- A flow was opened for an application that connects: for the law connects_keep_it.
 use Rattle.std.proofs.Common.{◌≡◌, ◌≢◌, ℕ, ◌+◌, ◌<◌, ◌≤◌, ◌==◌, ◌&&◌, ◌||◌, not, Bool, true, false, cond, List, [], ◌∷◌}
 use Rattle.std.proofs.Common.{◌++◌, map, length, refl, sym, ap, ◌∙◌, subst, arith, set, min, Some, None, slice_get}
-use Rattle.std.proofs.Common.{count_by, append-nil, length-set, true≢false, leb}
+use Rattle.std.proofs.Common.{count_by, append-nil, length-set, true≢false, leb, inr}
 use Rattle.std.specs.Prelude.{IsPermutation}
 use Rattle.std.specs.List.{filter, list_any}
 use Rattle.std.proofs.lemmas.Bool.Decides.{nat_tests}
@@ -14,6 +14,7 @@ use Rattle.tas_model.specs.declared.entry.Caller.TheVariants as callers
 use Rattle.tas_model.specs.declared.entry.FlowId.{FlowId}
 use Rattle.tas_model.specs.declared.entry.FourTuple.{FourTuple}
 use Rattle.tas_model.specs.declared.entry.HostParams.{HostParams}
+use Rattle.tas_model.specs.Valid.{InRange}
 use Rattle.flow_state.specs.Flow.{Flow}
 use Rattle.flow_index.specs.Changes.{AnswerAlike}
 use Rattle.flow_index.specs.declared.change.Change.{Change}
@@ -36,11 +37,14 @@ use Rattle.flow_lock.specs.declared.view.Mark.{Mark}
 use Rattle.flow_lock.specs.declared.view.Turn.{Turn}
 use Rattle.flow_lock.specs.declared.view.View.{View}
 use Rattle.flow_lock.specs.declared.word.Word.{Word}
+use Rattle.flow_clock.specs.Ledgers as clock
+use Rattle.flow_clock.proofs.Keeping.{still_kept}
 use Rattle.slow_handshake.specs.Openings.{Openings, first_port}
 use Rattle.slow_handshake.specs.declared.openings.Listener.{Listener}
-use Rattle.slow_worker.specs.Opening.{IsIndexed}
-use Rattle.slow_worker.specs.Workers.{Worker, IsSound, sight_of, flow_with, waiting}
+use Rattle.slow_worker.specs.Opening.{IsIndexed, with_open}
+use Rattle.slow_worker.specs.Workers.{Worker, AreKept, HasItsPin, IsSound, sight_of, flow_with, waiting}
 use Rattle.slow_worker.specs.declared.known.KnownFlow.{KnownFlow}
+use Rattle.slow_worker.proofs.Keeping.{opened_kept}
 use Rattle.libtas_sockets.specs.Apps.{Application}
 use Rattle.libtas_sockets.specs.Connecting.{Opener, first_history, next_tuple, numbers_given}
 use Rattle.host_books.specs.Books.{Book}
@@ -475,8 +479,7 @@ connected_told h front a back b x raddr rport tick id sound apps next apart few 
 module _ (h : CoreHost) (front : List Application) (a : Application) (back : List Application) (b : Application)
     (x : Worker) (iss : Seq) (raddr rport tick : ℕ) (id : FlowId) (sound : IsHostSound h)
     (apps_are : h.apps ≡ front ++ a ∷ back) (free_ports : h.slow.path.params.fixed ≡ false)
-    (few : length h.books < 4294967295) (joined : HasConnectedAlone id raddr rport iss tick a b h.slow x)
-    (kept : IsSound h.table (sight_of x)) where
+    (few : length h.books < 4294967295) (joined : HasConnectedAlone id raddr rport iss tick a b h.slow x) where
   abbrev begun : History
   begun = first_history (next_tuple h.slow.path raddr rport) h.slow.path.params (callers.App a.number) tick iss
 
@@ -543,6 +546,47 @@ module _ (h : CoreHost) (front : List Application) (a : Application) (back : Lis
     begun = ap (λ (y : Application). y.begun) joined.opened.joined;
     sockets = ap (λ (y : Application). y.sockets) joined.opened.joined;
   }
+
+  -- the worker may work still
+  abbrev opened_pass : Seen
+  opened_pass = with_open id begun h.slow.pass
+
+  abbrev known_now : KnownFlow
+  known_now = record { tuple = begun.tuple; id = id }
+
+  near : id.slot < h.table.slots
+  near =
+      let wide : length h.slow.pass.view.marks ≡ h.table.slots = sound.wide.0 in
+      let within : id.slot < length h.slow.pass.view.marks = (next_slot h.slow.pass.view.marks id joined.opened.next).within
+      in omega (arith, wide, within)
+
+  kept_opened : AreKept h.table opened_pass h.slow.doomed (h.slow.pins ++ id ∷ []) (h.slow.flows ++ known_now ∷ [])
+  kept_opened =
+      opened_kept h.table id id begun h.slow.pass opened_pass h.slow.doomed h.slow.pins (h.slow.pins ++ id ∷ [])
+      h.slow.flows (h.slow.flows ++ known_now ∷ []) known_now joined.opened.next near refl refl refl refl refl
+      sound.sound.0
+
+  pins_are : x.pins ≡ h.slow.pins ++ id ∷ []
+  pins_are = ap (λ (o : Opener). o.pins) joined.opened.kept
+
+  kept : IsSound h.table (sight_of x)
+  kept = (
+    record {
+      ready = (
+        ap (λ (s : Seen). s.table) pass ∙ sound.sound.0.ready.0,
+        inr has_opened.alone,
+        ap (λ (v : View). v.held) view_is ∙ sound.sound.0.ready.2,
+      );
+      owned = subst (λ ds. clock.AreKept h.table.slots x.pass ds x.pins)
+          (sym (ap (λ (y : Worker). y.doomed) joined.rest))
+          (subst (λ ps. clock.AreKept h.table.slots x.pass h.slow.doomed ps) (sym pins_are)
+          (still_kept h.table.slots opened_pass x.pass h.slow.doomed (h.slow.pins ++ id ∷ [])
+          (ap (λ (v : View). v.pins) view_is) (ap (λ (v : View). v.marks) view_is) kept_opened.owned));
+      known = λ i f at. subst (λ ps. HasItsPin ps f.id) (sym pins_are)
+          (kept_opened.known i f (ap (λ (fs : List KnownFlow). slice_get fs i) (sym joined.flows) ∙ at));
+    },
+    subst InRange (sym (ap (λ (o : Openings). o.params) joined.path)) sound.sound.1,
+  )
 
   pub connected_alone : IsHostSound (after_connecting id front b back x h)
   connected_alone =

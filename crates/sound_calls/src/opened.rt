@@ -38,6 +38,6 @@ pub fn connects_alone_keep_it()
     ensures { (h : CoreHost) (front back : List Application) (a b : Application) (w : Worker) (iss : Seq)
         (raddr rport tick : ℕ) (id : FlowId) → IsHostSound h → h.apps ≡ front ++ a ∷ back
         → h.slow.path.params.fixed ≡ false → length h.books < 4294967295
-        → HasConnectedAlone id raddr rport iss tick a b h.slow w → IsSound h.table (sight_of w)
+        → HasConnectedAlone id raddr rport iss tick a b h.slow w
         → IsHostSound (after_connecting id front b back w h) }
 {}
