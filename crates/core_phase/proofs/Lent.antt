@@ -34,13 +34,13 @@ module _ (c : Common) (v : View) (vs ls ms : List Lane) (alone : IsAlone v) (idl
 module _ (c : Common) (v w : View) (vs ls ms ws : List Lane) (alone : IsAlone v) (idle : All (IsIdle c) vs)
     (lent : AreLent v.made vs ls) (played : AllZip HasPlayed ls ms) (works : All Works ms) (back : AreBack ms ws)
     (ordered : (order : Order) × IsOrdered order (come_back vs ms v) w) (counted : IsCounted (come_back vs ms v) w)
-    where
-  pub are_phase : All (IsIdle c) ws × IsPhase vs ws v w
-  are_phase =
-      let is_done = done c v vs ls ms alone idle lent played works in
-      let is = view c v vs ls ms alone idle lent played works in (
-        of_every (IsIdle c) ws (idle_again c ms ws (done_ready c 0 vs ms is_done) back),
-        is_phase c v w vs ms ws alone is_done back
-            (subst (λ (x : View). (order : Order) × IsOrdered order x w) is ordered)
-            (subst (λ (x : View). IsCounted x w) is counted),
-      )
+  where
+    pub are_phase : All (IsIdle c) ws × IsPhase vs ws v w
+    are_phase =
+        let is_done = done c v vs ls ms alone idle lent played works in
+        let is = view c v vs ls ms alone idle lent played works in (
+          of_every (IsIdle c) ws (idle_again c ms ws (done_ready c 0 vs ms is_done) back),
+          is_phase c v w vs ms ws alone is_done back
+              (subst (λ (x : View). (order : Order) × IsOrdered order x w) is ordered)
+              (subst (λ (x : View). IsCounted x w) is counted),
+        )

@@ -48,7 +48,7 @@ pub kick_put : (id : FlowId) (r : Flow) (v : View) (kicks kicks' : List Kick) (k
     → kicks' ≡ kicks ++ one_kick (kick_of id (known_of id v.base))
 kick_put id r v kicks kicks' k own alone of put =
     put ∙ ap (λ x. kicks ++ one_kick x)
-        (of ∙ (ap (λ f. kick_of f (history r)) own.own ∙ ap (kick_of id) (own.known alone)))
+    (of ∙ (ap (λ f. kick_of f (history r)) own.own ∙ ap (kick_of id) (own.known alone)))
 
 -- with all that became of it, or a part
 pub all_used : {A E : Type 0} (became : History → History → Type 0) (id : FlowId) (r : Flow) (k : History)

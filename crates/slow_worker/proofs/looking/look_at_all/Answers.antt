@@ -50,9 +50,11 @@ returns-in_err-look_at-clause-part c =
     let l = c.loop-at in
     let pins = c.args.pins.now.list in
     let v = c.args.slow.now.view in
-    err_of ((count : ℕ) × AreUsed IsAsItWas (take count pins) v c.look_at.new.slow.view)
-    (l.at, subst (λ (n : Seen). AreUsed IsAsItWas (take l.at pins) v n.view) (sym c.in_err-look_at.ensures.unlooked)
-    l.invariant.looked) c.from_residual.result
+    err_of ((count : ℕ) × AreUsed IsAsItWas (take count pins) v c.look_at.new.slow.view) (
+      l.at,
+      subst (λ (n : Seen). AreUsed IsAsItWas (take l.at pins) v n.view) (sym c.in_err-look_at.ensures.unlooked)
+          l.invariant.looked,
+    ) c.from_residual.result
 
 pub returns-clause-looked : goal.returns-clause-looked
 returns-clause-looked c =
