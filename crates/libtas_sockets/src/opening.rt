@@ -91,7 +91,8 @@ impl App {
             return Err(SocketError::OutOfMemory);
         };
         pins.put(open_next(t, sp, flow));
-        self.sockets.put(pin_alone(t, sp, &mut self.pass, id));
+        let pin = pin_alone(t, sp, &mut self.pass, id);
+        self.sockets.put(pin);
         Ok(Socket(id.slot))
     }
 }
