@@ -46,7 +46,8 @@ pins_left : (t : TableId) (s n : Seen) (l : List FlowId) (f : FlowId) (r : Flow)
     → e.pins.list ≡ l → IsTaken f (history r) s.view n.view → ArePins t.slots s.view l
     → ArePins t.slots e.pass.view e.pins.list
 pins_left t s n l f r e pass list taken pins =
-    subst (λ (x : Seen). ArePins t.slots x.view e.pins.list) (sym pass) (subst (λ m. ArePins t.slots n.view m) (sym list)
+    subst (λ (x : Seen). ArePins t.slots x.view e.pins.list) (sym pass)
+    (subst (λ m. ArePins t.slots n.view m) (sym list)
     (same_pins t.slots s.view n.view l (ap (λ (x : View). x.pins) taken.3) pins))
 
 held_left : (s n : Seen) (l : List FlowId) (at : ℕ) (f : FlowId) (r : Flow) (e : Ended) → e.pass ≡ n

@@ -28,8 +28,8 @@ pub record IsOpenedAlone (id : FlowId) (h : History) (a b : Application) (s n : 
     pins = s.pins ++ id ∷ [];
   }
 
--- The flow was opened and pinned, by its answer; or every slot has a flow, the application has a socket on the slot that
--- comes next, or memory was wanting, and none was.
+-- The flow was opened and pinned, by its answer; or every slot has a flow, the application has a socket on the slot
+-- that comes next, or memory was wanting, and none was.
 abbrev pub IsConnectionAlone : FourTuple → Seq → (tick : ℕ) → HostParams → (before after : Application)
     → (before after : Opener) → Result Socket SocketError → Type 0
 IsConnectionAlone tuple iss tick params a b s n (Ok socket) =

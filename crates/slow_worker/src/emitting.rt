@@ -64,8 +64,8 @@ fn send_from_all(
 }
 
 impl SlowWorker {
-    /// Sends all that may still go of each flow, where the slow path is alone, as core 0 sends it. Nothing else changes.
-    /// The error is want of memory, and what was sent stays.
+    /// Sends all that may still go of each flow, where the slow path is alone, as core 0 sends it. Nothing else
+    /// changes. The error is want of memory, and what was sent stays.
     pub fn send_rest(&mut self, shared: &Shared, tick: u32) -> Result<(), AllocError>
         requires sound { IsSound shared.now.table (sight_of self.old) }
         requires alone { IsAlone self.old.pass.view }

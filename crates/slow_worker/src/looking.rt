@@ -72,8 +72,8 @@ fn look_at_all(
 
 impl SlowWorker {
     /// Looks at the record of each flow, where the slow path is alone, and posts one kick for each of which a segment
-    /// may go to the queue of its core, or keeps it where that is full. So a flow is kicked to which an application or a
-    /// core gave something to send. No history and no other list changes, and kicks that waited are replaced by those
+    /// may go to the queue of its core, or keeps it where that is full. So a flow is kicked to which an application or
+    /// a core gave something to send. No history and no other list changes, and kicks that waited are replaced by those
     /// of the flows that still have something to send. The error is want of memory, and then no kick was posted.
     pub fn kick_all<R: Wait>(&mut self, rt: &R, shared: &Shared) -> Result<(), AllocError>
         requires sound { IsSound shared.now.table (sight_of self.old) }

@@ -210,7 +210,8 @@ module _ (h : CoreHost) (id : FlowId) (sound : IsHostSound h) (next : next_in h.
   abbrev IsTwicePinned : View → Type 0
   IsTwicePinned w =
       w.words
-      ≡ put_word id.slot (pin_more (word_at (put_word id.slot (live_word id.generation) h.slow.pass.view.words) id.slot))
+      ≡ put_word id.slot
+          (pin_more (word_at (put_word id.slot (live_word id.generation) h.slow.pass.view.words) id.slot))
       (put_word id.slot (live_word id.generation) h.slow.pass.view.words)
 
   module _ (n : ℕ) (view : View) (pinned : IsTwicePinned view) where
@@ -218,7 +219,9 @@ module _ (h : CoreHost) (id : FlowId) (sound : IsHostSound h) (next : next_in h.
     new = new_book id (hosts.Application n)
 
     near : id.slot < length h.slow.pass.view.words
-    near = let wide : length h.slow.pass.view.words ≡ h.table.slots = sound.wide.1 in let l = low in omega (arith, l, wide)
+    near =
+        let wide : length h.slow.pass.view.words ≡ h.table.slots = sound.wide.1 in let l = low in
+        omega (arith, l, wide)
 
     near_then : id.slot < length (put_word id.slot (live_word id.generation) h.slow.pass.view.words)
     near_then =
@@ -299,7 +302,8 @@ module _ (h : CoreHost) (id : FlowId) (sound : IsHostSound h) (next : next_in h.
     abbrev IsElse : Application → Type 0
     IsElse y = (a.number == y.number) ≡ false
 
-    others_after : (zs : List Application) → Each IsElse zs → Each (IsApp h.table h.books) zs → Each (IsApp h.table cs) zs
+    others_after : (zs : List Application) → Each IsElse zs → Each (IsApp h.table h.books) zs
+        → Each (IsApp h.table cs) zs
     others_after [] p q = tt
     others_after (z ∷ zs) p q = (
       record {
@@ -408,7 +412,8 @@ module _ (h : CoreHost) (id : FlowId) (sound : IsHostSound h) (next : next_in h.
             ∙ (sym (flows_more known id k (hosts.Application b.number) h.books others)
             ∙ ap (λ (l : List Held). flows_in l cs) (sym base)));
         pins = opened.pins
-            ∙ (ap (λ (fs : List FlowId). fs ++ id ∷ []) sound.kept.pins ∙ sym (names_with is_indexed h.books nb' [] refl));
+            ∙ (ap (λ (fs : List FlowId). fs ++ id ∷ []) sound.kept.pins
+            ∙ sym (names_with is_indexed h.books nb' [] refl));
         doomed = subst (IsPermutation x.doomed)
             (sym (names_without is_doomed h.books nb' [] refl ∙ append-nil (names is_doomed h.books)))
             (subst (λ (y : Worker). IsPermutation y.doomed (names is_doomed h.books)) (sym opened.rest)
@@ -557,7 +562,8 @@ module _ (h : CoreHost) (front : List Application) (a : Application) (back : Lis
   near : id.slot < h.table.slots
   near =
       let wide : length h.slow.pass.view.marks ≡ h.table.slots = sound.wide.0 in
-      let within : id.slot < length h.slow.pass.view.marks = (next_slot h.slow.pass.view.marks id joined.opened.next).within
+      let within : id.slot < length h.slow.pass.view.marks =
+      (next_slot h.slow.pass.view.marks id joined.opened.next).within
       in omega (arith, wide, within)
 
   kept_opened : AreKept h.table opened_pass h.slow.doomed (h.slow.pins ++ id ∷ []) (h.slow.flows ++ known_now ∷ [])
