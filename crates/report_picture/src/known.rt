@@ -1,3 +1,8 @@
+ghost use Rattle.std.specs.Prelude.{◌≡◌, ◌<◌, is_some, true, false};
+ghost use Rattle.segment_fields.specs.ControlBits as bits;
+ghost use Rattle.report_lines.specs.Views.{seen_seg, seen_call, seen_reply, seen_entry};
+ghost use Rattle.report_picture.specs.Known as rules;
+
 use report_lines::{CallLine, EntryLine, ReplyLine, SegLine};
 use tas_model::{Head, Phase};
 use tas_num::Seq;
@@ -11,7 +16,7 @@ pub struct Known {
     pub iss: Seq,
     pub peer: Option<Seq>,
     /// Whether its SYN is acknowledged.
-    pub open: bool,
+    pub syn_acked: bool,
     /// Whether its application ended the stream, the number behind the FIN once that was sent, and whether this is
     /// acknowledged.
     pub shut: bool,
@@ -30,12 +35,15 @@ pub struct Known {
 
 /// Whether a control bit is set.
 pub fn has(flags: u8, bit: u8) -> bool
+    requires { 0 < bit }
+    ensures { result ≡ bits.has flags bit }
 {
     flags / bit % 2 == 1
 }
 
 /// The number behind a segment that bears a FIN.
 fn behind_fin(head: &Head, len: usize) -> Seq
+    ensures { result ≡ rules.behind_fin head.now len }
 {
     head.seq
         .plus((len as u64 % 4_294_967_296) as u32)
@@ -45,12 +53,13 @@ fn behind_fin(head: &Head, len: usize) -> Seq
 impl Known {
     /// Nothing is known.
     pub fn nothing() -> Known
+        ensures { result ≡ rules.nothing }
     {
         Known {
             begun: false,
             iss: Seq(0),
             peer: None,
-            open: false,
+            syn_acked: false,
             shut: false,
             fin: None,
             fin_acked: false,
@@ -65,6 +74,7 @@ impl Known {
 
     /// The state (RFC 9293, section 3.3.2).
     pub fn phase(&self) -> Phase
+        ensures { result ≡ rules.phase_of self.now }
     {
         if self.closed {
             return Phase::Closed;
@@ -72,7 +82,7 @@ impl Known {
         if self.peer.is_none() {
             return Phase::SynSent;
         }
-        if !self.open {
+        if !self.syn_acked {
             return Phase::SynReceived;
         }
         if !self.shut {
@@ -87,6 +97,11 @@ impl Known {
 
     /// The state where this side has ended its stream.
     fn ending_phase(&self) -> Phase
+        requires open { self.now.syn_acked ≡ true }
+        requires shut { self.now.shut ≡ true }
+        requires lives { self.now.closed ≡ false }
+        requires peer { is_some self.now.peer ≡ true }
+        ensures { result ≡ rules.phase_of self.now }
     {
         match (self.ended, self.ended_first, self.fin_acked) {
             (true, true, _) => Phase::LastAck,
@@ -99,6 +114,7 @@ impl Known {
 
     /// What is known after an entry more.
     pub fn after(&self, entry: &EntryLine<'_>) -> Known
+        ensures { result ≡ rules.after self.now (seen_entry entry.now) }
     {
         self.after_call(&entry.call, &entry.reply)
             .after_reply(&entry.reply)
@@ -106,6 +122,7 @@ impl Known {
 
     /// What the call tells, and its reply of it.
     fn after_call(&self, call: &CallLine<'_>, reply: &ReplyLine<'_>) -> Known
+        ensures { result ≡ rules.after_call self.now (seen_call call.now) (seen_reply reply.now) }
     {
         match call {
             CallLine::Connect { iss } => Known {
@@ -135,6 +152,7 @@ impl Known {
 
     /// What a segment tells that came.
     fn after_rx(&self, seg: &SegLine<'_>, reply: &ReplyLine<'_>) -> Known
+        ensures { result ≡ rules.after_rx self.now (seen_seg seg.now) (seen_reply reply.now) }
     {
         if self.closed {
             return *self;
@@ -157,6 +175,7 @@ impl Known {
 
     /// In SYN-SENT: a SYN that acknowledges this side's opens the connection, and a reset that does closes it.
     fn after_answer(&self, head: &Head, reply: &ReplyLine<'_>) -> Known
+        ensures { result ≡ rules.after_answer self.now head.now (seen_reply reply.now) }
     {
         if !has(head.flags, 16) || head.ack.0 != self.iss.plus(1).0 {
             return *self;
@@ -170,7 +189,7 @@ impl Known {
         match reply {
             ReplyLine::Sent { .. } if has(head.flags, 2) => Known {
                 peer: Some(head.seq),
-                open: true,
+                syn_acked: true,
                 ..*self
             },
             _ => *self,
@@ -180,6 +199,7 @@ impl Known {
     /// Whether a segment is heard: one with ACK alone of the three bits, which begins in the window, or brings on what
     /// is expected.
     fn hears(&self, head: &Head, reply: &ReplyLine<'_>) -> bool
+        ensures { result ≡ rules.hears self.now head.now (seen_reply reply.now) }
     {
         let at = head.seq.minus(self.next);
         has(head.flags, 16)
@@ -189,10 +209,11 @@ impl Known {
 
     /// What its acknowledgement tells: of the SYN, and of the FIN.
     fn after_ack(&self, head: &Head) -> Known
+        ensures { result ≡ rules.after_ack self.now head.now }
     {
         let fin_acked = self.fin_acked || acks_fin(self.fin, head.ack);
         Known {
-            open: self.open || head.ack.0 == self.iss.plus(1).0,
+            syn_acked: self.syn_acked || head.ack.0 == self.iss.plus(1).0,
             fin_acked,
             closed: self.closed || (self.shut && self.ended_first && fin_acked),
             ..*self
@@ -201,6 +222,7 @@ impl Known {
 
     /// What its FIN tells: it was taken where the reply acknowledges it anew.
     fn after_fin(&self, head: &Head, len: usize, next: Seq, reply: &ReplyLine<'_>) -> Known
+        ensures { result ≡ rules.after_fin self.now next head.now len (seen_reply reply.now) }
     {
         let taken = has(head.flags, 1)
             && advances(next, reply)
@@ -217,6 +239,7 @@ impl Known {
 
     /// What a reply tells by itself.
     fn after_reply(&self, reply: &ReplyLine<'_>) -> Known
+        ensures { result ≡ rules.after_reply self.now (seen_reply reply.now) }
     {
         match reply {
             ReplyLine::Sent { seg } => self.after_sent(&seg.head, seg.bytes.len()),
@@ -231,6 +254,7 @@ impl Known {
 
     /// What a segment tells that was sent.
     fn after_sent(&self, head: &Head, len: usize) -> Known
+        ensures { result ≡ rules.after_sent self.now head.now len }
     {
         let tells = has(head.flags, 16) && !has(head.flags, 4);
         Known {
@@ -252,6 +276,7 @@ impl Known {
 
     /// What bytes tell that were read, with the update that was sent then.
     fn after_got(&self, count: usize, update: Option<Head>) -> Known
+        ensures { result ≡ rules.after_got self.now count update }
     {
         let read = Known {
             window: self.window.saturating_add(count as u64),
@@ -266,12 +291,14 @@ impl Known {
 
 /// Whether a reply is Ok.
 fn is_ok(reply: &ReplyLine<'_>) -> bool
+    ensures { result ≡ rules.is_ok (seen_reply reply.now) }
 {
     matches!(reply, ReplyLine::Ok)
 }
 
 /// The number that a reply acknowledges; 0 where it is no segment.
 fn acknowledged(reply: &ReplyLine<'_>) -> Seq
+    ensures { result ≡ rules.acknowledged (seen_reply reply.now) }
 {
     match reply {
         ReplyLine::Sent { seg } => seg.head.ack,
@@ -281,6 +308,7 @@ fn acknowledged(reply: &ReplyLine<'_>) -> Seq
 
 /// Whether a reply acknowledges another number than was expected before.
 fn advances(next: Seq, reply: &ReplyLine<'_>) -> bool
+    ensures { result ≡ rules.advances next (seen_reply reply.now) }
 {
     match reply {
         ReplyLine::Sent { seg } => has(seg.head.flags, 16) && seg.head.ack.0 != next.0,
@@ -290,6 +318,7 @@ fn advances(next: Seq, reply: &ReplyLine<'_>) -> bool
 
 /// Whether an acknowledgement names the number behind the FIN.
 fn acks_fin(fin: Option<Seq>, ack: Seq) -> bool
+    ensures { result ≡ rules.acks_fin fin ack }
 {
     match fin {
         Some(behind) => behind.0 == ack.0,

@@ -1,3 +1,7 @@
+ghost use Rattle.std.specs.Prelude.{◌≡◌, ◌<◌, ◌++◌, codes, OnOk};
+ghost use Rattle.tas_runs.specs.Report.{letter, flags_text, mss_text, reason_text, phase_text, port_text};
+ghost use Rattle.report_picture.specs.Labels as rules;
+
 use crate::known::has;
 use crate::row::{Asked, Fate, Frame, Note, Timer, Told};
 use crate::text::{put, put_counted, put_number};
@@ -13,16 +17,19 @@ pub struct Origins {
 }
 
 /// Appends the letter of a control bit that is set.
-fn put_flag(out: &mut Vec<u8>, flags: u8, bit: u8, letter: &[u8]) -> Result<(), AllocError>
+fn put_flag(out: &mut Vec<u8>, flags: u8, bit: u8, text: &[u8]) -> Result<(), AllocError>
+    requires { 0 < bit }
+    ensures { OnOk result (out.new.items ≡ out.old.items ++ letter flags bit text.now) }
 {
     if has(flags, bit) {
-        return put(out, letter);
+        return put(out, text);
     }
     Ok(())
 }
 
 /// Appends the letters of control bits: C E U A P R S F, or `-` for none.
 fn put_flags(out: &mut Vec<u8>, flags: u8) -> Result<(), AllocError>
+    ensures { OnOk result (out.new.items ≡ out.old.items ++ flags_text flags) }
 {
     if flags == 0 {
         return put(out, b"-");
@@ -39,6 +46,7 @@ fn put_flags(out: &mut Vec<u8>, flags: u8) -> Result<(), AllocError>
 
 /// Appends the number that is acknowledged, where one is.
 fn put_ack(out: &mut Vec<u8>, flags: u8, ack: u32) -> Result<(), AllocError>
+    ensures { OnOk result (out.new.items ≡ out.old.items ++ rules.ack_text flags ack) }
 {
     if has(flags, 16) {
         return put_counted(out, b" ack ", u128::from(ack));
@@ -48,6 +56,7 @@ fn put_ack(out: &mut Vec<u8>, flags: u8, ack: u32) -> Result<(), AllocError>
 
 /// Appends how many bytes a segment has, where it has some.
 fn put_len(out: &mut Vec<u8>, len: usize) -> Result<(), AllocError>
+    ensures { OnOk result (out.new.items ≡ out.old.items ++ rules.len_text len) }
 {
     if len > 0 {
         return put_counted(out, b" len ", len as u128);
@@ -57,6 +66,7 @@ fn put_len(out: &mut Vec<u8>, len: usize) -> Result<(), AllocError>
 
 /// Appends a maximum segment size, where there is one.
 fn put_mss(out: &mut Vec<u8>, mss: Option<u16>) -> Result<(), AllocError>
+    ensures { OnOk result (out.new.items ≡ out.old.items ++ mss_text mss) }
 {
     match mss {
         Some(mss) => put_counted(out, b" mss ", u128::from(mss)),
@@ -66,6 +76,7 @@ fn put_mss(out: &mut Vec<u8>, mss: Option<u16>) -> Result<(), AllocError>
 
 /// Appends what is told of a frame: its flags, its numbers, its length and its window. The error is want of memory.
 pub fn put_label(out: &mut Vec<u8>, origins: Origins, frame: &Frame) -> Result<(), AllocError>
+    ensures { OnOk result (out.new.items ≡ out.old.items ++ rules.label_text origins frame.now) }
 {
     let head = frame.head;
     put_flags(out, head.flags)?;
@@ -78,6 +89,7 @@ pub fn put_label(out: &mut Vec<u8>, origins: Origins, frame: &Frame) -> Result<(
 
 /// Appends what was asked.
 fn put_asked(out: &mut Vec<u8>, asked: Asked) -> Result<(), AllocError>
+    ensures { OnOk result (out.new.items ≡ out.old.items ++ rules.asked_text asked) }
 {
     match asked {
         Asked::Connect => put(out, b"connect"),
@@ -93,6 +105,7 @@ fn put_asked(out: &mut Vec<u8>, asked: Asked) -> Result<(), AllocError>
 
 /// Why an endpoint is closed.
 fn reason_name(reason: Reason) -> &'static [u8]
+    ensures { result.now ≡ reason_text reason }
 {
     match reason {
         Reason::Done => b"done",
@@ -103,8 +116,17 @@ fn reason_name(reason: Reason) -> &'static [u8]
     }
 }
 
+/// Appends that the connection is closed, and why.
+fn put_closed(out: &mut Vec<u8>, reason: Reason) -> Result<(), AllocError>
+    ensures { OnOk result (out.new.items ≡ out.old.items ++ (codes " = closed " ++ reason_text reason)) }
+{
+    put(out, b" = closed ")?;
+    put(out, reason_name(reason))
+}
+
 /// Appends what was told.
 fn put_told(out: &mut Vec<u8>, told: Told) -> Result<(), AllocError>
+    ensures { OnOk result (out.new.items ≡ out.old.items ++ rules.told_text told) }
 {
     match told {
         Told::Ok => put(out, b" = ok"),
@@ -113,16 +135,14 @@ fn put_told(out: &mut Vec<u8>, told: Told) -> Result<(), AllocError>
         Told::End => put(out, b" = end"),
         Told::NotOpen => put(out, b" = notopen"),
         Told::Shut => put(out, b" = shut"),
-        Told::Closed { reason } => {
-            put(out, b" = closed ")?;
-            put(out, reason_name(reason))
-        }
+        Told::Closed { reason } => put_closed(out, reason),
         Told::Done => Ok(()),
     }
 }
 
 /// The name of a timer that ran out.
 fn timer_name(timer: Timer) -> &'static [u8]
+    ensures { result.now ≡ rules.timer_text timer }
 {
     match timer {
         Timer::Resend => b"timer: resend",
@@ -132,21 +152,28 @@ fn timer_name(timer: Timer) -> &'static [u8]
     }
 }
 
+/// Appends what was asked and told.
+fn put_call(out: &mut Vec<u8>, asked: Asked, told: Told) -> Result<(), AllocError>
+    ensures { OnOk result (out.new.items ≡ out.old.items ++ (rules.asked_text asked ++ rules.told_text told)) }
+{
+    put_asked(out, asked)?;
+    put_told(out, told)
+}
+
 /// Appends a note. The error is want of memory.
 pub fn put_note(out: &mut Vec<u8>, note: Note) -> Result<(), AllocError>
+    ensures { OnOk result (out.new.items ≡ out.old.items ++ rules.note_text note) }
 {
     match note {
         Note::Nothing => Ok(()),
-        Note::Call { asked, told } => {
-            put_asked(out, asked)?;
-            put_told(out, told)
-        }
+        Note::Call { asked, told } => put_call(out, asked, told),
         Note::Timer(timer) => put(out, timer_name(timer)),
     }
 }
 
 /// The state of a connection (RFC 9293, section 3.3.2).
 pub fn phase_name(phase: Phase) -> &'static [u8]
+    ensures { result.now ≡ phase_text phase }
 {
     match phase {
         Phase::SynSent => b"SYN-SENT",
@@ -164,6 +191,7 @@ pub fn phase_name(phase: Phase) -> &'static [u8]
 
 /// Appends what became of a frame where it came.
 pub fn put_fate(out: &mut Vec<u8>, fate: Fate) -> Result<(), AllocError>
+    ensures { OnOk result (out.new.items ≡ out.old.items ++ rules.fate_text fate) }
 {
     match fate {
         Fate::Taken => Ok(()),
@@ -176,6 +204,7 @@ pub fn put_fate(out: &mut Vec<u8>, fate: Fate) -> Result<(), AllocError>
 
 /// Appends an address in dotted decimals with its port. The error is want of memory.
 pub fn put_socket(out: &mut Vec<u8>, addr: u32, port: u16) -> Result<(), AllocError>
+    ensures { OnOk result (out.new.items ≡ out.old.items ++ port_text addr port) }
 {
     put_number(out, u128::from(addr / 16_777_216))?;
     put_counted(out, b".", u128::from(addr / 65_536 % 256))?;

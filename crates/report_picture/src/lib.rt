@@ -7,11 +7,11 @@ mod gathered;
 mod index;
 mod known;
 mod labels;
-mod picture;
+mod pictures;
 mod row;
 mod rows;
 mod rungs;
 mod text;
 
 pub use index::Wanted;
-pub use picture::{PictureFault, picture};
+pub use pictures::{PictureFault, picture};

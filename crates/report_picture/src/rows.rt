@@ -1,3 +1,10 @@
+ghost use Rattle.std.specs.Prelude.{◌≡◌, ◌++◌, OnOk, Some, None};
+ghost use Rattle.report_lines.specs.Views.{seen_call, seen_reply, seen_entry, seen_event};
+ghost use Rattle.report_picture.specs.Known.{after as model_after};
+ghost use Rattle.report_picture.specs.Rows as rules;
+ghost use Rattle.report_picture.specs.declared.row.Note.TheVariants as notes;
+ghost use Rattle.report_picture.specs.declared.row.Framed.TheVariants as framed_as;
+
 use crate::known::Known;
 use crate::row::{Asked, Fate, Frame, Framed, Note, Row, Timer, Told};
 use report_lines::{CallLine, EntryLine, EventLine, ReplyLine};
@@ -13,6 +20,7 @@ pub struct Owner {
 
 /// What an application was told; `None` where it has to ask again.
 fn told(reply: &ReplyLine<'_>) -> Option<Told>
+    ensures { result ≡ rules.told (seen_reply reply.now) }
 {
     match reply {
         ReplyLine::Ok => Some(Told::Ok),
@@ -29,6 +37,7 @@ fn told(reply: &ReplyLine<'_>) -> Option<Told>
 
 /// What an application asked; `None` where the call is none of its.
 fn asked(call: &CallLine<'_>) -> Option<Asked>
+    ensures { result ≡ rules.asked (seen_call call.now) }
 {
     match call {
         CallLine::Connect { .. } => Some(Asked::Connect),
@@ -45,6 +54,7 @@ fn asked(call: &CallLine<'_>) -> Option<Asked>
 
 /// The timer that ran out.
 fn timer(reply: &ReplyLine<'_>) -> Note
+    ensures { result ≡ rules.timer (seen_reply reply.now) }
 {
     match reply {
         ReplyLine::Resend => Note::Timer(Timer::Resend),
@@ -57,6 +67,7 @@ fn timer(reply: &ReplyLine<'_>) -> Note
 
 /// What is noted of an entry.
 fn note(call: &CallLine<'_>, reply: &ReplyLine<'_>) -> Note
+    ensures { result ≡ rules.note (seen_call call.now) (seen_reply reply.now) }
 {
     match (asked(call), told(reply)) {
         (Some(asked), Some(told)) => Note::Call { asked, told },
@@ -67,6 +78,7 @@ fn note(call: &CallLine<'_>, reply: &ReplyLine<'_>) -> Note
 
 /// The frame that came in an entry.
 fn came(call: &CallLine<'_>) -> Option<Frame>
+    ensures { result ≡ rules.came (seen_call call.now) }
 {
     match call {
         CallLine::Passive { frame, seg, .. } | CallLine::Rx { frame, seg } => Some(Frame {
@@ -80,6 +92,7 @@ fn came(call: &CallLine<'_>) -> Option<Frame>
 
 /// The frame that was sent in an entry: the end's frame of this number.
 fn sent(owner: Owner, number: u64, reply: &ReplyLine<'_>) -> Option<Frame>
+    ensures { result ≡ rules.sent (rules.own owner number) (seen_reply reply.now) }
 {
     let id = FrameId {
         host: owner.host,
@@ -100,26 +113,55 @@ fn sent(owner: Owner, number: u64, reply: &ReplyLine<'_>) -> Option<Frame>
 
 /// The frame of an update.
 fn sent_update(id: FrameId, update: Option<Head>) -> Option<Frame>
+    ensures { result ≡ rules.sent_update id update }
 {
     let head = update?;
     Some(Frame { id, head, len: 0 })
 }
 
+/// The number of a state.
+fn phase_number(phase: Phase) -> u8
+    ensures { result ≡ rules.phase_number phase }
+{
+    match phase {
+        Phase::SynSent => 0,
+        Phase::SynReceived => 1,
+        Phase::Established => 2,
+        Phase::FinWait1 => 3,
+        Phase::FinWait2 => 4,
+        Phase::CloseWait => 5,
+        Phase::Closing => 6,
+        Phase::LastAck => 7,
+        Phase::TimeWait => 8,
+        Phase::Closed => 9,
+    }
+}
+
+/// Whether these are one state.
+fn is_phase(one: Phase, other: Phase) -> bool
+    ensures { result ≡ rules.is_phase one other }
+{
+    phase_number(one) == phase_number(other)
+}
+
 /// The state after an entry, where it is another than before.
 fn new_state(before: &Known, after: &Known) -> Option<Phase>
+    ensures { result ≡ rules.new_state before.now after.now }
 {
-    if before.begun && before.phase() == after.phase() {
+    if before.begun && is_phase(before.phase(), after.phase()) {
         return None;
     }
     Some(after.phase())
 }
 
-/// Whether a row shows anything.
-fn is_shown(row: &Row) -> bool
+/// Whether something is noted.
+fn is_noted(note: Note) -> bool
+    ensures { result ≡ rules.is_noted note }
 {
-    !matches!(row.note, Note::Nothing)
-        || row.state.is_some()
-        || !matches!(row.framed, Framed::Nothing)
+    match note {
+        Note::Nothing => false,
+        Note::Call { .. } | Note::Timer(_) => true,
+    }
 }
 
 /// Appends the rows of an entry, of which there are two at most: a frame that came and the one that answers it have one
@@ -130,19 +172,17 @@ pub fn push_rows(
     known: &Known,
     entry: &EntryLine<'_>,
 ) -> Result<(), AllocError>
+    ensures { OnOk result (rows.new.items ≡ rows.old.items ++ rules.rows_of owner known.now (seen_entry entry.now)) }
 {
-    let first = Row {
+    let row = Row {
         tick: entry.tick,
         note: note(&entry.call, &entry.reply),
         state: new_state(known, &known.after(entry)),
         framed: Framed::Nothing,
     };
-    push_framed(
-        rows,
-        first,
-        came(&entry.call),
-        sent(owner, known.sent, &entry.reply),
-    )
+    let came = came(&entry.call);
+    let sent = sent(owner, known.sent, &entry.reply);
+    push_framed(rows, row, came, sent)
 }
 
 /// Appends a row with the frames that came and went.
@@ -152,27 +192,36 @@ fn push_framed(
     came: Option<Frame>,
     sent: Option<Frame>,
 ) -> Result<(), AllocError>
+    ensures { OnOk result (rows.new.items ≡ rows.old.items ++ rules.rows_by row.tick row.note row.state came sent) }
 {
     match (came, sent) {
         (Some(came), Some(sent)) => {
             rows.push(framed(row, Framed::Came(came)))?;
             rows.push(answer(row.tick, sent))?;
+            Ok(())
         }
-        (Some(came), None) => rows.push(framed(row, Framed::Came(came)))?,
-        (None, Some(sent)) => rows.push(framed(row, Framed::Sent(sent)))?,
-        (None, None) => push_shown(rows, row)?,
+        (Some(came), None) => {
+            rows.push(framed(row, Framed::Came(came)))?;
+            Ok(())
+        }
+        (None, Some(sent)) => {
+            rows.push(framed(row, Framed::Sent(sent)))?;
+            Ok(())
+        }
+        (None, None) => push_shown(rows, row),
     }
-    Ok(())
 }
 
 /// The row with what passes in it.
 fn framed(row: Row, framed: Framed) -> Row
+    ensures { result ≡ rules.row row.tick row.note row.state framed }
 {
     Row { framed, ..row }
 }
 
 /// The row of a frame that answers.
 fn answer(tick: u32, sent: Frame) -> Row
+    ensures { result ≡ rules.row tick notes.Nothing None (framed_as.Sent sent) }
 {
     Row {
         tick,
@@ -182,18 +231,20 @@ fn answer(tick: u32, sent: Frame) -> Row
     }
 }
 
-/// Appends a row, where it shows anything.
+/// Appends a row in which nothing passes, where it shows anything.
 fn push_shown(rows: &mut Vec<Row>, row: Row) -> Result<(), AllocError>
+    ensures { OnOk result (rows.new.items ≡ rows.old.items ++ rules.rows_by row.tick row.note row.state None None) }
 {
-    if !is_shown(&row) {
+    if !is_noted(row.note) && row.state.is_none() {
         return Ok(());
     }
-    rows.push(row)?;
+    rows.push(framed(row, Framed::Nothing))?;
     Ok(())
 }
 
 /// The row of a line of a log, where it tells of a frame.
 pub fn logged_row(tick: u32, event: &EventLine<'_>) -> Option<Row>
+    ensures { result ≡ rules.logged_row tick (seen_event event.now) }
 {
     match event {
         EventLine::Strayed { frame, .. } => Some(met(tick, *frame, Fate::Stray)),
@@ -207,6 +258,7 @@ pub fn logged_row(tick: u32, event: &EventLine<'_>) -> Option<Row>
 
 /// The row of a frame that the connection had not.
 fn met(tick: u32, id: FrameId, fate: Fate) -> Row
+    ensures { result ≡ rules.met tick id fate }
 {
     Row {
         tick,
