@@ -3,7 +3,6 @@ use Rattle.std.specs.Prelude.{ℕ, Bool, true, false, is_some, List, [], ◌∷�
 use Rattle.std.specs.Prelude.{option_to_list, Option, Some, None, if◌then◌else◌}
 use Rattle.tas_model.specs.declared.entry.FrameId.{FrameId}
 use Rattle.report_picture.specs.declared.row.Fate.{Fate}
-use Rattle.report_picture.specs.declared.row.Fate.TheVariants as fates
 use Rattle.report_picture.specs.declared.row.Frame.{Frame}
 use Rattle.report_picture.specs.declared.rungs.Side.{Side}
 use Rattle.report_picture.specs.declared.rungs.Side.TheVariants.{Left, Right}
@@ -46,17 +45,17 @@ line_text sender start height =
 
 -- ----- heads
 -- filled where the connection had the frame
-abbrev pub head_name : (sender : Side) → Fate → List ℕ
-head_name Left fates.Taken = codes "left-head"
-head_name Right fates.Taken = codes "right-head"
-head_name Left _ = codes "left-mark"
-head_name Right _ = codes "right-mark"
+abbrev pub head_name : (sender : Side) → Option Fate → List ℕ
+head_name Left None = codes "left-head"
+head_name Right None = codes "right-head"
+head_name Left (Some fate) = codes "left-mark"
+head_name Right (Some fate) = codes "right-mark"
 
 abbrev pub head_form : (sender : Side) → List ℕ
 head_form Left = codes "l-10 -4v8z"
 head_form Right = codes "l10 -4v8z"
 
-abbrev pub head_text : (sender : Side) → (y : ℕ) → Fate → List ℕ
+abbrev pub head_text : (sender : Side) → (y : ℕ) → Option Fate → List ℕ
 head_text sender y fate = path (head_name sender fate) (lifeline (across sender)) y (head_form sender)
 
 -- ----- labels and marks
@@ -99,19 +98,28 @@ abbrev pub comes_on : (sender : Side) → FrameId → Rung → Bool
 comes_on sender id r = is_some (arrival_on (across sender) id r)
 
 -- a frame that came nowhere: lost with a cross where both ends are in the report, and else of an end that is not known
-abbrev pub lost_text : Look → (sender : Side) → (y : ℕ) → List ℕ
-lost_text look sender y =
-    if look.both then path (side_name sender) (lifeline sender) y (codes "H620")
+abbrev pub lost_line : (sender : Side) → (y : ℕ) → List ℕ
+lost_line sender y = path (side_name sender) (lifeline sender) y (codes "H620")
     ++ path (codes "cross") (codes "620") y (codes "m-6 -6l12 12m0 -12l-12 12")
-    else line_text sender y y ++ head_text sender y fates.Taken
+
+abbrev pub unknown_line : (sender : Side) → (y : ℕ) → List ℕ
+unknown_line sender y = line_text sender y y ++ head_text sender y None
+
+abbrev pub lost_text : Look → (sender : Side) → (y : ℕ) → List ℕ
+lost_text look sender y = if look.both then lost_line sender y else unknown_line sender y
+
+abbrev pub ring : (y : ℕ) → List ℕ
+ring y = path (codes "ring") (codes "616") y (codes "a4 4 0 1 0 8 0a4 4 0 1 0 -8 0z")
 
 abbrev pub ring_text : Look → (y : ℕ) → List ℕ
-ring_text look y =
-    if look.both then path (codes "ring") (codes "616") y (codes "a4 4 0 1 0 8 0a4 4 0 1 0 -8 0z") else []
+ring_text look y = if look.both then ring y else []
 
 -- where the line of a frame begins that was not sent on a rung: half way, or at the other lifeline
 abbrev pub origin : Look → (sender : Side) → List ℕ
 origin look sender = if look.both then codes "620" else lifeline sender
+
+abbrev pub came_line : Look → (sender : Side) → (y : ℕ) → List ℕ
+came_line look sender y = path (side_name sender) (origin look sender) y (way_end sender)
 
 abbrev pub ways_text : Look → (sender : Side) → (y : ℕ) → List Arrival → List ℕ
 ways_text look sender y [] = lost_text look sender y
@@ -121,5 +129,5 @@ ways_text look sender y (a ∷ as) = flat_map (arrival_text sender y) (a ∷ as)
 abbrev pub arrow_text : Look → Arrow → List ℕ
 arrow_text look (Sent sender y f ends) = ways_text look sender y ends ++ side_label look sender sender y f
 arrow_text look (Came sender y f) =
-    path (side_name sender) (origin look sender) y (way_end sender) ++ ring_text look y
-    ++ head_text sender y fates.Taken ++ side_label look sender (across sender) y f
+    came_line look sender y ++ ring_text look y
+    ++ head_text sender y None ++ side_label look sender (across sender) y f

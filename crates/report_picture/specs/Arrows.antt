@@ -3,7 +3,6 @@ use Rattle.std.specs.Prelude.{ℕ, ◌==◌, Bool, true, false, not, ◌&&◌, n
 use Rattle.std.specs.List.{list_any}
 use Rattle.std.specs.Prelude.{Option, Some, None, if◌then◌else◌}
 use Rattle.tas_model.specs.declared.entry.FrameId.{FrameId}
-use Rattle.report_picture.specs.declared.row.Fate.TheVariants as fates
 use Rattle.report_picture.specs.declared.row.Frame.{Frame}
 use Rattle.report_picture.specs.declared.row.Framed.{Framed}
 use Rattle.report_picture.specs.declared.row.Framed.TheVariants as framed
@@ -40,9 +39,9 @@ framed_on side r = framed_in (row_on side r)
 -- it came on a rung
 abbrev pub arrival_in : (y : ℕ) → FrameId → Framed → Option Arrival
 arrival_in y id (framed.Came f) =
-    if is_same f.id id then Some (record { y = y; fate = fates.Taken; again = nat_lt 0 f.id.copy }) else None
+    if is_same f.id id then Some (record { y = y; fate = None; again = nat_lt 0 f.id.copy }) else None
 arrival_in y id (framed.Met other fate) =
-    if is_same other id then Some (record { y = y; fate = fate; again = nat_lt 0 other.copy }) else None
+    if is_same other id then Some (record { y = y; fate = Some fate; again = nat_lt 0 other.copy }) else None
 arrival_in y id _ = None
 
 abbrev pub arrival_on : Side → FrameId → Rung → Option Arrival

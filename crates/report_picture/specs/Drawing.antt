@@ -63,8 +63,12 @@ end_text side e = text (codes "name") (lifeline side) 34 (codes "0") (escaped e.
     ++ text (codes "socket") (lifeline side) 54 (codes "0") (port_text e.addr e.port)
 
 -- ----- beside the lifelines
+abbrev pub tick_label : Rung → List ℕ
+tick_label r = text (codes "tick") (codes "14") r.y (codes "4") (decimal r.tick)
+
+-- the tick, where the rung is the first of it
 abbrev pub tick_text : Rung → List ℕ
-tick_text r = if r.opens then text (codes "tick") (codes "14") r.y (codes "4") (decimal r.tick) else []
+tick_text r = if r.opens then tick_label r else []
 
 abbrev pub tick_head : List ℕ
 tick_head = text (codes "tick") (codes "14") 54 (codes "0") (codes "tick")
@@ -73,11 +77,13 @@ abbrev pub quiet_text : (ticks : ℕ) → List ℕ
 quiet_text ticks = decimal ticks ++ (if ticks == 1 then codes " quiet tick" else codes " quiet ticks")
 
 -- the fold of quiet ticks above a rung
-abbrev pub fold_text : Rung → List ℕ
-fold_text r =
-    if r.quiet == 0 then []
-    else path (codes "fold") (codes "340") r.y (codes "m0 -38v20") ++ path (codes "fold") (codes "900") r.y (codes "m0 -38v20")
+abbrev pub folded : Rung → List ℕ
+folded r = path (codes "fold") (codes "340") r.y (codes "m0 -38v20")
+    ++ path (codes "fold") (codes "900") r.y (codes "m0 -38v20")
     ++ text (codes "tick") (codes "14") r.y (codes "-24") (quiet_text r.quiet)
+
+abbrev pub fold_text : Rung → List ℕ
+fold_text r = if r.quiet == 0 then [] else folded r
 
 -- an application's call or a timer, at the outer side
 abbrev pub note_name : Side → List ℕ
@@ -88,9 +94,12 @@ abbrev pub note_place : Side → List ℕ
 note_place Left = codes "240"
 note_place Right = codes "1000"
 
+abbrev pub noted : Side → (y : ℕ) → Note → List ℕ
+noted side y n = text (note_name side) (note_place side) y (codes "4") (note_text n)
+
 abbrev pub side_note : Side → (y : ℕ) → Note → List ℕ
 side_note side y notes.Nothing = []
-side_note side y n = text (note_name side) (note_place side) y (codes "4") (note_text n)
+side_note side y n = noted side y n
 
 -- a new state, beside the lifeline
 abbrev pub state_name : Side → List ℕ

@@ -74,10 +74,10 @@ note_text notes.Nothing = []
 note_text (notes.Call asked told) = asked_text asked ++ told_text told
 note_text (notes.Timer timer) = timer_text timer
 
--- what became of a frame where it came
-abbrev pub fate_text : Fate → List ℕ
-fate_text fates.Taken = []
-fate_text fates.Stray = codes "stray"
-fate_text (fates.Dropped true) = codes "dropped: backlog full"
-fate_text (fates.Dropped false) = codes "dropped: no slot"
-fate_text (fates.Refused rule) = codes "damaged: rule " ++ decimal rule
+-- what became of a frame that the connection had not
+abbrev pub fate_text : Option Fate → List ℕ
+fate_text None = []
+fate_text (Some fates.Stray) = codes "stray"
+fate_text (Some (fates.Dropped true)) = codes "dropped: backlog full"
+fate_text (Some (fates.Dropped false)) = codes "dropped: no slot"
+fate_text (Some (fates.Refused rule)) = codes "damaged: rule " ++ decimal rule

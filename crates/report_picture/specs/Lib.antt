@@ -7,3 +7,5 @@ pub mod Elements
 pub mod ArrowTexts
 pub mod Drawing
 pub mod Views
+pub mod WellFormed
+pub mod OneArrow

@@ -95,14 +95,14 @@ fn put_line(out: &mut Vec<u8>, sender: Side, from: u128, to: u128) -> Result<(),
 }
 
 /// What a head is called that a side sent: filled where the connection had the frame.
-fn head_name(sender: Side, fate: Fate) -> &'static [u8]
+fn head_name(sender: Side, fate: Option<Fate>) -> &'static [u8]
     ensures { result.now ≡ texts.head_name sender fate }
 {
     match (sender, fate) {
-        (Side::Left, Fate::Taken) => b"left-head",
-        (Side::Right, Fate::Taken) => b"right-head",
-        (Side::Left, _) => b"left-mark",
-        (Side::Right, _) => b"right-mark",
+        (Side::Left, None) => b"left-head",
+        (Side::Right, None) => b"right-head",
+        (Side::Left, Some(_)) => b"left-mark",
+        (Side::Right, Some(_)) => b"right-mark",
     }
 }
 
@@ -117,7 +117,7 @@ fn head_form(sender: Side) -> &'static [u8]
 }
 
 /// Appends an arrow's head.
-fn put_head(out: &mut Vec<u8>, sender: Side, y: u128, fate: Fate) -> Result<(), AllocError>
+fn put_head(out: &mut Vec<u8>, sender: Side, y: u128, fate: Option<Fate>) -> Result<(), AllocError>
     ensures { OnOk result (out.new.items ≡ out.old.items ++ texts.head_text sender y fate) }
 {
     put_path(
@@ -260,7 +260,7 @@ fn put_lost(out: &mut Vec<u8>, look: &Look, sender: Side, y: u128) -> Result<(),
         return put_path(out, b"cross", b"620", y, b"m-6 -6l12 12m0 -12l-12 12");
     }
     put_line(out, sender, y, y)?;
-    put_head(out, sender, y, Fate::Taken)
+    put_head(out, sender, y, None)
 }
 
 /// Appends a frame that was sent from a side.
@@ -319,7 +319,7 @@ fn put_came(
         way_end(sender),
     )?;
     put_ring(out, look, y)?;
-    put_head(out, sender, y, Fate::Taken)?;
+    put_head(out, sender, y, None)?;
     put_side_label(out, look, sender, across(sender), y, frame)
 }
 

@@ -189,16 +189,16 @@ pub fn phase_name(phase: Phase) -> &'static [u8]
     }
 }
 
-/// Appends what became of a frame where it came.
-pub fn put_fate(out: &mut Vec<u8>, fate: Fate) -> Result<(), AllocError>
+/// Appends what became of a frame that the connection had not. The error is want of memory.
+pub fn put_fate(out: &mut Vec<u8>, fate: Option<Fate>) -> Result<(), AllocError>
     ensures { OnOk result (out.new.items ≡ out.old.items ++ rules.fate_text fate) }
 {
     match fate {
-        Fate::Taken => Ok(()),
-        Fate::Stray => put(out, b"stray"),
-        Fate::Dropped { backlog: true } => put(out, b"dropped: backlog full"),
-        Fate::Dropped { backlog: false } => put(out, b"dropped: no slot"),
-        Fate::Refused { rule } => put_counted(out, b"damaged: rule ", u128::from(rule)),
+        None => Ok(()),
+        Some(Fate::Stray) => put(out, b"stray"),
+        Some(Fate::Dropped { backlog: true }) => put(out, b"dropped: backlog full"),
+        Some(Fate::Dropped { backlog: false }) => put(out, b"dropped: no slot"),
+        Some(Fate::Refused { rule }) => put_counted(out, b"damaged: rule ", u128::from(rule)),
     }
 }
 

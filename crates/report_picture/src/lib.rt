@@ -7,6 +7,7 @@ mod gathered;
 mod index;
 mod known;
 mod labels;
+mod laws;
 mod pictures;
 mod row;
 mod rows;
@@ -14,4 +15,5 @@ mod rungs;
 mod text;
 
 pub use index::Wanted;
+pub use laws::{drawings_are_well_formed, entries_stand_in_one_arrow};
 pub use pictures::{PictureFault, picture};

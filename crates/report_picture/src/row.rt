@@ -44,11 +44,9 @@ pub enum Note {
     Timer(Timer),
 }
 
-/// What became of a frame where it came.
+/// What became of a frame that came, and that the connection had not.
 #[derive(Clone, Copy)]
 pub enum Fate {
-    /// The connection had it.
-    Taken,
     /// It was of no flow.
     Stray,
     /// It was a SYN, and dropped: for a full backlog where `backlog` is true, and else for want of a slot.

@@ -26,11 +26,11 @@ pub struct Rung {
     pub right: Option<Row>,
 }
 
-/// Where a frame came: how far down, what became of it, and whether it is a second copy.
+/// Where a frame came: how far down, what became of it where the connection had it not, and whether it is a second copy.
 #[derive(Clone, Copy)]
 pub struct Arrival {
     pub y: u128,
-    pub fate: Fate,
+    pub fate: Option<Fate>,
     pub again: bool,
 }
 
@@ -205,12 +205,12 @@ fn arrival_of(y: u128, id: &FrameId, framed: Framed) -> Option<Arrival>
     match framed {
         Framed::Came(frame) if is_same(&frame.id, id) => Some(Arrival {
             y,
-            fate: Fate::Taken,
+            fate: None,
             again: frame.id.copy > 0,
         }),
         Framed::Met { id: met, fate } if is_same(&met, id) => Some(Arrival {
             y,
-            fate,
+            fate: Some(fate),
             again: met.copy > 0,
         }),
         _ => None,
