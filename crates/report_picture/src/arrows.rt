@@ -2,6 +2,7 @@ ghost use Rattle.std.specs.Prelude.{◌≡◌, ◌++◌, not, length, flat_map, 
 ghost use Rattle.std.specs.List.{list_any};
 ghost use Rattle.report_picture.specs.Arrows as rules;
 ghost use Rattle.report_picture.specs.ArrowTexts as texts;
+ghost use Rattle.report_picture.specs.declared.rungs.Side.TheVariants as sides;
 
 use crate::labels::{Origins, put_fate, put_label};
 use crate::row::{Fate, Frame, Framed};
@@ -355,16 +356,32 @@ fn put_side_arrow(
     }
 }
 
+/// Appends the arrows that begin on a rung.
+fn put_rung_arrows(
+    out: &mut Vec<u8>,
+    look: &Look,
+    above: &[Rung],
+    rung: &Rung,
+    below: &[Rung],
+) -> Result<(), AllocError>
+    ensures { OnOk result (out.new.items ≡ out.old.items
+        ++ (flat_map (texts.arrow_text look.now) (rules.arrow_on sides.Left above.now rung.now below.now)
+        ++ flat_map (texts.arrow_text look.now) (rules.arrow_on sides.Right above.now rung.now below.now))) }
+{
+    put_side_arrow(out, look, Side::Left, above, rung, below)?;
+    put_side_arrow(out, look, Side::Right, above, rung, below)
+}
+
 /// Appends the arrows of a ladder, in the order of their first ends. The error is want of memory.
 pub fn put_arrows(out: &mut Vec<u8>, look: &Look, rungs: &[Rung]) -> Result<(), AllocError>
     ensures { OnOk result (out.new.items ≡ out.old.items ++ flat_map (texts.arrow_text look.now) (rules.arrows rungs.now)) }
 {
-    for i in 0..rungs.len() {
-        let (above, rest) = rungs.split_at(i);
-        if let [rung, below @ ..] = rest {
-            put_side_arrow(out, look, Side::Left, above, rung, below)?;
-            put_side_arrow(out, look, Side::Right, above, rung, below)?;
-        }
+    let mut rest = rungs;
+    let mut count: usize = 0;
+    while let [rung, below @ ..] = rest {
+        put_rung_arrows(out, look, &rungs[..count], rung, below)?;
+        count += 1;
+        rest = below;
     }
     Ok(())
 }

@@ -112,7 +112,7 @@ pub fn rungs_of(alloc: Global, left: &[Row], right: &[Row]) -> Result<Vec<Rung>,
     let mut ours = left;
     let mut theirs = right;
     let mut last: Option<Rung> = None;
-    while !ours.is_empty() || !theirs.is_empty() {
+    'rungs: while !ours.is_empty() || !theirs.is_empty() {
         let tick = tick_of(ours).min(tick_of(theirs));
         let rung = below(
             last,
