@@ -1,5 +1,0 @@
-pub mod Forms
-pub mod OneArrow
-pub mod Pictures
-pub mod Ways
-pub mod Sides

@@ -13,15 +13,13 @@ use Rattle.tas_model.specs.declared.entry.Reply.{Reply}
 use Rattle.tas_model.specs.declared.entry.Reply.TheVariants as replies
 use Rattle.tas_model.specs.declared.entry.Entry.{Entry}
 use Rattle.tas_model.specs.Endpoint.{phase_by}
+use Rattle.ladder_picture.specs.Labels.{behind}
 use Rattle.report_picture.specs.declared.known.Known.{Known}
 
 -- ----- numbers
--- the number that is `n` behind another one, and how far one is behind a first one
+-- the number that is `n` behind another one
 abbrev pub plus : Seq → (n : ℕ) → Seq
 plus s n = record { 0 = (s.0 + n) % 2 ^ 32 }
-
-abbrev pub behind : (first s : Seq) → ℕ
-behind first s = (s.0 + (2 ^ 32 - first.0)) % 2 ^ 32
 
 -- the number behind a segment that bears a FIN
 abbrev pub behind_fin : Head → (len : ℕ) → Seq

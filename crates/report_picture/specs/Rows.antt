@@ -12,19 +12,19 @@ use Rattle.tas_model.specs.declared.entry.Reply.{Reply}
 use Rattle.tas_model.specs.declared.entry.Reply.TheVariants as replies
 use Rattle.tas_model.specs.declared.entry.Entry.{Entry}
 use Rattle.report_lines.specs.Events.{Event, Strayed, Dropped, Refused}
-use Rattle.report_picture.specs.declared.row.Asked.{Asked}
-use Rattle.report_picture.specs.declared.row.Asked.TheVariants as asks
-use Rattle.report_picture.specs.declared.row.Told.{Told}
-use Rattle.report_picture.specs.declared.row.Told.TheVariants as tolds
-use Rattle.report_picture.specs.declared.row.Timer.TheVariants as timers
-use Rattle.report_picture.specs.declared.row.Note.{Note}
-use Rattle.report_picture.specs.declared.row.Note.TheVariants as notes
-use Rattle.report_picture.specs.declared.row.Fate.{Fate}
-use Rattle.report_picture.specs.declared.row.Fate.TheVariants as fates
-use Rattle.report_picture.specs.declared.row.Frame.{Frame}
-use Rattle.report_picture.specs.declared.row.Framed.{Framed}
-use Rattle.report_picture.specs.declared.row.Framed.TheVariants as framed
-use Rattle.report_picture.specs.declared.row.Row.{Row}
+use Rattle.ladder_picture.specs.declared.row.Asked.{Asked}
+use Rattle.ladder_picture.specs.declared.row.Asked.TheVariants as asks
+use Rattle.ladder_picture.specs.declared.row.Told.{Told}
+use Rattle.ladder_picture.specs.declared.row.Told.TheVariants as tolds
+use Rattle.ladder_picture.specs.declared.row.Timer.TheVariants as timers
+use Rattle.ladder_picture.specs.declared.row.Note.{Note}
+use Rattle.ladder_picture.specs.declared.row.Note.TheVariants as notes
+use Rattle.ladder_picture.specs.declared.row.Fate.{Fate}
+use Rattle.ladder_picture.specs.declared.row.Fate.TheVariants as fates
+use Rattle.ladder_picture.specs.declared.row.Frame.{Frame}
+use Rattle.ladder_picture.specs.declared.row.Framed.{Framed}
+use Rattle.ladder_picture.specs.declared.row.Framed.TheVariants as framed
+use Rattle.ladder_picture.specs.declared.row.Row.{Row}
 use Rattle.report_picture.specs.declared.rows.Owner.{Owner}
 use Rattle.report_picture.specs.declared.known.Known.{Known}
 use Rattle.report_picture.specs.Known.{phase_of, after}

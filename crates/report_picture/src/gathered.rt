@@ -1,6 +1,6 @@
 use crate::index::{Chosen, behind, is_ticked};
 use crate::known::Known;
-use crate::row::Row;
+use ladder_picture::Row;
 use crate::rows::{Owner, logged_row, push_rows};
 use report_lines::{EntryLine, EventLine, ReportLine, read_line};
 use std::alloc::{AllocError, Global};

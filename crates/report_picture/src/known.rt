@@ -1,8 +1,8 @@
 ghost use Rattle.std.specs.Prelude.{◌≡◌, ◌<◌, is_some, true, false};
-ghost use Rattle.segment_fields.specs.ControlBits as bits;
 ghost use Rattle.report_lines.specs.Views.{seen_seg, seen_call, seen_reply, seen_entry};
 ghost use Rattle.report_picture.specs.Known as rules;
 
+use ladder_picture::has;
 use report_lines::{CallLine, EntryLine, ReplyLine, SegLine};
 use tas_model::{Head, Phase};
 use tas_num::Seq;
@@ -31,14 +31,6 @@ pub struct Known {
     pub window: u64,
     /// How many segments were sent.
     pub sent: u64,
-}
-
-/// Whether a control bit is set.
-pub fn has(flags: u8, bit: u8) -> bool
-    requires { 0 < bit }
-    ensures { result ≡ bits.has flags bit }
-{
-    flags / bit % 2 == 1
 }
 
 /// The number behind a segment that bears a FIN.

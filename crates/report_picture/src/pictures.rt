@@ -1,8 +1,6 @@
-use crate::arrows::Look;
-use crate::drawing::{EndName, put_drawing};
 use crate::gathered::{Gathered, Part};
 use crate::index::{Chosen, Index, Wanted};
-use crate::rungs::{insert_log, rungs_of};
+use ladder_picture::{EndName, Look, insert_log, put_drawing, rungs_of};
 use std::alloc::{AllocError, Global};
 use tas_num::Seq;
 

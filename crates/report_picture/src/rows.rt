@@ -2,11 +2,11 @@ ghost use Rattle.std.specs.Prelude.{◌≡◌, ◌++◌, OnOk, Some, None};
 ghost use Rattle.report_lines.specs.Views.{seen_call, seen_reply, seen_entry, seen_event};
 ghost use Rattle.report_picture.specs.Known.{after as model_after};
 ghost use Rattle.report_picture.specs.Rows as rules;
-ghost use Rattle.report_picture.specs.declared.row.Note.TheVariants as notes;
-ghost use Rattle.report_picture.specs.declared.row.Framed.TheVariants as framed_as;
+ghost use Rattle.ladder_picture.specs.declared.row.Note.TheVariants as notes;
+ghost use Rattle.ladder_picture.specs.declared.row.Framed.TheVariants as framed_as;
 
 use crate::known::Known;
-use crate::row::{Asked, Fate, Frame, Framed, Note, Row, Timer, Told};
+use ladder_picture::{Asked, Fate, Frame, Framed, Note, Row, Timer, Told};
 use report_lines::{CallLine, EntryLine, EventLine, ReplyLine};
 use std::alloc::AllocError;
 use tas_model::{FrameId, Head, Phase};

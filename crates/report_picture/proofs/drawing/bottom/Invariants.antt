@@ -1,6 +1,0 @@
-use Rattle.std.proofs.Common.{◌≡◌, take}
-use Rattle.report_picture.specs.Drawing.{bottom}
-use Rattle.report_picture.proofs.drawing.bottom.Given as goal
-
-abbrev pub invariant-loop-rung : goal.invariant-loop-rung
-invariant-loop-rung l = l.y ≡ bottom (take l.rung-index l.rungs)

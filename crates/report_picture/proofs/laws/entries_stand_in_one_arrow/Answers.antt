@@ -1,5 +1,0 @@
-use Rattle.report_picture.proofs.OneArrow.{stand_once}
-use Rattle.report_picture.proofs.laws.entries_stand_in_one_arrow.Goals as goal
-
-pub returns : goal.returns
-returns c = λ rungs own. stand_once rungs own

@@ -1,8 +1,0 @@
--- What the code has, as the definitions see it.
-use Rattle.std.specs.Prelude.{ℕ, List}
-use Rattle.report_picture.specs.declared.drawing.EndName.{EndName}
-use Rattle.report_picture.specs.Drawing.{End}
-
--- one end
-abbrev pub seen_end : EndName → End
-seen_end e = record { name = e.name.now; addr = e.addr; port = e.port }
