@@ -35,10 +35,12 @@ below (Some last) tick left right = record {
 }
 
 -- ----- rows side by side
--- the tick of the first row, or one past the last where there is none
-abbrev pub tick_of : List Row → ℕ
-tick_of [] = 4294967296
-tick_of (r ∷ rs) = r.tick
+-- the earlier tick of the first rows of both sides, or of the one side that has rows
+abbrev pub first_tick : (left right : List Row) → ℕ
+first_tick [] [] = 0
+first_tick (l ∷ ls) [] = l.tick
+first_tick [] (r ∷ rs) = r.tick
+first_tick (l ∷ ls) (r ∷ rs) = min l.tick r.tick
 
 -- the first row where it is of this tick, and what is left behind it
 abbrev pub row_at : (tick : ℕ) → List Row → Option Row
@@ -52,8 +54,7 @@ rows_behind tick (r ∷ rs) = if r.tick == tick then rs else r ∷ rs
 -- the rung of the first rows of both sides: of both where they are of one tick, and else of the earlier one
 abbrev pub first_rung : Option Rung → (left right : List Row) → Rung
 first_rung above left right =
-    let tick : ℕ = min (tick_of left) (tick_of right) in
-    below above tick (row_at tick left) (row_at tick right)
+    below above (first_tick left right) (row_at (first_tick left right) left) (row_at (first_tick left right) right)
 
 abbrev pub are_over : (left right : List Row) → Bool
 are_over [] [] = true
@@ -66,8 +67,8 @@ rungs_from (suc most) above left right = elim (are_over left right) [
   | true ↦ []
   | false ↦ first_rung above left right
       ∷ rungs_from most (Some (first_rung above left right))
-      (rows_behind (min (tick_of left) (tick_of right)) left)
-      (rows_behind (min (tick_of left) (tick_of right)) right)
+      (rows_behind (first_tick left right) left)
+      (rows_behind (first_tick left right) right)
 ]
 
 -- The rungs of two lists of rows.

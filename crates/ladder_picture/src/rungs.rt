@@ -34,33 +34,34 @@ pub struct Arrival {
     pub again: bool,
 }
 
-/// The tick of the first row; one past the last tick where there is no row.
-fn tick_of(rows: &[Row]) -> u64
-    ensures tick { result ≡ rules.tick_of rows.now }
-    ensures small { result ≤ 4294967296 }
+/// The earlier tick of the first rows of both sides, or of the one side that has rows.
+fn first_tick(left: &[Row], right: &[Row]) -> u32
+    ensures { result ≡ rules.first_tick left.now right.now }
 {
-    match rows {
-        [row, ..] => u64::from(row.tick),
-        [] => 4_294_967_296,
+    match (left, right) {
+        ([one, ..], [other, ..]) => one.tick.min(other.tick),
+        ([one, ..], []) => one.tick,
+        ([], [other, ..]) => other.tick,
+        ([], []) => 0,
     }
 }
 
 /// The first row, where it is of this tick.
-fn row_at(tick: u64, rows: &[Row]) -> Option<Row>
+fn row_at(tick: u32, rows: &[Row]) -> Option<Row>
     ensures { result ≡ rules.row_at tick rows.now }
 {
     match rows {
-        [row, ..] if u64::from(row.tick) == tick => Some(*row),
+        [row, ..] if row.tick == tick => Some(*row),
         _ => None,
     }
 }
 
 /// What is left behind it.
-fn rows_behind(tick: u64, rows: &[Row]) -> &[Row]
+fn rows_behind(tick: u32, rows: &[Row]) -> &[Row]
     ensures { result.now ≡ rules.rows_behind tick rows.now }
 {
     match rows {
-        [row, rest @ ..] if u64::from(row.tick) == tick => rest,
+        [row, rest @ ..] if row.tick == tick => rest,
         _ => rows,
     }
 }
@@ -113,13 +114,8 @@ pub fn rungs_of(alloc: Global, left: &[Row], right: &[Row]) -> Result<Vec<Rung>,
     let mut theirs = right;
     let mut last: Option<Rung> = None;
     'rungs: while !ours.is_empty() || !theirs.is_empty() {
-        let tick = tick_of(ours).min(tick_of(theirs));
-        let rung = below(
-            last,
-            tick as u32,
-            row_at(tick, ours),
-            row_at(tick, theirs),
-        );
+        let tick = first_tick(ours, theirs);
+        let rung = below(last, tick, row_at(tick, ours), row_at(tick, theirs));
         rungs.push(rung)?;
         last = Some(rung);
         ours = rows_behind(tick, ours);
