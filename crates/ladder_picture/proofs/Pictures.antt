@@ -1,5 +1,6 @@
 -- Each part of a picture may stand between tags, and so the whole is well-formed.
-use Rattle.std.proofs.Common.{◌≡◌, ℕ, ◌==◌, Bool, true, false, not, ◌&&◌, List, [], ◌∷◌, ◌++◌, refl, sym, ap, ◌∙◌, append_assoc, ◌/◌, ◌%◌}
+use Rattle.std.proofs.Common.{◌≡◌, ℕ, ◌==◌, Bool, true, false, not, ◌&&◌, List, [], ◌∷◌, ◌++◌, refl, sym, ap, ◌∙◌}
+use Rattle.std.proofs.Common.{append_assoc, ◌/◌, ◌%◌}
 use Rattle.std.proofs.Common.{if◌then◌else◌, Option, Some, None, arith}
 use Rattle.std.specs.Prelude.{codes, decimal, flat_map}
 use Rattle.std.specs.List.{list_all}
@@ -35,7 +36,8 @@ use Rattle.ladder_picture.specs.Arrows.{across, Arrow, Sent, Came, arrows}
 use Rattle.ladder_picture.specs.ArrowTexts as shapes
 use Rattle.ladder_picture.specs.Drawing as parts
 use Rattle.ladder_picture.specs.Drawing.{End}
-use Rattle.ladder_picture.proofs.Forms.{Runs, runs_on, is_plain, in_quotes, decimal_plain, IsContent, none, both_content}
+use Rattle.ladder_picture.proofs.Forms.{Runs, runs_on, is_plain, in_quotes, decimal_plain, IsContent, none}
+use Rattle.ladder_picture.proofs.Forms.{both_content}
 use Rattle.ladder_picture.proofs.Forms.{plain_content, all_content, text_content, path_content}
 
 abbrev Plain : (t : List ℕ) → Type 0

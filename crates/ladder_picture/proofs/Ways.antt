@@ -1,5 +1,6 @@
 -- The ways of a frame to where it came, rung by rung and all at once.
-use Rattle.std.proofs.Common.{◌≡◌, ℕ, Bool, true, false, ◌||◌, List, [], ◌∷◌, ◌++◌, Option, Some, None, refl, sym, ap, ◌∙◌}
+use Rattle.std.proofs.Common.{◌≡◌, ℕ, Bool, true, false, ◌||◌, List, [], ◌∷◌, ◌++◌, Option, Some, None, refl, sym, ap}
+use Rattle.std.proofs.Common.{◌∙◌}
 use Rattle.std.specs.Prelude.{flat_map, option_to_list, is_some}
 use Rattle.std.specs.List.{list_any}
 use Rattle.tas_model.specs.declared.entry.FrameId.{FrameId}

@@ -1,6 +1,7 @@
 -- Which texts are well-formed XML 1.0 (section 2.1), without comments, instructions and sections of raw characters:
 -- elements that are balanced, and escaped text. A text is gone through byte by byte.
-use Rattle.std.specs.Prelude.{◌≡◌, ℕ, ◌==◌, Bool, ◌&&◌, ◌||◌, List, [], ◌∷◌, codes, bytes_eq, fold, nat_le, if◌then◌else◌}
+use Rattle.std.specs.Prelude.{◌≡◌, ℕ, ◌==◌, Bool, ◌&&◌, ◌||◌, List, [], ◌∷◌, codes, bytes_eq, fold, nat_le}
+use Rattle.std.specs.Prelude.{if◌then◌else◌}
 
 -- a letter of a name
 abbrev pub is_letter : (c : ℕ) → Bool

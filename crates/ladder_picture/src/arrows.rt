@@ -273,8 +273,8 @@ fn put_sent(
     frame: &Frame,
     below: &[Rung],
 ) -> Result<(), AllocError>
-    ensures { OnOk result (out.new.items ≡ out.old.items
-        ++ texts.arrow_text look.now (rules.Sent sender y frame.now (rules.arrivals (rules.across sender) frame.now.id below.now))) }
+    ensures { OnOk result (out.new.items ≡ out.old.items ++ texts.arrow_text look.now
+        (rules.Sent sender y frame.now (rules.arrivals (rules.across sender) frame.now.id below.now))) }
 {
     if !put_arrivals(out, sender, y, &frame.id, below)? {
         put_lost(out, look, sender, y)?;
@@ -374,7 +374,8 @@ fn put_rung_arrows(
 
 /// Appends the arrows of a ladder, in the order of their first ends. The error is want of memory.
 pub fn put_arrows(out: &mut Vec<u8>, look: &Look, rungs: &[Rung]) -> Result<(), AllocError>
-    ensures { OnOk result (out.new.items ≡ out.old.items ++ flat_map (texts.arrow_text look.now) (rules.arrows rungs.now)) }
+    ensures { OnOk result (out.new.items ≡ out.old.items
+        ++ flat_map (texts.arrow_text look.now) (rules.arrows rungs.now)) }
 {
     let mut rest = rungs;
     let mut count: usize = 0;

@@ -26,7 +26,8 @@ pub struct Rung {
     pub right: Option<Row>,
 }
 
-/// Where a frame came: how far down, what became of it where the connection had it not, and whether it is a second copy.
+/// Where a frame came: how far down, what became of it where the connection had it not, and whether it is a second
+/// copy.
 #[derive(Clone, Copy)]
 pub struct Arrival {
     pub y: u128,

@@ -1,5 +1,6 @@
 -- What the entries of one end of a connection tell of its state (RFC 9293, section 3.3.2).
-use Rattle.std.specs.Prelude.{ℕ, ◌+◌, ◌-◌, ◌%◌, ◌^◌, ◌==◌, Bool, true, false, not, ◌&&◌, ◌||◌, List, length, nat_lt, min}
+use Rattle.std.specs.Prelude.{ℕ, ◌+◌, ◌-◌, ◌%◌, ◌^◌, ◌==◌, Bool, true, false, not, ◌&&◌, ◌||◌, List, length, nat_lt}
+use Rattle.std.specs.Prelude.{min}
 use Rattle.std.specs.Prelude.{Option, Some, None, is_some, option_map, if◌then◌else◌}
 use Rattle.tas_num.specs.declared.seq.Seq.{Seq}
 use Rattle.segment_fields.specs.ControlBits.{fin, syn, rst, ack, has}
