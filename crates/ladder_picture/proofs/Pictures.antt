@@ -216,7 +216,7 @@ came_content look Right y = path_content _ _ y _ refl (origin_plain look.both Ri
 
 ways_content : (look : Look) (s : Side) (y : ℕ) (ends : List Arrival) → IsContent (shapes.ways_text look s y ends)
 ways_content look s y [] = lost_by look.both s y
-ways_content look s y (a ∷ as) = all_content (shapes.arrival_text s y) (a ∷ as) (arrival_content s y)
+ways_content look s y (a ∷ rest) = all_content (shapes.arrival_text s y) (a ∷ rest) (arrival_content s y)
 
 arrow_content : (look : Look) (a : Arrow) → IsContent (shapes.arrow_text look a)
 arrow_content look (Sent s y f ends) =

@@ -59,7 +59,7 @@ found look s y id rs e = by (arrivals (across s) id rs) refl where
   by : (l : List Arrival) → arrivals (across s) id rs ≡ l
       → ways_text look s y (arrivals (across s) id rs) ≡ flat_map (ways_on s y id) rs
   by [] is = absurd (somewhere s id rs e is)
-  by (a ∷ as) is = rw is (sym (ap (flat_map (arrival_text s y)) is) ∙ all_ways s y id rs)
+  by (a ∷ rest) is = rw is (sym (ap (flat_map (arrival_text s y)) is) ∙ all_ways s y id rs)
 
 pub lost : (s : Side) (y : ℕ) (id : FrameId) (rs : List Rung) → list_any (comes_on s id) rs ≡ false
     → flat_map (ways_on s y id) rs ≡ []

@@ -123,7 +123,7 @@ came_line look sender y = path (side_name sender) (origin look sender) y (way_en
 
 abbrev pub ways_text : Look → (sender : Side) → (y : ℕ) → List Arrival → List ℕ
 ways_text look sender y [] = lost_text look sender y
-ways_text look sender y (a ∷ as) = flat_map (arrival_text sender y) (a ∷ as)
+ways_text look sender y (a ∷ rest) = flat_map (arrival_text sender y) (a ∷ rest)
 
 -- The text of an arrow.
 abbrev pub arrow_text : Look → Arrow → List ℕ
