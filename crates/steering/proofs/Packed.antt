@@ -1,6 +1,6 @@
 -- Tables kept in words.
 use Rattle.std.proofs.Common.{◌≡◌, ◌≢◌, ℕ, zero, suc, ◌+◌, ◌-◌, ◌*◌, ◌/◌, ◌%◌, ◌<◌, List, length, set, get_or, sym}
-use Rattle.std.proofs.Common.{refl, ap, ◌∙◌, arith}
+use Rattle.std.proofs.Common.{refl, ap, ◌∙◌, below_more, arith}
 use Rattle.std.specs.Prelude.{slice_index}
 use mathlib.Core.Logic.{dite}
 use native.Mathlib.Decide.{ℕ_discrete}
@@ -108,3 +108,26 @@ spread_at cores group zero i h = absurd (omega arith)
 spread_at cores group (suc k) zero h = let e : group ≡ group + 0 = omega arith in ap (λ g. g % cores) e
 spread_at cores group (suc k) (suc i) h = let e : suc group + i ≡ group + suc i = omega arith in
     spread_at cores (suc group) k i (omega arith) ∙ ap (λ g. g % cores) e
+
+-- ----- each group moved in turn
+pub spread_next : (cores live group : ℕ) (old new : List ℕ) → group < 64
+    → table_of cores new ≡ moved (table_of cores old) group (group % live)
+    → ((g : ℕ) → g < group → core_in (table_of cores old) g ≡ g % live)
+    → (g : ℕ) → g < group + 1 → core_in (table_of cores new) g ≡ g % live
+spread_next cores live group old new small e before =
+    below_more (λ (g : ℕ). core_in (table_of cores new) g ≡ g % live) group
+    (λ g h. let apart : g ≢ group = omega arith in
+        ap (λ (t : Table). core_in t g) e
+        ∙ (get_or-set_other (table_of cores old) group g (group % live) 0 apart ∙ before g h))
+    (let size = cores-length cores old 0 64 in
+        ap (λ (t : Table). core_in t group) e
+        ∙ get_or-set_same (table_of cores old) group (group % live) 0 (omega arith))
+
+pub spread_all : (cores live : ℕ) (words : List ℕ)
+    → ((g : ℕ) → g < 64 → core_in (table_of cores words) g ≡ g % live) → table_of cores words ≡ first_table live
+spread_all cores live words all =
+    ext_get_or 0 (table_of cores words) (first_table live)
+    (cores-length cores words 0 64 ∙ sym (spread-length live 0 64))
+    (λ i l. let h : i < 64 = let e = cores-length cores words 0 64 in omega arith in
+        let e : 0 + i ≡ i = omega arith in
+        all i h ∙ sym (spread_at live 0 64 i h ∙ ap (λ g. g % live) e))

@@ -58,6 +58,12 @@ pub record Assigned (group core : ℕ) (before after : List Table) : Type 0 wher
   pub last : EndsWith table now
   pub assigned : after ≡ (now ++ between) ++ moved table group core ∷ []
 
+-- What a spread adds to the tables that a pass has seen: those that others put in between, and then its own, in which
+-- each group is on the core of its own number modulo the live cores.
+pub record SpreadOver (live : ℕ) (before after : List Table) : Type 0 where
+  pub between : List Table
+  pub spread : after ≡ (before ++ between) ++ first_table live ∷ []
+
 -- the group of a flow
 abbrev pub group_of : FourTuple → ℕ
 group_of t = (t.laddr + t.lport + t.raddr + t.rport) % 64

@@ -13,3 +13,8 @@ pub fn groups_start_on_their_numbers()
     ensures starts { (cores group : ℕ) → group < 64 → core_in (first_table cores) group ≡ group % cores }
     ensures size { (cores : ℕ) → length (first_table cores) ≡ 64 }
 {}
+
+/// After a spread over live cores each of the 64 groups is on one of them.
+pub fn a_spread_leaves_groups_on_live_cores()
+    ensures { (live group : ℕ) → 0 < live → group < 64 → core_in (first_table live) group < live }
+{}

@@ -6,5 +6,7 @@ mod order;
 mod steering;
 mod words;
 
-pub use laws::{an_assign_moves_one_group, groups_start_on_their_numbers};
+pub use laws::{
+    a_spread_leaves_groups_on_live_cores, an_assign_moves_one_group, groups_start_on_their_numbers,
+};
 pub use steering::{SteerPass, Steering, group};

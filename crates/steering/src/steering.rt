@@ -1,8 +1,8 @@
 ghost use Rattle.std.specs.Prelude.{◌≡◌, ◌<◌, ◌≤◌, [], ◌∷◌, IfOk, IsOk};
-ghost use Rattle.steering.specs.Tables.{Begins, Assigned, IsCoreIn, first_table, group_of};
+ghost use Rattle.steering.specs.Tables.{Begins, Assigned, SpreadOver, IsCoreIn, first_table, group_of};
 
 use crate::order::{Alike, Load, Order, Seen, Swap};
-use crate::words::{core_at, move_group};
+use crate::words::{core_at, move_group, spread_words};
 use crossbeam_utils::atomic::seq_cell::{Pass, RuledSeqCell};
 use std::alloc::{AllocError, Global};
 use std::marker::Model;
@@ -116,6 +116,20 @@ impl Steering {
     {
         let mut words = self.cell.load_as::<Load, R>(rt, &mut p.pass);
         move_group(&mut words, group, core, self.cores);
+        self.cell.swap_as::<Swap, R>(rt, &mut p.pass, words);
+    }
+
+    /// Puts each group on the core of its own number modulo `live`, from then on, so that all groups are on cores below
+    /// `live`. The new table comes by one swap: no other thread sees some groups moved and others not.
+    ///
+    /// It takes the place of whatever table stood there, and so may undo what others assign at once.
+    pub fn spread<R: Wait>(&self, rt: &R, p: &mut SteerPass, live: u32)
+        requires own { p.old.place ≡ self.now }
+        requires live { (0 < live) × (live ≤ self.now.cores) }
+        ensures own { p.new.place ≡ p.old.place }
+        ensures spread { SpreadOver live p.old.tables p.new.tables }
+    {
+        let words = spread_words(live, self.cores);
         self.cell.swap_as::<Swap, R>(rt, &mut p.pass, words);
     }
 }

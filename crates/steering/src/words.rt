@@ -1,6 +1,6 @@
 // Numbers of four bits in words.
 ghost use Rattle.std.specs.Prelude.{◌≡◌, ◌<◌, ◌≤◌, slice_index, slice_set};
-ghost use Rattle.steering.specs.Tables.{core_in, moved};
+ghost use Rattle.steering.specs.Tables.{core_in, first_table, moved};
 ghost use Rattle.steering.specs.Words.{digits, table_of};
 
 // The number of four bits at a place, the lowest at place 0.
@@ -43,4 +43,17 @@ pub(crate) fn move_group(words: &mut [u64; 4], group: u32, core: u32, cores: u32
     let distance = (core + cores - group % cores) % cores;
     let at = (group / 16) as usize;
     words[at] = with_digit(words[at], group % 16, distance);
+}
+
+/// The words of the table with each group on the core of its own number modulo the live cores.
+pub(crate) fn spread_words(live: u32, cores: u32) -> [u64; 4]
+    requires live { (0 < live) × (live ≤ cores) }
+    requires cores { cores ≤ 16 }
+    ensures { table_of cores result ≡ first_table live }
+{
+    let mut words = [0; 4];
+    for group in 0..64 {
+        move_group(&mut words, group, group % live, cores);
+    }
+    words
 }
