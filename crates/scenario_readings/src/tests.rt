@@ -16,7 +16,7 @@ fn refused(rt: HostRuntime, text: &[u8]) -> Result<(u64, u8), Fail> {
 
 #[test]
 fn texts_are_read_or_refused_by_line_and_kind(rt: HostRuntime) -> Result<(), Fail> {
-    let texts: [(&[u8], u64, u8); 24] = [
+    let texts: [(&[u8], u64, u8); 25] = [
         (b"", 1, 9),
         (b"host a 10.0.0.1", 0, 0),
         (TWO, 0, 0),
