@@ -275,7 +275,7 @@ later_made scripts h ns c tick w given sound counted few (m, all, posted) = (
   ap (λ (x : Worker). x.pass.view.opened) posted.rest ∙ q.counted,
   ap (λ (x : Worker). host_of (with_opened q.ids x h)) posted.rest
       ∙ (q.made
-      ∙ ap (λ (k : Numbers). fold (delivered (runs.received Slow) k tick) (host_of h) (rest_of h.slow)) (sym given)),
+      ∙ ap (λ (k : Starts). fold (delivered (runs.received Slow) k tick) (host_of h) (rest_of h.slow)) (sym given)),
 )
   where
     q : AreMade h (quiet h.slow) (setting_of ns c tick h.slow) h.books (sight_of h.slow) (sight_of m) (waiting h.slow)

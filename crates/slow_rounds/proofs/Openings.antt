@@ -1,7 +1,7 @@
 -- Flows that applications open alone, and sockets that change hands: for the laws opened_flows_are_moves and
 -- holders_are_moves.
 use Rattle.std.proofs.Common.{◌≡◌, ℕ, zero, suc, ◌+◌, ◌<◌, cond, true, false, List, [], ◌∷◌, map, length, refl, sym, ap}
-use Rattle.std.proofs.Common.{◌∙◌, arith, length-append}
+use Rattle.std.proofs.Common.{◌∙◌, arith, length-append, None}
 use Rattle.std.proofs.lemmas.Bool.Decides.{nat_tests}
 use Rattle.tas_num.specs.declared.seq.Seq.{Seq}
 use Rattle.tas_model.specs.declared.entry.Call.TheVariants as calls
