@@ -24,6 +24,13 @@ const SYN_WITH_OPTIONS: [u8; 60] = [
     0x00, 0x00, 0x00, 0x01, 0x00, 0x00, 0x00, 0x00, 0x01, 0x03, 0x03, 0x07,
 ];
 
+/// A SYN from port 49152 to port 80 with an MSS of 1460 and a window scale of 2, as another program wrote it.
+const SCALED_SYN: [u8; 48] = [
+    0x45, 0x00, 0x00, 0x30, 0x00, 0x00, 0x40, 0x00, 0x40, 0x06, 0x26, 0xc6, 0x0a, 0x00, 0x00, 0x01,
+    0x0a, 0x00, 0x00, 0x02, 0xc0, 0x00, 0x00, 0x50, 0x00, 0x00, 0x03, 0xe8, 0x00, 0x00, 0x00, 0x00,
+    0x70, 0x02, 0xff, 0xff, 0xab, 0xe2, 0x00, 0x00, 0x02, 0x04, 0x05, 0xb4, 0x01, 0x03, 0x03, 0x02,
+];
+
 /// The number of the rule that the bytes break, or 0.
 fn broken_rule(bytes: &[u8], check_sums: bool) -> u8 {
     match read(bytes, check_sums) {
@@ -99,4 +106,24 @@ fn a_packet_is_written_as_another_program_does(rt: HostRuntime) {
     assert!(rt; packet == SYN_ACK);
     let mut short = [0; 43];
     assert_eq!(rt; write(&seg, &mut short), Err(NoRoom));
+}
+
+#[test]
+fn a_window_scale_is_written_as_another_program_does(rt: HostRuntime) {
+    let seg = Segment {
+        src: 0x0a00_0001,
+        dst: 0x0a00_0002,
+        sport: 49152,
+        dport: 80,
+        seq: Seq(1000),
+        ack: Seq(0),
+        flags: Flags::SYN,
+        window: 65535,
+        mss: Some(1460),
+        scale: Some(2),
+        payload: &[],
+    };
+    let mut packet = [0; 48];
+    assert_eq!(rt; write(&seg, &mut packet), Ok(48));
+    assert!(rt; packet == SCALED_SYN);
 }
