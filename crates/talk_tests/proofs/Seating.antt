@@ -380,11 +380,11 @@ pub no_socket : (step : Step) (l : AppLane) → has_socket step ≡ false → Ha
 no_socket step l none = λ some. absurd (true≢false (sym some ∙ none))
 
 -- ----- ticks
-risen_later : (tick : ℕ) (o : Option ℕ) → IfSome o (λ t. t ≤ tick) → IfSome o (λ t. t ≤ suc tick)
+risen_later : (tick : ℕ) (o : Option ℕ) → IfSome o (λ t. t ≤ tick) → IfSome o (λ t. t ≤ tick + 1)
 risen_later tick None h = tt
 risen_later tick (Some t) h = omega (arith, h)
 
-pub one_later : (c : Common) (tick : ℕ) (w : Worker) → IsSlow c tick w → IsSlow c (suc tick) w
+pub one_later : (c : Common) (tick : ℕ) (w : Worker) → IsSlow c tick w → IsSlow c (tick + 1) w
 one_later c tick w is = record {
   sound = is.sound;
   risen = risen_later tick (last_tick w.time) is.risen;

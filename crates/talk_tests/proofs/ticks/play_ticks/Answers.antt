@@ -19,8 +19,8 @@ returns-in_err-a-clause-crew g c = c.play_tick.ensures.crew ∙ c.loop-tick.inva
 pub loop-tick-preserved : goal.loop-tick-preserved
 loop-tick-preserved g c =
     let did = c.in_ok-a.ensures in (
-      (one_later (common_in c.in_ok-a.a.team) c.loop-tick.tick c.play_tick.new.slow did.one.0, did.one.1),
-      (one_later (common_in c.in_ok-a.b.team) c.loop-tick.tick c.play_tick.new.other did.two.0, did.two.1),
+      (one_later _ c.loop-tick.tick c.play_tick.new.slow did.one.0, did.one.1),
+      (one_later _ c.loop-tick.tick c.play_tick.new.other did.two.0, did.two.1),
       c.play_tick.ensures.crew ∙ c.loop-tick.invariant.2,
     )
 
