@@ -167,7 +167,15 @@ fn connect_alone(
     ensures rest { slow.new ≡ record slow.old { path = slow.new.path; pass = slow.new.pass; pins = slow.new.pins } }
     ensures app { IfSome result (λ s. IsSeated shared.now s app.old app.new) }
 {
-    connect_in_turn(shared, &mut slow.pass, &mut slow.path, &mut slow.pins, app, id, tick)
+    connect_in_turn(
+        shared,
+        &mut slow.pass,
+        &mut slow.path,
+        &mut slow.pins,
+        app,
+        id,
+        tick,
+    )
 }
 
 /// The application opens this flow, while it and the slow path have a turn each. Its socket; `None` where it fails.

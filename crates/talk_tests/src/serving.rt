@@ -162,7 +162,15 @@ fn emit_first(slow: &mut SlowWorker, shared: &Shared, tick: u32) -> Option<bool>
     let pin = slow.pins.pin(0);
     let caller = Caller::Core(0);
     let call = CallIn::Emit;
-    let Ok(sent) = make_slow_call(&shared.table, &mut slow.pass, pin, caller, tick, &call, &FastTx) else {
+    let Ok(sent) = make_slow_call(
+        &shared.table,
+        &mut slow.pass,
+        pin,
+        caller,
+        tick,
+        &call,
+        &FastTx,
+    ) else {
         return None;
     };
     Some(sent.is_some())
