@@ -1,5 +1,6 @@
 //! An end is put together.
 ghost use Rattle.std.specs.Prelude.{◌≡◌, ◌<◌, ◌∷◌, [], true, false, IfSome, IfOk, length};
+ghost use Rattle.std.specs.Arc.{arc_value};
 ghost use Rattle.tas_model.specs.Valid.{InRange};
 ghost use Rattle.flow_lock.specs.Orders.{Order};
 ghost use Rattle.flow_lock.specs.Plays.{IsOrdered};
@@ -109,10 +110,10 @@ fn team_of(
     let both = both_of(workers)?;
     let (mut first, mut second) = both;
     rest(&shared, slow, &mut first, &mut second, &mut app);
-    let Ok(team) = lanes_of(alloc, beginning.host, shared, first, second, app) else {
+    let Ok(shares) = shares_of(alloc, shared) else {
         return None;
     };
-    Some(team)
+    Some(lanes_of(shares, beginning.host, first, second, app))
 }
 
 /// The host's application is added. `None` where memory is wanting.
@@ -221,43 +222,68 @@ fn learn(shared: &Shared, slow: &mut SlowWorker)
     shared.table.learn(&mut slow.pass);
 }
 
-/// These workers and this application as lanes.
-fn lanes_of(
-    alloc: Global,
-    host: u32,
-    shared: Shared,
-    first: CoreWorker,
-    second: CoreWorker,
-    app: App,
-) -> Result<Team, AllocError>
-    requires host { host < 67108863 }
-    requires cores { IsIdleCore shared first × IsIdleCore shared second }
-    requires app { IsIdleApp shared app × (app.begun ≡ []) }
-    ensures { IfOk result (λ t. IsTeam t × (common_in t ≡ shared)) }
+/// What the lanes of a host share, once for each, and the host's part in a phase.
+#[derive(Drop)]
+struct Shares {
+    part: HostPart,
+    first: Arc<Shared, Global>,
+    second: Arc<Shared, Global>,
+    app: Arc<Shared, Global>,
+}
+
+/// The part has a pass to a table without flows.
+fn shares_of(alloc: Global, shared: Shared) -> Result<Shares, AllocError>
+    ensures shared { IfOk result (λ s. arc_value s.part.shared ≡ shared) }
+    ensures count { IfOk result (λ s. s.part.lanes ≡ 3) }
+    ensures same { IfOk result (λ s. (arc_value s.first ≡ arc_value s.part.shared)
+        × (arc_value s.second ≡ arc_value s.part.shared) × (arc_value s.app ≡ arc_value s.part.shared)) }
 {
     let shared = Arc::new(alloc, shared)?;
-    let theirs = Arc::try_clone(&shared)?;
-    let others = Arc::try_clone(&shared)?;
-    let its = Arc::try_clone(&shared)?;
+    let first = Arc::try_clone(&shared)?;
+    let second = Arc::try_clone(&shared)?;
+    let app = Arc::try_clone(&shared)?;
     let (_, idle) = FlowTable::<FlowRecord>::new(alloc, 1)?;
-    Ok(Team {
-        part: HostPart {
-            shared,
-            slow: idle,
-            lanes: 3,
-        },
-        first: core_lane(theirs, first),
-        second: core_lane(others, second),
-        app: AppLane {
-            shared: its,
-            app,
-            host,
-            tick: 0,
-            socket: Socket(0),
-            attempt: Attempt::Nothing,
-            answer: Answered::Nothing,
-        },
+    let part = HostPart {
+        shared,
+        slow: idle,
+        lanes: 3,
+    };
+    Ok(Shares {
+        part,
+        first,
+        second,
+        app,
     })
+}
+
+/// These workers and this application as lanes.
+fn lanes_of(shares: Shares, host: u32, first: CoreWorker, second: CoreWorker, app: App) -> Team
+    requires count { shares.part.lanes ≡ 3 }
+    requires same { (arc_value shares.first ≡ arc_value shares.part.shared)
+        × (arc_value shares.second ≡ arc_value shares.part.shared)
+        × (arc_value shares.app ≡ arc_value shares.part.shared) }
+    requires host { host < 67108863 }
+    requires cores { IsIdleCore (arc_value shares.part.shared) first
+        × IsIdleCore (arc_value shares.part.shared) second }
+    requires app { IsIdleApp (arc_value shares.part.shared) app × (app.begun ≡ []) }
+    ensures team { IsTeam result }
+    ensures common { common_in result ≡ arc_value shares.part.shared }
+{
+    let app = AppLane {
+        shared: shares.app,
+        app,
+        host,
+        tick: 0,
+        socket: Socket(0),
+        attempt: Attempt::Nothing,
+        answer: Answered::Nothing,
+    };
+    Team {
+        part: shares.part,
+        first: core_lane(shares.first, first),
+        second: core_lane(shares.second, second),
+        app,
+    }
 }
 
 fn core_lane(shared: Arc<Shared, Global>, worker: CoreWorker) -> CoreLane
