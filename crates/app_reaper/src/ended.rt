@@ -1,3 +1,5 @@
+//! What an application that ended leaves behind.
+
 ghost use Rattle.std.specs.Prelude.{◌≡◌};
 
 use crate::pin_list::PinList;

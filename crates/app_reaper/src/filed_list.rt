@@ -1,3 +1,5 @@
+//! The records of flows that were freed.
+
 ghost use Rattle.std.specs.Prelude.{◌≡◌, ℕ, ◌<◌, ◌++◌, ◌∷◌, [], length, slice_get, Some, OnOk, IfNone, IfSome};
 
 use flow_state::FlowRecord;

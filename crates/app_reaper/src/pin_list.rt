@@ -1,3 +1,5 @@
+//! Pins in their order, found by their slots.
+
 ghost use Rattle.std.specs.Prelude.{◌≡◌, ℕ, ◌+◌, ◌<◌, ◌++◌, ◌∷◌, [], length, remove, slice_get, Some, OnOk, IsOk};
 ghost use Rattle.std.specs.Prelude.{position};
 ghost use Rattle.app_reaper.specs.Lists.{is_on};

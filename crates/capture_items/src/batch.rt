@@ -1,3 +1,5 @@
+//! The items of a capture in batches, no two of one flow.
+
 ghost use Rattle.std.specs.Prelude.{◌≡◌, ◌<◌, ◌≤◌, [], ◌∷◌, ◌++◌, map, length, OnOk};
 ghost use Rattle.tas_runs.specs.Batches.{batches_of, joins, clashes, is_of};
 ghost use Rattle.std.specs.List.{list_any};

@@ -1,3 +1,5 @@
+//! How many records of a capture were frames, were passed over, and were refused.
+
 ghost use Rattle.std.specs.Prelude.{◌≡◌, ◌+◌, ◌-◌, ◌<◌, ◌≤◌, ◌^◌, map, length, count_by};
 ghost use Rattle.tas_runs.specs.Records.{is_damaged};
 ghost use Rattle.capture_items.specs.Items.{item_in};

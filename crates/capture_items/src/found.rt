@@ -1,3 +1,5 @@
+//! What a capture holds for one host: its records in order, and the first numbers of its flows.
+
 ghost use Rattle.std.specs.Prelude.{◌≤◌, length, IfOk, IfErr};
 ghost use Rattle.capture_items.specs.Found.{IsFound, IsNoCapture};
 

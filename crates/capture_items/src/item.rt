@@ -1,3 +1,5 @@
+//! A record of a capture as the host sees it: a segment that came, one of its own, or a damaged packet.
+
 ghost use Rattle.std.specs.Prelude.{◌≡◌, ◌≤◌, false, Some, None, IfSome, IfNone};
 ghost use Rattle.segment_fields.specs.Refusals.{number_of};
 ghost use Rattle.segment_fields.specs.Text.{IsText, refusal};

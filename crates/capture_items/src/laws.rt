@@ -1,3 +1,5 @@
+//! The laws that lead from what was found in a capture to the run of it.
+
 ghost use Rattle.std.specs.Prelude.{◌≡◌, ℕ, Bool, List, [], Ok, Err};
 ghost use Rattle.tas_num.specs.Captures.{Fault, capture_of};
 ghost use Rattle.tas_runs.specs.Batches.{batches_of};

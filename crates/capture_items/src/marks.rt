@@ -1,3 +1,5 @@
+//! Marks of the flows in a batch, by which most searches of it are saved.
+
 ghost use Rattle.std.specs.Prelude.{false, ◌≡◌, ◌++◌, [], ◌∷◌, List, map, get_or};
 ghost use Rattle.capture_items.specs.Items.{item_in};
 ghost use Rattle.capture_items.specs.Marks.{mark_of, CoverAll};

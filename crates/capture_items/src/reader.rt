@@ -1,3 +1,5 @@
+//! The items of a capture, read where they stand.
+
 ghost use Rattle.std.specs.Prelude.{◌≡◌, ◌+◌, ◌≤◌, [], ◌∷◌, IfSome, IfNone, IsOk, length, drop};
 ghost use Rattle.tas_num.specs.Captures.{records_from};
 ghost use Rattle.pcap_frames.specs.Views.{form_in};

@@ -1,3 +1,5 @@
+//! What the host's own SYN segments show of its flows: their first numbers, and window scales.
+
 ghost use Rattle.std.specs.Prelude.{◌≡◌, ◌+◌, ◌<◌, ◌≤◌, ◌^◌, Bool, List, [], OnOk, IfSome, if◌then◌else◌};
 ghost use Rattle.pcap_frames.specs.Views.{form_in, record_in};
 ghost use Rattle.tas_runs.specs.Records as model;

@@ -1,3 +1,5 @@
+//! The law that what was taken and what waits is what was posted.
+
 ghost use Rattle.std.specs.Prelude.{◌≡◌, List, ◌++◌};
 ghost use Rattle.context_queue.specs.Notes.{notes_of};
 ghost use Rattle.context_queue.specs.Delivery.{Delivers, IsReceiver, IsSender};

@@ -1,3 +1,5 @@
+//! A queue of notes from many senders to one receiver.
+
 ghost use Rattle.std.specs.Prelude.{◌≡◌, ◌<◌, ◌≤◌, ◌+◌, [], ◌∷◌, ◌++◌, IfOk, IsOk, IfSome, IfNone, OnOk, OnErr};
 ghost use Rattle.crossbeam_queue.specs.Fifo.{Held};
 ghost use Rattle.context_queue.specs.Notes.{HasTaken, HoldsPosts, HoldsRest};

@@ -1,3 +1,5 @@
+//! Gates that hold a worker show that the threads of a run work at once.
+
 ghost use Rattle.std.specs.Prelude.{◌≤◌};
 
 use flow_state::{CallView, EntryView, FlowHistory, ReplyView};

@@ -1,3 +1,5 @@
+//! A frame at a core, and what became of it.
+
 use fast_rx::Why;
 use flow_lock::Word;
 use tas_model::{Bytes, FlowId, FrameId};

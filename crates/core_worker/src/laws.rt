@@ -1,3 +1,5 @@
+//! The laws of what applications are told.
+
 ghost use Rattle.std.specs.Prelude.{◌≡◌, List, [], ◌∷◌, ◌++◌, None};
 ghost use Rattle.tas_model.specs.declared.entry.FlowId.{FlowId};
 ghost use Rattle.tas_model.specs.Endpoint.{Endpoint};

@@ -1,3 +1,5 @@
+//! What the workers of a host share: the queues of its applications and of its cores.
+
 ghost use Rattle.std.specs.Prelude.{◌≡◌, ◌<◌, ◌++◌, ◌∷◌, [], length, slice_get, Some, None, OnOk, OnErr};
 ghost use Rattle.std.specs.Prelude.{IfSome, IfNone, position};
 ghost use Rattle.core_worker.specs.Telling.{queue_of, is_queue_of};

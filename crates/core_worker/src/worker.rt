@@ -1,3 +1,5 @@
+//! The worker of one core: what it keeps between two turns.
+
 ghost use Rattle.std.specs.Prelude.{◌≡◌, ◌<◌, ◌++◌, ◌∷◌, [], length, IfOk, OnOk, OnErr, IfNone, IfSome};
 ghost use Rattle.core_worker.specs.Workers.{sight_of, with_sight, with_frames, with_deferred, with_exceptions, IsFree};
 ghost use Rattle.core_worker.specs.Workers.{with_log, with_senders, new_worker, frame_of, HasSenders};

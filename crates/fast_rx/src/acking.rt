@@ -1,3 +1,5 @@
+//! What an acknowledgement does (RFC 9293, section 3.10.7.4, fifth).
+
 ghost use Rattle.std.specs.Prelude.{◌≡◌, ℕ, ◌+◌, ◌-◌, ◌<◌, ◌≤◌, ◌==◌, ◌&&◌, ◌||◌, Some, max, min, length, nat_lt};
 ghost use Rattle.std.specs.Prelude.{nat_le, if◌then◌else◌};
 ghost use Rattle.tas_model.specs.declared.entry.Phase.TheVariants as phases;

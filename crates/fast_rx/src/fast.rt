@@ -1,3 +1,5 @@
+//! The fast path: which segments are its own, and why others are left to the slow path.
+
 ghost use Rattle.std.specs.Prelude.{◌≡◌, ℕ, List, ◌+◌, ◌^◌, ◌<◌, IsTrue, IsSome, Some, None};
 ghost use Rattle.tas_model.specs.Endpoint.{Endpoint};
 ghost use Rattle.tas_model.specs.OneStream.{IsSynchronized};

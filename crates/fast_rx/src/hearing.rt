@@ -1,3 +1,5 @@
+//! Whether a segment is heard at all: its place, a reset, a SYN (RFC 9293, section 3.10.7.4, first to fourth).
+
 ghost use Rattle.std.specs.Prelude.{◌≡◌, ℕ, ◌+◌, ◌-◌, ◌%◌, ◌^◌, ◌<◌, ◌==◌, ◌&&◌, IfSome, nat_lt, nat_le, not};
 ghost use Rattle.std.specs.Prelude.{if◌then◌else◌};
 ghost use Rattle.tas_num.specs.Places.{nearest};

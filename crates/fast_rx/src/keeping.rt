@@ -1,3 +1,5 @@
+//! What becomes of a segment's bytes and its FIN (RFC 9293, section 3.10.7.4, seventh and eighth).
+
 ghost use Rattle.std.specs.Prelude.{◌≡◌, ℕ, ◌+◌, ◌-◌, ◌^◌, ◌<◌, ◌≤◌, Some, true, false, length, max, min};
 ghost use Rattle.payload_ring.specs.Window.{end_of, room_of};
 ghost use Rattle.tas_model.specs.Endpoint.{Endpoint, Island};

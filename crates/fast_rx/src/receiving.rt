@@ -1,3 +1,5 @@
+//! A segment that comes past SYN-SENT, in all its steps.
+
 ghost use Rattle.std.specs.Prelude.{◌≡◌, ℕ, List, ◌+◌, ◌-◌, ◌^◌, ◌<◌, ◌≤◌, ◌==◌, ◌&&◌, Some, nat_le, true, false};
 ghost use Rattle.std.specs.Prelude.{length, min, if◌then◌else◌};
 ghost use Rattle.payload_ring.specs.Window.{end_of, room_of};

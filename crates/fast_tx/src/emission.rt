@@ -1,3 +1,5 @@
+//! The next segment is sent.
+
 ghost use Rattle.std.specs.Prelude.{◌≡◌, ℕ, ◌+◌, ◌-◌, ◌^◌, ◌==◌, ◌≤◌, ◌<◌, ◌↔◌, max, List, length, take, drop, Some};
 ghost use Rattle.std.specs.Prelude.{None, IsSome, IfSome, if◌then◌else◌};
 ghost use Rattle.tas_model.specs.declared.entry.Phase.TheVariants as phases;

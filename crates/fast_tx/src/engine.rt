@@ -1,3 +1,5 @@
+//! The engine of Emit.
+
 ghost use Rattle.std.specs.Prelude.{◌≡◌, ℕ, ◌≤◌, ◌↔◌, length, IfSome, IfNone, IsSome};
 ghost use Rattle.tas_model.specs.Endpoint.{Endpoint};
 ghost use Rattle.tas_model.specs.NextSegment.{going as model_going, emitted};

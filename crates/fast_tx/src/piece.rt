@@ -1,3 +1,5 @@
+//! What goes next, told by the record alone.
+
 ghost use Rattle.std.specs.Prelude.{◌≡◌, ℕ, ◌+◌, ◌-◌, ◌↔◌, min, length, Some, IsSome};
 ghost use Rattle.payload_ring.specs.Window.{end_of};
 ghost use Rattle.tas_model.specs.Endpoint.{Endpoint};

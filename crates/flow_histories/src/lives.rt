@@ -1,3 +1,5 @@
+//! Whole lives of flows, from their opening to their end.
+
 use fast_tx::FastTx;
 use flow_state::{Answer, AppCalls, CallIn, FlowHistory, FlowRecord};
 use segment_fields::{Flags, Segment};

@@ -1,3 +1,5 @@
+//! Openings: ports, listeners and first numbers.
+
 use segment_fields::{Flags, Segment};
 use slow_handshake::{ListenRefused, SlowPath, SynAnswer};
 use std::alloc::{AllocError, Global};

@@ -1,3 +1,5 @@
+//! Changes of the index, and what a look finds.
+
 use tas_model::{FlowId, FourTuple};
 
 /// A change of the index.

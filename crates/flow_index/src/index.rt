@@ -1,3 +1,5 @@
+//! The index of flows by their four-tuples: one writer, and readers that never hold it up.
+
 ghost use Rattle.std.specs.Prelude.{◌≡◌, ◌<◌, ◌+◌, [], ◌∷◌, ◌++◌, IfOk, IsOk, OnOk, OnErr, drop};
 ghost use Rattle.left_right.specs.Sides.{view};
 ghost use Rattle.flow_index.specs.declared.change.Change.TheVariants.{Put, Remove};

@@ -1,3 +1,5 @@
+//! The judge of one flow's history, entry by entry.
+
 ghost use Rattle.std.specs.Prelude.{◌≡◌, ◌++◌, ◌∷◌, [], ◌↔◌, List, length, IfOk, IfSome, IfNone, IsTrue, true, false};
 ghost use Rattle.tas_model.specs.declared.entry.Entry.{Entry};
 ghost use Rattle.tas_model.specs.Endpoint.{phase as model_phase};

@@ -1,3 +1,5 @@
+//! A call of a history is made again, by the engine that serves it.
+
 ghost use Rattle.std.specs.Prelude.{◌≡◌, IfOk, true, false};
 ghost use Rattle.tas_model.specs.declared.entry.Call.TheVariants as calls;
 ghost use Rattle.tas_model.specs.LegalHistory.{replay};

@@ -1,3 +1,5 @@
+//! Replies that were made, held against those that a line shows.
+
 ghost use Rattle.std.specs.Prelude.{◌≡◌, ◌++◌, ◌↔◌, [], bytes_eq, IfOk, OnOk, IsTrue, true, false};
 ghost use Rattle.tas_model.specs.declared.entry.Reply.{Reply};
 ghost use Rattle.tas_model.specs.LegalHistory.{taken_bytes};

@@ -1,3 +1,5 @@
+//! One entry is tried: its call is made again, and the reply compared.
+
 ghost use Rattle.std.specs.Prelude.{◌≡◌, ◌≤◌, ◌<◌, length, IfOk, OnOk, true, false};
 ghost use Rattle.tas_model.specs.LegalHistory.{taken_bytes};
 ghost use Rattle.flow_state.specs.Calls.{call_of, offer_of, seg_of, IsSmall};

@@ -1,3 +1,5 @@
+//! The word of a slot.
+
 ghost use Rattle.std.specs.Prelude.{◌≡◌};
 ghost use Rattle.flow_lock.specs.Words.{code, word_of, plain_word};
 

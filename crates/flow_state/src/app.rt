@@ -1,3 +1,5 @@
+//! The engine of an application's calls (RFC 9293, section 3.9.1).
+
 ghost use Rattle.std.specs.Prelude.{◌≡◌, ℕ, List, true};
 ghost use Rattle.tas_model.specs.Endpoint.{Endpoint};
 ghost use Rattle.tas_model.specs.ApplicationCalls.{column, accept_in, ready_in};

@@ -1,3 +1,5 @@
+//! Shut, Close and Abort (RFC 9293, sections 3.9.1.4 and 3.9.1.6).
+
 ghost use Rattle.std.specs.Prelude.{◌≡◌, ℕ, List};
 ghost use Rattle.tas_model.specs.declared.entry.Reason.TheVariants as reasons;
 ghost use Rattle.tas_model.specs.Endpoint.{Endpoint};

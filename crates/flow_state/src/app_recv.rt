@@ -1,3 +1,5 @@
+//! Recv (RFC 9293, section 3.9.1.3).
+
 ghost use Rattle.std.specs.Prelude.{◌≡◌, ℕ, List, ◌+◌, ◌-◌, ◌^◌, ◌<◌, ◌≤◌, length, take, drop, min};
 ghost use Rattle.tas_model.specs.Endpoint.{Endpoint};
 ghost use Rattle.tas_model.specs.ApplicationCalls.{column, recv_open as model_recv_open, recv_given, recv_in};

@@ -1,3 +1,5 @@
+//! Send (RFC 9293, section 3.9.1.2).
+
 ghost use Rattle.std.specs.Prelude.{◌≡◌, ℕ, List, ◌+◌, ◌-◌, ◌^◌, ◌<◌, ◌≤◌, ◌++◌, true, false, length, take, min};
 ghost use Rattle.payload_ring.specs.Window.{room_of};
 ghost use Rattle.tas_model.specs.declared.entry.Reply.TheVariants as replies;

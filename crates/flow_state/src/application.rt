@@ -1,3 +1,5 @@
+//! Which application a flow belongs to.
+
 ghost use Rattle.std.specs.Prelude.{◌≡◌, ℕ, List};
 ghost use Rattle.flow_state.specs.Application.{got_by as model_got_by};
 ghost use Rattle.flow_state.specs.Calls.{call_of, reply_of};

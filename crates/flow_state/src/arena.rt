@@ -1,3 +1,5 @@
+//! The memory of a history's bytes.
+
 ghost use Rattle.std.specs.Prelude.{◌≡◌, ◌↔◌, ℕ, List, ◌+◌, ◌-◌, ◌≤◌, ◌++◌, ◌∷◌, [], length, take, drop, vec_len};
 ghost use Rattle.std.specs.Prelude.{vec_capacity, IfOk, IfSome, IfNone, IsSome, OnOk, IsOk};
 ghost use Rattle.flow_state.specs.Calls.{call_of, reply_of, payload_of, answer_len, need_of, IsSmall, IsTimely};

@@ -1,3 +1,5 @@
+//! Calls and answers, as engines take and give them.
+
 ghost use Rattle.std.specs.Prelude.{◌≡◌, ◌≤◌};
 ghost use Rattle.flow_state.specs.Calls.{payload_of, answer_len, segment_count};
 

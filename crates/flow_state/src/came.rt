@@ -1,3 +1,5 @@
+//! The segments that came, apart from the entries that tell of them.
+
 ghost use Rattle.std.specs.Prelude.{◌≡◌, ℕ, ◌+◌, ◌-◌, ◌<◌, ◌≤◌, ◌++◌, ◌∷◌, [], take, vec_len, vec_capacity, OnOk, IsOk};
 ghost use Rattle.flow_state.specs.Arena.{came_room};
 ghost use Rattle.flow_state.specs.Slots.{came_of, came_count, HasCame};

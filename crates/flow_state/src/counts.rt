@@ -1,3 +1,5 @@
+//! How many entries each caller has made.
+
 ghost use Rattle.std.specs.Prelude.{◌≡◌, ℕ, ◌+◌, ◌-◌, ◌^◌, ◌<◌, ◌≤◌, if◌then◌else◌, vec_len, vec_capacity, position};
 ghost use Rattle.std.specs.Prelude.{IfOk, IsOk, OnOk};
 ghost use Rattle.tas_model.specs.declared.entry.Caller.{Caller};

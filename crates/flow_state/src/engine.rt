@@ -1,3 +1,5 @@
+//! What an engine is: it makes a call on the compact record, as the endpoint's step does.
+
 ghost use Rattle.std.specs.Prelude.{◌≡◌, ℕ, ◌+◌, ◌-◌, ◌^◌, ◌<◌, ◌≤◌, ◌↔◌, length, IfSome, IfNone};
 ghost use Rattle.std.specs.Prelude.{IsSome};
 ghost use Rattle.tas_model.specs.Endpoint.{Endpoint};

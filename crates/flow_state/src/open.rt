@@ -1,3 +1,5 @@
+//! The peer's SYN is taken: the largest payload, the windows and the rate.
+
 ghost use Rattle.std.specs.Prelude.{◌≡◌, ℕ, ◌+◌, ◌^◌, ◌<◌, ◌≤◌, ◌∷◌, [], IfOk};
 ghost use Rattle.tas_model.specs.declared.entry.FrameId.{FrameId};
 ghost use Rattle.tas_model.specs.declared.entry.Call.TheVariants as calls;

@@ -1,3 +1,5 @@
+//! The compact record of an endpoint.
+
 use crate::scaling::Scaling;
 use payload_ring::Ring;
 use rate_bucket::{Bucket, Counters};

@@ -1,3 +1,5 @@
+//! What is read off the compact record.
+
 ghost use Rattle.std.specs.Prelude.{◌≡◌, ℕ, ◌+◌, ◌-◌, ◌^◌, ◌<◌, ◌≤◌, List, length, min};
 ghost use Rattle.tas_model.specs.Endpoint.{Endpoint, next_place as model_next_place};
 ghost use Rattle.tas_model.specs.Segments.{ack_head as model_ack_head};

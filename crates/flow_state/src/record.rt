@@ -1,3 +1,5 @@
+//! The record of one flow: its compact parts, and its history.
+
 ghost use Rattle.std.specs.Prelude.{◌≡◌, ℕ, ◌+◌, ◌-◌, ◌^◌, ◌<◌, ◌≤◌, ◌++◌, ◌∷◌, ◌↔◌, [], List, length, take, slice_get};
 ghost use Rattle.std.specs.Prelude.{Some, replicate, max, vec_len, vec_capacity, flat_map, IfOk, IfSome, IfNone};
 ghost use Rattle.std.specs.Prelude.{IsSome, OnErr, OnOk, IsOk, None, false};

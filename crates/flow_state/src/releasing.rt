@@ -1,3 +1,5 @@
+//! Rings that hold nothing give their memory back.
+
 ghost use Rattle.std.specs.Prelude.{◌≡◌};
 ghost use Rattle.flow_state.specs.Released.{kept_ring, released_parts};
 

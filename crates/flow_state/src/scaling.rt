@@ -1,3 +1,5 @@
+//! How windows are scaled (RFC 7323, section 2).
+
 ghost use Rattle.std.specs.Prelude.{◌≡◌, ℕ, ◌-◌, ◌*◌, ◌/◌, ◌^◌, length, min};
 ghost use Rattle.tas_model.specs.Endpoint.{Endpoint, wnd, window_field as model_window_field, agreed_scaling};
 ghost use Rattle.tas_model.specs.Endpoint.{syn_window_field as model_syn_window_field};

@@ -1,3 +1,5 @@
+//! An entry as it is kept, without its bytes.
+
 ghost use Rattle.std.specs.Prelude.{◌≡◌, ℕ, ◌+◌, ◌≤◌, List, take, drop, length, ◌<◌, ◌^◌, ◌∷◌, []};
 ghost use Rattle.tas_num.specs.declared.seq.Seq.{Seq};
 ghost use Rattle.tas_model.specs.declared.entry.FrameId.{FrameId};

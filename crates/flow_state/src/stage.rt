@@ -1,3 +1,5 @@
+//! Where a call stands in the table of calls.
+
 ghost use Rattle.std.specs.Prelude.{◌≡◌};
 ghost use Rattle.tas_model.specs.Endpoint.{Endpoint};
 ghost use Rattle.tas_model.specs.ApplicationCalls.{column};

@@ -1,3 +1,5 @@
+//! A run of quiet ticks.
+
 ghost use Rattle.std.specs.Prelude.{◌≡◌, ℕ, ◌+◌, ◌*◌, ◌^◌, ◌≤◌, ◌<◌, ◌++◌, ◌∷◌, [], List, length, true, false};
 ghost use Rattle.std.specs.Prelude.{◌-◌, take};
 ghost use Rattle.std.specs.Prelude.{slice_get, Some, vec_len, vec_capacity, IsTrue, IsFalse};

@@ -1,3 +1,5 @@
+//! A history as the stretches that it is kept in.
+
 ghost use Rattle.std.specs.Prelude.{◌≡◌, ℕ, ◌+◌, ◌<◌, ◌≤◌, List, length, slice_get, Some, flat_map, IfOk, IfErr};
 ghost use Rattle.flow_state.specs.Arena.{memory_of};
 ghost use Rattle.flow_state.specs.Slots.{IsWithin};

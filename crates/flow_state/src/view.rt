@@ -1,3 +1,5 @@
+//! Entries as they are shown to whoever reads a history.
+
 ghost use Rattle.std.specs.Prelude.{◌≡◌, ℕ, ◌+◌, ◌≤◌, List, length, take, drop};
 ghost use Rattle.flow_state.specs.Calls.{reply_bytes};
 ghost use Rattle.tas_model.specs.Outputs.{given_bytes};

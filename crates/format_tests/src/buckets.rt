@@ -1,3 +1,5 @@
+//! The bucket and the control of its rate, against numbers of another program.
+
 use rate_bucket::*;
 use std::test::*;
 

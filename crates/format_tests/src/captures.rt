@@ -1,3 +1,5 @@
+//! Captures and their refusals, against files of another program.
+
 use pcap_frames::*;
 use std::test::*;
 

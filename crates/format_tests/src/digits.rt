@@ -1,3 +1,5 @@
+//! Digits of bytes, against those of another library.
+
 use run_texts::Writer;
 use std::test::*;
 use tas_num::SureSink;

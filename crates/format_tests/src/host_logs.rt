@@ -1,3 +1,5 @@
+//! A host's log keeps lines that follow on each other as one stretch.
+
 use std::test::*;
 use tas_core::*;
 use tas_model::FrameId;

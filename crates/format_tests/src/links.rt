@@ -1,3 +1,5 @@
+//! What the lines of a link do to a frame.
+
 use link_script::*;
 use std::test::*;
 use tas_model::{Bytes, FrameId, NO_FLOW};

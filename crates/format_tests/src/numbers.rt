@@ -1,3 +1,5 @@
+//! Places, sums and streams, against numbers from outside.
+
 use std::test::*;
 use tas_num::*;
 

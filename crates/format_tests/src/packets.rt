@@ -1,3 +1,5 @@
+//! Packets and their refusals, against bytes of another program.
+
 use segment_fields::*;
 use std::test::*;
 use tas_num::Seq;

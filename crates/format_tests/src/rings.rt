@@ -1,3 +1,5 @@
+//! Rings: bytes past a gap, round the end, and behind a rewind.
+
 use payload_ring::*;
 use std::test::*;
 

@@ -1,3 +1,5 @@
+//! A segment that a line of a log keeps apart.
+
 ghost use Rattle.std.specs.Prelude.{◌≡◌, IfOk};
 
 use std::alloc::{AllocError, Global};

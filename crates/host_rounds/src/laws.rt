@@ -1,3 +1,5 @@
+//! The laws of a host's ticks, whatever its scripts are.
+
 ghost use Rattle.std.specs.Prelude.{◌≡◌, ℕ, ◌+◌, ◌-◌, ◌^◌, ◌≤◌, ◌<◌, List, [], length, Bool, true, false, Some, None};
 ghost use Rattle.std.specs.List.{list_any};
 ghost use Rattle.tas_model.specs.LegalHistory.{Legal};

@@ -1,3 +1,5 @@
+//! What a host's log tells.
+
 use crate::kept_seg::KeptSeg;
 use tas_model::{FourTuple, FrameId, Head};
 

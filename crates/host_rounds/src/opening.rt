@@ -1,3 +1,5 @@
+//! What a host gives a flow at its opening.
+
 use tas_num::Seq;
 
 /// What a host gives a flow at its opening: its first sequence number (RFC 9293, section 3.4.1), and the shift of a

@@ -1,3 +1,5 @@
+//! The laws of frames that come to no flow, and of what entries show.
+
 ghost use Rattle.std.specs.Prelude.{◌≡◌, Bool, true};
 ghost use Rattle.host_rounds.specs.Lists.{Each};
 ghost use Rattle.host_rounds.specs.Deliveries.{Arrival};

@@ -1,3 +1,5 @@
+//! Ticks that were worked by hand, held against the definitions.
+
 ghost use Rattle.std.specs.Prelude.{◌≡◌};
 ghost use Rattle.host_rounds.specs.WorkedTicks.{marks, ids, visited, visited_marks, visited_log, crowded};
 ghost use Rattle.host_rounds.specs.WorkedTicks.{crowded_marks, crowded_ids, crowded_log};

@@ -1,3 +1,5 @@
+//! The laws of streams that are cut.
+
 ghost use Rattle.std.specs.Prelude.{◌≡◌, ◌++◌, List, ℕ};
 ghost use Rattle.kv_sessions.specs.Stored.{Map};
 ghost use Rattle.kv_sessions.specs.Answers.{answers, and_more};

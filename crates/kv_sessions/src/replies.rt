@@ -1,3 +1,5 @@
+//! Replies, as they are put together.
+
 ghost use Rattle.std.specs.Prelude.{◌≡◌, ◌++◌, length, codes, decimal, Some, OnOk, OnErr};
 ghost use Rattle.kv_sessions.specs.Lines as lines;
 ghost use Rattle.kv_sessions.specs.Outcomes as outcomes;

@@ -1,3 +1,5 @@
+//! One client's session.
+
 ghost use Rattle.std.specs.Prelude.{◌≡◌, ◌≤◌, [], length, flat_map, IsOk, IfOk, OnOk, OnErr};
 ghost use Rattle.kv_sessions.specs.Answers.{answers};
 ghost use Rattle.kv_sessions.specs.Stored.{Map};

@@ -1,3 +1,5 @@
+//! The store of a server's sessions.
+
 ghost use Rattle.std.specs.Prelude.{◌≡◌, IsOk, IfOk, OnOk, OnErr, option_map, option_copied};
 ghost use Rattle.std.specs.FinMap as map;
 ghost use Rattle.kv_sessions.specs.Shown.{item_of};

@@ -1,3 +1,5 @@
+//! Bytes are taken, line by line and block by block.
+
 ghost use Rattle.std.specs.Prelude.{◌≡◌, ◌≤◌, ◌<◌, ◌+◌, ◌^◌, ◌++◌, ◌∷◌, [], None, length, take, IfOk, OnErr, position};
 ghost use Rattle.kv_sessions.specs.Stored.{Map};
 ghost use Rattle.kv_sessions.specs.Lines as lines;

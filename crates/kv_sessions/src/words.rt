@@ -1,3 +1,5 @@
+//! Lines, words, keys and numbers.
+
 ghost use Rattle.std.specs.Prelude.{◌≡◌, ◌<◌, ◌+◌, ◌∷◌, ◌==◌, [], length, position};
 ghost use Rattle.std.specs.Prelude.{bytes_eq, IfSome, MatchOption};
 ghost use Rattle.std.specs.List.{slice_split, list_all};

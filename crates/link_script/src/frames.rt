@@ -1,3 +1,5 @@
+//! Frames that were sent, in the order of their ticks.
+
 ghost use Rattle.std.specs.List.Sorted.{IsPartitionPoint, IsNonDecreasingBy};
 ghost use Rattle.std.specs.Prelude.{◌≡◌, ◌<◌, ◌≤◌, nat_le, nat_lt, true, false, ◌++◌, ◌∷◌, [], length, slice_get};
 ghost use Rattle.std.specs.Prelude.{filter, ◌==◌, Some, OnOk, OnErr};

@@ -1,3 +1,5 @@
+//! The laws of which frames are due.
+
 ghost use Rattle.std.specs.Prelude.{◌≡◌, ◌<◌, ◌≤◌, ◌==◌, ℕ, false, List, filter};
 ghost use Rattle.link_script.specs.LinkLines.{LinkLines};
 ghost use Rattle.link_script.specs.DueFrames.{due, is_due};

@@ -1,3 +1,5 @@
+//! What the lines of a link do to frames.
+
 ghost use Rattle.std.specs.Prelude.{◌≡◌, ◌≤◌, max, Some, IsNone, IfOk, OnOk, OnErr};
 ghost use Rattle.tas_model.specs.declared.entry.FrameId as model;
 ghost use Rattle.link_script.specs.DueFrames.{act_on, is_kth, delay_by, longest_delay};

@@ -1,3 +1,5 @@
+//! Calls that applications try while cores take frames.
+
 ghost use Rattle.std.specs.Prelude.{◌≡◌, ◌++◌, ◌∷◌, ◌+◌, ◌<◌, ◌^◌, [], List, All, map, Option, IfOk, OnOk};
 ghost use Rattle.host_rounds.specs.Hosts.{Live};
 ghost use Rattle.local_host.specs.declared.attempts.Attempt as specs;

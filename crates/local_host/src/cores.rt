@@ -1,3 +1,5 @@
+//! A tick's frames on several cores, each by a thread of its own.
+
 ghost use Rattle.std.specs.Prelude.{◌≡◌, ℕ, ◌<◌, ◌++◌, ◌∷◌, [], List, All, length, map, IfOk, OnOk};
 ghost use Rattle.host_rounds.specs.Hosts.{Live};
 ghost use Rattle.host_rounds.specs.Deliveries.{Arrival as ModelArrival};

@@ -1,3 +1,5 @@
+//! Whether the frames of a tick are all different.
+
 ghost use Rattle.std.specs.Prelude.{◌≡◌, true, not, cond, map, IfOk, OnOk};
 ghost use Rattle.std.specs.HashSet.{contains};
 ghost use Rattle.local_host.specs.declared.distinct.FrameKey as keys;

@@ -1,3 +1,5 @@
+//! The flows of a host: by opening, by four-tuple and by slot.
+
 ghost use Rattle.std.specs.Prelude.{true, false, ◌≡◌, ℕ, ◌<◌, ◌≤◌, ◌+◌, ◌-◌, ◌^◌, ◌==◌, ◌++◌, ◌∷◌, [], length, map};
 ghost use Rattle.std.specs.Prelude.{position, get_or, nat_eq, ◌||◌, List, slice_get, Some, None, cond, IfOk, IfSome};
 ghost use Rattle.std.specs.Prelude.{OnErr, OnOk, is_some, nat_le, count_by, All};

@@ -1,3 +1,5 @@
+//! One host of a run, on one thread: its flows, its listeners and its log.
+
 ghost use Rattle.std.specs.Prelude.{true, false, ◌≡◌, None, position, slice_get, ◌++◌, ◌∷◌, [], ◌<◌, ◌-◌, ◌^◌, length};
 ghost use Rattle.std.specs.Prelude.{◌&&◌, not, map, nat_lt, ◌==◌, ◌+◌, ◌≤◌, All, OnOk, IfOk, IfSome, Some};
 ghost use Rattle.std.specs.List.{list_any, list_all, filter};

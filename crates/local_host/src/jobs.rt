@@ -1,3 +1,5 @@
+//! Frames and attempts are handed out: each flow goes to one worker, and comes back.
+
 ghost use Rattle.std.specs.Prelude.{◌≡◌, ℕ, ◌<◌, ◌++◌, ◌∷◌, [], All, List, false, length, set, map, get_or};
 ghost use Rattle.std.specs.Prelude.{OnOk, IfOk, IfSome};
 ghost use Rattle.host_rounds.specs.Hosts.{Live};

@@ -1,3 +1,5 @@
+//! What one worker does in a tick.
+
 ghost use Rattle.std.specs.Prelude.{◌≡◌, ℕ, ◌<◌, ◌+◌, ◌*◌, ◌^◌, ◌++◌, All, false, [], map, length};
 ghost use Rattle.std.specs.Prelude.{slice_index_or, OnOk, IfOk};
 ghost use Rattle.local_host.specs.Arriving.{arrival_in};

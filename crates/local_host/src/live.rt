@@ -1,3 +1,5 @@
+//! One flow while the run goes on, with who has its socket.
+
 ghost use Rattle.std.specs.Prelude.{◌≡◌, ℕ, ◌∷◌, [], ◌==◌, ◌||◌, ◌&&◌, ◌<◌, ◌≤◌, ◌^◌, ◌++◌, not, true, false, length};
 ghost use Rattle.std.specs.Prelude.{take, if◌then◌else◌, is_some, OnOk, IfOk};
 ghost use Rattle.tas_model.specs.declared.entry.Call.TheVariants as calls;

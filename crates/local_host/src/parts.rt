@@ -1,3 +1,5 @@
+//! What a host does to each of its flows, in parts that go side by side.
+
 ghost use Rattle.std.specs.Prelude.{◌≡◌, map, OnOk};
 ghost use denote.Param.Send.{IsSync};
 

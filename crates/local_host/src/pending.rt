@@ -1,3 +1,5 @@
+//! Bytes that wait to be sent.
+
 ghost use Rattle.std.specs.Prelude.{◌≡◌, ◌≤◌, ◌++◌, [], length, drop, OnOk, OnErr};
 
 use std::alloc::{AllocError, Global};

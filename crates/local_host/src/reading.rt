@@ -1,3 +1,5 @@
+//! What a host reads off a record.
+
 ghost use Rattle.std.specs.Prelude.{◌≡◌, ◌+◌, ◌-◌, ◌^◌, ◌<◌, length, true};
 ghost use Rattle.tas_num.specs.Places.{raised as raised_place};
 ghost use Rattle.tas_model.specs.Endpoint.{is_closed as model_closed};

@@ -1,3 +1,5 @@
+//! The host of a replay: its ticks, with what its application asks.
+
 ghost use Rattle.std.specs.Prelude.{true, false, ◌≡◌, ◌<◌, ◌&&◌, not, ℕ, ◌≤◌, Some, None, slice_get, position, length};
 ghost use Rattle.std.specs.Prelude.{List, map, fold, OnOk, IfOk};
 ghost use Rattle.flow_state.specs.Calls.{seg_of};

@@ -1,3 +1,5 @@
+//! The one application of a replay's host, which asks what the capture shows of it.
+
 ghost use Rattle.std.specs.Prelude.{◌≡◌, ℕ, ◌+◌, ◌^◌, ◌<◌, ◌≤◌, ◌++◌, ◌==◌, ◌||◌, ◌&&◌, not, true, false, [], length};
 ghost use Rattle.std.specs.Prelude.{drop, OnOk};
 ghost use Rattle.flow_state.specs.Calls.{seg_of};

@@ -1,3 +1,5 @@
+//! Which slots are taken.
+
 ghost use Rattle.std.specs.Prelude.{true, false, ◌≡◌, ℕ, ◌<◌, ◌≤◌, ◌==◌, ◌||◌, [], List, length, get_or};
 ghost use Rattle.std.specs.Prelude.{OnErr, OnOk};
 ghost use Rattle.std.specs.List.{list_any};

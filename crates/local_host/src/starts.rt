@@ -1,3 +1,5 @@
+//! Where the first numbers and scales of a host's flows come from.
+
 ghost use Rattle.std.specs.Prelude.{◌≡◌, ◌≤◌, IfSome};
 ghost use Rattle.tas_model.specs.Valid.{InRange};
 ghost use Rattle.host_rounds.specs.Hosts.{flow_params as model_flow_params};

@@ -1,3 +1,5 @@
+//! Which core each group of flows is on.
+
 ghost use Rattle.std.specs.Prelude.{◌≡◌, ◌<◌, ◌≤◌, All, length, IfOk};
 ghost use Rattle.steering.specs.Tables.{group_of as group_of_tuple};
 ghost use Rattle.local_host.specs.Steered.{group_in};

@@ -1,3 +1,5 @@
+//! Cells of a ring, in memory that is touched only where it is used.
+
 ghost use Rattle.std.specs.Prelude.{◌≡◌, ℕ, ◌+◌, ◌-◌, ◌^◌, ◌<◌, ◌≤◌, ◌++◌, length, take, drop, replicate, vec_len};
 ghost use Rattle.std.specs.Prelude.{vec_capacity, true, false, IfOk};
 ghost use Rattle.payload_ring.specs.Window.{overlaid};

@@ -1,3 +1,5 @@
+//! Zeros, written many at a time.
+
 ghost use Rattle.std.specs.Prelude.{◌≡◌, ◌+◌, ◌-◌, ◌≤◌, ◌++◌, length, replicate, vec_len, vec_capacity};
 
 /// How many zeros are written at a time.

@@ -1,3 +1,5 @@
+//! A ring: a window of fixed size on a stream of bytes.
+
 ghost use Rattle.std.specs.Prelude.{◌≡◌, ℕ, ◌+◌, ◌-◌, ◌^◌, ◌<◌, ◌≤◌, ◌++◌, [], true, length, take, drop, replicate};
 ghost use Rattle.std.specs.Prelude.{IfOk};
 ghost use Rattle.payload_ring.specs.Window.{Window, IsWindow, end_of, cells_of, room_of, overlaid, with_cells};

@@ -1,3 +1,5 @@
+//! What the header of a capture tells, and what refuses one.
+
 ghost use Rattle.std.specs.Prelude.{◌≡◌};
 ghost use Rattle.tas_num.specs.Captures.{record_of};
 

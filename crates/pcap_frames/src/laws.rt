@@ -1,3 +1,5 @@
+//! The laws of captures: how records are found, and that what is written is read.
+
 ghost use Rattle.std.specs.Prelude.{◌≡◌, ℕ, ◌+◌, ◌≤◌, ◌^◌, List, [], ◌∷◌, ◌++◌, false, true, Some, None, Ok, Err};
 ghost use Rattle.std.specs.Prelude.{length, drop};
 ghost use Rattle.tas_num.specs.Captures.{Fault, Form, Next, first_record, records_from, records_within, joined};

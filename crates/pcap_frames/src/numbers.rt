@@ -1,3 +1,5 @@
+//! Numbers in the writer's byte order.
+
 ghost use Rattle.std.specs.Prelude.{◌≡◌, ◌+◌, ◌≤◌, length};
 ghost use Rattle.tas_num.specs.Captures.{half_by, word_by};
 

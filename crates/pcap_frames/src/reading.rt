@@ -1,3 +1,5 @@
+//! Captures are read, record by record.
+
 ghost use Rattle.std.specs.Prelude.{◌≡◌, ℕ, ◌+◌, ◌<◌, ◌≤◌, ◌↔◌, Some, None, Ok, Err, IsOkAnd, IsNone, IfOk, IfErr};
 ghost use Rattle.std.specs.Prelude.{IfSome, IfNone, length, drop, option_copied};
 ghost use Rattle.tas_num.specs.Captures.{form_of, form_by, nanos_by, first_record, packet_of, is_ipv4_frame};

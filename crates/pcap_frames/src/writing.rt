@@ -1,3 +1,5 @@
+//! Captures are written.
+
 ghost use Rattle.std.specs.Prelude.{◌≡◌};
 ghost use Rattle.tas_num.specs.Captures.{file_header, record_head, little_word};
 

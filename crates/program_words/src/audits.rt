@@ -1,3 +1,5 @@
+//! The words that ask for an audit.
+
 ghost use Rattle.std.specs.Prelude.{◌≡◌, map, string_bytes};
 ghost use Rattle.program_words.specs.Audits.{is_audit};
 

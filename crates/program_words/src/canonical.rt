@@ -1,3 +1,5 @@
+//! The words of a run in one order, as the command line's reader takes them.
+
 ghost use Rattle.std.specs.Prelude.{◌≡◌, ◌++◌, ◌∷◌, [], map, string_bytes, codes, IfOk, OnOk};
 ghost use Rattle.program_words.specs.Canonical as canonical;
 

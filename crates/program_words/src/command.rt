@@ -1,3 +1,5 @@
+//! The program as a command with three subcommands.
+
 ghost use Rattle.std.specs.Prelude.{◌≡◌, IfOk, false};
 ghost use Rattle.clap.specs.Words.{Shape, app_of, rule_of, with_subcommand};
 ghost use Rattle.program_words.specs.Command as commands;

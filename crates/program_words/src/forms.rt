@@ -1,3 +1,5 @@
+//! The grammar of the program's words.
+
 ghost use Rattle.std.specs.Prelude.{◌≡◌, ◌∷◌, List, map, decimal, string_bytes, fold, option_map};
 ghost use Rattle.std.specs.Prelude.{bytes_eq, nat_le, ◌&&◌};
 ghost use Rattle.program_words.specs.Words as forms;

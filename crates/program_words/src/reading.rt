@@ -1,3 +1,5 @@
+//! From words to what they ask for, or to their refusal.
+
 ghost use Rattle.std.specs.Prelude.{◌≡◌, map, string_bytes, true, false, Some, IfOk, IfErr, IfSome, IfNone};
 ghost use Rattle.std.specs.Net.Grammar.{IsIpv4Text};
 ghost use Rattle.std.specs.declared.net.ipv4_addr.Ipv4Addr.{Ipv4Addr};

@@ -1,3 +1,5 @@
+//! What words ask for.
+
 ghost use Rattle.std.specs.Prelude.{◌≡◌, ◌≤◌};
 ghost use Rattle.program_words.specs.Words as forms;
 ghost use Rattle.program_words.specs.Requests.{request_in};

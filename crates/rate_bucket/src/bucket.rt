@@ -1,3 +1,5 @@
+//! The bucket of tokens that paces a flow.
+
 ghost use Rattle.std.specs.Prelude.{◌≡◌, ℕ, ◌+◌, ◌-◌, ◌≤◌, min};
 ghost use Rattle.tas_num.specs.Control.{refill};
 

@@ -1,3 +1,5 @@
+//! The arithmetic of the control of a rate (RFC 5681, section 3).
+
 ghost use Rattle.std.specs.Prelude.{◌≡◌, ℕ, ◌<◌, ◌≤◌, min};
 ghost use Rattle.tas_num.specs.Control.{cwnd_after, halved, ssthresh_after};
 

@@ -1,3 +1,5 @@
+//! The laws that a place in a report is what the parts of a report say.
+
 ghost use Rattle.std.specs.Prelude.{◌≡◌, ◌↔◌, ℕ, List, IsSome};
 ghost use Rattle.report_lines.specs.Lines.{Line};
 ghost use Rattle.report_form.specs.Reports.{IsReport, MayBegin};

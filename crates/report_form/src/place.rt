@@ -1,3 +1,5 @@
+//! Where in a report one is, and where a line leads from there.
+
 ghost use Rattle.std.specs.Prelude.{◌≡◌, ℕ, ◌==◌, ◌++◌, ◌∷◌, [], length, slice_get, List, MatchOption};
 ghost use Rattle.report_lines.specs.Lines.{Line};
 ghost use Rattle.report_lines.specs.Views.{seen_line};

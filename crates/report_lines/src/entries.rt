@@ -1,3 +1,5 @@
+//! Lines of entries: who called, what was asked, and what was answered.
+
 ghost use Rattle.std.specs.Prelude.{◌≡◌, ◌≤◌, map, length, codes, None, Some, MatchOption};
 ghost use Rattle.report_lines.specs.Fronts.{maybe, one_of};
 ghost use Rattle.report_lines.specs.Segments.{head};

@@ -1,3 +1,5 @@
+//! Lines of a host's log.
+
 ghost use Rattle.std.specs.Prelude.{◌≡◌, ◌≤◌, map, length, codes, None, Some, MatchOption};
 ghost use Rattle.report_lines.specs.Events as rules;
 ghost use Rattle.report_lines.specs.Views.{seen_event};

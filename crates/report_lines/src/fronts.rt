@@ -1,3 +1,5 @@
+//! Words and numbers at the front of a text.
+
 ghost use Rattle.std.specs.Prelude.{◌≡◌, ◌≤◌, ◌*◌, ◌+◌, not, length, position, None, Some, MatchOption, IfSome};
 ghost use Rattle.std.specs.List.{prefix_len, list_all};
 ghost use Rattle.scenario_text.specs.Words as words;

@@ -1,3 +1,5 @@
+//! Bytes that stand as digits.
+
 ghost use Rattle.std.specs.Prelude.{◌≡◌, ◌≤◌, ◌<◌, ◌+◌, ◌*◌, ◌/◌, ◌++◌, not, false, length, position};
 ghost use Rattle.std.specs.Prelude.{slice_index, None, Some, MatchOption, OnOk};
 ghost use Rattle.std.specs.List.{list_all, prefix_len, take_while};

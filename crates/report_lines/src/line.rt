@@ -1,3 +1,5 @@
+//! What a line of a report says.
+
 use crate::hex::HexText;
 use tas_model::{Caller, FlowId, FourTuple, FrameId, Head, Phase, Reason};
 use tas_num::Seq;

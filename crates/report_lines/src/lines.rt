@@ -1,3 +1,5 @@
+//! A line of a report, whichever it is.
+
 ghost use Rattle.std.specs.Prelude.{◌≡◌, ◌≤◌, not, map, length, position, codes, None, Some, MatchOption, IfSome};
 ghost use Rattle.std.specs.Option.{option_map};
 ghost use Rattle.std.specs.List.{prefix_len};

@@ -1,3 +1,5 @@
+//! Who called, why a connection ended, and which frame it was.
+
 ghost use Rattle.std.specs.Prelude.{◌≡◌, ◌<◌, ◌≤◌, ◌+◌, not, map, length, position};
 ghost use Rattle.std.specs.Prelude.{bytes_eq, codes, None, Some, MatchOption, IfSome};
 ghost use Rattle.std.specs.List.{prefix_len};

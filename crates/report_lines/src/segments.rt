@@ -1,3 +1,5 @@
+//! Segments in lines: control bits, numbers, options and bytes.
+
 ghost use Rattle.std.specs.Prelude.{◌≡◌, ◌≤◌, ◌+◌, codes, None, Some, MatchOption};
 ghost use Rattle.report_lines.specs.Fronts as fronts;
 ghost use Rattle.report_lines.specs.Segments as rules;

@@ -1,3 +1,5 @@
+//! The laws of single rules: accepts, kills, calls, connects and the stages of a replay.
+
 ghost use Rattle.std.specs.Prelude.{◌≡◌, ◌≢◌, ℕ, ◌+◌, ◌-◌, ◌<◌, List, [], ◌∷◌, ◌++◌, length, min, take, drop};
 ghost use Rattle.std.specs.Prelude.{true, false, Some, None, Contains};
 ghost use Rattle.tas_model.specs.declared.entry.Call.TheVariants as calls;

@@ -1,3 +1,5 @@
+//! Worked hosts, frames, records and words, held against the definitions.
+
 ghost use Rattle.std.specs.Prelude.{◌≡◌, ◌+◌, [], codes, true, false};
 ghost use Rattle.host_rounds.specs.WorkedTicks.{ids, frame};
 ghost use Rattle.host_rounds.specs.declared.log.LogEvent.TheVariants as events;

@@ -1,3 +1,5 @@
+//! Bytes that wait to be written, in memory that is taken once.
+
 ghost use Rattle.std.specs.Prelude.{◌≡◌, ◌+◌, ◌*◌, ◌≤◌, ◌++◌, ◌<◌, [], length, set, decimal, IfOk};
 ghost use Rattle.tas_runs.specs.Report.{hex_bytes};
 

@@ -1,3 +1,5 @@
+//! Lines that differ by a number alone, ten at a time.
+
 ghost use Rattle.std.specs.Prelude.{◌≡◌, ℕ, ◌+◌, ◌<◌, ◌≤◌, ◌++◌, List, length};
 ghost use Rattle.run_texts.specs.Counting.{lines_from, AreAlike};
 

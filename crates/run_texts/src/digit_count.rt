@@ -1,3 +1,5 @@
+//! How many decimal digits a number has.
+
 ghost use Rattle.std.specs.Prelude.{◌≡◌, ◌≤◌, ◌<◌, length, decimal};
 
 /// How many decimal digits a number has. Most have few.

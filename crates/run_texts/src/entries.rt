@@ -1,3 +1,5 @@
+//! The line of an entry.
+
 ghost use Rattle.std.specs.Prelude.{◌≡◌, ℕ, ◌++◌, ◌∷◌, [], List, map, codes, decimal};
 ghost use Rattle.tas_runs.specs.Report.{line, hex, data_text, seg_text, call_text, reply_text, entry_text, update_text};
 ghost use Rattle.tas_runs.specs.Report.{frame_text};

@@ -1,3 +1,5 @@
+//! The lines of a flow.
+
 ghost use Rattle.std.specs.Prelude.{◌≡◌, ℕ, ◌+◌, ◌*◌, ◌^◌, ◌<◌, ◌≤◌, ◌++◌, ◌∷◌, [], List, length, map, take, flat_map};
 ghost use Rattle.std.specs.Prelude.{codes, decimal};
 ghost use Rattle.tas_model.specs.Endpoint.{Endpoint, phase as phase_of};

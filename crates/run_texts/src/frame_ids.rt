@@ -1,3 +1,5 @@
+//! The name of a frame.
+
 ghost use Rattle.std.specs.Prelude.{◌≡◌, ℕ, ◌++◌, List, map, codes, decimal};
 ghost use Rattle.tas_runs.specs.Report.{name_at, flow_text, copy_text, frame_text};
 ghost use Rattle.run_texts.specs.Writes.{Writes};

@@ -1,3 +1,5 @@
+//! The capture of all frames that were sent.
+
 ghost use Rattle.std.specs.Prelude.{◌≡◌, ℕ, ◌≤◌, ◌++◌, ◌∷◌, [], List, length, map, flat_map, option_to_list, IfOk};
 ghost use Rattle.std.specs.Prelude.{OnOk};
 ghost use Rattle.tas_num.specs.Captures.{file_header, record_head, record_bytes};

@@ -1,3 +1,5 @@
+//! The digits of bytes, by vectors.
+
 ghost use Rattle.std.specs.Prelude.{◌≡◌, ◌*◌, ◌/◌, ◌%◌, ◌<◌, length, map, take, drop, false};
 ghost use Rattle.std.specs.Fmt.{digit_glyph};
 ghost use Rattle.tas_runs.specs.Report.{hex_bytes};

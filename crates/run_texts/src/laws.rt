@@ -1,3 +1,5 @@
+//! The law that each segment that was sent has room in a packet.
+
 ghost use Rattle.std.specs.Prelude.{List};
 ghost use Rattle.tas_model.specs.declared.entry.Entry.{Entry};
 ghost use Rattle.tas_model.specs.declared.entry.HostParams.{HostParams};

@@ -1,3 +1,5 @@
+//! Short texts of lines: calls, replies and events.
+
 ghost use Rattle.std.specs.Prelude.{◌≡◌, ℕ, ◌≤◌, length, codes, if◌then◌else◌};
 
 use crate::buffer::Buffer;

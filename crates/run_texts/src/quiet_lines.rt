@@ -1,3 +1,5 @@
+//! The lines of quiet ticks, whose tick and number rise.
+
 ghost use Rattle.std.specs.Prelude.{◌≡◌, ◌+◌, ◌≤◌, ◌++◌, length, codes};
 ghost use Rattle.tas_runs.specs.Report.{caller_text};
 

@@ -1,3 +1,5 @@
+//! The lines of records that follow on each other.
+
 ghost use Rattle.std.specs.Prelude.{◌≡◌, ◌+◌, ◌≤◌, ◌++◌, length};
 ghost use Rattle.run_texts.specs.Records.{word_of, end_of};
 

@@ -1,3 +1,5 @@
+//! The lines of a stretch of a history.
+
 ghost use Rattle.std.specs.Prelude.{◌≡◌, ℕ, ◌+◌, List, map};
 ghost use Rattle.tas_runs.specs.Report.{entries_text};
 ghost use Rattle.flow_state.specs.Stretches.{paced_entries, first_paced, IsPacedRun};

@@ -1,3 +1,5 @@
+//! The summary of a run of many clients.
+
 ghost use Rattle.tas_runs.specs.Summary.{summary_lines};
 ghost use Rattle.run_texts.specs.Writes.{Writes};
 

@@ -1,3 +1,5 @@
+//! Short texts that are put together where bytes wait.
+
 ghost use Rattle.std.specs.Prelude.{◌≡◌, ℕ, ◌+◌, ◌≤◌, ◌++◌, List, length, decimal};
 
 use crate::buffer::Buffer;

@@ -1,3 +1,5 @@
+//! Short texts of segments, addresses and states.
+
 ghost use Rattle.std.specs.Prelude.{◌≡◌, ℕ, ◌+◌, ◌<◌, ◌≤◌, ◌++◌, List, length};
 ghost use Rattle.tas_runs.specs.Report.{letter, flags_text, reason_text, phase_text, copy_text};
 

@@ -1,3 +1,5 @@
+//! The first and the last lines of a report, and those of its hosts.
+
 ghost use Rattle.std.specs.Prelude.{◌≡◌, ℕ, ◌++◌, ◌∷◌, [], List, map, codes, decimal, if◌then◌else◌};
 ghost use Rattle.tas_runs.specs.Report.{line, addr_text};
 ghost use Rattle.run_texts.specs.Writes.{Writes};

@@ -1,3 +1,5 @@
+//! Texts on their way to a sink.
+
 ghost use Rattle.std.specs.Prelude.{◌≡◌, ℕ, ◌+◌, ◌*◌, ◌<◌, ◌≤◌, ◌++◌, [], List, length, IfOk, OnOk, IfSome};
 ghost use Rattle.tas_runs.specs.Report.{hex_bytes};
 ghost use Rattle.run_texts.specs.Counting.{lines_from};

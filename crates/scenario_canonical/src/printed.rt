@@ -1,3 +1,5 @@
+//! The canonical text of a scenario.
+
 ghost use Rattle.std.specs.Prelude.{◌≡◌, ℕ, List, Ok, IfOk};
 ghost use Rattle.scenario_text.specs.Canonical.{canonical};
 ghost use Rattle.scenario_text.specs.Reads.{reads};

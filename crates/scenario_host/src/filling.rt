@@ -1,3 +1,5 @@
+//! The bytes of `fill`.
+
 ghost use Rattle.std.specs.Prelude.{◌≡◌, ◌≤◌, take, drop, vec_len, IfOk};
 ghost use Rattle.scenario_runs.specs.Applications.{most, filling};
 

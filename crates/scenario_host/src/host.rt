@@ -1,3 +1,5 @@
+//! A host of a scenario with its applications: a tick, in serial order or on cores.
+
 ghost use Rattle.std.specs.Prelude.{◌≡◌, ◌≤◌, ◌<◌, ◌+◌, ◌++◌, ℕ, false, [], map, fold, length, IfOk, OnOk};
 ghost use Rattle.std.specs.List.{list_all};
 ghost use Rattle.host_rounds.specs.Lists.{Each};

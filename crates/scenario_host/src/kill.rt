@@ -1,3 +1,5 @@
+//! An application is killed.
+
 ghost use Rattle.std.specs.Prelude.{◌≡◌, OnOk};
 ghost use Rattle.scenario_runs.specs.Applications.{killed};
 ghost use Rattle.scenario_host.specs.Turns.{turn_of};

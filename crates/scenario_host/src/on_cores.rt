@@ -1,3 +1,5 @@
+//! A tick of a scenario's host on cores, with what its applications try beside them.
+
 ghost use Rattle.std.specs.Prelude.{◌≡◌, ℕ, ◌<◌, ◌++◌, ◌∷◌, [], List, All, fold, map, filter, IfOk, OnOk};
 ghost use Rattle.tas_model.specs.declared.entry.Caller.TheVariants.{Slow};
 ghost use Rattle.host_rounds.specs.Deliveries.{received, delivered};

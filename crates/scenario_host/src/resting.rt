@@ -1,3 +1,5 @@
+//! Scripts that only wait sleep.
+
 ghost use Rattle.std.specs.Prelude.{◌≡◌, ◌<◌, ◌≤◌, ◌+◌, false, [], length, slice_get, unwrap_or, IfOk, OnOk};
 ghost use Rattle.scenario_host.specs.Resting.{IsLongerThan, MayRest, rested, seen, AreResting, awake_from};
 ghost use Rattle.scenario_host.specs.Resting.{scripts_in, AreKept};

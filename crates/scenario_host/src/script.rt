@@ -1,3 +1,5 @@
+//! The script of one application, and how far it is.
+
 ghost use Rattle.std.specs.Prelude.{◌≡◌, ◌≤◌, ◌+◌, true, false, not, [], map, filter, bytes_eq, OnOk};
 ghost use Rattle.scenario_runs.specs.Applications.{has_ended, is_killed_at, bound_in, port_of, flow_of, bind};
 ghost use Rattle.scenario_runs.specs.Applications.{unbind};

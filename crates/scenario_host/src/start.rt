@@ -1,3 +1,5 @@
+//! The scripts of a host at its beginning.
+
 ghost use Rattle.std.specs.Prelude.{◌≡◌, ◌≤◌, length, IfOk};
 ghost use Rattle.std.specs.List.{list_any};
 ghost use Rattle.scenario_host.specs.Scripts.{is_holding_kill};

@@ -1,3 +1,5 @@
+//! What a scenario's host gives its flows.
+
 ghost use Rattle.std.specs.Prelude.{◌≡◌};
 ghost use Rattle.scenario_runs.specs.Worlds.{starts_of};
 

@@ -1,3 +1,5 @@
+//! The steps of a script, but for those that send and receive.
+
 ghost use Rattle.std.specs.Prelude.{◌≡◌, ◌<◌, ◌+◌, ◌==◌, true, false, [], OnOk};
 ghost use Rattle.flow_state.specs.Calls.{call_of};
 ghost use Rattle.host_rounds.specs.Hosts.{first_port};

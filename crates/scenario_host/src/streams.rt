@@ -1,3 +1,5 @@
+//! The steps of a script that send and receive.
+
 ghost use Rattle.std.specs.Prelude.{◌≡◌, ◌+◌, ◌<◌, ◌≤◌, ℕ, List, length, take, drop, OnOk};
 ghost use Rattle.scenario_runs.specs.Applications.{on_socket, sends, receives, asks_for as model_asks};
 ghost use Rattle.scenario_runs.specs.Applications.{most, filling as model_filling};

@@ -1,3 +1,5 @@
+//! The step that a script tries beside cores, and how it goes on by the answer.
+
 ghost use Rattle.std.specs.Prelude.{◌≡◌, IfSome};
 ghost use Rattle.scenario_ranges.specs.Ranges.{IsStepInRange};
 ghost use Rattle.scenario_runs.specs.Applications.{unbind, stepped};

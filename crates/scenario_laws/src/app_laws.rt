@@ -1,3 +1,5 @@
+//! The laws of ports, kills and sockets.
+
 ghost use Rattle.std.specs.Prelude.{◌≡◌, ℕ, ◌≤◌, ◌<◌, List, [], ◌∷◌, length, true, false, Some};
 ghost use Rattle.host_rounds.specs.Logs.{HostRun, Flow, RunLog};
 ghost use Rattle.host_rounds.specs.Lists.{Each};

@@ -1,3 +1,5 @@
+//! The laws of Controls and of the steps of scripts.
+
 ghost use Rattle.host_rounds.specs.Logs.{HostRun, RunLog};
 ghost use Rattle.host_rounds.specs.Lists.{Each};
 ghost use Rattle.host_rounds.specs.Hosts.{Live};

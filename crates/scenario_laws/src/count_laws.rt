@@ -1,3 +1,5 @@
+//! The laws of how many calls, which slots and which bytes.
+
 ghost use Rattle.std.specs.Prelude.{ℕ, ◌≤◌};
 ghost use Rattle.host_rounds.specs.Logs.{HostRun, RunLog};
 ghost use Rattle.host_rounds.specs.Lists.{Each};

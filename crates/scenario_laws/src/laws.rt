@@ -1,3 +1,5 @@
+//! The laws of ticks that runs of scenarios have of their hosts.
+
 ghost use Rattle.std.specs.Prelude.{◌≡◌, ℕ, ◌+◌, ◌≤◌, ◌<◌, not, true};
 ghost use Rattle.tas_model.specs.declared.entry.FrameId.{FrameId};
 ghost use Rattle.host_rounds.specs.Logs.{HostRun, RunLog};

@@ -1,3 +1,5 @@
+//! The law that a scenario that was read is in the ranges of the grammar.
+
 ghost use Rattle.std.specs.Prelude.{◌≡◌, ℕ, List, Ok};
 ghost use Rattle.scenario_text.specs.declared.scenario.Scenario.{Scenario};
 ghost use Rattle.scenario_text.specs.Reads.{reads};

@@ -1,3 +1,5 @@
+//! Texts of scenarios and their refusals, against those of another program.
+
 use scenario_text::{ScenarioFault, bulk_scenario, print_scenario, read_scenario};
 use std::test::*;
 

@@ -1,3 +1,5 @@
+//! The laws of runs of scenarios.
+
 ghost use Rattle.tas_model.specs.declared.entry.HostParams.{HostParams};
 ghost use Rattle.host_rounds.specs.Logs.{RunLog};
 ghost use Rattle.host_rounds.specs.Moves.{AreByMoves};

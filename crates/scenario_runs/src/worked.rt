@@ -1,3 +1,5 @@
+//! Worked runs of scenarios, held against the definitions.
+
 ghost use Rattle.std.specs.Prelude.{◌≡◌};
 ghost use Rattle.scenario_runs.specs.WorkedParts.{reported};
 ghost use Rattle.scenario_runs.specs.WorkedRuns.{hello, hello_report, damaged, damaged_report, killed_early};

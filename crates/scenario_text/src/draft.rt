@@ -1,3 +1,5 @@
+//! A scenario while its lines are read, and the limits of it.
+
 ghost use Rattle.std.specs.Prelude.{◌≡◌, ◌*◌, ◌^◌, ◌<◌, ◌≤◌, ◌||◌, ℕ, Bool, not, List, length, IfOk, IfSome, min};
 ghost use Rattle.std.specs.Prelude.{unwrap_or, nat_lt};
 ghost use Rattle.scenario_text.specs.Drafts as drafts;

@@ -1,3 +1,5 @@
+//! The words of a line: names, numbers and addresses.
+
 ghost use Rattle.std.specs.Prelude.{◌≡◌, IfOk};
 ghost use Rattle.std.specs.Option.{option_map};
 ghost use Rattle.scenario_text.specs.Statements as forms;

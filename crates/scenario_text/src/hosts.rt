@@ -1,3 +1,5 @@
+//! Hosts by their names.
+
 ghost use Rattle.std.specs.Prelude.{◌≡◌, ◌≤◌, length};
 ghost use Rattle.scenario_text.specs.Drafts.{host_of};
 

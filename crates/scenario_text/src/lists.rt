@@ -1,3 +1,5 @@
+//! Lines of one kind.
+
 ghost use Rattle.std.specs.Prelude.{◌≡◌, ◌<◌, ◌++◌, ◌∷◌, [], length, slice_get, Some, OnOk, OnErr};
 ghost use Rattle.scenario_text.specs.Drafts.{is_nil, with_step, last_steps};
 

@@ -1,3 +1,5 @@
+//! Names that were read, and where they stand.
+
 ghost use Rattle.std.specs.Prelude.{◌≡◌, ◌||◌, ◌&&◌, List, ℕ, Bool, bytes_eq, IfOk, OnOk};
 ghost use Rattle.scenario_text.specs.Drafts as drafts;
 

@@ -1,3 +1,5 @@
+//! The options of a host's line.
+
 ghost use Rattle.std.specs.Prelude.{◌≡◌, map, is_some};
 ghost use Rattle.scenario_text.specs.Words as words;
 ghost use Rattle.scenario_text.specs.Statements as forms;

@@ -1,3 +1,5 @@
+//! A text is read, or refused at its first line at fault.
+
 ghost use Rattle.std.specs.Prelude.{◌≡◌, ◌≢◌, ◌≤◌, ◌+◌, List, length, Ok, Err, None, IfOk, IfErr, MatchOption};
 ghost use Rattle.std.specs.Str.Lines.{strip_carriage_return};
 ghost use Rattle.scenario_text.specs.Drafts as drafts;

@@ -1,3 +1,5 @@
+//! What a scenario is.
+
 use crate::lists::Lines;
 use link_script::LinkScript;
 use tas_model::{Bytes, HostParams};

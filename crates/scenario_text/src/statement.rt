@@ -1,3 +1,5 @@
+//! What a line states.
+
 use crate::scenario::{KillLine, MoveLine, Step};
 use link_script::LinkAct;
 use tas_model::Bytes;

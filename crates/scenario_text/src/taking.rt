@@ -1,3 +1,5 @@
+//! A line is taken up, behind those before it.
+
 ghost use Rattle.std.specs.Prelude.{◌≡◌, ◌≤◌, ◌++◌, ◌∷◌, [], length, true, false, OnOk, None};
 ghost use Rattle.scenario_text.specs.Drafts as drafts;
 

@@ -1,3 +1,5 @@
+//! The words of a line.
+
 ghost use Rattle.std.specs.Prelude.{◌≡◌, ◌≤◌, ◌+◌, ◌∷◌, ◌++◌, ◌==◌, ◌||◌, [], if◌then◌else◌, map, length, position};
 ghost use Rattle.std.specs.Prelude.{bytes_eq, IfOk, OnOk, IfSome, MatchOption};
 ghost use Rattle.std.specs.Option.{ForSome};

@@ -1,3 +1,5 @@
+//! Frames that are due reach their hosts.
+
 ghost use Rattle.std.specs.Prelude.{◌≡◌, ◌==◌, ◌++◌, ◌∷◌, [], map, filter, IfOk, OnOk};
 ghost use Rattle.link_script.specs.declared.frames.Sent.{Sent};
 ghost use Rattle.local_host.specs.Arriving.{arrival_in};

@@ -1,3 +1,5 @@
+//! Frames that hosts sent in a tick go onto the link.
+
 ghost use Rattle.std.specs.Prelude.{◌≡◌, ◌≤◌, ◌<◌, ◌^◌, ◌++◌, length, map, OnOk, vec_len};
 ghost use Rattle.host_rounds.specs.Hosts.{Live};
 ghost use Rattle.scenario_runs.specs.Worlds.{World, frames_of_flows, frames_of_log, frames_of_hosts};

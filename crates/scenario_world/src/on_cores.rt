@@ -1,3 +1,5 @@
+//! A tick of all hosts on cores, side by side.
+
 ghost use Rattle.std.specs.Prelude.{◌≡◌, ℕ, ◌+◌, ◌<◌, ◌≤◌, false, length, slice_index_or, IfOk, OnOk};
 ghost use Rattle.host_rounds.specs.Lists.{Each};
 ghost use Rattle.host_rounds.specs.Histories.{HasHistory};

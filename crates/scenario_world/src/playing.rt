@@ -1,3 +1,5 @@
+//! A run of a scenario, tick by tick.
+
 ghost use Rattle.std.specs.Prelude.{◌≡◌, ℕ, ◌+◌, ◌<◌, ◌^◌, length, IfOk, OnOk};
 ghost use Rattle.link_script.specs.DueFrames as frames;
 ghost use Rattle.scenario_text.specs.declared.scenario.Scenario.{Scenario};

@@ -1,3 +1,5 @@
+//! When a run is at rest.
+
 ghost use Rattle.std.specs.Prelude.{◌≡◌, ℕ, ◌||◌, nat_lt};
 ghost use Rattle.std.specs.List.{list_any};
 ghost use Rattle.scenario_runs.specs.Worlds.{is_under_way, all_ended, all_closed};

@@ -1,3 +1,5 @@
+//! Seats, in which hosts play a tick on threads of their own.
+
 ghost use Rattle.std.specs.Prelude.{◌≡◌, ◌≤◌, ◌<◌, All, false, length, IfOk, OnOk};
 ghost use Rattle.scenario_ranges.specs.Ranges.{IsInRange};
 ghost use Rattle.scenario_world.specs.Seats.{AreSeatsOf, HaveCores, hosts_in, cores_in};

@@ -1,3 +1,5 @@
+//! A scenario in the middle of its run: its hosts and the link between them.
+
 ghost use Rattle.std.specs.Prelude.{◌≡◌, length, IfOk};
 ghost use Rattle.host_rounds.specs.Lists.{Each};
 ghost use Rattle.scenario_ranges.specs.Ranges.{IsInRange};

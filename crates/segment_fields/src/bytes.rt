@@ -1,3 +1,5 @@
+//! Bytes of numbers, the most significant first.
+
 ghost use Rattle.std.specs.Prelude.{◌≡◌, ℕ, ◌+◌, ◌<◌, ◌≤◌, length};
 ghost use Rattle.segment_fields.specs.Bytes.{half, word};
 

@@ -1,3 +1,5 @@
+//! The laws of packets: what is written is read.
+
 ghost use Rattle.std.specs.Prelude.{◌≡◌, ℕ, Bool, List, Option, option_map, None, length};
 ghost use Rattle.segment_fields.specs.Fields.{Fields, fields_of};
 ghost use Rattle.segment_fields.specs.Options.{read_shift};

@@ -1,3 +1,5 @@
+//! A packet is read, or refused by the first rule that it breaks.
+
 ghost use Rattle.std.specs.Prelude.{◌≡◌, ℕ, ◌+◌, ◌-◌, ◌*◌, ◌<◌, ◌≤◌, ◌^◌, Some, None, MatchResult, IfOk, IfErr, length};
 ghost use Rattle.std.specs.Prelude.{true, false, slice_range, sum};
 ghost use Rattle.tas_num.specs.Sums.{words};

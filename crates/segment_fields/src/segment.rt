@@ -1,3 +1,5 @@
+//! A segment's fields, and the rules that a packet can break.
+
 ghost use Rattle.std.specs.Prelude.{◌≡◌, ◌<◌, bit_or};
 ghost use Rattle.segment_fields.specs.ControlBits.{fin, syn, rst, psh, ack, urg, ece, cwr, has};
 

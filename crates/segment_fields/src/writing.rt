@@ -1,3 +1,5 @@
+//! The one packet of a segment is written.
+
 ghost use Rattle.std.specs.Prelude.{◌≡◌, ℕ, ◌+◌, ◌*◌, ◌%◌, ◌^◌, ◌<◌, ◌≤◌, ◌++◌, ◌↔◌, length, sum, take, drop, IfOk};
 ghost use Rattle.std.specs.Prelude.{OnErr, IsErr};
 ghost use Rattle.tas_num.specs.Sums.{words, checksum};

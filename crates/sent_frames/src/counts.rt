@@ -1,3 +1,5 @@
+//! How many segments each flow has sent.
+
 ghost use Rattle.std.specs.Prelude.{◌≡◌, ℕ, ◌≤◌, ◌<◌, ◌^◌, ◌++◌, [], length, take, slice_set, slice_index, OnOk};
 ghost use Rattle.std.specs.Prelude.{vec_len};
 ghost use Rattle.std.specs.Prelude.{replicate, ◌-◌};

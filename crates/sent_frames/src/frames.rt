@@ -1,3 +1,5 @@
+//! A segment that was sent, as a frame with its packet.
+
 ghost use Rattle.std.specs.Prelude.{◌≡◌, ◌≤◌, ◌<◌, ◌==◌, ◌^◌, ◌++◌, ◌∷◌, [], length, position, IfSome, IfOk, OnOk};
 ghost use Rattle.segment_fields.specs.Canon.{canon};
 ghost use Rattle.flow_state.specs.Views.{seen_seg};

@@ -1,3 +1,5 @@
+//! The frames that answer segments of no flow.
+
 ghost use Rattle.std.specs.Prelude.{◌≡◌, ◌<◌, ◌+◌, ◌^◌, ◌++◌, ◌∷◌, [], length, IfOk, OnOk};
 ghost use Rattle.scenario_runs.specs.Worlds.{World, frames_of_log};
 ghost use Rattle.tas_core.specs.Stretches.{lines_in, lines_of};

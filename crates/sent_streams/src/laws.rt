@@ -1,3 +1,5 @@
+//! The laws of what a flow sends: its stream, byte by byte, and no more than was accepted.
+
 ghost use Rattle.std.specs.Prelude.{◌≡◌, true, ℕ, ◌+◌, ◌*◌, ◌^◌, ◌<◌, ◌≤◌, List, length};
 ghost use Rattle.tas_model.specs.declared.entry.Entry.{Entry};
 ghost use Rattle.tas_model.specs.declared.entry.HostParams.{HostParams};

@@ -1,3 +1,5 @@
+//! Applications of a host of shared flows.
+
 ghost use Rattle.std.specs.Prelude.{◌≡◌, ◌<◌, ◌+◌, ℕ, true, Some, None, IsSome, length, IfOk, OnOk, OnErr};
 ghost use Rattle.host_rounds.specs.Lists.{Each};
 ghost use Rattle.core_worker.specs.Telling.{queue_of};

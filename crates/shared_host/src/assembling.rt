@@ -1,3 +1,5 @@
+//! A host of shared flows is put together.
+
 ghost use Rattle.std.specs.Prelude.{◌≡◌, ◌<◌, ◌≤◌, [], ◌∷◌, length, IfOk};
 ghost use Rattle.tas_model.specs.Valid.{InRange};
 ghost use Rattle.steering.specs.Tables.{first_table};

@@ -1,3 +1,5 @@
+//! Readers of the index beside its writer.
+
 ghost use Rattle.std.specs.Prelude.{◌<◌};
 
 use flow_index::*;

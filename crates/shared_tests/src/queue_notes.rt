@@ -1,3 +1,5 @@
+//! Notes of several senders in one queue.
+
 ghost use Rattle.std.specs.Prelude.{◌≡◌};
 
 use context_queue::*;

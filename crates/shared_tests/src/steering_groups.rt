@@ -1,3 +1,5 @@
+//! Groups of flows, and the cores that they are on.
+
 ghost use Rattle.std.specs.Prelude.{◌≡◌};
 
 use std::alloc::{AllocError, Global};

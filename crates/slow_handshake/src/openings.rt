@@ -1,3 +1,5 @@
+//! Listeners, and flows that wait at them.
+
 ghost use Rattle.std.specs.Prelude.{◌≡◌};
 
 use tas_model::FlowId;

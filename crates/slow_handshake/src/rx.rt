@@ -1,3 +1,5 @@
+//! The engine of every segment that comes.
+
 ghost use Rattle.std.specs.Prelude.{◌≡◌, ℕ, List};
 ghost use Rattle.tas_model.specs.Endpoint.{Endpoint};
 ghost use Rattle.tas_model.specs.Segments.{stray_reply};

@@ -1,3 +1,5 @@
+//! What the slow path keeps of a host: its listeners, its ports and its first numbers.
+
 ghost use Rattle.std.specs.Prelude.{◌≡◌, ◌||◌, true, false, ℕ, ◌+◌, ◌^◌, ◌<◌, ◌≤◌, ◌↔◌, ◌∷◌, ◌++◌, [], not, map};
 ghost use Rattle.std.specs.Prelude.{length, Some, IfOk, IsErr, OnErr, OnOk};
 ghost use Rattle.std.specs.List.{filter, slice_get, list_any};

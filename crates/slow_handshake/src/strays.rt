@@ -1,3 +1,5 @@
+//! The answer to a segment of no flow (RFC 9293, section 3.10.7.1).
+
 ghost use Rattle.std.specs.Prelude.{◌≡◌, ◌+◌, ◌%◌, ◌^◌, None};
 ghost use Rattle.tas_model.specs.Segments.{seg_len};
 ghost use Rattle.flow_state.specs.Calls.{seg_of};

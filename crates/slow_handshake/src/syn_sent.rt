@@ -1,3 +1,5 @@
+//! A segment that comes in SYN-SENT (RFC 9293, section 3.10.7.3).
+
 ghost use Rattle.std.specs.Prelude.{◌≡◌, ℕ, List, ◌==◌, ◌&&◌, Some, None, nat_le, if◌then◌else◌};
 ghost use Rattle.tas_model.specs.declared.entry.Phase.TheVariants as phases;
 ghost use Rattle.tas_model.specs.declared.entry.Reason.TheVariants as reasons;

@@ -1,3 +1,5 @@
+//! The rate is adjusted (RFC 5681, section 3).
+
 ghost use Rattle.std.specs.Prelude.{◌≡◌, ℕ, ◌-◌, List};
 ghost use Rattle.tas_model.specs.Endpoint.{Endpoint};
 ghost use Rattle.tas_model.specs.ApplicationCalls.{column, Running};

@@ -1,3 +1,5 @@
+//! The engine of Tick and Control.
+
 use crate::control::control;
 use crate::timer::{pass_quietly, tick as run_tick};
 use flow_state::{Answer, CallIn, Clock, Engine, Parts};

@@ -1,3 +1,5 @@
+//! The retransmission timer, and the end of TIME-WAIT (RFC 9293, sections 3.8.1 and 3.10.8).
+
 ghost use Rattle.std.specs.Prelude.{◌≡◌, ℕ, ◌+◌, ◌-◌, ◌*◌, ◌^◌, ◌≤◌, ◌<◌, nat_le, List, min, true, false, Some, None};
 ghost use Rattle.tas_model.specs.declared.entry.Reason.TheVariants as reasons;
 ghost use Rattle.tas_model.specs.Endpoint.{Endpoint};

@@ -1,3 +1,5 @@
+//! What became of a frame at the slow path.
+
 use flow_lock::Word;
 use tas_model::FlowId;
 

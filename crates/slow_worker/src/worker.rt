@@ -1,3 +1,5 @@
+//! The worker of the slow path: what it keeps between two turns.
+
 ghost use Rattle.std.specs.Prelude.{◌≡◌, ◌<◌, ◌+◌, ◌++◌, ◌∷◌, true, [], IfOk, IsOk, OnOk, OnErr};
 ghost use Rattle.slow_worker.specs.Workers.{sight_of, with_sight, waiting, first_sight};
 ghost use Rattle.slow_worker.specs.Workers.{IsSound, HasSenders, setting_of};

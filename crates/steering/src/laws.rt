@@ -1,3 +1,5 @@
+//! The laws of groups and their cores.
+
 ghost use Rattle.std.specs.Prelude.{◌≡◌, ◌≢◌, ◌%◌, ◌<◌, ℕ, length};
 ghost use Rattle.steering.specs.Tables.{Table, core_in, moved, first_table};
 

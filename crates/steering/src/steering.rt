@@ -1,3 +1,5 @@
+//! Which core each group of flows is on.
+
 ghost use Rattle.std.specs.Prelude.{◌≡◌, ◌<◌, ◌≤◌, [], ◌∷◌, IfOk, IsOk};
 ghost use Rattle.steering.specs.Tables.{Begins, Assigned, IsCoreIn, first_table, group_of};
 

@@ -1,3 +1,5 @@
+//! A host's log, line after line.
+
 ghost use Rattle.std.specs.Prelude.{◌≡◌, ◌≤◌, ◌++◌, ◌∷◌, [], length, OnOk, OnErr};
 ghost use Rattle.tas_core.specs.Stretches.{lines_of, ComeAfter};
 

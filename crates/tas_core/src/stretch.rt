@@ -1,3 +1,5 @@
+//! Lines of a log that follow on each other, as one stretch.
+
 ghost use Rattle.std.specs.Prelude.{◌≡◌, ◌+◌, ◌-◌, ◌^◌, ◌<◌, ◌++◌, ◌∷◌, [], length, true, false, suc, OnOk, OnErr};
 ghost use Rattle.tas_core.specs.Stretches.{lines_in, lines_of, line_by, ComesNext};
 

@@ -1,3 +1,5 @@
+//! The standard streams as sources and sinks.
+
 ghost use Rattle.std.specs.Prelude.{◌≡◌, ◌≤◌};
 ghost use Rattle.tas_num.specs.Causes.{Rose};
 ghost use Rattle.tas_num.specs.declared.outside.IoFault.{IoFault};

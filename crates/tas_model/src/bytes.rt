@@ -1,3 +1,5 @@
+//! Bytes that are kept.
+
 ghost use Rattle.std.specs.Prelude.{◌≡◌, List, length, IfOk};
 
 use std::alloc::{AllocError, Global};

@@ -1,3 +1,5 @@
+//! The laws of single sentences of the standard.
+
 ghost use Rattle.std.specs.Prelude.{◌≡◌, ℕ, ◌<◌, ◌≤◌, true, false, Some, None};
 ghost use Rattle.tas_model.specs.declared.entry.Call.TheVariants as calls;
 ghost use Rattle.tas_model.specs.declared.entry.Reply.TheVariants as replies;

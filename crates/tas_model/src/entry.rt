@@ -1,3 +1,5 @@
+//! What histories are made of: entries, calls, replies and segments.
+
 use crate::bytes::Bytes;
 use tas_num::Seq;
 

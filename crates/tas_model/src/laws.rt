@@ -1,3 +1,5 @@
+//! The laws of every legal history.
+
 ghost use Rattle.std.specs.Prelude.{◌≡◌, ℕ, ◌+◌, ◌*◌, ◌^◌, ◌<◌, ◌≤◌, List, [], ◌∷◌, ◌++◌, length, take, min, max};
 ghost use Rattle.std.specs.Prelude.{Option, Some, None, IsSome, true, false};
 ghost use Rattle.tas_model.specs.declared.entry.Call.{Call};

@@ -1,3 +1,5 @@
+//! Whose record one is, and its history.
+
 ghost use Rattle.std.specs.Prelude.{List};
 ghost use Rattle.tas_model.specs.declared.entry.Entry.{Entry};
 ghost use Rattle.tas_model.specs.declared.entry.FlowId.{FlowId};

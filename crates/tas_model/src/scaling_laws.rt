@@ -1,3 +1,5 @@
+//! The laws of windows and their scaling (RFC 7323, section 2).
+
 ghost use Rattle.std.specs.Prelude.{◌≡◌, ℕ, ◌+◌, ◌*◌, ◌/◌, ◌^◌, ◌<◌, ◌≤◌, List, ◌++◌, Option, Some, None, min, true};
 ghost use Rattle.std.specs.Prelude.{false};
 ghost use Rattle.tas_model.specs.declared.entry.Entry.{Entry};

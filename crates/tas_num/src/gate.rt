@@ -1,3 +1,5 @@
+//! Points that the workers of a run pass.
+
 ghost use Rattle.std.specs.Prelude.{◌≡◌, false};
 
 /// Points that the workers of a run pass. A gate has no meaning of its own: a test holds one worker at a point until

@@ -1,3 +1,5 @@
+//! The frames of a run are written as a capture.
+
 ghost use Rattle.std.specs.Prelude.{◌≡◌, ℕ, ◌≤◌, ◌++◌, ◌∷◌, [], List, map, false, Err, OnOk, OnErr, IfOk};
 ghost use Rattle.tas_num.specs.Captures.{file_header};
 ghost use Rattle.host_rounds.specs.Lists.{Each};

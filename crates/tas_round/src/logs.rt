@@ -1,3 +1,5 @@
+//! The log of a run: its hosts, each with its lines and the histories of its flows.
+
 ghost use Rattle.std.specs.Prelude.{◌≡◌, ◌<◌, length, slice_get, Some};
 ghost use Rattle.host_rounds.specs.Lists.{Each};
 ghost use Rattle.local_host.specs.Live.{IsLegal};

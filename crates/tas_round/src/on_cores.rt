@@ -1,3 +1,5 @@
+//! A replay on cores.
+
 ghost use Rattle.std.specs.Prelude.{◌≤◌, ◌<◌, ◌^◌, length, IfOk, IfErr};
 ghost use Rattle.host_rounds.specs.Cores.{CoresBelow};
 ghost use Rattle.tas_runs.specs.Replays.{Replay};

@@ -1,3 +1,5 @@
+//! A replay, and what refuses it.
+
 ghost use Rattle.std.specs.Prelude.{◌≡◌, ℕ, ◌≤◌, ◌<◌, ◌^◌, List, length, count_by, codes, Ok, IfOk, IfErr};
 ghost use Rattle.tas_runs.specs.Records as model;
 ghost use Rattle.tas_runs.specs.Records.{is_damaged};

@@ -1,3 +1,5 @@
+//! The run of a scenario, in serial order or on cores.
+
 ghost use Rattle.std.specs.Prelude.{◌≡◌, ◌≤◌, length, map, IfOk};
 ghost use Rattle.host_rounds.specs.Lists.{Each};
 ghost use Rattle.host_rounds.specs.Cores.{CoresBelow};

@@ -1,3 +1,5 @@
+//! The summary of a run of many clients is written.
+
 ghost use Rattle.std.specs.Prelude.{◌≡◌, ◌+◌, ◌≤◌, ◌^◌, [], map, length, count_by, bytes_eq, codes, None, IfSome, OnOk};
 ghost use Rattle.tas_model.specs.Outputs.{bytes_read};
 ghost use Rattle.tas_runs.specs.Summary as texts;

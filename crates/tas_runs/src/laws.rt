@@ -1,3 +1,5 @@
+//! The laws of replays that lead to those of hosts.
+
 ghost use Rattle.std.specs.Prelude.{◌≡◌, ◌↔◌, ℕ, ◌+◌, ◌≤◌, List, [], Bool, Err, IfOk};
 ghost use Rattle.tas_num.specs.Captures.{Fault, capture_of};
 ghost use Rattle.tas_model.specs.declared.entry.FrameId.{FrameId};

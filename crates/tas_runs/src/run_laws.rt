@@ -1,3 +1,5 @@
+//! The laws of batches.
+
 ghost use Rattle.std.specs.Prelude.{◌≡◌, ◌<◌, List, length, true, false};
 ghost use Rattle.tas_runs.specs.Records.{Item};
 ghost use Rattle.tas_runs.specs.Batches.{clashes, joins};

@@ -1,3 +1,5 @@
+//! Worked replays, held against the definitions.
+
 ghost use Rattle.std.specs.Prelude.{◌≡◌, true, false, Err};
 ghost use Rattle.tas_num.specs.Captures.{CutShort};
 ghost use Rattle.tas_runs.specs.SerialOrder.{serial_replay};

@@ -1,3 +1,5 @@
+//! What the words ask for, with its input.
+
 ghost use Rattle.std.specs.Prelude.{map, string_bytes, IfOk, IfErr};
 ghost use Rattle.program_words.specs.Words.{form_of, Asks};
 ghost use Rattle.program_words.specs.Requests.{request_in};

@@ -1,3 +1,5 @@
+//! The word `audit`: the input is read and audited, and its verdict told.
+
 ghost use Rattle.std.specs.Prelude.{◌≡◌, ◌⊎◌, ◌++◌, [], codes, decimal, Result, IfOk, IfErr, IfSome, OnOk};
 ghost use Rattle.tas_num.specs.Streams.{Wrote};
 ghost use Rattle.tas_num.specs.declared.outside.IoFault as code;

@@ -1,3 +1,5 @@
+//! The run that was asked for is made.
+
 ghost use Rattle.std.specs.Prelude.{◌≡◌, ◌≤◌, ℕ, Bool, true, List, [], length, Some, None, is_some, Ok, IfOk, IfErr};
 ghost use Rattle.std.specs.declared.net.ipv4_addr.Ipv4Addr.{Ipv4Addr};
 ghost use Rattle.host_rounds.specs.Cores.{CoresBelow};

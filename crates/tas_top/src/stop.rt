@@ -1,3 +1,5 @@
+//! Why the program ends with another status than 0.
+
 ghost use Rattle.std.specs.Prelude.{◌≡◌};
 ghost use Rattle.tas_top.specs.Stops.{status_of};
 

@@ -1,3 +1,5 @@
+//! A fault line is written.
+
 ghost use Rattle.std.specs.Prelude.{◌++◌, []};
 ghost use Rattle.tas_num.specs.Streams.{Wrote};
 ghost use Rattle.tas_top.specs.Telling.{fault_line, numbered, IsTold};

@@ -1,3 +1,5 @@
+//! The top call: words, input, run and output.
+
 ghost use Rattle.std.specs.Prelude.{◌≡◌, ◌≢◌, ◌⊎◌, [], map, string_bytes, true, false, if◌then◌else◌, Ok, Err, IfOk};
 ghost use Rattle.std.specs.Prelude.{IfErr, OnOk, OnErr, Result, None, is_some};
 ghost use Rattle.std.specs.Io.KnownBytes.{Keeps};

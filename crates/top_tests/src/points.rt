@@ -1,3 +1,5 @@
+//! Runs by the top call pass the gate points of their cores and applications.
+
 ghost use Rattle.std.specs.Prelude.{◌<◌};
 
 use crate::watch::{Counts, Watch};

@@ -1,3 +1,5 @@
+//! A gate that counts the points that are passed.
+
 use std::hint::spin_loop;
 use std::sync::atomic::{AtomicBool, AtomicUsize, Ordering};
 use tas_num::Gate;

@@ -1,3 +1,5 @@
+//! The audit of a text: a scenario, a line `==` and a report.
+
 ghost use Rattle.std.specs.Prelude.{◌≡◌, ◌<◌, ◌+◌, ◌-◌, ◌^◌, length, map, List, IfOk, IfErr};
 ghost use Rattle.tas_model.specs.Valid.{InRange};
 ghost use Rattle.host_rounds.specs.Lists.{Each};

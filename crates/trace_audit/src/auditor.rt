@@ -1,3 +1,5 @@
+//! The auditor of a report, line by line.
+
 ghost use Rattle.std.specs.Prelude.{◌≡◌, ◌<◌, ◌≤◌, ◌+◌, ◌-◌, ◌^◌, ◌++◌, ◌∷◌, [], ℕ, length, map, List, Option, Some};
 ghost use Rattle.std.specs.Prelude.{IfOk, IfSome, OnOk, true, false};
 ghost use Rattle.std.specs.Option.{option_map};

@@ -1,3 +1,5 @@
+//! How many lines, flows and entries were read.
+
 ghost use Rattle.std.specs.Prelude.{◌≡◌, ◌<◌, ◌≤◌, ◌+◌, ◌^◌, ◌-◌, ◌++◌, ◌∷◌, [], List, if◌then◌else◌};
 ghost use Rattle.report_lines.specs.Lines.{Line};
 ghost use Rattle.report_lines.specs.Views.{seen_line};

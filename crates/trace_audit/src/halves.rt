@@ -1,3 +1,5 @@
+//! A text in two halves, round its first line `==`.
+
 ghost use Rattle.std.specs.Prelude.{◌≡◌, ◌≤◌, length, MatchOption};
 ghost use Rattle.trace_audit.specs.TextLines.{text_lines, LacksMark};
 ghost use Rattle.trace_audit.specs.Watching.{HasHalves};

@@ -1,3 +1,5 @@
+//! The hosts of a scenario, as an audit wants them.
+
 ghost use Rattle.std.specs.Prelude.{◌≡◌, map, IfOk};
 ghost use Rattle.trace_audit.specs.Forms.{names_of as model_names_of, params_of as model_params_of};
 ghost use Rattle.trace_audit.specs.Forms.{addrs_of as model_addrs_of};

@@ -1,3 +1,5 @@
+//! The laws that a text has one verdict.
+
 ghost use Rattle.std.specs.Prelude.{◌≡◌, ℕ, List};
 ghost use Rattle.trace_audit.specs.Forms.{Said, IsForm, IsRefused};
 

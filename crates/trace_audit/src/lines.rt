@@ -1,3 +1,5 @@
+//! The lines of a text.
+
 ghost use Rattle.std.specs.Prelude.{◌≡◌, ◌<◌, ◌+◌, ◌++◌, ◌∷◌, [], ◌==◌, position, length, IfSome, MatchOption, ℕ, List};
 ghost use Rattle.trace_audit.specs.TextLines.{text_lines, is_mark as model_is_mark};
 

@@ -1,3 +1,5 @@
+//! The flow that is shown, and whether it is right so far.
+
 ghost use Rattle.std.specs.Prelude.{◌≡◌, ◌<◌, ◌∷◌, [], length, slice_get, List, Some, IfOk, IfSome, IfNone, OnOk};
 ghost use Rattle.std.specs.Prelude.{true, false};
 ghost use Rattle.tas_model.specs.declared.entry.HostParams.{HostParams};

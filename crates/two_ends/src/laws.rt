@@ -1,3 +1,5 @@
+//! The laws of two ends: what one reads the other was given to send.
+
 ghost use Rattle.std.specs.Prelude.{◌≡◌, ℕ, ◌≤◌, List, [], ◌∷◌, Ok, Contains};
 ghost use Rattle.host_rounds.specs.Lists.{Each};
 ghost use Rattle.host_rounds.specs.Logs.{HostRun, RunLog};

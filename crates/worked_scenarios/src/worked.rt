@@ -1,3 +1,5 @@
+//! Worked runs of scenarios over a lossy link, held against the definitions.
+
 ghost use Rattle.std.specs.Prelude.{◌≡◌, Err};
 ghost use Rattle.scenario_runs.specs.WorkedParts.{reported};
 ghost use Rattle.scenario_runs.specs.WorkedRuns.{hello_report};
