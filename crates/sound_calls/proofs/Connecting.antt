@@ -559,8 +559,8 @@ module _ (h : CoreHost) (front : List Application) (a : Application) (back : Lis
   abbrev known_now : KnownFlow
   known_now = record { tuple = begun.tuple; id = id }
 
-  near : id.slot < h.table.slots
-  near =
+  near_slot : id.slot < h.table.slots
+  near_slot =
       let wide : length h.slow.pass.view.marks ≡ h.table.slots = sound.wide.0 in
       let within : id.slot < length h.slow.pass.view.marks =
       (next_slot h.slow.pass.view.marks id joined.opened.next).within
@@ -569,7 +569,7 @@ module _ (h : CoreHost) (front : List Application) (a : Application) (back : Lis
   kept_opened : AreKept h.table opened_pass h.slow.doomed (h.slow.pins ++ id ∷ []) (h.slow.flows ++ known_now ∷ [])
   kept_opened =
       opened_kept h.table id id begun h.slow.pass opened_pass h.slow.doomed h.slow.pins (h.slow.pins ++ id ∷ [])
-      h.slow.flows (h.slow.flows ++ known_now ∷ []) known_now joined.opened.next near refl refl refl refl refl
+      h.slow.flows (h.slow.flows ++ known_now ∷ []) known_now joined.opened.next near_slot refl refl refl refl refl
       sound.sound.0
 
   pins_are : x.pins ≡ h.slow.pins ++ id ∷ []
