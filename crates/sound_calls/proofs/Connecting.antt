@@ -211,7 +211,7 @@ module _ (h : CoreHost) (id : FlowId) (sound : IsHostSound h) (next : next_in h.
   IsTwicePinned w =
       w.words
       ≡ put_word id.slot
-          (pin_more (word_at (put_word id.slot (live_word id.generation) h.slow.pass.view.words) id.slot))
+      (pin_more (word_at (put_word id.slot (live_word id.generation) h.slow.pass.view.words) id.slot))
       (put_word id.slot (live_word id.generation) h.slow.pass.view.words)
 
   module _ (n : ℕ) (view : View) (pinned : IsTwicePinned view) where
