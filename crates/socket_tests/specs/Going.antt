@@ -3,6 +3,7 @@ use Rattle.std.specs.Prelude.{◌≡◌, ℕ, ◌<◌, true, false, List, [], �
 use Rattle.atomic_table.specs.Seated.{TableId}
 use Rattle.flow_lock.specs.Callers.{IsTurned, IsUser, IsKeeper}
 use Rattle.flow_lock.specs.Passes.{Seen}
+use Rattle.flow_lock.specs.Steps.{IsAlone}
 use Rattle.flow_lock.specs.declared.view.Turn.{Turn}
 use Rattle.flow_lock.specs.declared.view.View.{View}
 use Rattle.tas_model.specs.declared.entry.FlowId.{FlowId}
@@ -49,4 +50,17 @@ pub record HasFirstTurn (t : TableId) (s : Seen) : Type 0 where
 pub record HasSecondTurn (t : TableId) (s : Seen) : Type 0 where
   pub table : s.table ≡ t
   pub turns : turns_of s.view ≡ 1 ∷ []
+  pub plain : (s.view.slow ≡ false) × (s.view.baton ≡ false)
+
+-- ----- where nobody has a turn
+-- the slow path's pass, which is alone; it holds nothing
+pub record HasAllAlone (t : TableId) (s : Seen) : Type 0 where
+  pub table : s.table ≡ t
+  pub alone : IsAlone s.view
+  pub held : s.view.held ≡ []
+
+-- another pass, with no turn
+pub record HasNoTurn (t : TableId) (s : Seen) : Type 0 where
+  pub table : s.table ≡ t
+  pub turns : s.view.turns ≡ []
   pub plain : (s.view.slow ≡ false) × (s.view.baton ≡ false)

@@ -31,7 +31,7 @@ pub const PARAMS: HostParams = HostParams {
     scale: None,
 };
 
-const TUPLE: FourTuple = FourTuple {
+pub const TUPLE: FourTuple = FourTuple {
     laddr: 167772162,
     lport: 49152,
     raddr: 167772161,

@@ -6,6 +6,8 @@ mod alone;
 #[cfg(test)]
 mod flows;
 #[cfg(test)]
+mod holding;
+#[cfg(test)]
 mod many;
 #[cfg(test)]
 mod reaped;

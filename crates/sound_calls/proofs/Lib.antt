@@ -7,3 +7,4 @@ pub mod Listening
 pub mod Places
 pub mod Closing
 pub mod Connecting
+mod Counted

@@ -31,6 +31,7 @@ listening_sound h app port sound low = record {
     ports = sound.opening.ports;
     listeners = λ free. each_append (λ (l : Listener). l.port < first_port) h.slow.path.listeners
         (record { port = port; app = app } ∷ []) (sound.opening.listeners free) (omega (arith, low), tt);
+    given = sound.opening.given;
   };
   shown = sound.shown;
   apps = sound.apps;

@@ -2,6 +2,7 @@
 use Rattle.std.specs.Prelude.{◌≡◌, ℕ, ◌+◌, true, false, List, [], ◌∷◌, ◌++◌, length, slice_set}
 use mathlib.Core.Option as O
 use lib.ListN.{get_elem?}
+use Rattle.tas_num.specs.declared.seq.Seq.{Seq}
 use Rattle.tas_model.specs.declared.entry.Caller.TheVariants as callers
 use Rattle.tas_model.specs.declared.entry.FlowId.{FlowId}
 use Rattle.host_rounds.specs.Hosts as hosts
@@ -14,7 +15,8 @@ use Rattle.flow_lock.specs.declared.word.Word.{Word}
 use Rattle.slow_worker.specs.Opening.{IsIndexed}
 use Rattle.slow_worker.specs.Workers.{Worker}
 use Rattle.libtas_sockets.specs.Apps.{Application}
-use Rattle.libtas_sockets.specs.Connecting.{first_history, next_tuple, numbers_given}
+use Rattle.libtas_sockets.specs.Connecting.{first_history, next_tuple, numbers_given, opener}
+use Rattle.libtas_sockets.specs.Opening.{IsOpenedAlone}
 use Rattle.sound_hosts.specs.Hosts.{CoreHost, known_in}
 use Rattle.sound_hosts.specs.Opening.{new_book}
 
@@ -53,6 +55,18 @@ pub record HasConnected (id : FlowId) (a b : Application) : Type 0 where
   pub turns : b.pass.view.turns ≡ []
   pub begun : b.begun ≡ a.begun
   pub sockets : b.sockets ≡ a.sockets ++ id ∷ []
+
+-- What a connect from the next port did where nobody had a turn, with this first number: a port and a first number were
+-- given, and the flow is known and shown.
+pub record HasConnectedAlone (id : FlowId) (raddr rport : ℕ) (iss : Seq) (tick : ℕ) (a b : Application) (v w : Worker)
+    : Type 0 where
+  pub opened : IsOpenedAlone id
+      (first_history (next_tuple v.path raddr rport) v.path.params (callers.App a.number) tick iss) a b
+      (opener v.pass v.pins) (opener w.pass w.pins)
+  pub path : w.path ≡ numbers_given v.path
+  pub flows : w.flows ≡ v.flows ++ record { tuple = next_tuple v.path raddr rport; id = id } ∷ []
+  pub indexed : IsIndexed (next_tuple v.path raddr rport) id v.index w.index
+  pub rest : w ≡ record v { path = w.path; pass = w.pass; pins = w.pins; flows = w.flows; index = w.index }
 
 abbrev pub after_connecting : FlowId → (front : List Application) → Application → (back : List Application) → Worker
     → CoreHost → CoreHost

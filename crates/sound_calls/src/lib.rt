@@ -3,6 +3,7 @@
 
 mod calls;
 mod changing;
+mod counting;
 mod kills;
 mod listeners;
 mod opened;
@@ -12,6 +13,7 @@ pub use calls::{
     releases_alone_keep_it,
 };
 pub use changing::holders_change_at_a_place;
+pub use counting::calls_keep_the_count;
 pub use kills::kills_keep_it;
 pub use listeners::listens_keep_it;
-pub use opened::connects_keep_it;
+pub use opened::{connects_alone_keep_it, connects_keep_it};

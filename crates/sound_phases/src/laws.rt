@@ -4,6 +4,7 @@ ghost use Rattle.flow_lock.specs.declared.view.View.{View};
 ghost use Rattle.core_phase.specs.Lanes.{MayPlay};
 ghost use Rattle.core_phase.specs.Phases.{IsPhase};
 ghost use Rattle.core_phase.specs.declared.lane.Lane.{Lane};
+ghost use Rattle.sound_hosts.specs.Counting.{IsCounted};
 ghost use Rattle.sound_hosts.specs.Hosts.{CoreHost};
 ghost use Rattle.sound_hosts.specs.Sound.{IsHostSound};
 ghost use Rattle.sound_phases.specs.Phased.{apps_in, after_phase};
@@ -20,3 +21,9 @@ pub fn phases_keep_it()
 {
     deeds_leave_the_column();
 }
+
+/// The slow path counts its host's flows still after a phase, in which none is opened.
+pub fn phases_keep_the_count()
+    ensures { (h : CoreHost) (vs ws : List Lane) (w : View) → IsCounted h → IsPhase vs ws h.slow.pass.view w
+        → IsCounted (after_phase vs ws w h) }
+{}

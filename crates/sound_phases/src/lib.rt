@@ -3,4 +3,4 @@
 
 mod laws;
 
-pub use laws::phases_keep_it;
+pub use laws::{phases_keep_it, phases_keep_the_count};
