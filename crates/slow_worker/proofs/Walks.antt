@@ -1,9 +1,8 @@
 -- Records that the slow path takes and gives back alone, one after the other.
-use Rattle.std.proofs.Common.{◌≡◌, ap, sym, ◌∙◌, refl, subst, ℕ, zero, suc, ◌+◌, ◌<◌, ◌≤◌, cond, Bool, true, false}
-use Rattle.std.proofs.Common.{List, [], ◌∷◌, ◌++◌, append_assoc, append-nil, length, take, drop, arith}
+use Rattle.std.proofs.Common.{◌≡◌, ap, sym, ◌∙◌, refl, subst, ℕ, suc, ◌+◌, ◌<◌, cond, Bool, true, false}
+use Rattle.std.proofs.Common.{List, [], ◌∷◌, ◌++◌, append_assoc, append-nil, take, drop, arith}
 use Rattle.std.proofs.lemmas.List.{take-append-drop}
-use Rattle.std.specs.Prelude.{◌==◌, Option, Some, None, Result, Ok, Err, OnOk, OnErr, slice_get}
-use mathlib.Core.Option as O
+use Rattle.std.specs.Prelude.{◌==◌, Option, Some, Result, Ok, Err, OnOk, OnErr, slice_get}
 use lib.ListN.{get_elem?}
 use Rattle.atomic_table.specs.Seated.{TableId}
 use Rattle.tas_model.specs.declared.entry.FlowId.{FlowId}
@@ -16,10 +15,9 @@ use Rattle.flow_lock.specs.Passes.{Seen}
 use Rattle.flow_lock.specs.Steps.{IsAlone, alone_or, gave}
 use Rattle.flow_lock.specs.declared.view.Held.{Held}
 use Rattle.flow_lock.specs.declared.view.History.{History}
-use Rattle.flow_lock.specs.declared.view.Mark.{Mark}
 use Rattle.flow_lock.specs.declared.view.Turn.{Turn}
 use Rattle.flow_lock.specs.declared.view.View.{View}
-use Rattle.app_reaper.specs.OneCall.{history, IsOwn, IsUse}
+use Rattle.app_reaper.specs.OneCall.{history, IsOwn}
 use Rattle.app_reaper.proofs.Calls.{used}
 use Rattle.host_rounds.specs.Lists.{Each}
 use Rattle.flow_clock.specs.Ledgers as clock

@@ -1,4 +1,4 @@
-use Rattle.std.proofs.Common.{◌≡◌, ◌≤◌, ◌∙◌, ap, sym, subst, suc, arith, length, take, drop, ◌++◌}
+use Rattle.std.proofs.Common.{◌≤◌, ◌∙◌, ap, sym, subst, suc, arith, length, take, drop, ◌++◌}
 use Rattle.std.proofs.lemmas.List.{take_all, take-append-drop}
 use Rattle.core_worker.specs.Sending.{IsAllSent}
 use Rattle.flow_clock.proofs.Serving.{drop_more}
