@@ -30,7 +30,8 @@ use Rattle.sound_hosts.specs.Hosts.{CoreHost, known_in, id_of, is_indexed, is_do
 use Rattle.sound_hosts.specs.Hosts.{flows_in, waiting_in, has_given_port, AreNumbered}
 use Rattle.sound_hosts.specs.Leading.{Leads}
 use Rattle.sound_hosts.specs.Leaving.{reheld, has_flow}
-use Rattle.sound_hosts.specs.Sound.{IsHostSound, IsMarked, IsPlain, IsWorded, AreShown}
+use Rattle.sound_hosts.specs.Sound.{IsHostSound, IsMarked, IsPlain, IsWorded, AreShown, IsBelowNext}
+use Rattle.sound_hosts.proofs.Given.{below_moved, below_reheld}
 use Rattle.sound_hosts.proofs.Kept.{flows_same, shown_same, indexed_still}
 use Rattle.sound_hosts.proofs.Leaving.{AreRight, AreTaken, IsNumberedBy, IsPinnedBy, AreApart, only}
 use Rattle.sound_hosts.proofs.OneFlow.{ports_same}
@@ -173,6 +174,10 @@ module _ (h : CoreHost) (sound : IsHostSound h) (w : View) (on : IsMovedOn h w) 
           (λ holder ds e. count_reheld holder (has_given_port w.base) (λ b. refl) ds ∙ e) refl)));
       listeners = λ f. subst (λ (ls : List Listener). Each (λ (l : Listener). l.port < first_port) ls)
           (sym (ap (λ (o : Openings). o.listeners) same_path)) (sound.opening.listeners (unfixed f));
+      given = λ f. lift (Each (IsBelowNext w.base path.ports))
+          (λ holder ds x. below_reheld holder w.base path.ports ds x)
+          (below_moved known w.base tuples h.slow.path.ports path.ports (ap (λ (o : Openings). o.ports) same_path)
+          h.books (sound.opening.given (unfixed f)));
     };
     shown = record {
       pending = sound.shown.pending;

@@ -65,6 +65,7 @@ new_sound table w xs new = record {
     ports = λ f. new.ports;
     listeners = λ f. subst (λ (ls : List Listener). Each (λ (l : Listener). l.port < first_port) ls)
         (sym new.listeners) tt;
+    given = λ f. tt;
   };
   shown = record {
     pending = new.pending;

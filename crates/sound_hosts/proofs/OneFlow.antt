@@ -29,6 +29,7 @@ use Rattle.sound_hosts.specs.Hosts.{CoreHost, known_in, has_given_port, waiting_
 use Rattle.sound_hosts.specs.Leading.{LedOn, Leads}
 use Rattle.sound_hosts.specs.Moving.{IsLed, IsLedBy, with_slow}
 use Rattle.sound_hosts.specs.Sound.{IsHostSound, IsWorded, IsShown}
+use Rattle.sound_hosts.proofs.Given.{below_moved}
 use Rattle.sound_hosts.proofs.Kept.{flows_same, shown_same, indexed_still}
 use Rattle.sound_hosts.proofs.Told.{told_waiting, told_params, told_ports, told_listeners}
 
@@ -150,6 +151,9 @@ led_sound h w id k sound led by kept =
         listeners = λ f. subst (λ (ls : List Listener). Each (λ (l : Listener). l.port < first_port) ls)
             (sym (ap (λ (o : Openings). o.listeners) by.path ∙ told_listeners known id k h.slow.path))
             (sound.opening.listeners (unfixed f));
+        given = λ f. below_moved known w.pass.view.base tuples h.slow.path.ports w.path.ports
+            (ap (λ (o : Openings). o.ports) by.path ∙ told_ports known id k h.slow.path) h.books
+            (sound.opening.given (unfixed f));
       };
       shown = subst (IsShown h.books w.pass.view.base) (ap (λ (x : Worker). x.index) (sym by.rest)) (record {
         pending = sound.shown.pending;

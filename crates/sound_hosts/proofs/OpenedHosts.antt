@@ -17,7 +17,7 @@ use Rattle.flow_index.specs.Changes.{AnswerAlike}
 use Rattle.flow_index.specs.declared.change.Change.{Change}
 use Rattle.flow_index.specs.declared.change.Change.TheVariants.{Put}
 use Rattle.flow_lock.specs.Answers.{next_in}
-use Rattle.flow_lock.specs.Orders.{same_flow}
+use Rattle.flow_lock.specs.Orders.{known_of, same_flow}
 use Rattle.flow_lock.specs.Steps.{mark, mark_at, noted, deeds_of, alone_or}
 use Rattle.flow_lock.specs.Histories.{unborn}
 use Rattle.flow_lock.specs.Words.{live_word, put_word}
@@ -43,10 +43,11 @@ use Rattle.host_books.specs.Indexes.{AreIndexed}
 use Rattle.sound_hosts.specs.Hosts.{CoreHost, known_in, id_of, is_indexed, is_doomed, is_filed, is_held_of, is_of_slot}
 use Rattle.sound_hosts.specs.Hosts.{stands_in, tuple_of, flows_in, waiting_in, has_given_port}
 use Rattle.sound_hosts.specs.Opening.{new_book, with_book}
-use Rattle.sound_hosts.specs.Sound.{IsHostSound, IsMarked, IsApp, HasHolder, IsPlain, AreShown}
-use Rattle.sound_hosts.proofs.Fresh.{flows_more, waiting_more, indexed_more}
+use Rattle.sound_hosts.specs.Sound.{IsHostSound, IsMarked, IsApp, HasHolder, IsPlain, AreShown, IsBelowNext}
+use Rattle.sound_hosts.proofs.Fresh.{flows_more, waiting_more, indexed_more, own}
 use Rattle.sound_hosts.proofs.Numbers.{IsNextSlot, next_slot, fresh, all_older, numbered_push, mark_there, words_more}
 use Rattle.sound_hosts.proofs.Numbers.{marks_more}
+use Rattle.sound_hosts.proofs.Given.{below_fresh}
 use Rattle.sound_hosts.proofs.Opened.{begins_open, begins_early, listened, ports_fresh, all_apart, shown_more}
 
 -- ----- lists with a book that passes a test, or doesn't
@@ -138,6 +139,17 @@ module _ (h : CoreHost) (w : Worker) (tick : ℕ) (iss : Seq) (frame : FrameId) 
   low : w.path.params.fixed ≡ false → seg.dport < first_port
   low f = listened h.slow.path seg.dport (unfixed f) answer (sound.opening.listeners (unfixed f))
 
+  below : h.slow.path.params.fixed ≡ false → seg.dport < first_port
+      → Each (IsBelowNext view.base w.path.ports) (h.books ++ b ∷ [])
+  below f under =
+      let ports : w.path.ports ≡ h.slow.path.ports = ap (λ (s : Sight). s.path.ports) opened.after in
+      let here : (known_of id after).tuple.lport ≡ seg.dport = ap (λ (x : History). x.tuple.lport) (own known id k) in
+      subst (λ (l : List Held). Each (IsBelowNext l w.path.ports) (h.books ++ b ∷ [])) (sym base)
+      (each_append (IsBelowNext after w.path.ports) h.books (b ∷ [])
+      (below_fresh known id k h.slow.path.ports w.path.ports (omega (arith, ports)) h.books others
+      (sound.opening.given f))
+      (omega (arith, here, under), tt))
+
   apps_more : (xs : List libtas.Application) → Each (IsApp h.table h.books) xs
       → Each (IsApp h.table (h.books ++ b ∷ [])) xs
   apps_more [] each = tt
@@ -212,6 +224,7 @@ module _ (h : CoreHost) (w : Worker) (tick : ℕ) (iss : Seq) (frame : FrameId) 
           ∙ ap (λ (l : List Held). count_by (has_given_port l) (h.books ++ b ∷ [])) (sym base)));
       listeners = λ f. subst (λ (ls : List Listener). Each (λ (l : Listener). l.port < first_port) ls)
           (sym (ap (λ (s : Sight). s.path.listeners) opened.after)) (sound.opening.listeners (unfixed f));
+      given = λ f. below (unfixed f) (low f);
     };
     shown = record {
       pending = opened.indexed.pending;

@@ -5,3 +5,4 @@ pub mod Opening
 pub mod Ending
 pub mod Leaving
 pub mod Sound
+pub mod Counting

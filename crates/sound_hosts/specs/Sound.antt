@@ -1,6 +1,6 @@
 -- What holds of a host between ticks: its books agree with what the slow path, the applications, the index and the
 -- slots of the table have of each flow.
-use Rattle.std.specs.Prelude.{◌≡◌, ℕ, ◌<◌, ◌≤◌, ◌==◌, not, true, false, List, [], map, count_by, length, slice_get}
+use Rattle.std.specs.Prelude.{◌≡◌, ℕ, ◌+◌, ◌<◌, ◌≤◌, ◌==◌, not, true, false, List, [], map, count_by, length, slice_get}
 use Rattle.std.specs.Prelude.{Some}
 use Rattle.std.specs.Prelude.{IsPermutation}
 use Rattle.std.specs.List.{list_any, filter}
@@ -57,12 +57,17 @@ pub record AreKept (books : List Book) (known : List Held) (w : slow.Worker) : T
   pub doomed : IsPermutation w.doomed (map id_of (filter is_doomed books))
   pub filed : IsPermutation (map (λ (r : Flow). r.id) w.filed) (map id_of (filter is_filed books))
 
+-- the flow's port is below the next one that is given to a connect
+abbrev pub IsBelowNext : List Held → (ports : ℕ) → Book → Type 0
+IsBelowNext known ports b = (tuple_of known b).lport < first_port + ports
+
 -- What is being opened: the flows that wait for Accept, and how many ports were given. But for a replay, nobody listens
--- on one of those (RFC 6335, section 6: the dynamic ports).
+-- on one of those (RFC 6335, section 6: the dynamic ports), and no flow has one that is still to be given.
 pub record AreOpening (books : List Book) (known : List Held) (o : Openings) : Type 0 where
   pub flows : o.flows ≡ waiting_in known books
   pub ports : o.params.fixed ≡ false → o.ports ≡ count_by (has_given_port known) books
   pub listeners : o.params.fixed ≡ false → Each (λ (l : Listener). l.port < first_port) o.listeners
+  pub given : o.params.fixed ≡ false → Each (IsBelowNext known o.ports) books
 
 -- ----- the index
 -- Its changes lead to the flows that it has, and to none else.

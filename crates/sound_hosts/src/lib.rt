@@ -5,6 +5,7 @@
 mod alone;
 mod ending;
 mod laws;
+mod ports;
 mod sockets;
 
 pub use alone::{
@@ -13,4 +14,5 @@ pub use alone::{
 };
 pub use ending::{sweeps_alone_keep_the_slots, time_leads_on};
 pub use laws::{new_hosts_are_sound, open_flows_are_led, phases_keep_the_lists};
+pub use ports::next_ports_are_free;
 pub use sockets::no_call_finds_its_slot_in_use;
