@@ -12,7 +12,7 @@ use Rattle.app_reaper.specs.OneCall.{history}
 use Rattle.core_phase.specs.Deeds.{IsSend, KeepsColumn}
 use Rattle.core_worker.specs.Workers.{Common}
 use Rattle.flow_clock.specs.Histories.{endpoint_of}
-use Rattle.slow_worker.specs.Alone.{IsUsed, AreUsed, IsAsItWas, IsAllKicked}
+use Rattle.slow_worker.specs.Alone.{AreUsed, IsAsItWas, IsAllKicked}
 use Rattle.slow_worker.specs.Workers.{Worker}
 use Rattle.slow_worker.proofs.Walks.{all_same}
 use Rattle.host_books.specs.Books.{Book, live_as, live_in}
@@ -22,7 +22,6 @@ use Rattle.sound_hosts.specs.Leading.{LedOn}
 use Rattle.sound_hosts.specs.Moving.{with_slow}
 use Rattle.sound_hosts.specs.Sound.{IsHostSound}
 use Rattle.sound_turns.proofs.Steps.{same_led}
-use Rattle.slow_rounds.specs.Sending.{with_view}
 use Rattle.slow_rounds.proofs.Sent.{IsStill, begun, one_still, still_sound}
 
 -- the same histories, the same flows
