@@ -17,7 +17,7 @@ use Rattle.slow_worker.specs.Workers.{Worker}
 use Rattle.libtas_sockets.specs.Apps.{Application}
 use Rattle.libtas_sockets.specs.Connecting.{first_history, next_tuple, numbers_given, opener}
 use Rattle.libtas_sockets.specs.Opening.{IsOpenedAlone}
-use Rattle.sound_hosts.specs.Hosts.{CoreHost, known_in}
+use Rattle.sound_hosts.specs.Hosts.{CoreHost}
 use Rattle.sound_hosts.specs.Opening.{new_book}
 
 -- the history that this application's connect begins
