@@ -1,0 +1,12 @@
+pub mod TmpWords
+pub mod TmpEvents
+pub mod TmpLines
+pub mod TmpSay
+pub mod TmpReports
+pub mod TmpTextLines
+pub mod TmpShown
+pub mod TmpRight
+pub mod LogLines
+pub mod TmpForms
+pub mod Told
+pub mod TmpVerdicts
