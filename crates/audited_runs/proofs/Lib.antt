@@ -5,3 +5,5 @@ pub mod Saying
 pub mod Order
 pub mod Right
 pub mod Counts
+pub mod Cutting
+pub mod Marks
