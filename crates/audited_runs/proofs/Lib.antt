@@ -7,3 +7,4 @@ pub mod Right
 pub mod Counts
 pub mod Cutting
 pub mod Marks
+pub mod Telling
