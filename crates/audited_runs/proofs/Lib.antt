@@ -8,3 +8,6 @@ pub mod Counts
 pub mod Cutting
 pub mod Marks
 pub mod Telling
+pub mod Inverted
+pub mod Link
+pub mod Running

@@ -47,11 +47,16 @@ same_self f =
     rw (eq-eqb f.host f.host refl, eq-eqb f.flow f.flow refl, eq-eqb f.number f.number refl, eq-eqb f.copy f.copy refl)
     refl
 
+-- each address is one of 32 bits
+abbrev pub AreLow : (List ℕ → ℕ) → Type 0
+AreLow address = (name : List ℕ) → address name < 2 ^ 32
+
 -- `addrs` are the addresses of all hosts.
 module _ (addrs : List ℕ) where
   -- The host that sent the frame has this address.
   pub record IsOf (frame : FrameId) (src : ℕ) : Type 0 where
     pub host : slice_get addrs frame.host ≡ Some src
+    pub low : src < 2 ^ 32
     pub copy : frame.copy ≤ 1
 
   -- Some host sent it.
@@ -64,7 +69,7 @@ module _ (addrs : List ℕ) where
   CallTold tuple _ = Unit {0}
 
   abbrev pub EventTold : LogEvent → (own : ℕ) → Type 0
-  EventTold (events.Stray frame tuple seg answer) own = IsSome frame × (tuple.laddr ≡ own)
+  EventTold (events.Stray frame tuple seg answer) own = IsOf frame tuple.raddr × (tuple.laddr ≡ own)
   EventTold (events.Dropped frame backlog) own = IsSome frame
   EventTold (events.Refused frame rule) own = IsSome frame
   EventTold _ own = Unit {0}
@@ -84,6 +89,7 @@ module _ (addrs : List ℕ) where
     pub record LiveTold (l : Live) : Type 0 where
       pub params : l.flow.params ≡ p
       pub own : l.flow.tuple.laddr ≡ p.addr
+      pub far : l.flow.tuple.raddr < 2 ^ 32
       pub calls : Each (λ (x : Entry). CallTold l.flow.tuple x.call) l.flow.entries
 
     abbrev pub LineTold : LogLine → Type 0
@@ -100,13 +106,14 @@ module _ (addrs : List ℕ) where
     call_told by t call offer l here told = record {
       params = told.params;
       own = told.own;
+      far = told.far;
       calls = each_push (λ (x : Entry). CallTold l.flow.tuple x.call) l.flow.entries _ told.calls here;
     }
 
     swept_told : (l : Live) → LiveTold l → LiveTold (swept l)
     swept_told l told =
         on_cond LiveTold (is_over l) _ _
-        (λ t. record { params = told.params; own = told.own; calls = told.calls }) (λ f. told)
+        (λ t. record { params = told.params; own = told.own; far = told.far; calls = told.calls }) (λ f. told)
 
     controlled_told : (by : Caller) (t : ℕ) (l : Live) → LiveTold l → LiveTold (controlled by t l)
     controlled_told by t l told =
@@ -125,7 +132,7 @@ module _ (addrs : List ℕ) where
       by_going (Some g) = call_told by t calls.Emit [] l tt told
 
     held_told : (holder : Holder) (l : Live) → LiveTold l → LiveTold (record l { holder = holder })
-    held_told holder l told = record { params = told.params; own = told.own; calls = told.calls }
+    held_told holder l told = record { params = told.params; own = told.own; far = told.far; calls = told.calls }
 
     -- ----- a host
     flows_told : (host : Host) (ls : List Live) → HostTold host → Each LiveTold ls
@@ -143,10 +150,10 @@ module _ (addrs : List ℕ) where
 
     -- a flow more, with the host's parameters
     opened_told : (host : Host) (slot : ℕ) (tuple : FourTuple) (holder : Holder) (x : Entry) → tuple.laddr ≡ p.addr
-        → CallTold tuple x.call → HostTold host → HostTold (opened_in host slot tuple None holder x)
-    opened_told host slot tuple holder x own here h =
+        → tuple.raddr < 2 ^ 32 → CallTold tuple x.call → HostTold host → HostTold (opened_in host slot tuple None holder x)
+    opened_told host slot tuple holder x own far here h =
         flows_told host _ h
-        (each_push LiveTold host.flows _ h.flows (record { params = h.params; own = own; calls = (here, tt) }))
+        (each_push LiveTold host.flows _ h.flows (record { params = h.params; own = own; far = far; calls = (here, tt) }))
 
     -- ----- frames
     syn_told : (full : Bool) (free : Option ℕ) (number : ℕ) (t : ℕ) (host : Host) (frame : FrameId)
@@ -154,7 +161,7 @@ module _ (addrs : List ℕ) where
         → HostTold (opened_by_syn full free (record { number = record { 0 = number }; scale = None }) t host frame tuple seg)
     syn_told true free number t host frame tuple seg of own h = line_told t host _ (tuple.raddr, of) h
     syn_told false None number t host frame tuple seg of own h = line_told t host _ (tuple.raddr, of) h
-    syn_told false (Some slot) number t host frame tuple seg of own h = opened_told host slot tuple _ _ own of h
+    syn_told false (Some slot) number t host frame tuple seg of own h = opened_told host slot tuple _ _ own of.low of h
 
     no_flow_told : (opening listening : Bool) (number : ℕ) (t : ℕ) (host : Host) (frame : FrameId)
         (tuple : FourTuple) (seg : Seg) → IsOf frame tuple.raddr → tuple.laddr ≡ p.addr → HostTold host
@@ -163,7 +170,7 @@ module _ (addrs : List ℕ) where
     no_flow_told true listening number t host frame tuple seg of own h =
         syn_told (is_full host tuple.lport) (lowest_free host) number t host frame tuple seg of own h
     no_flow_told false listening number t host frame tuple seg of own h =
-        line_told t host _ ((tuple.raddr, of), own) h
+        line_told t host _ (of, own) h
 
     arrived_told : (known : Bool) (by : Caller) (number : ℕ) (t : ℕ) (host : Host) (frame : FrameId)
         (tuple : FourTuple) (seg : Seg) → IsOf frame tuple.raddr → tuple.laddr ≡ p.addr → HostTold host
@@ -220,17 +227,17 @@ module _ (addrs : List ℕ) where
         accepts_one_told (position (is_ready port) x.host.flows) t socket port x h
 
     opens_told : (left : Bool) (q : HostParams) (slot port t : ℕ) (socket : List ℕ) (raddr rport : ℕ) (x : Turn)
-        → Told x → Told (opens_where left (starts_of q) slot port t socket raddr rport x)
-    opens_told true q slot port t socket raddr rport x h =
-        opened_told x.host slot _ _ _ (ap (λ (r : HostParams). r.addr) h.params) tt h
-    opens_told false q slot port t socket raddr rport x h = line_told t x.host _ tt h
+        → raddr < 2 ^ 32 → Told x → Told (opens_where left (starts_of q) slot port t socket raddr rport x)
+    opens_told true q slot port t socket raddr rport x far h =
+        opened_told x.host slot _ _ _ (ap (λ (r : HostParams). r.addr) h.params) far tt h
+    opens_told false q slot port t socket raddr rport x far h = line_told t x.host _ tt h
 
     connects_told : (q : HostParams) (free : Option ℕ) (t : ℕ) (socket : List ℕ) (raddr rport : ℕ) (x : Turn)
-        → Told x → Told (connects (starts_of q) free t socket raddr rport x)
-    connects_told q None t socket raddr rport x h = line_told t x.host _ tt h
-    connects_told q (Some slot) t socket raddr rport x h =
+        → raddr < 2 ^ 32 → Told x → Told (connects (starts_of q) free t socket raddr rport x)
+    connects_told q None t socket raddr rport x far h = line_told t x.host _ tt h
+    connects_told q (Some slot) t socket raddr rport x far h =
         opens_told (nat_lt (first_port + ports_given x.host) (2 ^ 16)) q slot (first_port + ports_given x.host) t
-        socket raddr rport x h
+        socket raddr rport x far h
 
     on_flow_told : (o : Option ℕ) (act : (flow : ℕ) → Turn → Turn) (x : Turn) → ((n : ℕ) → Told (act n x)) → Told x
         → Told (on_flow o act x)
@@ -238,9 +245,10 @@ module _ (addrs : List ℕ) where
     on_flow_told (Some n) act x each h = each n
 
     connects_on_told : (q : HostParams) (begun : Bool) (t : ℕ) (socket : List ℕ) (raddr rport : ℕ) (x : Turn)
-        → Told x → Told (connects_on (starts_of q) begun t socket raddr rport x)
-    connects_on_told q false t socket raddr rport x h = connects_told q (lowest_free x.host) t socket raddr rport x h
-    connects_on_told q true t socket raddr rport x h =
+        → raddr < 2 ^ 32 → Told x → Told (connects_on (starts_of q) begun t socket raddr rport x)
+    connects_on_told q false t socket raddr rport x far h =
+        connects_told q (lowest_free x.host) t socket raddr rport x far h
+    connects_on_told q true t socket raddr rport x far h =
         on_flow_told (flow_of (bound_in x.script.names socket)) (λ (n : ℕ). waits_for n t calls.Ready) x
         (λ n. called_told n t calls.Ready [] x (λ tuple. tt) h) h
 
@@ -262,54 +270,55 @@ module _ (addrs : List ℕ) where
         on_flow_told (flow_of (bound_in x.script.names socket)) (λ (n : ℕ). ends n t call socket) x
         (λ n. holds_told n GivenUp (called n t call [] x) (called_told n t call [] x none h)) h
 
-    step_told : (q : HostParams) (address : List ℕ → ℕ) (t : ℕ) (step : Step) (x : Turn) → Told x
+    step_told : (q : HostParams) (address : List ℕ → ℕ) (t : ℕ) (step : Step) (x : Turn) → AreLow address → Told x
         → Told (step_of (starts_of q) address t step x)
-    step_told q address t (steps.Listen name port) x h = listens_told (is_listened port x.host) t name port x h
-    step_told q address t (steps.Accept socket listener) x h =
+    step_told q address t (steps.Listen name port) x low h = listens_told (is_listened port x.host) t name port x h
+    step_told q address t (steps.Accept socket listener) x low h =
         accepts_told (port_of (bound_in x.script.names listener)) t socket x h
-    step_told q address t (steps.Connect socket host port) x h =
-        connects_on_told q x.script.begun t socket (address host) port x h
-    step_told q address t (steps.Send socket text) x h = sends_told t text socket x h
-    step_told q address t (steps.Fill socket count) x h = sends_told t (filling count) socket x h
-    step_told q address t (steps.Recv socket count) x h = receives_told t (Some count) socket x h
-    step_told q address t (steps.Drain socket) x h = receives_told t None socket x h
-    step_told q address t (steps.Shut socket) x h =
+    step_told q address t (steps.Connect socket host port) x low h =
+        connects_on_told q x.script.begun t socket (address host) port x (low host) h
+    step_told q address t (steps.Send socket text) x low h = sends_told t text socket x h
+    step_told q address t (steps.Fill socket count) x low h = sends_told t (filling count) socket x h
+    step_told q address t (steps.Recv socket count) x low h = receives_told t (Some count) socket x h
+    step_told q address t (steps.Drain socket) x low h = receives_told t None socket x h
+    step_told q address t (steps.Shut socket) x low h =
         on_flow_told (flow_of (bound_in x.script.names socket)) (λ (n : ℕ). once n t calls.Shut) x
         (λ n. called_told n t calls.Shut [] x (λ tuple. tt) h) h
-    step_told q address t (steps.Close socket) x h = ends_told t calls.Close socket x (λ tuple. tt) h
-    step_told q address t (steps.Abort socket) x h = ends_told t calls.Abort socket x (λ tuple. tt) h
-    step_told q address t (steps.Wait ticks) x h = h
+    step_told q address t (steps.Close socket) x low h = ends_told t calls.Close socket x (λ tuple. tt) h
+    step_told q address t (steps.Abort socket) x low h = ends_told t calls.Abort socket x (λ tuple. tt) h
+    step_told q address t (steps.Wait ticks) x low h = h
 
-    goes_told : (q : HostParams) (address : List ℕ → ℕ) (t : ℕ) (left : List Step) (x : Turn) → Told x
+    goes_told : (q : HostParams) (address : List ℕ → ℕ) (t : ℕ) (left : List Step) (x : Turn) → AreLow address → Told x
         → Told (goes_on (starts_of q) address t left x)
-    goes_told q address t [] x h = h
-    goes_told q address t (step ∷ rest) x h = step_told q address t step x h
+    goes_told q address t [] x low h = h
+    goes_told q address t (step ∷ rest) x low h = step_told q address t step x low h
 
     aborted_told : (concerned : Bool) (t : ℕ) (l : Live) → LiveTold l → LiveTold (aborted_where concerned t l)
     aborted_told true t l told =
         let called_too = call_told Slow t calls.Abort [] l tt told in
-        record { params = called_too.params; own = called_too.own; calls = called_too.calls }
+        record { params = called_too.params; own = called_too.own; far = called_too.far; calls = called_too.calls }
     aborted_told false t l told = told
 
-    turn_told : (b : Bool) (q : HostParams) (address : List ℕ → ℕ) (t : ℕ) (x : Turn) → Told x
+    turn_told : (b : Bool) (q : HostParams) (address : List ℕ → ℕ) (t : ℕ) (x : Turn) → AreLow address → Told x
         → Told (turn_where b (starts_of q) address t x)
-    turn_told true q address t x h = record {
+    turn_told true q address t x low h = record {
       params = h.params;
       flows =
           each_map LiveTold _ (λ l told. aborted_told (is_concerned x.script.number x.host l) t l told) x.host.flows
           h.flows;
       lines = h.lines;
     }
-    turn_told false q address t x h = goes_told q address t x.script.left x h
+    turn_told false q address t x low h = goes_told q address t x.script.left x low h
 
     abbrev At : Type 0
     At = Site (List Script)
 
-    asked_told : (q : HostParams) (address : List ℕ → ℕ) (t : ℕ) (o : Option Script) (site : At) → HostTold site.host
+    asked_told : (q : HostParams) (address : List ℕ → ℕ) (t : ℕ) (o : Option Script) (site : At) → AreLow address
+        → HostTold site.host
         → HostTold (asked_of (starts_of q) address t o site).host
-    asked_told q address t None site h = h
-    asked_told q address t (Some s) site h =
-        turn_told (is_killed_at t s.kill) q address t (record { host = site.host; script = s }) h
+    asked_told q address t None site low h = h
+    asked_told q address t (Some s) site low h =
+        turn_told (is_killed_at t s.kill) q address t (record { host = site.host; script = s }) low h
 
     -- ----- what is due
     abbrev Fit : Action ℕ → Type 0
@@ -359,25 +368,25 @@ module _ (addrs : List ℕ) where
           rest false f all = all
 
     -- ----- ticks
-    done_told : (s : Scenario) (q : HostParams) (t : ℕ) (site : At) (by : Caller) (action : Action ℕ) → Fit action
-        → HostTold site.host → HostTold (done_by (scripts_of s q) t site by action).host
-    done_told s q t site by (Timer n) fit h = at_told site.host n (timed by t) (timed_told by t) h
-    done_told s q t site by (Frame x) fit h =
+    done_told : (s : Scenario) (q : HostParams) (t : ℕ) (site : At) (by : Caller) (action : Action ℕ)
+        → AreLow (address_in s.hosts) → Fit action → HostTold site.host → HostTold (done_by (scripts_of s q) t site by action).host
+    done_told s q t site by (Timer n) low fit h = at_told site.host n (timed by t) (timed_told by t) h
+    done_told s q t site by (Frame x) low fit h =
         packet_told by q t site.host x.frame x.packet fit.src fit.frame fit.packet h
-    done_told s q t site by (Ask k) fit h =
-        asked_told q (address_in s.hosts) t (find (λ (x : Script). x.number == k) site.scripts) site h
-    done_told s q t site by (Emission n) fit h = at_told site.host n (emits by t) (emits_told by t) h
+    done_told s q t site by (Ask k) low fit h =
+        asked_told q (address_in s.hosts) t (find (λ (x : Script). x.number == k) site.scripts) site low h
+    done_told s q t site by (Emission n) low fit h = at_told site.host n (emits by t) (emits_told by t) h
 
-    all_told : (s : Scenario) (q : HostParams) (t : ℕ) (site : At) (order : List (Deed ℕ)) → Each Fit (actions_of order)
-        → HostTold site.host → HostTold (fold (does (scripts_of s q) t) site order).host
-    all_told s q t site [] fit h = h
-    all_told s q t site (m ∷ order) fit h =
-        all_told s q t (does (scripts_of s q) t site m) order fit.1 (done_told s q t site m.by m.action fit.0 h)
+    all_told : (s : Scenario) (q : HostParams) (t : ℕ) (site : At) (order : List (Deed ℕ))
+        → AreLow (address_in s.hosts) → Each Fit (actions_of order) → HostTold site.host → HostTold (fold (does (scripts_of s q) t) site order).host
+    all_told s q t site [] low fit h = h
+    all_told s q t site (m ∷ order) low fit h =
+        all_told s q t (does (scripts_of s q) t site m) order low fit.1 (done_told s q t site m.by m.action low fit.0 h)
 
     pub round_told : (s : Scenario) (q : HostParams) (t : ℕ) (due : Due ℕ) (before after : At)
-        → Round (scripts_of s q) t due before after → Each (Comes p.addr) due.frames → HostTold before.host
+        → AreLow (address_in s.hosts) → Round (scripts_of s q) t due before after → Each (Comes p.addr) due.frames → HostTold before.host
         → HostTold after.host
-    round_told s q t due before after round fit h =
+    round_told s q t due before after low round fit h =
         let start : HostTold (all_swept before.host) =
         flows_told before.host _ h (each_map LiveTold swept swept_told before.host.flows h.flows) in
         let order : Each Fit (actions_of round.order) =
@@ -386,4 +395,4 @@ module _ (addrs : List ℕ) where
         (each_filter (is_by (scripts_of s q) (OfFrame f)) (due_actions before.host.flows due)
         (due_fit before.host.flows due fit))) in
         subst (λ (x : At). HostTold x.host) round.made
-        (all_told s q t (on_host all_swept before) round.order order start)
+        (all_told s q t (on_host all_swept before) round.order low order start)
