@@ -11,3 +11,5 @@ pub mod Telling
 pub mod Inverted
 pub mod Link
 pub mod Running
+pub mod Placing
+pub mod Fitting

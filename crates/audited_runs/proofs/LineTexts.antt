@@ -17,10 +17,10 @@ use Rattle.tas_model.specs.declared.entry.Reason.TheVariants as reasons
 use Rattle.tas_model.proofs.Tests.{on_cond}
 use Rattle.tas_runs.specs.Report.{caller_text, reason_text, call_text, update_text, reply_text, phase_text}
 use Rattle.tas_runs.specs.Report.{answer_text}
-use Rattle.audited_runs.specs.TmpEvents.{Event, Listened, NotAccepted, NotConnected, Strayed, Dropped, Refused}
-use Rattle.audited_runs.specs.TmpLines.{Line, Title, Host, Logged, Begins, Made, State, Read, End}
-use Rattle.audited_runs.specs.TmpSay.{AreNames, IsHead, IsCaller, IsCall, IsReply, IsEntry, IsEvent, told_text}
-use Rattle.audited_runs.specs.TmpSay.{state_text, line_text, IsLine}
+use Rattle.report_lines.specs.Events.{Event, Listened, NotAccepted, NotConnected, Strayed, Dropped, Refused}
+use Rattle.report_lines.specs.Lines.{Line, Title, Host, Logged, Begins, Made, State, Read, End}
+use Rattle.report_lines.specs.Shown.{AreNames, IsHead, IsCaller, IsCall, IsReply, IsEntry, IsEvent, told_text}
+use Rattle.report_lines.specs.Shown.{state_text, line_text, IsLine}
 use Rattle.audited_runs.proofs.OneLine.{IsOneLine, one_line, both, number}
 use Rattle.audited_runs.proofs.Words.{hex_line, head_line, seg_line, name_line, frame_line, addr_line, port_line}
 use Rattle.audited_runs.proofs.Words.{tuple_line}

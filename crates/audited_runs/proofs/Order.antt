@@ -11,10 +11,10 @@ use Rattle.std.proofs.Common.{length}
 use Rattle.host_rounds.specs.declared.log.LogLine.{LogLine}
 use Rattle.host_rounds.specs.Lists.{Each}
 use Rattle.host_rounds.specs.Logs.{Flow, HostRun, RunLog}
-use Rattle.audited_runs.specs.TmpEvents.{Event}
-use Rattle.audited_runs.specs.TmpLines.{Line, Title, Host, Begins, End}
-use Rattle.audited_runs.specs.TmpReports as form
-use Rattle.audited_runs.specs.TmpReports.{FlowPart, HostPart, Report, IsReport}
+use Rattle.report_lines.specs.Events.{Event}
+use Rattle.report_lines.specs.Lines.{Line, Title, Host, Begins, End}
+use Rattle.report_form.specs.Reports as form
+use Rattle.report_form.specs.Reports.{FlowPart, HostPart, Report, IsReport}
 use Rattle.audited_runs.specs.LogLines.{told_event, log_lines, entry_lines, end_lines, flow_lines, flows_lines}
 use Rattle.audited_runs.specs.LogLines.{host_lines, hosts_lines, lines_of}
 use Rattle.audited_runs.specs.Told.{IsTold, IsHostTold, AreTold}

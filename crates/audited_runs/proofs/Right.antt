@@ -16,7 +16,7 @@ use Rattle.tas_model.specs.Outputs.{bytes_read}
 use Rattle.host_rounds.specs.declared.log.LogLine.{LogLine}
 use Rattle.host_rounds.specs.Lists.{Each}
 use Rattle.host_rounds.specs.Logs.{Flow, HostRun, RunLog}
-use Rattle.audited_runs.specs.TmpLines.{Line, Title, Host, Begins, Made, State, Read, End}
+use Rattle.report_lines.specs.Lines.{Line, Title, Host, Begins, Made, State, Read, End}
 use Rattle.audited_runs.specs.TmpShown.{ShownFlow, Now, begun, with_line, nothing_shown}
 use Rattle.audited_runs.specs.TmpRight.{AreLegal, IsRight, IsRightNow, AreRight}
 use Rattle.audited_runs.specs.LogLines.{log_lines, entry_lines, end_lines, flow_lines, flows_lines}

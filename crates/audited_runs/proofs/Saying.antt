@@ -19,8 +19,8 @@ use Rattle.host_rounds.specs.Logs.{Flow, HostRun, RunLog}
 use Rattle.tas_runs.specs.Report as report
 use Rattle.tas_runs.specs.Report.{line, names_of, name_at, addr_text, phase_text, reason_text, entry_text}
 use Rattle.tas_runs.specs.Report.{entries_text, event_text, log_text, flows_text, host_text, hosts_text, read_text}
-use Rattle.audited_runs.specs.TmpLines.{Line, Title, Host, Logged, Begins, Made, State, Read, End}
-use Rattle.audited_runs.specs.TmpSay.{AreNames, IsLine, line_text, state_text, told_text}
+use Rattle.report_lines.specs.Lines.{Line, Title, Host, Logged, Begins, Made, State, Read, End}
+use Rattle.report_lines.specs.Shown.{AreNames, IsLine, line_text, state_text, told_text}
 use Rattle.audited_runs.specs.TmpTextLines.{text_lines}
 use Rattle.audited_runs.specs.TmpForms.{IsSaid, AreSaid}
 use Rattle.audited_runs.specs.LogLines.{told_event, log_lines, entry_lines, end_lines, flow_lines, flows_lines}

@@ -15,8 +15,8 @@ use Rattle.tas_model.proofs.Tests.{on_cond}
 use Rattle.tas_runs.specs.Report.{hex_bytes, hex, data_text, letter, letters, flags_text, mss_text, scale_text}
 use Rattle.tas_runs.specs.Report.{head_text, seg_text, name_at, flow_text, copy_text, frame_text, addr_text, port_text}
 use Rattle.tas_runs.specs.Report.{tuple_text}
-use Rattle.audited_runs.specs.TmpWords.{is_letter, is_digit}
-use Rattle.audited_runs.specs.TmpSay.{AreBytes, IsHead, IsSeg, AreNames, IsSent, IsRecord, IsFrame}
+use Rattle.scenario_text.specs.Words.{is_letter, is_digit}
+use Rattle.report_lines.specs.Shown.{AreBytes, IsHead, IsSeg, AreNames, IsSent, IsRecord, IsFrame}
 use Rattle.audited_runs.proofs.OneLine.{is_inner, lacks, IsOneLine, one_line, both, number}
 
 -- ----- bytes and segments

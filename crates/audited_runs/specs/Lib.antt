@@ -1,8 +1,3 @@
-pub mod TmpWords
-pub mod TmpEvents
-pub mod TmpLines
-pub mod TmpSay
-pub mod TmpReports
 pub mod TmpTextLines
 pub mod TmpShown
 pub mod TmpRight
@@ -10,3 +5,4 @@ pub mod LogLines
 pub mod TmpForms
 pub mod Told
 pub mod TmpVerdicts
+pub mod Fits

@@ -9,8 +9,8 @@ use Rattle.host_rounds.specs.declared.log.LogLine.{LogLine}
 use Rattle.host_rounds.specs.declared.log.LogEvent.{LogEvent}
 use Rattle.host_rounds.specs.declared.log.LogEvent.TheVariants as events
 use Rattle.host_rounds.specs.Logs.{Flow, HostRun, RunLog}
-use Rattle.audited_runs.specs.TmpEvents.{Event, Listened, NotAccepted, NotConnected, Strayed, Dropped, Refused}
-use Rattle.audited_runs.specs.TmpLines.{Line, Title, Host, Logged, Begins, Made, State, Read, End}
+use Rattle.report_lines.specs.Events.{Event, Listened, NotAccepted, NotConnected, Strayed, Dropped, Refused}
+use Rattle.report_lines.specs.Lines.{Line, Title, Host, Logged, Begins, Made, State, Read, End}
 
 -- The event that a line of a log tells; of a stray's four-tuple it tells nothing.
 abbrev pub told_event : LogEvent → Event

@@ -1,7 +1,7 @@
 use Rattle.std.specs.Prelude.{◌≡◌, List, ℕ, [], ◌∷◌, ⊤}
 use Rattle.tas_runs.specs.Report.{line}
-use Rattle.audited_runs.specs.TmpLines.{Line}
-use Rattle.audited_runs.specs.TmpSay.{IsLine, line_text}
+use Rattle.report_lines.specs.Lines.{Line}
+use Rattle.report_lines.specs.Shown.{IsLine, line_text}
 
 pub record IsSaid (names : List (List ℕ)) (text : List ℕ) (said : Line) : Type 0 where
   pub fits : IsLine names said

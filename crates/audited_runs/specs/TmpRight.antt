@@ -11,7 +11,7 @@ use Rattle.tas_model.specs.declared.entry.Reason.{Reason}
 use Rattle.tas_model.specs.Endpoint.{phase}
 use Rattle.tas_model.specs.LegalHistory.{Legal, replay}
 use Rattle.tas_model.specs.Outputs.{bytes_read}
-use Rattle.audited_runs.specs.TmpLines.{Line}
+use Rattle.report_lines.specs.Lines.{Line}
 use Rattle.audited_runs.specs.TmpShown.{ShownFlow, Now, shown}
 
 -- ----- one flow

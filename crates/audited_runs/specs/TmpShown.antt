@@ -4,7 +4,7 @@ use Rattle.tas_model.specs.declared.entry.Entry.{Entry}
 use Rattle.tas_model.specs.declared.entry.FourTuple.{FourTuple}
 use Rattle.tas_model.specs.declared.entry.Phase.{Phase}
 use Rattle.tas_model.specs.declared.entry.Reason.{Reason}
-use Rattle.audited_runs.specs.TmpLines.{Line, Host, Begins, Made, State, Read}
+use Rattle.report_lines.specs.Lines.{Line, Host, Begins, Made, State, Read}
 
 -- A flow as far as it is shown: its ends, its entries, its state and what was read.
 pub record ShownFlow : Type 0 where

@@ -1,5 +1,5 @@
 use Rattle.std.specs.Prelude.{Bool, true, false}
-use Rattle.audited_runs.specs.TmpLines.{Line, Begins, Made}
+use Rattle.report_lines.specs.Lines.{Line, Begins, Made}
 
 abbrev pub begins_flow : Line → Bool
 begins_flow (Begins number id tuple) = true
