@@ -13,3 +13,4 @@ pub mod Link
 pub mod Running
 pub mod Placing
 pub mod Fitting
+pub mod Whole
