@@ -17,7 +17,7 @@ use Rattle.scenario_text.specs.declared.scenario.Step.TheVariants as steps
 use Rattle.scenario_text.specs.Canonical.{line_of, host_text, step_text, app_text, act_line, act_text, each_text}
 use Rattle.scenario_text.specs.Canonical.{move_text, kill_text, canonical, address_text, params_words, name_at}
 use Rattle.scenario_text.specs.Canonical.{holding_words}
-use Rattle.audited_runs.specs.TmpTextLines.{onto, text_lines, mark}
+use Rattle.trace_audit.specs.TextLines.{onto, text_lines, mark}
 
 -- ----- all lines are the text
 onto_whole : (c : ℕ) (ls : List (List ℕ)) → concat (onto c ls) ≡ c ∷ concat ls

@@ -157,14 +157,18 @@ module _ (names : List (List ℕ)) (addrs : List ℕ) (same : length names ≡ l
   hosts_shown i (l ∷ ls) [] most fits few told = tt
   hosts_shown i (l ∷ ls) (h ∷ hs) most fits few told =
       let low : 0 + length h.flows < 2 ^ 32 = (let less : length h.flows < 2 ^ 32 = few.0 in omega (arith, less)) in
-      each_append (IsLine names) (host_lines i h) (hosts_lines (i + 1) hs)
-      ((omega (arith, most), fits.0.addr), each_append (IsLine names) (log_lines h.log) (flows_lines 0 h.flows)
-      (log_shown l.params h.log fits.0.log told.0.1.lines)
-      (flows_shown l.params 0 h.flows low fits.0.flows told.0.1.flows))
+      each_append (IsLine names) (host_lines i h) (hosts_lines (i + 1) hs) (
+        (omega (arith, most), fits.0.addr),
+        each_append (IsLine names) (log_lines h.log) (flows_lines 0 h.flows)
+            (log_shown l.params h.log fits.0.log told.0.1.lines)
+            (flows_shown l.params 0 h.flows low fits.0.flows told.0.1.flows),
+      )
       (hosts_shown (i + 1) ls hs (omega (arith, most)) fits.1 few.1 told.1)
 
   pub log_fits : (lines : List HostLine) (log : RunLog) → length log.hosts ≤ length names → Fits log → AreFew log.hosts
       → LogTold addrs lines log.hosts → Each (IsLine names) (lines_of log)
-  log_fits lines log most fits few told =
-      (tt, each_append (IsLine names) (hosts_lines 0 log.hosts) (End log.ticks ∷ [])
-      (hosts_shown 0 lines log.hosts (omega (arith, most)) fits.hosts few told) (fits.ticks, tt))
+  log_fits lines log most fits few told = (
+    tt,
+    each_append (IsLine names) (hosts_lines 0 log.hosts) (End log.ticks ∷ [])
+        (hosts_shown 0 lines log.hosts (omega (arith, most)) fits.hosts few told) (fits.ticks, tt),
+  )

@@ -14,3 +14,5 @@ pub mod Running
 pub mod Placing
 pub mod Fitting
 pub mod Whole
+pub mod Judged
+pub mod WorkedAudits

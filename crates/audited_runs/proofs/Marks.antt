@@ -17,7 +17,7 @@ use Rattle.scenario_text.specs.declared.reading.ScenarioFault.TheVariants.{Refus
 use Rattle.scenario_text.specs.Drafts.{no_draft}
 use Rattle.scenario_text.specs.Reads.{taken, read_from, reads}
 use Rattle.scenario_text.proofs.Cuts.{more_parts}
-use Rattle.audited_runs.specs.TmpTextLines.{onto, text_lines, mark, is_mark, LacksMark}
+use Rattle.trace_audit.specs.TextLines.{onto, text_lines, mark, is_mark, LacksMark}
 
 -- ----- lines and parts
 abbrev is_lf : ℕ → Bool

@@ -7,7 +7,7 @@ use Rattle.std.proofs.lemmas.Fmt.{digits_decimal}
 use Rattle.std.proofs.lemmas.Str.Parse.{IsNumeralModel, numerals_by_fold}
 use Rattle.std.specs.Prelude.{decimal}
 use Rattle.std.specs.List.{list_all}
-use Rattle.audited_runs.specs.TmpTextLines.{text_lines, onto}
+use Rattle.trace_audit.specs.TextLines.{text_lines, onto}
 
 -- a byte other than LF
 abbrev pub is_inner : ℕ → Bool

@@ -21,7 +21,7 @@ use Rattle.scenario_runs.specs.Histories.{AreSound}
 use Rattle.scenario_runs.specs.Worlds.{World}
 use Rattle.scenario_runs.specs.Runs.{hosts_of}
 use Rattle.scenario_laws.specs.Ends.{OfEachLine, HasOpened}
-use Rattle.audited_runs.specs.TmpRight.{has_addr, IsFromPeer}
+use Rattle.trace_audit.specs.Right.{has_addr, IsFromPeer}
 use Rattle.audited_runs.specs.Told.{BeginsFromPeer, IsTold, IsHostTold, AreTold}
 use Rattle.audited_runs.proofs.Telling.{IsOf, CallTold, LiveTold, LineTold, HostTold}
 use Rattle.audited_runs.proofs.Link.{AllTold}

@@ -17,8 +17,8 @@ use Rattle.host_rounds.specs.declared.log.LogLine.{LogLine}
 use Rattle.host_rounds.specs.Lists.{Each}
 use Rattle.host_rounds.specs.Logs.{Flow, HostRun, RunLog}
 use Rattle.report_lines.specs.Lines.{Line, Title, Host, Begins, Made, State, Read, End}
-use Rattle.audited_runs.specs.TmpShown.{ShownFlow, Now, begun, with_line, nothing_shown}
-use Rattle.audited_runs.specs.TmpRight.{AreLegal, IsRight, IsRightNow, AreRight}
+use Rattle.trace_audit.specs.Shown.{ShownFlow, Now, begun, with_line, nothing_shown}
+use Rattle.trace_audit.specs.Right.{AreLegal, IsRight, IsRightNow, AreRight}
 use Rattle.audited_runs.specs.LogLines.{log_lines, entry_lines, end_lines, flow_lines, flows_lines}
 use Rattle.audited_runs.specs.LogLines.{host_lines, hosts_lines, lines_of}
 use Rattle.audited_runs.specs.Told.{BeginsFromPeer, IsTold, IsHostTold, AreTold}
@@ -197,6 +197,8 @@ from_there before (p ∷ ps) = (
 
 pub are_right : (ps : List HostParams) (log : RunLog) → AreTold ps ps log.hosts → AreRight ps (lines_of log)
 are_right ps log told k =
-    each_take ps nothing_shown (lines_of log) k
-    (tt, hosts_right ps ps 0 log.hosts (End log.ticks ∷ []) (from_there [] ps) told (λ n right. (right, right))
-    nothing_shown tt)
+    each_take ps nothing_shown (lines_of log) k (
+      tt,
+      hosts_right ps ps 0 log.hosts (End log.ticks ∷ []) (from_there [] ps) told (λ n right. (right, right))
+          nothing_shown tt,
+    )

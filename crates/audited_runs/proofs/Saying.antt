@@ -21,8 +21,8 @@ use Rattle.tas_runs.specs.Report.{line, names_of, name_at, addr_text, phase_text
 use Rattle.tas_runs.specs.Report.{entries_text, event_text, log_text, flows_text, host_text, hosts_text, read_text}
 use Rattle.report_lines.specs.Lines.{Line, Title, Host, Logged, Begins, Made, State, Read, End}
 use Rattle.report_lines.specs.Shown.{AreNames, IsLine, line_text, state_text, told_text}
-use Rattle.audited_runs.specs.TmpTextLines.{text_lines}
-use Rattle.audited_runs.specs.TmpForms.{IsSaid, AreSaid}
+use Rattle.trace_audit.specs.TextLines.{text_lines}
+use Rattle.trace_audit.specs.Forms.{IsSaid, AreSaid}
 use Rattle.audited_runs.specs.LogLines.{told_event, log_lines, entry_lines, end_lines, flow_lines, flows_lines}
 use Rattle.audited_runs.specs.LogLines.{host_lines, hosts_lines, lines_of}
 use Rattle.audited_runs.proofs.OneLine.{IsOneLine, cut_line}
@@ -33,13 +33,18 @@ abbrev pub text_of : (names : List (List ℕ)) → List Line → List ℕ
 text_of names [] = []
 text_of names (l ∷ ls) = line (line_text names l) ++ text_of names ls
 
+-- The text of a line is the first line of the text that begins with it.
+pub line_cut : (names : List (List ℕ)) (said : Line) (rest : List ℕ) → AreNames names → IsLine names said
+    → text_lines (line (line_text names said) ++ rest) ≡ line (line_text names said) ∷ text_lines rest
+line_cut names said rest ok fits = cut_line (line_text names said) rest (text_line names said ok fits).lacks
+
 -- Cut into lines, it says these.
 pub text_says : (names : List (List ℕ)) (ls : List Line) → AreNames names → Each (IsLine names) ls
     → AreSaid names (text_lines (text_of names ls)) ls
 text_says names [] ok all = tt
 text_says names (l ∷ ls) ok all =
     subst (λ (texts : List (List ℕ)). AreSaid names texts (l ∷ ls))
-    (sym (cut_line (line_text names l) (text_of names ls) (text_line names l ok all.0).lacks))
+    (sym (line_cut names l (text_of names ls) ok all.0))
     (record { fits = all.0; shown = refl }, text_says names ls ok all.1)
 
 joined : (names : List (List ℕ)) (a b : List Line) → text_of names (a ++ b) ≡ text_of names a ++ text_of names b

@@ -21,9 +21,10 @@ use Rattle.scenario_runs.proofs.AllRuns.{runs_sound}
 use Rattle.scenario_laws.specs.Ends.{OfEachLine, IsNamed}
 use Rattle.scenario_laws.proofs.AllTicks.{hosts_named, hosts_opened}
 use Rattle.report_lines.specs.Shown.{AreNames, IsLine}
-use Rattle.audited_runs.specs.TmpTextLines.{text_lines, mark}
-use Rattle.audited_runs.specs.TmpForms.{names_of, params_of, addrs_of, AreSaid}
-use Rattle.audited_runs.specs.TmpVerdicts.{IsLegal}
+use Rattle.trace_audit.specs.TextLines.{text_lines, mark, AreHalves}
+use Rattle.trace_audit.specs.Forms.{names_of, params_of, addrs_of, AreSaid}
+use Rattle.trace_audit.specs.Verdicts.{IsLegal}
+use Rattle.trace_audit.proofs.HostNames.{names_are}
 use Rattle.audited_runs.specs.LogLines.{lines_of, flows_in, entries_in}
 use Rattle.audited_runs.specs.Fits.{Fits, HostFits}
 use Rattle.audited_runs.specs.Told.{AreTold}
@@ -47,6 +48,11 @@ report_said names log run ok same fits =
     (sym (report_says log run ∙ ap (λ (ns : List (List ℕ)). text_of ns (lines_of log)) same))
     (text_says names (lines_of log) ok fits)
 
+-- the scenario and the report
+pub halves_are : (s : Scenario) (text : List ℕ) → reads (canonical s) ≡ Ok s
+    → AreHalves (canonical s ++ mark ++ text) (text_lines (canonical s)) (text_lines text)
+halves_are s text back = record { lines = marked_lines s text; first = scenario_lacks (canonical s) s back }
+
 -- the whole text
 pub log_legal : (s : Scenario) (log : RunLog) → reads (canonical s) ≡ Ok s → log.replay ≡ false
     → AreNames (names_of s.hosts) → report.names_of log.hosts ≡ names_of s.hosts
@@ -58,7 +64,7 @@ log_legal s log back run ok same fits told = record {
   form = record {
     scenario = text_lines (canonical s);
     report = text_lines (report.report log);
-    halves = record { lines = marked_lines s (report.report log); first = scenario_lacks (canonical s) s back };
+    halves = halves_are s (report.report log) back;
     before = refl;
     is = ap reads (lines_whole (canonical s)) ∙ back;
     lines = report_said (names_of s.hosts) log run ok same fits;
@@ -129,10 +135,9 @@ run_auditable s log range run fits =
       told = all_told (params_in s.hosts) s.hosts log.hosts told (runs_sound s log range run);
     }
 
-pub run_legal : (text : List ℕ) (s : Scenario) (log : RunLog) → reads text ≡ Ok s → AreNames (names_of s.hosts)
-    → Run s log → Fits log
+pub run_legal : (text : List ℕ) (s : Scenario) (log : RunLog) → reads text ≡ Ok s → Run s log → Fits log
     → IsLegal (canonical s ++ mark ++ report.report log) (flows_in log.hosts) (entries_in log.hosts)
-run_legal text s log read ok run fits =
+run_legal text s log read run fits =
     let a : IsAuditable s log =
     run_auditable s log (hosts_in_range s.hosts (read_in_range text s read).hosts) run fits in
-    log_legal s log (canonical_read text s read) a.run ok a.names a.fits a.told
+    log_legal s log (canonical_read text s read) a.run (names_are text s read) a.names a.fits a.told

@@ -6,7 +6,7 @@ use Rattle.tas_model.specs.declared.entry.HostParams.{HostParams}
 use Rattle.tas_model.specs.LegalHistory.{Legal}
 use Rattle.host_rounds.specs.Lists.{Each}
 use Rattle.host_rounds.specs.Logs.{Flow, HostRun}
-use Rattle.audited_runs.specs.TmpRight.{IsFromPeer}
+use Rattle.trace_audit.specs.Right.{IsFromPeer}
 
 -- the first entry, where it is Passive, names a frame of the host at the other end
 abbrev pub BeginsFromPeer : (hosts : List HostParams) → FourTuple → List Entry → Type 0
