@@ -122,9 +122,11 @@ pub canonical_ends : (s : Scenario) → Ends (canonical s)
 canonical_ends s =
     both_end (both_end (both_end (both_end (both_end (both_end
     (line_ends (codes "limit") (decimal s.limit ∷ []))
-    (all_end host_text (λ (h : HostLine). line_ends (codes "host") (h.name ∷ address_text h.params.addr ∷ params_words h.params)) s.hosts))
+    (all_end host_text (λ (h : HostLine). line_ends (codes "host")
+    (h.name ∷ address_text h.params.addr ∷ params_words h.params)) s.hosts))
     (all_end app_text app_ends s.apps))
-    (all_end (act_text s.hosts) (λ (line : Target × LinkAct). act_ends (name_at s.hosts line.0.host) (decimal line.0.flow)
+    (all_end (act_text s.hosts) (λ (line : Target × LinkAct). act_ends (name_at s.hosts line.0.host)
+    (decimal line.0.flow)
     (decimal line.0.number) line.1) s.link.acts))
     (all_end (each_text s.hosts) (λ (line : DropEach). line_ends (codes "dropeach")
     (name_at s.hosts line.host ∷ decimal line.k ∷ [])) s.link.drops))

@@ -39,7 +39,8 @@ open_state : (una : ℕ) (shut fin_acked ended ended_first : Bool)
 open_state una shut fin_acked ended ended_first =
     on_cond (λ (p : Phase). HasReason p None) (una == 0) _ _ (λ t. tt) (λ t. by_ends shut fin_acked ended ended_first)
   where
-    by_ends : (shut fin_acked ended ended_first : Bool) → HasReason (synchronized 1 shut fin_acked ended ended_first) None
+    by_ends : (shut fin_acked ended ended_first : Bool)
+        → HasReason (synchronized 1 shut fin_acked ended ended_first) None
     by_ends true true true true = tt
     by_ends true true true false = tt
     by_ends true true false first = tt

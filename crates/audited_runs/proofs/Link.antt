@@ -1,6 +1,8 @@
 -- What comes to a host of a run: each frame from the host that its name tells, with that host's address.
-use Rattle.std.proofs.Common.{◌≡◌, ℕ, zero, suc, ◌+◌, ◌≤◌, ◌<◌, ◌^◌, ◌==◌, ◌&&◌, not, Bool, true, false, cond, ltb, List, []}
-use Rattle.std.proofs.Common.{◌∷◌, ◌++◌, length, map, filter, Option, Some, None, refl, sym, subst, ap, ◌∙◌, arith, nat_le}
+use Rattle.std.proofs.Common.{◌≡◌, ℕ, zero, suc, ◌+◌, ◌≤◌, ◌<◌, ◌^◌, ◌==◌, ◌&&◌, not, Bool, true, false, cond, ltb}
+use Rattle.std.proofs.Common.{List, []}
+use Rattle.std.proofs.Common.{◌∷◌, ◌++◌, length, map, filter, Option, Some, None, refl, sym, subst, ap, ◌∙◌, arith}
+use Rattle.std.proofs.Common.{nat_le}
 use Rattle.std.proofs.Common.{eqb, true≢false}
 use Rattle.std.proofs.lemmas.Bool.Decides.{nat_tests}
 use Rattle.std.proofs.lemmas.Bool.{eqb-true}
@@ -141,7 +143,8 @@ module _ (addrs : List ℕ) (whole : World) where
     segments_sent h flow (n + 1) t tuple segs has far,
   )
 
-  entries_sent : (h flow n : ℕ) (tuple : FourTuple) (xs : List Entry) → HasAddr addrs h tuple.laddr → tuple.raddr < 2 ^ 32
+  entries_sent : (h flow n : ℕ) (tuple : FourTuple) (xs : List Entry) → HasAddr addrs h tuple.laddr
+      → tuple.raddr < 2 ^ 32
       → Each IsSent (frames_of_entries h flow n (host_at whole tuple.raddr) tuple xs)
   entries_sent h flow n tuple [] has far = tt
   entries_sent h flow n tuple (x ∷ xs) has far =
@@ -283,7 +286,8 @@ module _ (addrs : List ℕ) (whole : World) where
     by_test true e rest = (arrival_comes h site f at all.0 (eqb-true f.to h e), rest)
     by_test false e rest = rest
 
-  pub due_come : (lines : LinkLines) (t h : ℕ) (site : At) (ps : List HostParams) → AreFrom addrs 0 ps → AllTold addrs ps whole
+  pub due_come : (lines : LinkLines) (t h : ℕ) (site : At) (ps : List HostParams) → AreFrom addrs 0 ps
+      → AllTold addrs ps whole
       → slice_get whole h ≡ Some site
       → Each (Comes addrs site.host.params.addr) (arrivals_at lines (sent_in whole) t h)
   due_come lines t h site ps from told at =

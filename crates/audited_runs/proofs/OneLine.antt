@@ -1,5 +1,6 @@
 -- Texts without LF: what they are made of, and that a text of lines is cut into these lines.
-use Rattle.std.proofs.Common.{◌≡◌, ℕ, ◌-◌, ◌*◌, ◌+◌, ◌<◌, ◌/◌, ◌%◌, ◌^◌, Bool, true, false, not, ◌&&◌, cond, eqb, List, [], ◌∷◌}
+use Rattle.std.proofs.Common.{◌≡◌, ℕ, ◌-◌, ◌*◌, ◌+◌, ◌<◌, ◌/◌, ◌%◌, ◌^◌, Bool, true, false, not, ◌&&◌, cond, eqb}
+use Rattle.std.proofs.Common.{List, [], ◌∷◌}
 use Rattle.std.proofs.Common.{◌++◌, fold, nat_le, refl, sym, ap, ◌∙◌, arith, rules}
 use Rattle.std.proofs.lemmas.Bool.{and_parts}
 use Rattle.std.proofs.lemmas.Bool.Decides.{nat_tests}
@@ -20,8 +21,8 @@ lacks text = list_all is_inner text
 pub record IsOneLine (text : List ℕ) : Type 0 where
   pub lacks : lacks text ≡ true
 
-pub one_line : (text : List ℕ) → lacks text ≡ true → IsOneLine text
-one_line text e = record { lacks = e }
+pub word : (text : List ℕ) → lacks text ≡ true → IsOneLine text
+word text e = record { lacks = e }
 
 joined : (a b : List ℕ) → lacks a ≡ true → lacks b ≡ true → lacks (a ++ b) ≡ true
 joined [] b one other = other
@@ -29,8 +30,10 @@ joined (c ∷ cs) b one other =
     let parts : (is_inner c ≡ true) × (lacks cs ≡ true) = and_parts (is_inner c) (lacks cs) one in
     rw (parts.0, joined cs b parts.1 other) refl
 
-pub both : {a b : List ℕ} → IsOneLine a → IsOneLine b → IsOneLine (a ++ b)
-both {a} {b} one other = record { lacks = joined a b one.lacks other.lacks }
+-- one behind the other
+infixl 60 ◌◂◌
+pub ◌◂◌ : {a b : List ℕ} → IsOneLine a → IsOneLine b → IsOneLine (a ++ b)
+◌◂◌ {a} {b} one other = record { lacks = joined a b one.lacks other.lacks }
 
 -- ----- digits
 abbrev is_digit : ℕ → Bool
@@ -55,7 +58,8 @@ pub number : (n : ℕ) → n < 2 ^ 64 → IsOneLine (decimal n)
 number n h = record { lacks = digits_lack (decimal n) (digits_decimal own n h) }
 
 -- ----- the lines of a text
-pub cut_line : (w rest : List ℕ) → lacks w ≡ true → text_lines ((w ++ 10 ∷ []) ++ rest) ≡ (w ++ 10 ∷ []) ∷ text_lines rest
+pub cut_line : (w rest : List ℕ) → lacks w ≡ true
+    → text_lines ((w ++ 10 ∷ []) ++ rest) ≡ (w ++ 10 ∷ []) ∷ text_lines rest
 cut_line [] rest e = refl
 cut_line (c ∷ cs) rest e =
     let parts : (is_inner c ≡ true) × (lacks cs ≡ true) = and_parts (is_inner c) (lacks cs) e in

@@ -43,7 +43,8 @@ of_history : (n : ℕ) (id : FlowId) (tuple : FourTuple) (params p : HostParams)
 of_history n id tuple params p [] legal = absurd legal
 of_history n id tuple params p (x ∷ xs) legal = record { part = part_of id tuple params x xs; same = refl }
 
-of_flow : (all : List HostParams) (p : HostParams) (n : ℕ) (f : Flow) → IsTold all p f → OfFlow p.addr n (flow_lines n f)
+of_flow : (all : List HostParams) (p : HostParams) (n : ℕ) (f : Flow) → IsTold all p f
+    → OfFlow p.addr n (flow_lines n f)
 of_flow all p n f told =
     subst (λ (addr : ℕ). OfFlow addr n (flow_lines n f)) told.own
     (of_history n f.id f.tuple f.params p f.entries told.legal)
@@ -68,7 +69,8 @@ of_flows all p n (f ∷ fs) told =
           (form.flows_lines p.addr (n + 1) rest.parts) one.same rest.same;
     }
 
-log_same : (log : List LogLine) → log_lines log ≡ map form.logged (map (λ (l : LogLine). (l.tick, told_event l.event)) log)
+log_same : (log : List LogLine)
+    → log_lines log ≡ map form.logged (map (λ (l : LogLine). (l.tick, told_event l.event)) log)
 log_same [] = refl
 log_same (l ∷ ls) = ap (λ (t : List Line). form.logged (l.tick, told_event l.event) ∷ t) (log_same ls)
 

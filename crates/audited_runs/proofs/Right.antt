@@ -1,5 +1,6 @@
 -- Up to each line of a log's report the flow that it shows is right.
-use Rattle.std.proofs.Common.{◌≡◌, ℕ, zero, suc, ◌+◌, List, [], ◌∷◌, ◌++◌, length, take, fold, refl, sym, ap, subst, ◌∙◌}
+use Rattle.std.proofs.Common.{◌≡◌, ℕ, zero, suc, ◌+◌, List, [], ◌∷◌, ◌++◌, length, take, fold, refl, sym, ap, subst}
+use Rattle.std.proofs.Common.{◌∙◌}
 use Rattle.std.proofs.Common.{append_assoc, Option, Some, None}
 use Rattle.std.specs.Prelude.{slice_get, IfSome}
 use Rattle.std.proofs.lemmas.List.{append-nil, length-append}
@@ -131,7 +132,8 @@ module _ (all : List HostParams) where
     right,
     subst (λ (q : HostParams). Onwards (showing n.host (begun f.tuple))
         ((entry_lines f.entries ++ end_lines q f.entries) ++ rest)) (sym told.params)
-        (subst (λ (i : ℕ). Onwards (showing i (begun f.tuple)) ((entry_lines f.entries ++ end_lines p f.entries) ++ rest))
+        (subst (λ (i : ℕ). Onwards (showing i (begun f.tuple))
+        ((entry_lines f.entries ++ end_lines p f.entries) ++ rest))
         (sym same)
         (history_right p host k f.id f.tuple f.entries rest at
         (told_legal p f.tuple f.entries told.legal told.peer) more)),

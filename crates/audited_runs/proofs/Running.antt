@@ -23,7 +23,8 @@ abbrev StandFrom : (whole : World) → (h : ℕ) → World → Type 0
 StandFrom whole h [] = Unit {0}
 StandFrom whole h (site ∷ sites) = (slice_get whole h ≡ Some site) × StandFrom whole (h + 1) sites
 
-got_behind : {X : Type 0} (before : List X) (y : X) (ys : List X) → slice_get (before ++ y ∷ ys) (length before) ≡ Some y
+got_behind : {X : Type 0} (before : List X) (y : X) (ys : List X)
+    → slice_get (before ++ y ∷ ys) (length before) ≡ Some y
 got_behind [] y ys = refl
 got_behind (x ∷ xs) y ys = got_behind xs y ys
 

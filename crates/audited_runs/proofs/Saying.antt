@@ -80,7 +80,8 @@ ends_say names params h =
 flow_says : (names : List (List ℕ)) (n : ℕ) (f : Flow) → report.flow_lines names n f ≡ text_of names (flow_lines n f)
 flow_says names n f =
     four (line (line_text names (Begins n f.id f.tuple))) (entries_text names f.entries)
-    (line (codes "state " ++ report.state_text (replay f.params f.entries))) (line (read_text (bytes_read f.entries))) []
+    (line (codes "state " ++ report.state_text (replay f.params f.entries))) (line (read_text (bytes_read f.entries)))
+    []
     ∙ ap (λ (t : List ℕ). line (line_text names (Begins n f.id f.tuple)) ++ t)
     (ap (λ (t : List ℕ). entries_text names f.entries ++ t) (sym (ends_say names f.params f.entries))
     ∙ (ap (λ (t : List ℕ). t ++ text_of names (end_lines f.params f.entries)) (entries_say names f.entries)

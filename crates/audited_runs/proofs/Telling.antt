@@ -1,7 +1,8 @@
 -- What is known of each host in a run: its flows have its address and its parameters, and each frame that its flows and
 -- its log name is one of a host of the run; one that opened a flow is of the host at the flow's other end.
 use Rattle.std.proofs.Common.{◌≡◌, ℕ, ◌+◌, ◌≤◌, ◌<◌, ◌^◌, ◌&&◌, ◌==◌, not, Bool, true, false, cond, List, [], ◌∷◌, ◌++◌}
-use Rattle.std.proofs.Common.{map, fold, filter, length, take, drop, Option, Some, None, refl, sym, subst, ap, ◌∙◌, eq-eqb}
+use Rattle.std.proofs.Common.{map, fold, filter, length, take, drop, Option, Some, None, refl, sym, subst, ap, ◌∙◌}
+use Rattle.std.proofs.Common.{eq-eqb}
 use Rattle.std.specs.Prelude.{slice_get, position, nat_lt}
 use Rattle.std.specs.List.{find}
 use Rattle.tas_model.specs.declared.entry.FourTuple.{FourTuple}
@@ -150,15 +151,18 @@ module _ (addrs : List ℕ) where
 
     -- a flow more, with the host's parameters
     opened_told : (host : Host) (slot : ℕ) (tuple : FourTuple) (holder : Holder) (x : Entry) → tuple.laddr ≡ p.addr
-        → tuple.raddr < 2 ^ 32 → CallTold tuple x.call → HostTold host → HostTold (opened_in host slot tuple None holder x)
+        → tuple.raddr < 2 ^ 32 → CallTold tuple x.call → HostTold host
+        → HostTold (opened_in host slot tuple None holder x)
     opened_told host slot tuple holder x own far here h =
         flows_told host _ h
-        (each_push LiveTold host.flows _ h.flows (record { params = h.params; own = own; far = far; calls = (here, tt) }))
+        (each_push LiveTold host.flows _ h.flows
+        (record { params = h.params; own = own; far = far; calls = (here, tt) }))
 
     -- ----- frames
     syn_told : (full : Bool) (free : Option ℕ) (number : ℕ) (t : ℕ) (host : Host) (frame : FrameId)
         (tuple : FourTuple) (seg : Seg) → IsOf frame tuple.raddr → tuple.laddr ≡ p.addr → HostTold host
-        → HostTold (opened_by_syn full free (record { number = record { 0 = number }; scale = None }) t host frame tuple seg)
+        → HostTold (opened_by_syn full free (record { number = record { 0 = number }; scale = None })
+        t host frame tuple seg)
     syn_told true free number t host frame tuple seg of own h = line_told t host _ (tuple.raddr, of) h
     syn_told false None number t host frame tuple seg of own h = line_told t host _ (tuple.raddr, of) h
     syn_told false (Some slot) number t host frame tuple seg of own h = opened_told host slot tuple _ _ own of.low of h
@@ -369,7 +373,8 @@ module _ (addrs : List ℕ) where
 
     -- ----- ticks
     done_told : (s : Scenario) (q : HostParams) (t : ℕ) (site : At) (by : Caller) (action : Action ℕ)
-        → AreLow (address_in s.hosts) → Fit action → HostTold site.host → HostTold (done_by (scripts_of s q) t site by action).host
+        → AreLow (address_in s.hosts) → Fit action → HostTold site.host
+        → HostTold (done_by (scripts_of s q) t site by action).host
     done_told s q t site by (Timer n) low fit h = at_told site.host n (timed by t) (timed_told by t) h
     done_told s q t site by (Frame x) low fit h =
         packet_told by q t site.host x.frame x.packet fit.src fit.frame fit.packet h
@@ -378,13 +383,15 @@ module _ (addrs : List ℕ) where
     done_told s q t site by (Emission n) low fit h = at_told site.host n (emits by t) (emits_told by t) h
 
     all_told : (s : Scenario) (q : HostParams) (t : ℕ) (site : At) (order : List (Deed ℕ))
-        → AreLow (address_in s.hosts) → Each Fit (actions_of order) → HostTold site.host → HostTold (fold (does (scripts_of s q) t) site order).host
+        → AreLow (address_in s.hosts) → Each Fit (actions_of order) → HostTold site.host
+        → HostTold (fold (does (scripts_of s q) t) site order).host
     all_told s q t site [] low fit h = h
     all_told s q t site (m ∷ order) low fit h =
         all_told s q t (does (scripts_of s q) t site m) order low fit.1 (done_told s q t site m.by m.action low fit.0 h)
 
     pub round_told : (s : Scenario) (q : HostParams) (t : ℕ) (due : Due ℕ) (before after : At)
-        → AreLow (address_in s.hosts) → Round (scripts_of s q) t due before after → Each (Comes p.addr) due.frames → HostTold before.host
+        → AreLow (address_in s.hosts) → Round (scripts_of s q) t due before after
+        → Each (Comes p.addr) due.frames → HostTold before.host
         → HostTold after.host
     round_told s q t due before after low round fit h =
         let start : HostTold (all_swept before.host) =

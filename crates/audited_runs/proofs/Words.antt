@@ -1,5 +1,6 @@
 -- The words of a report's lines have no LF.
-use Rattle.std.proofs.Common.{◌≡◌, ℕ, ◌+◌, ◌<◌, ◌≤◌, ◌/◌, ◌%◌, ◌^◌, ◌||◌, Bool, true, false, not, cond, eqb, List, [], ◌∷◌}
+use Rattle.std.proofs.Common.{◌≡◌, ℕ, ◌+◌, ◌<◌, ◌≤◌, ◌/◌, ◌%◌, ◌^◌, ◌||◌, Bool, true, false, not, cond, eqb, List, []}
+use Rattle.std.proofs.Common.{◌∷◌}
 use Rattle.std.proofs.Common.{◌++◌, Option, Some, None, refl, sym, ap, ◌∙◌, arith, inl, inr, ◌⊎◌, ◌-◌}
 use Rattle.std.proofs.lemmas.Bool.{and_parts}
 use Rattle.std.proofs.lemmas.Bool.Decides.{nat_tests}
@@ -17,7 +18,7 @@ use Rattle.tas_runs.specs.Report.{head_text, seg_text, name_at, flow_text, copy_
 use Rattle.tas_runs.specs.Report.{tuple_text}
 use Rattle.scenario_text.specs.Words.{is_letter, is_digit}
 use Rattle.report_lines.specs.Shown.{AreBytes, IsHead, IsSeg, AreNames, IsSent, IsRecord, IsFrame}
-use Rattle.audited_runs.proofs.OneLine.{is_inner, lacks, IsOneLine, one_line, both, number}
+use Rattle.audited_runs.proofs.OneLine.{is_inner, lacks, IsOneLine, word, ◌◂◌, number}
 
 -- ----- bytes and segments
 glyph_inner : (n : ℕ) → n < 16 → is_inner (digit_glyph false n) ≡ true
@@ -31,37 +32,42 @@ hex_lack (b ∷ bs) h =
     rw (high, low, hex_lack bs h.1) refl
 
 pub hex_line : (bytes : List ℕ) → AreBytes bytes → IsOneLine (hex bytes)
-hex_line [] h = one_line _ refl
-hex_line (b ∷ bs) h = one_line _ (hex_lack (b ∷ bs) h)
+hex_line [] h = word _ refl
+hex_line (b ∷ bs) h = word _ (hex_lack (b ∷ bs) h)
 
 data_line : (bytes : List ℕ) → AreBytes bytes → IsOneLine (data_text bytes)
-data_line [] h = one_line _ refl
-data_line (b ∷ bs) h = both (one_line (codes " data ") refl) (one_line (hex_bytes (b ∷ bs)) (hex_lack (b ∷ bs) h))
+data_line [] h = word _ refl
+data_line (b ∷ bs) h = word (codes " data ") refl ◂ word (hex_bytes (b ∷ bs)) (hex_lack (b ∷ bs) h)
 
 letter_line : (f bit : ℕ) (text : List ℕ) → IsOneLine text → IsOneLine (letter f bit text)
-letter_line f bit text one = on_cond IsOneLine (has f bit) text [] (λ t. one) (λ t. one_line [] refl)
+letter_line f bit text one = on_cond IsOneLine (has f bit) text [] (λ t. one) (λ t. word [] refl)
 
 letters_line : (f : ℕ) → IsOneLine (letters f)
 letters_line f =
-    both (both (both (both (both (both (both (letter_line f cwr (codes "C") (one_line _ refl)) (letter_line f ece (codes "E") (one_line _ refl))) (letter_line f urg (codes "U") (one_line _ refl))) (letter_line f ack (codes "A") (one_line _ refl))) (letter_line f psh (codes "P") (one_line _ refl))) (letter_line f rst (codes "R") (one_line _ refl))) (letter_line f syn (codes "S") (one_line _ refl))) (letter_line f fin (codes "F") (one_line _ refl))
+    letter_line f cwr (codes "C") (word _ refl) ◂ letter_line f ece (codes "E") (word _ refl)
+    ◂ letter_line f urg (codes "U") (word _ refl) ◂ letter_line f ack (codes "A") (word _ refl)
+    ◂ letter_line f psh (codes "P") (word _ refl) ◂ letter_line f rst (codes "R") (word _ refl)
+    ◂ letter_line f syn (codes "S") (word _ refl) ◂ letter_line f fin (codes "F") (word _ refl)
 
 flags_line : (f : ℕ) → IsOneLine (flags_text f)
-flags_line f = on_cond IsOneLine (eqb f 0) (codes "-") (letters f) (λ t. one_line _ refl) (λ t. letters_line f)
+flags_line f = on_cond IsOneLine (eqb f 0) (codes "-") (letters f) (λ t. word _ refl) (λ t. letters_line f)
 
 mss_line : (mss : Option ℕ) → IfSome mss (λ m. m < 2 ^ 16) → IsOneLine (mss_text mss)
-mss_line None h = one_line _ refl
-mss_line (Some m) h = both (one_line (codes " mss ") refl) (number m (omega (arith, h)))
+mss_line None h = word _ refl
+mss_line (Some m) h = word (codes " mss ") refl ◂ number m (omega (arith, h))
 
 scale_line : (scale : Option ℕ) → IfSome scale (λ s. s < 2 ^ 8) → IsOneLine (scale_text scale)
-scale_line None h = one_line _ refl
-scale_line (Some s) h = both (one_line (codes " ws ") refl) (number s (omega (arith, h)))
+scale_line None h = word _ refl
+scale_line (Some s) h = word (codes " ws ") refl ◂ number s (omega (arith, h))
 
 pub head_line : (h : Head) → IsHead h → IsOneLine (head_text h)
 head_line h is =
-    both (both (both (both (both (both (both (both (flags_line h.flags) (one_line (codes " seq ") refl)) (number h.seq.0 (omega (arith, is.seq)))) (one_line (codes " ack ") refl)) (number h.ack.0 (omega (arith, is.ack)))) (one_line (codes " win ") refl)) (number h.window (omega (arith, is.window)))) (mss_line h.mss is.mss)) (scale_line h.scale is.scale)
+    flags_line h.flags ◂ word (codes " seq ") refl ◂ number h.seq.0 (omega (arith, is.seq))
+    ◂ word (codes " ack ") refl ◂ number h.ack.0 (omega (arith, is.ack)) ◂ word (codes " win ") refl
+    ◂ number h.window (omega (arith, is.window)) ◂ mss_line h.mss is.mss ◂ scale_line h.scale is.scale
 
 pub seg_line : (s : Seg) → IsSeg s → IsOneLine (seg_text s)
-seg_line s is = both (head_line s.head is.head) (data_line s.bytes is.bytes)
+seg_line s is = head_line s.head is.head ◂ data_line s.bytes is.bytes
 
 -- ----- names
 plain_inner : (c : ℕ) → (is_letter c || is_digit c) ≡ true → is_inner c ≡ true
@@ -78,18 +84,18 @@ pub name_line : (names : List (List ℕ)) (host : ℕ) → AreNames names → Is
 name_line names host ok = by_name (slice_get names host) refl where
   by_name : (o : Option (List ℕ)) → slice_get names host ≡ o
       → IsOneLine (elim o [ None ↦ codes "-" | Some name ↦ name ])
-  by_name None e = one_line _ refl
-  by_name (Some name) e = one_line name (plain_lack name (ok.plain host name e))
+  by_name None e = word _ refl
+  by_name (Some name) e = word name (plain_lack name (ok.plain host name e))
 
 flow_line : (n : ℕ) → n < 2 ^ 32 → IsOneLine (flow_text n)
-flow_line n h = on_cond IsOneLine (eqb n (2 ^ 32 - 1)) (codes "x") (decimal n) (λ t. one_line _ refl)
+flow_line n h = on_cond IsOneLine (eqb n (2 ^ 32 - 1)) (codes "x") (decimal n) (λ t. word _ refl)
     (λ t. number n (omega (arith, h)))
 
 copy_line : (n : ℕ) → IsOneLine (copy_text n)
-copy_line n = on_cond IsOneLine (eqb n 0) [] (codes "+") (λ t. one_line _ refl) (λ t. one_line _ refl)
+copy_line n = on_cond IsOneLine (eqb n 0) [] (codes "+") (λ t. word _ refl) (λ t. word _ refl)
 
 record_line : (n : ℕ) → n < 2 ^ 64 → IsOneLine (codes "r:" ++ decimal n)
-record_line n h = both (one_line (codes "r:") refl) (number n h)
+record_line n h = word (codes "r:") refl ◂ number n h
 
 frame_number : (names : List (List ℕ)) (f : FrameId) → IsFrame names f → f.number < 2 ^ 64
 frame_number names f (inl sent) = sent.number
@@ -97,7 +103,8 @@ frame_number names f (inr is) = is.number
 
 frame_flow : (names : List (List ℕ)) (f : FrameId) → IsFrame names f → f.flow < 2 ^ 32
 frame_flow names f (inl sent) = sent.flow
-frame_flow names f (inr is) = (let same : f.flow ≡ 2 ^ 32 - 1 = ap (λ (g : FrameId). g.flow) is.is in omega (arith, same))
+frame_flow names f (inr is) = (let same : f.flow ≡ 2 ^ 32 - 1 = ap (λ (g : FrameId). g.flow) is.is in omega (arith,
+    same))
 
 pub frame_line : (names : List (List ℕ)) (f : FrameId) → AreNames names → IsFrame names f
     → IsOneLine (frame_text names f)
@@ -105,17 +112,20 @@ frame_line names f ok is =
     on_cond IsOneLine (eqb f.host (2 ^ 32 - 1)) (codes "r:" ++ decimal f.number)
     (name_at names f.host ++ codes ":" ++ flow_text f.flow ++ codes "." ++ decimal f.number ++ copy_text f.copy)
     (λ t. record_line f.number (frame_number names f is))
-    (λ t. both (both (both (both (both (name_line names f.host ok) (one_line (codes ":") refl)) (flow_line f.flow (frame_flow names f is))) (one_line (codes ".") refl)) (number f.number (frame_number names f is))) (copy_line f.copy))
+    (λ t. name_line names f.host ok ◂ word (codes ":") refl ◂ flow_line f.flow (frame_flow names f is)
+    ◂ word (codes ".") refl ◂ number f.number (frame_number names f is) ◂ copy_line f.copy)
 
 pub addr_line : (addr : ℕ) → addr < 2 ^ 32 → IsOneLine (addr_text addr)
 addr_line addr h =
-    both (both (both (both (both (both (number (addr / 16777216) (omega (arith, h))) (one_line (codes ".") refl)) (number (addr / 65536 % 256) (omega arith))) (one_line (codes ".") refl)) (number (addr / 256 % 256) (omega arith))) (one_line (codes ".") refl)) (number (addr % 256) (omega arith))
+    number (addr / 16777216) (omega (arith, h)) ◂ word (codes ".") refl ◂ number (addr / 65536 % 256) (omega arith)
+    ◂ word (codes ".") refl ◂ number (addr / 256 % 256) (omega arith) ◂ word (codes ".") refl
+    ◂ number (addr % 256) (omega arith)
 
 pub port_line : (addr port : ℕ) → addr < 2 ^ 32 → port < 2 ^ 16 → IsOneLine (port_text addr port)
 port_line addr port a p =
-    both (both (addr_line addr a) (one_line (codes ":") refl)) (number port (omega (arith, p)))
+    addr_line addr a ◂ word (codes ":") refl ◂ number port (omega (arith, p))
 
 pub tuple_line : (t : FourTuple) → t.laddr < 2 ^ 32 → t.lport < 2 ^ 16 → t.raddr < 2 ^ 32 → t.rport < 2 ^ 16
     → IsOneLine (tuple_text t)
 tuple_line t la lp ra rp =
-    both (both (port_line t.laddr t.lport la lp) (one_line (codes " ") refl)) (port_line t.raddr t.rport ra rp)
+    port_line t.laddr t.lport la lp ◂ word (codes " ") refl ◂ port_line t.raddr t.rport ra rp
