@@ -1,13 +1,11 @@
 -- How many flows a report shows, and how many entries.
 use Rattle.std.proofs.Common.{◌≡◌, ℕ, ◌+◌, Bool, true, false, cond, List, [], ◌∷◌, ◌++◌, length, count_by, refl, sym}
-use Rattle.std.proofs.Common.{ap}
 use Rattle.std.proofs.Common.{◌∙◌, arith}
 use Rattle.std.proofs.lemmas.List.Recursion.{is_count_by}
 use Rattle.tas_model.specs.declared.entry.Entry.{Entry}
-use Rattle.tas_model.specs.declared.entry.HostParams.{HostParams}
 use Rattle.host_rounds.specs.declared.log.LogLine.{LogLine}
 use Rattle.host_rounds.specs.Logs.{Flow, HostRun, RunLog}
-use Rattle.report_lines.specs.Lines.{Line, Begins, Made, End}
+use Rattle.report_lines.specs.Lines.{Line, End}
 use Rattle.trace_audit.specs.Verdicts.{begins_flow, is_entry}
 use Rattle.audited_runs.specs.LogLines.{log_lines, entry_lines, end_lines, flow_lines, flows_lines, host_lines}
 use Rattle.audited_runs.specs.LogLines.{hosts_lines, lines_of, flows_in, entries_of, entries_in}

@@ -1,7 +1,6 @@
 -- Each line of a run's report can be shown, where the numbers of its log are in the ranges of their fields.
-use Rattle.std.proofs.Common.{◌≡◌, ℕ, ◌+◌, ◌≤◌, ◌<◌, ◌^◌, ◌==◌, Bool, true, false, List, [], ◌∷◌, ◌++◌, length, map}
-use Rattle.std.proofs.Common.{Option, Some, None, refl, sym, subst, ap, ◌∙◌, arith, inl, inr}
-use Rattle.std.specs.Prelude.{slice_get}
+use Rattle.std.proofs.Common.{◌≡◌, ℕ, ◌+◌, ◌≤◌, ◌<◌, ◌^◌, ◌==◌, Bool, true, false, List, [], ◌∷◌, ◌++◌, length}
+use Rattle.std.proofs.Common.{Option, Some, None, arith, inl}
 use Rattle.std.proofs.lemmas.Option.{slice_get_within}
 use Rattle.tas_model.specs.declared.entry.Call.{Call}
 use Rattle.tas_model.specs.declared.entry.Call.TheVariants as calls
@@ -10,7 +9,6 @@ use Rattle.tas_model.specs.declared.entry.FourTuple.{FourTuple}
 use Rattle.tas_model.specs.declared.entry.FrameId.{FrameId}
 use Rattle.tas_model.specs.declared.entry.HostParams.{HostParams}
 use Rattle.tas_model.specs.declared.entry.Phase.{Phase}
-use Rattle.tas_model.specs.declared.entry.Phase.TheVariants as phases
 use Rattle.tas_model.specs.declared.entry.Reason.{Reason}
 use Rattle.tas_model.specs.declared.entry.Reply.{Reply}
 use Rattle.tas_model.specs.declared.entry.Reply.TheVariants as replies
@@ -25,13 +23,13 @@ use Rattle.host_rounds.specs.Lists.{Each}
 use Rattle.host_rounds.specs.Logs.{Flow, HostRun, RunLog}
 use Rattle.host_rounds.proofs.Lists.{each_append}
 use Rattle.scenario_text.specs.declared.scenario.HostLine.{HostLine}
-use Rattle.report_lines.specs.Lines.{Line, Title, Host, Logged, Begins, Made, State, Read, End}
+use Rattle.report_lines.specs.Lines.{End}
 use Rattle.report_lines.specs.Shown.{AreBytes, IsReply, IsFrame, IsCall, IsEntry, IsEvent, HasReason, IsLine}
 use Rattle.audited_runs.specs.LogLines.{told_event, log_lines, entry_lines, end_lines, flow_lines, flows_lines}
 use Rattle.audited_runs.specs.LogLines.{host_lines, hosts_lines, lines_of}
 use Rattle.audited_runs.specs.Fits.{FrameFits, CallFits, EntryFits, EventFits, LineFits, FlowFits, HostFits, Fits}
 use Rattle.audited_runs.proofs.Telling.{IsOf, IsSome, CallTold, EventTold, LineTold}
-use Rattle.audited_runs.proofs.Placing.{FlowTold, RunTold, LogTold, AreFew}
+use Rattle.audited_runs.proofs.Placing.{FlowTold, LogTold, AreFew}
 
 -- ----- the end of a flow
 open_state : (una : ℕ) (shut fin_acked ended ended_first : Bool)

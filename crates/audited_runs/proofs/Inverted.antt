@@ -1,12 +1,11 @@
 -- A packet with a byte inverted: it is refused, or says the addresses that it said.
-use Rattle.std.proofs.Common.{◌≡◌, ℕ, zero, suc, ◌+◌, ◌-◌, ◌*◌, ◌/◌, ◌%◌, ◌≤◌, ◌<◌, ◌^◌, ◌==◌, ◌&&◌, ◌||◌, not, Bool}
+use Rattle.std.proofs.Common.{◌≡◌, ℕ, ◌+◌, ◌-◌, ◌*◌, ◌/◌, ◌%◌, ◌<◌, ◌^◌, ◌==◌, ◌||◌, not, Bool}
 use Rattle.std.proofs.Common.{true, false}
-use Rattle.std.proofs.Common.{cond, eqb, List, [], ◌∷◌, ◌++◌, length, Option, Some, None, refl, sym, subst, ap, ◌∙◌}
+use Rattle.std.proofs.Common.{cond, eqb, List, ◌++◌, length, Option, Some, None, refl, sym, subst, ap, ◌∙◌}
 use Rattle.std.proofs.Common.{arith}
-use Rattle.std.proofs.Common.{take, sum, slice_set, slice_index, nat_lt}
+use Rattle.std.proofs.Common.{slice_set, slice_index, nat_lt}
 use Rattle.std.proofs.lemmas.Bool.Decides.{nat_tests}
-use Rattle.tas_num.specs.Sums.{words}
-use Rattle.segment_fields.specs.Bytes.{byte, half, word, two, four}
+use Rattle.segment_fields.specs.Bytes.{byte, half, word}
 use Rattle.segment_fields.specs.Canon.{ip_header, canon, tcp_len, option_bytes}
 use Rattle.segment_fields.specs.Fields.{Fields}
 use Rattle.segment_fields.proofs.RoundTrip.{refusal-canon, fields_in-canon}
@@ -15,7 +14,7 @@ use Rattle.link_script.specs.DueFrames.{inverted}
 use Rattle.std.proofs.Common.{eq-eqb, true≢false}
 use Rattle.std.proofs.lemmas.Bool.{eqb-true}
 use Rattle.std.proofs.lemmas.List.{get_or-set_other}
-use Rattle.segment_fields.specs.Text.{refusal, is_wrong, ip_sum, ip_len, total_len, tcp, data_offset, tcp_sum}
+use Rattle.segment_fields.specs.Text.{refusal, is_wrong, ip_sum, ip_len, total_len}
 use Rattle.segment_fields.specs.declared.segment.Refused.{Refused}
 
 past : (b : Bool) (r : Refused) (o : Option Refused) → cond b (Some r) o ≡ None → (b ≡ false) × (o ≡ None)

@@ -1,8 +1,8 @@
 -- A text that is legal is judged so, and not refused.
 use Rattle.std.proofs.Common.{◌≡◌, ℕ, List, refl, sym, subst, ◌∙◌, ap}
-use Rattle.trace_audit.specs.Forms.{Said, IsForm, IsRefused, params_of}
-use Rattle.trace_audit.specs.Right.{AreRight, IsFirstWrong}
-use Rattle.trace_audit.specs.Verdicts.{IsLegal, IsIllegal, IsFound, begins_flow, is_entry}
+use Rattle.trace_audit.specs.Forms.{Said, IsRefused, params_of}
+use Rattle.trace_audit.specs.Right.{IsFirstWrong}
+use Rattle.trace_audit.specs.Verdicts.{IsLegal, IsFound, begins_flow, is_entry}
 use Rattle.trace_audit.specs.declared.auditing.Verdict.{Verdict}
 use Rattle.trace_audit.specs.declared.auditing.Verdict.TheVariants as verdicts
 use Rattle.trace_audit.proofs.OneForm.{one_form, not_refused}

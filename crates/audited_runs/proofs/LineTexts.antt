@@ -1,14 +1,13 @@
 -- Each line of a report has no LF but its last byte.
-use Rattle.std.proofs.Common.{◌≡◌, ℕ, ◌+◌, ◌<◌, ◌≤◌, ◌^◌, Bool, true, false, if◌then◌else◌, List, [], ◌∷◌}
-use Rattle.std.proofs.Common.{◌++◌, Option, Some, None, refl, sym, ap, ◌∙◌, arith}
-use Rattle.std.specs.Prelude.{decimal, codes, IfSome}
+use Rattle.std.proofs.Common.{ℕ, Bool, if◌then◌else◌, List}
+use Rattle.std.proofs.Common.{Option, Some, None, refl, arith}
+use Rattle.std.specs.Prelude.{codes, IfSome}
 use Rattle.tas_model.specs.declared.entry.Caller.{Caller}
 use Rattle.tas_model.specs.declared.entry.Caller.TheVariants.{Slow, Core, App}
 use Rattle.tas_model.specs.declared.entry.Call.{Call}
 use Rattle.tas_model.specs.declared.entry.Call.TheVariants as calls
 use Rattle.tas_model.specs.declared.entry.Reply.{Reply}
 use Rattle.tas_model.specs.declared.entry.Reply.TheVariants as replies
-use Rattle.tas_model.specs.declared.entry.Entry.{Entry}
 use Rattle.tas_model.specs.declared.entry.Head.{Head}
 use Rattle.tas_model.specs.declared.entry.Phase.{Phase}
 use Rattle.tas_model.specs.declared.entry.Phase.TheVariants as phases
@@ -19,7 +18,7 @@ use Rattle.tas_runs.specs.Report.{caller_text, reason_text, call_text, update_te
 use Rattle.tas_runs.specs.Report.{answer_text}
 use Rattle.report_lines.specs.Events.{Event, Listened, NotAccepted, NotConnected, Strayed, Dropped, Refused}
 use Rattle.report_lines.specs.Lines.{Line, Title, Host, Logged, Begins, Made, State, Read, End}
-use Rattle.report_lines.specs.Shown.{AreNames, IsHead, IsCaller, IsCall, IsReply, IsEntry, IsEvent, told_text}
+use Rattle.report_lines.specs.Shown.{AreNames, IsHead, IsCaller, IsCall, IsReply, IsEvent, told_text}
 use Rattle.report_lines.specs.Shown.{state_text, line_text, IsLine}
 use Rattle.audited_runs.proofs.OneLine.{IsOneLine, word, ◌◂◌, number}
 use Rattle.audited_runs.proofs.Words.{hex_line, head_line, seg_line, name_line, frame_line, addr_line, port_line}

@@ -1,22 +1,17 @@
 -- What comes to a host of a run: each frame from the host that its name tells, with that host's address.
-use Rattle.std.proofs.Common.{◌≡◌, ℕ, zero, suc, ◌+◌, ◌≤◌, ◌<◌, ◌^◌, ◌==◌, ◌&&◌, not, Bool, true, false, cond, ltb}
+use Rattle.std.proofs.Common.{◌≡◌, ℕ, suc, ◌+◌, ◌≤◌, ◌<◌, ◌^◌, ◌==◌, not, Bool, true, false, cond, ltb}
 use Rattle.std.proofs.Common.{List, []}
-use Rattle.std.proofs.Common.{◌∷◌, ◌++◌, length, map, filter, Option, Some, None, refl, sym, subst, ap, ◌∙◌, arith}
-use Rattle.std.proofs.Common.{nat_le}
-use Rattle.std.proofs.Common.{eqb, true≢false}
+use Rattle.std.proofs.Common.{◌∷◌, ◌++◌, length, map, filter, Option, Some, None, refl, sym, subst, ◌∙◌, arith}
 use Rattle.std.proofs.lemmas.Bool.Decides.{nat_tests}
 use Rattle.std.proofs.lemmas.Bool.{eqb-true}
 use Rattle.std.specs.Prelude.{slice_get, position, unwrap_or}
 use Rattle.std.specs.List.{flat_map, position_or_len}
-use Rattle.segment_fields.specs.Fields.{Fields}
 use Rattle.segment_fields.specs.Canon.{canon}
 use Rattle.segment_fields.specs.Bytes.{word}
 use Rattle.segment_fields.specs.Text.{refusal, fields_in}
 use Rattle.segment_fields.specs.Refusals.{number_of}
 use Rattle.segment_fields.specs.declared.segment.Refused.{Refused}
-use Rattle.segment_fields.proofs.RoundTrip.{refusal-canon, fields_in-canon}
 use Rattle.tas_model.specs.declared.entry.FourTuple.{FourTuple}
-use Rattle.tas_model.specs.declared.entry.FrameId.{FrameId}
 use Rattle.tas_model.specs.declared.entry.HostParams.{HostParams}
 use Rattle.tas_model.specs.declared.entry.Seg.{Seg}
 use Rattle.tas_model.specs.declared.entry.Entry.{Entry}
@@ -30,7 +25,7 @@ use Rattle.host_rounds.specs.Lists.{Each}
 use Rattle.host_rounds.specs.Hosts.{Live}
 use Rattle.host_rounds.specs.Scripts.{Site}
 use Rattle.host_rounds.proofs.Lists.{each_append}
-use Rattle.tas_runs.specs.Records.{Content, Damaged, Remote, due_content, receiver_tuple, segment_of}
+use Rattle.tas_runs.specs.Records.{Damaged, Remote, due_content, receiver_tuple, segment_of}
 use Rattle.tas_runs.specs.SentFrames.{sent_fields}
 use Rattle.link_script.specs.declared.frames.Sent.{Sent}
 use Rattle.link_script.specs.declared.script.LinkAct.{LinkAct}

@@ -1,5 +1,5 @@
 -- The lines of a log's report stand in a report's order.
-use Rattle.std.proofs.Common.{◌≡◌, ℕ, ◌+◌, List, [], ◌∷◌, ◌++◌, map, refl, sym, ap, subst, ◌∙◌}
+use Rattle.std.proofs.Common.{◌≡◌, ℕ, ◌+◌, List, [], ◌∷◌, ◌++◌, map, refl, ap, subst, ◌∙◌}
 use Rattle.tas_model.specs.declared.entry.Entry.{Entry}
 use Rattle.tas_model.specs.declared.entry.FlowId.{FlowId}
 use Rattle.tas_model.specs.declared.entry.FourTuple.{FourTuple}
@@ -11,7 +11,6 @@ use Rattle.std.proofs.Common.{length}
 use Rattle.host_rounds.specs.declared.log.LogLine.{LogLine}
 use Rattle.host_rounds.specs.Lists.{Each}
 use Rattle.host_rounds.specs.Logs.{Flow, HostRun, RunLog}
-use Rattle.report_lines.specs.Events.{Event}
 use Rattle.report_lines.specs.Lines.{Line, Title, Host, Begins, End}
 use Rattle.report_form.specs.Reports as form
 use Rattle.report_form.specs.Reports.{FlowPart, HostPart, Report, IsReport}

@@ -1,7 +1,7 @@
 -- What is known of each flow and each line of a run's log.
-use Rattle.std.proofs.Common.{◌≡◌, ℕ, zero, suc, ◌+◌, ◌≤◌, ◌<◌, ◌^◌, ◌-◌, Bool, true, false, List, [], ◌∷◌, ◌++◌}
+use Rattle.std.proofs.Common.{◌≡◌, ℕ, zero, suc, ◌+◌, ◌≤◌, ◌<◌, ◌^◌, ◌-◌, true, List, [], ◌∷◌, ◌++◌}
 use Rattle.std.proofs.Common.{length, map}
-use Rattle.std.proofs.Common.{Option, Some, None, refl, sym, subst, ap, ◌∙◌, arith, length-append, ◌==◌}
+use Rattle.std.proofs.Common.{Some, refl, subst, ap, arith, length-append}
 use Rattle.std.specs.Prelude.{slice_get}
 use Rattle.std.proofs.lemmas.Bool.{eq-eqb}
 use Rattle.tas_model.specs.declared.entry.Call.{Call}
@@ -11,11 +11,10 @@ use Rattle.tas_model.specs.declared.entry.FourTuple.{FourTuple}
 use Rattle.tas_model.specs.declared.entry.HostParams.{HostParams}
 use Rattle.tas_model.specs.LegalHistory.{Legal}
 use Rattle.host_rounds.specs.Lists.{Each}
-use Rattle.host_rounds.specs.Logs.{Flow, HostRun, RunLog}
+use Rattle.host_rounds.specs.Logs.{Flow, HostRun}
 use Rattle.host_rounds.specs.Histories.{IsSound}
-use Rattle.host_rounds.specs.Hosts.{Live, Starts, flows_of, run_of}
-use Rattle.host_rounds.specs.Openings.{Opening, AreOpened, opening_of, openings_of}
-use Rattle.host_rounds.specs.declared.log.LogLine.{LogLine}
+use Rattle.host_rounds.specs.Hosts.{Live, Starts, flows_of}
+use Rattle.host_rounds.specs.Openings.{Opening, AreOpened, openings_of}
 use Rattle.tas_runs.specs.Report as report
 use Rattle.scenario_text.specs.declared.scenario.HostLine.{HostLine}
 use Rattle.scenario_runs.specs.Histories.{AreSound}
@@ -23,8 +22,8 @@ use Rattle.scenario_runs.specs.Worlds.{World}
 use Rattle.scenario_runs.specs.Runs.{hosts_of}
 use Rattle.scenario_laws.specs.Ends.{OfEachLine, HasOpened}
 use Rattle.trace_audit.specs.Right.{has_addr, IsFromPeer}
-use Rattle.audited_runs.specs.Told.{BeginsFromPeer, IsTold, IsHostTold, AreTold}
-use Rattle.audited_runs.proofs.Telling.{IsOf, CallTold, LiveTold, LineTold, HostTold}
+use Rattle.audited_runs.specs.Told.{BeginsFromPeer, IsTold, AreTold}
+use Rattle.audited_runs.proofs.Telling.{CallTold, LiveTold, LineTold}
 use Rattle.audited_runs.proofs.Link.{AllTold}
 use Rattle.audited_runs.proofs.Running.{addrs_in, params_in}
 

@@ -1,6 +1,5 @@
 -- Up to each line of a log's report the flow that it shows is right.
-use Rattle.std.proofs.Common.{◌≡◌, ℕ, zero, suc, ◌+◌, List, [], ◌∷◌, ◌++◌, length, take, fold, refl, sym, ap, subst}
-use Rattle.std.proofs.Common.{◌∙◌}
+use Rattle.std.proofs.Common.{◌≡◌, ℕ, zero, suc, ◌+◌, List, [], ◌∷◌, ◌++◌, length, take, fold, refl, sym, subst}
 use Rattle.std.proofs.Common.{append_assoc, Option, Some, None}
 use Rattle.std.specs.Prelude.{slice_get, IfSome}
 use Rattle.std.proofs.lemmas.List.{append-nil, length-append}
@@ -9,15 +8,13 @@ use Rattle.tas_model.specs.declared.entry.Entry.{Entry}
 use Rattle.tas_model.specs.declared.entry.FlowId.{FlowId}
 use Rattle.tas_model.specs.declared.entry.FourTuple.{FourTuple}
 use Rattle.tas_model.specs.declared.entry.HostParams.{HostParams}
-use Rattle.tas_model.specs.declared.entry.Phase.{Phase}
-use Rattle.tas_model.specs.declared.entry.Reason.{Reason}
 use Rattle.tas_model.specs.Endpoint.{phase}
 use Rattle.tas_model.specs.LegalHistory.{Along as Following, MayFollow, Legal, replay}
 use Rattle.tas_model.specs.Outputs.{bytes_read}
 use Rattle.host_rounds.specs.declared.log.LogLine.{LogLine}
 use Rattle.host_rounds.specs.Lists.{Each}
 use Rattle.host_rounds.specs.Logs.{Flow, HostRun, RunLog}
-use Rattle.report_lines.specs.Lines.{Line, Title, Host, Begins, Made, State, Read, End}
+use Rattle.report_lines.specs.Lines.{Line, End}
 use Rattle.trace_audit.specs.Shown.{ShownFlow, Now, begun, with_line, nothing_shown}
 use Rattle.trace_audit.specs.Right.{AreLegal, IsRight, IsRightNow, AreRight}
 use Rattle.audited_runs.specs.LogLines.{log_lines, entry_lines, end_lines, flow_lines, flows_lines}

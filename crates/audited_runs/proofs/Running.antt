@@ -1,6 +1,6 @@
 -- What is known of each host when a run has ended.
 use Rattle.std.proofs.Common.{◌≡◌, ℕ, zero, suc, ◌+◌, ◌<◌, ◌^◌, Bool, true, false, List, [], ◌∷◌, ◌++◌, length, map}
-use Rattle.std.proofs.Common.{Option, Some, None, refl, sym, subst, ap, ◌∙◌, append_assoc, arith}
+use Rattle.std.proofs.Common.{Some, refl, sym, subst, ap, append_assoc, arith}
 use Rattle.std.proofs.lemmas.List.{length-append}
 use Rattle.std.specs.Prelude.{slice_get, bytes_eq}
 use Rattle.tas_model.specs.declared.entry.HostParams.{HostParams}
@@ -9,10 +9,10 @@ use Rattle.host_rounds.specs.Scripts.{Site}
 use Rattle.scenario_text.specs.declared.scenario.Scenario.{Scenario}
 use Rattle.scenario_text.specs.declared.scenario.HostLine.{HostLine}
 use Rattle.scenario_runs.specs.Applications.{Script}
-use Rattle.scenario_runs.specs.Worlds.{World, site_of, at_start, address_in, due_at, sent_in, is_at_rest}
-use Rattle.scenario_runs.specs.Runs.{AreRounds, IsTick, End, RunsFrom}
-use Rattle.audited_runs.proofs.Telling.{Comes, HostTold, AreLow, round_told}
-use Rattle.audited_runs.proofs.Link.{AllTold, HasAddr, AreFrom, due_come}
+use Rattle.scenario_runs.specs.Worlds.{World, site_of, at_start, address_in, due_at, is_at_rest}
+use Rattle.scenario_runs.specs.Runs.{AreRounds, End, RunsFrom}
+use Rattle.audited_runs.proofs.Telling.{Comes, AreLow, round_told}
+use Rattle.audited_runs.proofs.Link.{AllTold, AreFrom, due_come}
 
 abbrev At : Type 0
 At = Site (List Script)

@@ -1,6 +1,6 @@
 -- The text of a report is that of its lines, one behind the other.
-use Rattle.std.proofs.Common.{◌≡◌, ℕ, ◌+◌, Bool, true, false, List, [], ◌∷◌, ◌++◌, length, if◌then◌else◌}
-use Rattle.std.proofs.Common.{Option, Some, None, refl, sym, ap, subst, ◌∙◌, append_assoc, arith}
+use Rattle.std.proofs.Common.{◌≡◌, ℕ, ◌+◌, Bool, false, List, [], ◌∷◌, ◌++◌, length, if◌then◌else◌}
+use Rattle.std.proofs.Common.{Option, Some, None, refl, sym, ap, subst, ◌∙◌, append_assoc}
 use Rattle.std.proofs.lemmas.List.{append-nil, length-append}
 use Rattle.std.proofs.lemmas.Option.{same_Some}
 use Rattle.std.specs.Prelude.{decimal, codes, slice_get}
@@ -19,13 +19,13 @@ use Rattle.host_rounds.specs.Logs.{Flow, HostRun, RunLog}
 use Rattle.tas_runs.specs.Report as report
 use Rattle.tas_runs.specs.Report.{line, names_of, name_at, addr_text, phase_text, reason_text, entry_text}
 use Rattle.tas_runs.specs.Report.{entries_text, event_text, log_text, flows_text, host_text, hosts_text, read_text}
-use Rattle.report_lines.specs.Lines.{Line, Title, Host, Logged, Begins, Made, State, Read, End}
+use Rattle.report_lines.specs.Lines.{Line, Host, Logged, Begins, End}
 use Rattle.report_lines.specs.Shown.{AreNames, IsLine, line_text, state_text, told_text}
 use Rattle.trace_audit.specs.TextLines.{text_lines}
-use Rattle.trace_audit.specs.Forms.{IsSaid, AreSaid}
+use Rattle.trace_audit.specs.Forms.{AreSaid}
 use Rattle.audited_runs.specs.LogLines.{told_event, log_lines, entry_lines, end_lines, flow_lines, flows_lines}
 use Rattle.audited_runs.specs.LogLines.{host_lines, hosts_lines, lines_of}
-use Rattle.audited_runs.proofs.OneLine.{IsOneLine, cut_line}
+use Rattle.audited_runs.proofs.OneLine.{cut_line}
 use Rattle.audited_runs.proofs.LineTexts.{text_line}
 
 -- ----- the text of lines

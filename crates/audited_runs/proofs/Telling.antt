@@ -1,7 +1,7 @@
 -- What is known of each host in a run: its flows have its address and its parameters, and each frame that its flows and
 -- its log name is one of a host of the run; one that opened a flow is of the host at the flow's other end.
-use Rattle.std.proofs.Common.{◌≡◌, ℕ, ◌+◌, ◌≤◌, ◌<◌, ◌^◌, ◌&&◌, ◌==◌, not, Bool, true, false, cond, List, [], ◌∷◌, ◌++◌}
-use Rattle.std.proofs.Common.{map, fold, filter, length, take, drop, Option, Some, None, refl, sym, subst, ap, ◌∙◌}
+use Rattle.std.proofs.Common.{◌≡◌, ℕ, ◌+◌, ◌≤◌, ◌<◌, ◌^◌, ◌&&◌, ◌==◌, Bool, true, false, cond, List, [], ◌∷◌, ◌++◌}
+use Rattle.std.proofs.Common.{map, fold, filter, Option, Some, None, refl, sym, subst, ap}
 use Rattle.std.proofs.Common.{eq-eqb}
 use Rattle.std.specs.Prelude.{slice_get, position, nat_lt}
 use Rattle.std.specs.List.{find}
@@ -11,22 +11,21 @@ use Rattle.tas_model.specs.declared.entry.HostParams.{HostParams}
 use Rattle.tas_model.specs.declared.entry.Seg.{Seg}
 use Rattle.tas_model.specs.declared.entry.Entry.{Entry}
 use Rattle.tas_model.specs.declared.entry.Caller.{Caller}
-use Rattle.tas_model.specs.declared.entry.Caller.TheVariants.{Slow, Core, App}
+use Rattle.tas_model.specs.declared.entry.Caller.TheVariants.{Slow, App}
 use Rattle.tas_model.specs.declared.entry.Call.{Call}
 use Rattle.tas_model.specs.declared.entry.Call.TheVariants as calls
 use Rattle.tas_model.specs.NextSegment.{Going, going}
 use Rattle.tas_model.proofs.Tests.{on_cond}
-use Rattle.host_rounds.specs.declared.opening.Start.{Start}
 use Rattle.host_rounds.specs.declared.log.LogLine.{LogLine}
 use Rattle.host_rounds.specs.declared.log.LogEvent.{LogEvent}
 use Rattle.host_rounds.specs.declared.log.LogEvent.TheVariants as events
 use Rattle.host_rounds.specs.Lists.{Each}
-use Rattle.host_rounds.specs.Hosts.{Live, Host, Holder, Starts, Application, GivenUp, next_start, endpoint, is_over}
+use Rattle.host_rounds.specs.Hosts.{Live, Host, Holder, Application, GivenUp, endpoint, is_over}
 use Rattle.host_rounds.specs.Hosts.{with_call, logged, is_known, is_indexed_as, is_listening, is_full, lowest_free}
-use Rattle.host_rounds.specs.Hosts.{at_flow, is_listened, is_ready, first_port, ports_given, first_entry, opened_in}
+use Rattle.host_rounds.specs.Hosts.{at_flow, is_listened, is_ready, first_port, ports_given, opened_in}
 use Rattle.host_rounds.specs.Upkeep.{swept, all_swept, controlled, timed, timed_unless, emits, emits_where}
 use Rattle.host_rounds.specs.Deliveries.{Packet, Damaged, Segment, Arrival, same_frame, received, opens}
-use Rattle.host_rounds.specs.Deliveries.{stray_answer, opened_by_syn, met_no_flow, arrived, delivered_packet}
+use Rattle.host_rounds.specs.Deliveries.{opened_by_syn, met_no_flow, arrived, delivered_packet}
 use Rattle.host_rounds.specs.Scripts.{Site, Scripts}
 use Rattle.host_rounds.specs.Rounds.{Action, Timer, Frame, Ask, Emission, Deed, done_by, does, on_host, Due}
 use Rattle.host_rounds.specs.Rounds.{timers_from, due_actions, OfFrame, is_by, actions_of, Round}
@@ -36,11 +35,11 @@ use Rattle.host_rounds.proofs.Flows.{on_control}
 use Rattle.scenario_text.specs.declared.scenario.Scenario.{Scenario}
 use Rattle.scenario_text.specs.declared.scenario.Step.{Step}
 use Rattle.scenario_text.specs.declared.scenario.Step.TheVariants as steps
-use Rattle.scenario_runs.specs.Applications.{Bound, Script, Turn, stepped, called, holds, listens_where, accepts_one}
+use Rattle.scenario_runs.specs.Applications.{Script, Turn, called, holds, listens_where, accepts_one}
 use Rattle.scenario_runs.specs.Applications.{accepts, opens_where, connects, connects_on, waits_for, sends, receives}
 use Rattle.scenario_runs.specs.Applications.{filling, on_flow, on_socket, once, ends, step_of, bound_in, flow_of}
-use Rattle.scenario_runs.specs.Applications.{port_of, is_concerned, aborted_where, killed, is_killed_at, goes_on}
-use Rattle.scenario_runs.specs.Applications.{turn_where, turn}
+use Rattle.scenario_runs.specs.Applications.{port_of, is_concerned, aborted_where, is_killed_at, goes_on}
+use Rattle.scenario_runs.specs.Applications.{turn_where}
 use Rattle.scenario_runs.specs.Worlds.{starts_of, address_in, scripts_of, asked_of}
 
 same_self : (f : FrameId) → same_frame f f ≡ true

@@ -1,11 +1,8 @@
 -- A scenario's canonical text, the mark and a run's report are judged legal.
-use Rattle.std.proofs.Common.{◌≡◌, ℕ, ◌+◌, ◌≤◌, ◌<◌, ◌^◌, Bool, true, false, List, [], ◌∷◌, ◌++◌, length, map, refl}
+use Rattle.std.proofs.Common.{◌≡◌, ℕ, ◌+◌, ◌≤◌, ◌<◌, ◌^◌, false, List, [], ◌∷◌, ◌++◌, length, refl}
 use Rattle.std.proofs.Common.{sym}
 use Rattle.std.proofs.Common.{subst, ap, ◌∙◌, Ok, arith, suc}
-use Rattle.std.specs.List.{concat}
 use Rattle.std.proofs.lemmas.List.{length-map}
-use Rattle.tas_model.specs.declared.entry.HostParams.{HostParams}
-use Rattle.tas_model.specs.Valid.{InRange}
 use Rattle.host_rounds.specs.Lists.{Each}
 use Rattle.host_rounds.specs.Logs.{HostRun, RunLog}
 use Rattle.tas_runs.specs.Report as report
@@ -17,13 +14,13 @@ use Rattle.scenario_canonical.proofs.Back.{canonical_read}
 use Rattle.scenario_ranges.specs.Ranges.{IsHostInRange}
 use Rattle.scenario_ranges.proofs.Drafts.{read_in_range}
 use Rattle.scenario_runs.specs.Histories.{AreInRange}
-use Rattle.scenario_runs.specs.Runs.{End, RunsFrom, Run, scenario_log, hosts_of}
+use Rattle.scenario_runs.specs.Runs.{Run}
 use Rattle.scenario_runs.proofs.AllRuns.{runs_sound}
 use Rattle.scenario_laws.specs.Ends.{OfEachLine, IsNamed}
 use Rattle.scenario_laws.proofs.AllTicks.{hosts_named, hosts_opened}
 use Rattle.report_lines.specs.Shown.{AreNames, IsLine}
 use Rattle.trace_audit.specs.TextLines.{text_lines, mark, AreHalves}
-use Rattle.trace_audit.specs.Forms.{names_of, params_of, addrs_of, AreSaid}
+use Rattle.trace_audit.specs.Forms.{names_of, params_of, AreSaid}
 use Rattle.trace_audit.specs.Verdicts.{IsLegal}
 use Rattle.trace_audit.proofs.HostNames.{names_are}
 use Rattle.audited_runs.specs.LogLines.{lines_of, flows_in, entries_in}
@@ -36,7 +33,7 @@ use Rattle.audited_runs.proofs.Counts.{flows_counted, entries_counted}
 use Rattle.audited_runs.proofs.Cutting.{lines_whole, marked_lines}
 use Rattle.audited_runs.proofs.Marks.{scenario_lacks}
 use Rattle.audited_runs.proofs.Running.{AreAddrs, addrs_in, params_in, end_told}
-use Rattle.audited_runs.proofs.Placing.{LogTold, log_told, same_names, all_told, AreFew, few_flows}
+use Rattle.audited_runs.proofs.Placing.{LogTold, log_told, same_names, all_told, few_flows}
 use Rattle.audited_runs.proofs.Fitting.{log_fits}
 
 -- ----- a log by what is known of it

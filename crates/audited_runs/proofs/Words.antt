@@ -1,7 +1,7 @@
 -- The words of a report's lines have no LF.
-use Rattle.std.proofs.Common.{◌≡◌, ℕ, ◌+◌, ◌<◌, ◌≤◌, ◌/◌, ◌%◌, ◌^◌, ◌||◌, Bool, true, false, not, cond, eqb, List, []}
+use Rattle.std.proofs.Common.{◌≡◌, ℕ, ◌<◌, ◌/◌, ◌%◌, ◌^◌, ◌||◌, true, false, eqb, List, []}
 use Rattle.std.proofs.Common.{◌∷◌}
-use Rattle.std.proofs.Common.{◌++◌, Option, Some, None, refl, sym, ap, ◌∙◌, arith, inl, inr, ◌⊎◌, ◌-◌}
+use Rattle.std.proofs.Common.{◌++◌, Option, Some, None, refl, ap, arith, inl, inr, ◌-◌}
 use Rattle.std.proofs.lemmas.Bool.{and_parts}
 use Rattle.std.proofs.lemmas.Bool.Decides.{nat_tests}
 use Rattle.std.specs.Prelude.{decimal, codes, slice_get, IfSome}
@@ -17,7 +17,7 @@ use Rattle.tas_runs.specs.Report.{hex_bytes, hex, data_text, letter, letters, fl
 use Rattle.tas_runs.specs.Report.{head_text, seg_text, name_at, flow_text, copy_text, frame_text, addr_text, port_text}
 use Rattle.tas_runs.specs.Report.{tuple_text}
 use Rattle.scenario_text.specs.Words.{is_letter, is_digit}
-use Rattle.report_lines.specs.Shown.{AreBytes, IsHead, IsSeg, AreNames, IsSent, IsRecord, IsFrame}
+use Rattle.report_lines.specs.Shown.{AreBytes, IsHead, IsSeg, AreNames, IsFrame}
 use Rattle.audited_runs.proofs.OneLine.{is_inner, lacks, IsOneLine, word, ◌◂◌, number}
 
 -- ----- bytes and segments
@@ -103,8 +103,10 @@ frame_number names f (inr is) = is.number
 
 frame_flow : (names : List (List ℕ)) (f : FrameId) → IsFrame names f → f.flow < 2 ^ 32
 frame_flow names f (inl sent) = sent.flow
-frame_flow names f (inr is) = (let same : f.flow ≡ 2 ^ 32 - 1 = ap (λ (g : FrameId). g.flow) is.is in omega (arith,
-    same))
+frame_flow names f (inr is) = (let same : f.flow ≡ 2 ^ 32 - 1 = ap (λ (g : FrameId). g.flow) is.is in omega (
+  arith,
+  same,
+))
 
 pub frame_line : (names : List (List ℕ)) (f : FrameId) → AreNames names → IsFrame names f
     → IsOneLine (frame_text names f)

@@ -1,5 +1,5 @@
 -- The numbers of a log, each in the range of the field that holds it.
-use Rattle.std.specs.Prelude.{ℕ, ◌<◌, ◌^◌, List, length, IfSome, ⊤}
+use Rattle.std.specs.Prelude.{◌<◌, ◌^◌, length, IfSome, ⊤}
 use Rattle.tas_model.specs.declared.entry.Call.{Call}
 use Rattle.tas_model.specs.declared.entry.Call.TheVariants as calls
 use Rattle.tas_model.specs.declared.entry.Entry.{Entry}

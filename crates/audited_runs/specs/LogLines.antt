@@ -2,7 +2,7 @@
 use Rattle.std.specs.Prelude.{ℕ, ◌+◌, List, [], ◌∷◌, ◌++◌, length, map}
 use Rattle.tas_model.specs.declared.entry.Entry.{Entry}
 use Rattle.tas_model.specs.declared.entry.HostParams.{HostParams}
-use Rattle.tas_model.specs.Endpoint.{Endpoint, phase}
+use Rattle.tas_model.specs.Endpoint.{phase}
 use Rattle.tas_model.specs.LegalHistory.{replay}
 use Rattle.tas_model.specs.Outputs.{bytes_read}
 use Rattle.host_rounds.specs.declared.log.LogLine.{LogLine}
