@@ -16,3 +16,4 @@ pub mod Fitting
 pub mod Whole
 pub mod Judged
 pub mod WorkedAudits
+pub mod WorkedCores

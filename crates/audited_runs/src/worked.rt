@@ -1,11 +1,27 @@
 //! The verdicts on worked runs.
 
-ghost use Rattle.std.specs.Prelude.{◌≡◌, ℕ};
+ghost use Rattle.std.specs.Prelude.{◌≡◌, ℕ, [], codes, Some, None};
+ghost use Rattle.tas_model.specs.declared.entry.Call.TheVariants as calls;
+ghost use Rattle.tas_model.specs.declared.entry.Caller.TheVariants.{Core};
+ghost use Rattle.tas_model.specs.declared.entry.Reply.TheVariants as replies;
 ghost use Rattle.scenario_runs.specs.WorkedRuns.{hello, killed_early};
+ghost use Rattle.report_lines.specs.Lines.{Made, line_in};
+ghost use Rattle.report_lines.specs.Shown.{line_text};
 ghost use Rattle.audited_runs.specs.WorkedAudits.{audited_counts};
 
 /// The verdicts on the serial runs of these texts have these numbers of flows and of entries, by computation.
 pub fn worked_audits()
     ensures hello { ◌≡◌ {A = ℕ × ℕ} (audited_counts hello) (2, 58) }
     ensures killed_early { ◌≡◌ {A = ℕ × ℕ} (audited_counts killed_early) (2, 20) }
+{}
+
+/// Why the premise is there: a line shows a core in 32 bits, while the definitions of runs have cores of any number.
+pub fn worked_cores()
+    ensures last { line_in [] (codes "0 c4294967295.0 tick = quiet") ≡ Some (Made (record {
+        caller = Core 4294967295; number = 0; tick = 0; call = calls.Tick; reply = replies.Quiet })) }
+    ensures next { line_in [] (codes "0 c4294967296.0 tick = quiet") ≡ None }
+    // It is the text of an entry by that core all the same.
+    ensures text { line_text [] (Made (record {
+        caller = Core 4294967296; number = 0; tick = 0; call = calls.Tick; reply = replies.Quiet }))
+        ≡ codes "0 c4294967296.0 tick = quiet" }
 {}
