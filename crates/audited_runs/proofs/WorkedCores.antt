@@ -2,26 +2,18 @@
 use Rattle.std.proofs.Common.{◌≡◌, [], Some, None, refl}
 use Rattle.std.specs.Fmt.{digits}
 use Rattle.std.specs.Prelude.{codes}
-use Rattle.tas_model.specs.declared.entry.Call.TheVariants as calls
-use Rattle.tas_model.specs.declared.entry.Caller.TheVariants.{Core}
-use Rattle.tas_model.specs.declared.entry.Reply.TheVariants as replies
 use Rattle.report_lines.specs.Fronts.{with, or, behind, number, some_hex, hex_bytes}
 use Rattle.report_lines.specs.Segments.{letter_at, letters_at, flags, head, payload, seg}
-use Rattle.report_lines.specs.Origins.{caller, reason, host, flow, copy, sent_frame, record_frame, frame, addr, socket}
+use Rattle.report_lines.specs.Origins.{caller}
 use Rattle.report_lines.specs.Entries.{connect, passive, rx, send, recv, call, sent_reply, took, got, closed, window}
 use Rattle.report_lines.specs.Entries.{reply, entry}
-use Rattle.report_lines.specs.Events.{listened, not_accepted, not_connected, answer, strayed, dropped, refused, event}
-use Rattle.report_lines.specs.Lines.{Made, named, host_line, begins, closed_state, open_phase, state, read, ticked}
+use Rattle.report_lines.specs.Events.{listened, not_accepted, not_connected, strayed, dropped, refused, event}
+use Rattle.report_lines.specs.Lines.{Made, host_line, begins, state, read, ticked}
 use Rattle.report_lines.specs.Lines.{tick_line, end, line, line_in}
 use Rattle.report_lines.specs.Shown.{line_text}
+use Rattle.audited_runs.specs.WorkedAudits.{ticked_by}
 
-pub last_core : line_in [] (codes "0 c4294967295.0 tick = quiet") ≡ Some (Made (record {
-  caller = Core 4294967295;
-  number = 0;
-  tick = 0;
-  call = calls.Tick;
-  reply = replies.Quiet;
-}))
+pub last_core : line_in [] (codes "0 c4294967295.0 tick = quiet") ≡ Some (Made (ticked_by 4294967295))
 unfolding with or behind number caller entry call reply rx recv send connect passive sent_reply took got closed window
     ticked tick_line line line_in letter_at letters_at flags head payload seg hex_bytes some_hex
 last_core = refl
@@ -31,12 +23,6 @@ unfolding with or behind number caller entry ticked tick_line line line_in event
     strayed dropped refused begins state read host_line end
 next_core = refl
 
-pub core_text : line_text [] (Made (record {
-  caller = Core 4294967296;
-  number = 0;
-  tick = 0;
-  call = calls.Tick;
-  reply = replies.Quiet;
-})) ≡ codes "0 c4294967296.0 tick = quiet"
+pub core_text : line_text [] (Made (ticked_by 4294967296)) ≡ codes "0 c4294967296.0 tick = quiet"
 unfolding digits
 core_text = refl

@@ -1,5 +1,9 @@
--- How many flows and entries the reports of worked runs have.
+-- How many flows and entries the reports of worked runs have, and entries of worked lines.
 use Rattle.std.specs.Prelude.{ℕ, List, Result, Ok, Err}
+use Rattle.tas_model.specs.declared.entry.Call.TheVariants as calls
+use Rattle.tas_model.specs.declared.entry.Caller.TheVariants.{Core}
+use Rattle.tas_model.specs.declared.entry.Entry.{Entry}
+use Rattle.tas_model.specs.declared.entry.Reply.TheVariants as replies
 use Rattle.scenario_text.specs.Reads.{reads}
 use Rattle.scenario_text.specs.declared.reading.ScenarioFault.{ScenarioFault}
 use Rattle.scenario_text.specs.declared.scenario.Scenario.{Scenario}
@@ -13,3 +17,7 @@ counts_of (Ok s) = (flows_in (serial_run s).hosts, entries_in (serial_run s).hos
 -- those of the run of this text in serial order
 abbrev pub audited_counts : (text : List ℕ) → ℕ × ℕ
 audited_counts text = counts_of (reads text)
+
+-- a core finds nothing due in tick 0
+abbrev pub ticked_by : (core : ℕ) → Entry
+ticked_by k = record { caller = Core k; number = 0; tick = 0; call = calls.Tick; reply = replies.Quiet }

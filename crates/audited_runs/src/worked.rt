@@ -1,13 +1,10 @@
 //! The verdicts on worked runs.
 
 ghost use Rattle.std.specs.Prelude.{◌≡◌, ℕ, [], codes, Some, None};
-ghost use Rattle.tas_model.specs.declared.entry.Call.TheVariants as calls;
-ghost use Rattle.tas_model.specs.declared.entry.Caller.TheVariants.{Core};
-ghost use Rattle.tas_model.specs.declared.entry.Reply.TheVariants as replies;
 ghost use Rattle.scenario_runs.specs.WorkedRuns.{hello, killed_early};
 ghost use Rattle.report_lines.specs.Lines.{Made, line_in};
 ghost use Rattle.report_lines.specs.Shown.{line_text};
-ghost use Rattle.audited_runs.specs.WorkedAudits.{audited_counts};
+ghost use Rattle.audited_runs.specs.WorkedAudits.{audited_counts, ticked_by};
 
 /// The verdicts on the serial runs of these texts have these numbers of flows and of entries, by computation.
 pub fn worked_audits()
@@ -17,11 +14,8 @@ pub fn worked_audits()
 
 /// Why the premise is there: a line shows a core in 32 bits, while the definitions of runs have cores of any number.
 pub fn worked_cores()
-    ensures last { line_in [] (codes "0 c4294967295.0 tick = quiet") ≡ Some (Made (record {
-        caller = Core 4294967295; number = 0; tick = 0; call = calls.Tick; reply = replies.Quiet })) }
+    ensures last { line_in [] (codes "0 c4294967295.0 tick = quiet") ≡ Some (Made (ticked_by 4294967295)) }
     ensures next { line_in [] (codes "0 c4294967296.0 tick = quiet") ≡ None }
     // It is the text of an entry by that core all the same.
-    ensures text { line_text [] (Made (record {
-        caller = Core 4294967296; number = 0; tick = 0; call = calls.Tick; reply = replies.Quiet }))
-        ≡ codes "0 c4294967296.0 tick = quiet" }
+    ensures text { line_text [] (Made (ticked_by 4294967296)) ≡ codes "0 c4294967296.0 tick = quiet" }
 {}
