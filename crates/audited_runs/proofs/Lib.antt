@@ -17,3 +17,4 @@ pub mod Whole
 pub mod Judged
 pub mod WorkedAudits
 pub mod WorkedCores
+pub mod WorkedFits
