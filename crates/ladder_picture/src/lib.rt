@@ -1,0 +1,16 @@
+//! The ladder of a connection: rows of two ends side by side, the arrows between them, and its picture in SVG.
+#![tactic(auto)]
+
+mod arrows;
+mod drawing;
+mod joins;
+mod labels;
+mod row;
+mod rungs;
+mod text;
+
+pub use arrows::Look;
+pub use drawing::{EndName, put_drawing};
+pub use labels::has;
+pub use row::{Asked, Fate, Frame, Framed, Note, Row, Timer, Told};
+pub use rungs::{rungs_of, with_log};
