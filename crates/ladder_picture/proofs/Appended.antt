@@ -1,14 +1,85 @@
 -- Texts that are appended one after another.
-use Rattle.std.proofs.Common.{◌≡◌, ℕ, List, ◌++◌, ap, sym, ◌∙◌, append_assoc}
+use Rattle.std.proofs.Common.{◌≡◌, ℕ, ◌+◌, ◌<◌, List, [], ◌∷◌, ◌++◌, length, get_or, take, map, flat_map, ap, sym, ◌∙◌}
+use Rattle.std.proofs.Common.{append_assoc, append-nil}
+use Rattle.std.proofs.lemmas.List.{take_more, map-append}
+use Rattle.std.proofs.lemmas.List.Concat.{flat_map-append}
 
-pub then : {before first second a b : List ℕ} → first ≡ before ++ a → second ≡ first ++ b → second ≡ before ++ (a ++ b)
-then {before} {first} {second} {a} {b} e1 e2 = e2 ∙ (ap (λ (t : List ℕ). t ++ b) e1 ∙ append_assoc before a b)
+pub joined2 : (o0 o1 o2 a1 a2 : List ℕ) → o1 ≡ o0 ++ a1 → o2 ≡ o1 ++ a2 → o2 ≡ o0 ++ (a1 ++ a2)
+joined2 o0 o1 o2 a1 a2 e1 e2 = e2 ∙ (ap (λ (t : List ℕ). t ++ a2) e1 ∙ append_assoc o0 a1 a2)
 
--- the second one in two parts
-pub then_two : {before first second a b c : List ℕ} → first ≡ before ++ a → second ≡ first ++ (b ++ c)
-    → second ≡ before ++ (a ++ b ++ c)
-then_two {before} {first} {second} {a} {b} {c} e1 e2 =
-    then e1 e2 ∙ ap (λ (t : List ℕ). before ++ t) (append_back a b c)
-  where
-    append_back : (a b c : List ℕ) → a ++ (b ++ c) ≡ a ++ b ++ c
-    append_back a b c = sym (append_assoc a b c)
+pub joined3 : (o0 o1 o2 o3 a1 a2 a3 : List ℕ)
+    → o1 ≡ o0 ++ a1 → o2 ≡ o1 ++ a2 → o3 ≡ o2 ++ a3
+    → o3 ≡ o0 ++ (a1 ++ a2 ++ a3)
+joined3 o0 o1 o2 o3 a1 a2 a3 e1 e2 e3 =
+    joined2 o0 o2 o3 (a1 ++ a2) a3
+    (joined2 o0 o1 o2 a1 a2 e1 e2) e3
+
+pub joined4 : (o0 o1 o2 o3 o4 a1 a2 a3 a4 : List ℕ)
+    → o1 ≡ o0 ++ a1 → o2 ≡ o1 ++ a2 → o3 ≡ o2 ++ a3 → o4 ≡ o3 ++ a4
+    → o4 ≡ o0 ++ (a1 ++ a2 ++ a3 ++ a4)
+joined4 o0 o1 o2 o3 o4 a1 a2 a3 a4 e1 e2 e3 e4 =
+    joined2 o0 o3 o4 (a1 ++ a2 ++ a3) a4
+    (joined3 o0 o1 o2 o3 a1 a2 a3 e1 e2 e3) e4
+
+pub joined5 : (o0 o1 o2 o3 o4 o5 a1 a2 a3 a4 a5 : List ℕ)
+    → o1 ≡ o0 ++ a1 → o2 ≡ o1 ++ a2 → o3 ≡ o2 ++ a3 → o4 ≡ o3 ++ a4 → o5 ≡ o4 ++ a5
+    → o5 ≡ o0 ++ (a1 ++ a2 ++ a3 ++ a4 ++ a5)
+joined5 o0 o1 o2 o3 o4 o5 a1 a2 a3 a4 a5 e1 e2 e3 e4 e5 =
+    joined2 o0 o4 o5 (a1 ++ a2 ++ a3 ++ a4) a5
+    (joined4 o0 o1 o2 o3 o4 a1 a2 a3 a4 e1 e2 e3 e4) e5
+
+pub joined6 : (o0 o1 o2 o3 o4 o5 o6 a1 a2 a3 a4 a5 a6 : List ℕ)
+    → o1 ≡ o0 ++ a1 → o2 ≡ o1 ++ a2 → o3 ≡ o2 ++ a3 → o4 ≡ o3 ++ a4 → o5 ≡ o4 ++ a5 → o6 ≡ o5 ++ a6
+    → o6 ≡ o0 ++ (a1 ++ a2 ++ a3 ++ a4 ++ a5 ++ a6)
+joined6 o0 o1 o2 o3 o4 o5 o6 a1 a2 a3 a4 a5 a6 e1 e2 e3 e4 e5 e6 =
+    joined2 o0 o5 o6 (a1 ++ a2 ++ a3 ++ a4 ++ a5) a6
+    (joined5 o0 o1 o2 o3 o4 o5 a1 a2 a3 a4 a5 e1 e2 e3 e4 e5) e6
+
+pub joined7 : (o0 o1 o2 o3 o4 o5 o6 o7 a1 a2 a3 a4 a5 a6 a7 : List ℕ)
+    → o1 ≡ o0 ++ a1 → o2 ≡ o1 ++ a2 → o3 ≡ o2 ++ a3 → o4 ≡ o3 ++ a4 → o5 ≡ o4 ++ a5 → o6 ≡ o5 ++ a6 → o7 ≡ o6 ++ a7
+    → o7 ≡ o0 ++ (a1 ++ a2 ++ a3 ++ a4 ++ a5 ++ a6 ++ a7)
+joined7 o0 o1 o2 o3 o4 o5 o6 o7 a1 a2 a3 a4 a5 a6 a7 e1 e2 e3 e4 e5 e6 e7 =
+    joined2 o0 o6 o7 (a1 ++ a2 ++ a3 ++ a4 ++ a5 ++ a6) a7
+    (joined6 o0 o1 o2 o3 o4 o5 o6 a1 a2 a3 a4 a5 a6 e1 e2 e3 e4 e5 e6) e7
+
+pub joined8 : (o0 o1 o2 o3 o4 o5 o6 o7 o8 a1 a2 a3 a4 a5 a6 a7 a8 : List ℕ)
+    → o1 ≡ o0 ++ a1 → o2 ≡ o1 ++ a2 → o3 ≡ o2 ++ a3 → o4 ≡ o3 ++ a4 → o5 ≡ o4 ++ a5 → o6 ≡ o5 ++ a6 → o7 ≡ o6 ++ a7
+    → o8 ≡ o7 ++ a8
+    → o8 ≡ o0 ++ (a1 ++ a2 ++ a3 ++ a4 ++ a5 ++ a6 ++ a7 ++ a8)
+joined8 o0 o1 o2 o3 o4 o5 o6 o7 o8 a1 a2 a3 a4 a5 a6 a7 a8 e1 e2 e3 e4 e5 e6 e7 e8 =
+    joined2 o0 o7 o8 (a1 ++ a2 ++ a3 ++ a4 ++ a5 ++ a6 ++ a7) a8
+    (joined7 o0 o1 o2 o3 o4 o5 o6 o7 a1 a2 a3 a4 a5 a6 a7 e1 e2 e3 e4 e5 e6 e7) e8
+
+-- a path whose way has two parts
+pub line_joined : (o0 o1 o2 o3 start way rest end : List ℕ) → o1 ≡ o0 ++ start → o2 ≡ o1 ++ way
+    → o3 ≡ o2 ++ (rest ++ end) → o3 ≡ o0 ++ (start ++ (way ++ rest) ++ end)
+line_joined o0 o1 o2 o3 start way rest end e1 e2 e3 =
+    joined3 o0 o1 o2 o3 start way (rest ++ end) e1 e2 e3
+    ∙ ap (λ (t : List ℕ). o0 ++ t)
+    (append_assoc start way (rest ++ end)
+    ∙ (ap (λ (t : List ℕ). start ++ t) (sym (append_assoc way rest end)) ∙ sym (append_assoc start (way ++ rest) end)))
+
+-- the text of one item more
+pub one_more : {A : Type 0} (f : A → List ℕ) (xs : List A) (i : ℕ) (d : A) (before now after : List ℕ) → i < length xs
+    → now ≡ before ++ flat_map f (take i xs) → after ≡ now ++ f (get_or xs i d)
+    → after ≡ before ++ flat_map f (take (i + 1) xs)
+one_more f xs i d before now after below so_far more =
+    more
+    ∙ (ap (λ (t : List ℕ). t ++ f (get_or xs i d)) so_far
+    ∙ (append_assoc before (flat_map f (take i xs)) (f (get_or xs i d))
+    ∙ ap (λ (t : List ℕ). before ++ t) (sym (ap (flat_map f) (take_more xs i d below)
+    ∙ (flat_map-append f (take i xs) (get_or xs i d ∷ [])
+    ∙ ap (λ (t : List ℕ). flat_map f (take i xs) ++ t) (append-nil (f (get_or xs i d))))))))
+
+-- the same of items as they are seen
+pub one_seen : {A B : Type 0} (f : B → List ℕ) (see : A → B) (xs : List A) (i : ℕ) (d : A) (before now after : List ℕ)
+    → i < length xs → now ≡ before ++ flat_map f (map see (take i xs)) → after ≡ now ++ f (see (get_or xs i d))
+    → after ≡ before ++ flat_map f (map see (take (i + 1) xs))
+one_seen f see xs i d before now after below so_far more =
+    more
+    ∙ (ap (λ (t : List ℕ). t ++ f (see (get_or xs i d))) so_far
+    ∙ (append_assoc before (flat_map f (map see (take i xs))) (f (see (get_or xs i d)))
+    ∙ ap (λ (t : List ℕ). before ++ t) (sym (ap (λ (l : List _). flat_map f (map see l)) (take_more xs i d below)
+    ∙ (ap (flat_map f) (map-append see (take i xs) (get_or xs i d ∷ []))
+    ∙ (flat_map-append f (map see (take i xs)) (see (get_or xs i d) ∷ [])
+    ∙ ap (λ (t : List ℕ). flat_map f (map see (take i xs)) ++ t) (append-nil (f (see (get_or xs i d))))))))))

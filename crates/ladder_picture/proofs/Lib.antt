@@ -1,3 +1,4 @@
 pub mod Appended
+pub mod Heights
 pub mod Sides
 pub mod OneMore

@@ -7,15 +7,7 @@ use Rattle.std.proofs.lemmas.Bool.Decides.{nat_tests}
 use Rattle.ladder_picture.specs.declared.row.Row.{Row}
 use Rattle.ladder_picture.specs.declared.rungs.Rung.{Rung}
 use Rattle.ladder_picture.specs.Rungs.{rungs_from, first_rung, are_over, first_tick, rows_behind}
-
--- ----- parts of a list
-pub next_part : {A : Type 0} (xs : List A) (n : ℕ) (x : A) (rest : List A) → x ∷ rest ≡ drop n xs
-    → (take (n + 1) xs ≡ take n xs ++ x ∷ []) × (rest ≡ drop (n + 1) xs)
-next_part [] zero x rest e = absurd (cc (e))
-next_part [] (suc n) x rest e = absurd (cc (e))
-next_part (y ∷ ys) zero x rest e = search (e)
-next_part (y ∷ ys) (suc n) x rest e =
-    let more = next_part ys n x rest e in (ap (λ (l : List _). y ∷ l) more.0, more.1)
+use Rattle.ladder_picture.specs.Drawing.{bottom_from}
 
 -- ----- rungs
 pub no_rungs : (most : ℕ) (above : Option Rung) → rungs_from most above [] [] ≡ []
@@ -55,20 +47,33 @@ fewer (l ∷ ls) (r ∷ rs) e = by (nat_lt r.tick l.tick) refl where
       let other = no_more (min l.tick r.tick) (r ∷ rs) in
       omega (arith, one, other)
 
+open_rungs : (m : ℕ) (above : Option Rung) (ls rs : List Row) → are_over ls rs ≡ false
+    → rungs_from (suc m) above ls rs ≡ first_rung above ls rs ∷ rungs_from m (Some (first_rung above ls rs))
+    (rows_behind (first_tick ls rs) ls) (rows_behind (first_tick ls rs) rs)
+unfolding rungs_from
+open_rungs m above [] [] e = absurd (cc (e))
+open_rungs m above (l ∷ ls) [] e = refl
+open_rungs m above [] (r ∷ rs) e = refl
+open_rungs m above (l ∷ ls) (r ∷ rs) e = refl
+
 -- one rung more is put
 pub one_rung : (most : ℕ) (above : Option Rung) (ls rs : List Row) (put all : List Rung) → are_over ls rs ≡ false
     → length ls + length rs ≤ most → put ++ rungs_from most above ls rs ≡ all
     → (m : ℕ) × (length (rows_behind (first_tick ls rs) ls) + length (rows_behind (first_tick ls rs) rs) ≤ m)
     × ((put ++ first_rung above ls rs ∷ []) ++ rungs_from m (Some (first_rung above ls rs))
     (rows_behind (first_tick ls rs) ls) (rows_behind (first_tick ls rs) rs) ≡ all)
-unfolding rungs_from
 one_rung zero above ls rs put all e h is = absurd (let less = fewer ls rs e in omega (arith, less, h))
 one_rung (suc m) above ls rs put all e h is =
     let less = fewer ls rs e in
     let rest = rungs_from m (Some (first_rung above ls rs)) (rows_behind (first_tick ls rs) ls)
     (rows_behind (first_tick ls rs) rs) in
-    let whole : put ++ first_rung above ls rs ∷ rest ≡ all = rw e at is in (
+    let whole : put ++ first_rung above ls rs ∷ rest ≡ all =
+    ap (λ (l : List Rung). put ++ l) (sym (open_rungs m above ls rs e)) ∙ is in (
       m,
-      omega (arith, less, h),
-      append_assoc put (first_rung above ls rs ∷ []) rest ∙ whole,
+      (omega (arith, less, h), append_assoc put (first_rung above ls rs ∷ []) rest ∙ whole),
     )
+
+-- how far down the last one stands
+pub last_height : (y : ℕ) (rungs : List Rung) (r : Rung) → bottom_from y (rungs ++ r ∷ []) ≡ r.y
+last_height y [] r = refl
+last_height y (q ∷ qs) r = last_height q.y qs r

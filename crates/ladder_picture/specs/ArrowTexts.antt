@@ -12,7 +12,7 @@ use Rattle.ladder_picture.specs.declared.arrows.Look.{Look}
 use Rattle.ladder_picture.specs.declared.labels.Origins.{Origins}
 use Rattle.ladder_picture.specs.Arrows.{across, Sent, passes, sent_arrows, came_arrows}
 use Rattle.ladder_picture.specs.Labels.{label_text, fate_text}
-use Rattle.ladder_picture.specs.Elements.{text, path}
+use Rattle.ladder_picture.specs.Elements.{text, path, counted}
 
 -- ----- sides
 -- from which numbers those of a frame are told that a side sends
@@ -41,7 +41,7 @@ way_end Right = codes "H348"
 
 abbrev pub line_text : (sender : Side) → (start height : ℕ) → List ℕ
 line_text sender start height =
-    path (side_name sender) (lifeline sender) start (turn sender ++ decimal height ++ way_end sender)
+    path (side_name sender) (lifeline sender) start (counted (turn sender) height ++ way_end sender)
 
 -- ----- heads
 -- filled where the connection had the frame
@@ -123,9 +123,12 @@ ways_text look sender y (a ∷ rest) = flat_map (arrival_text sender y) (a ∷ r
 abbrev pub sent_text : Look → Sent → List ℕ
 sent_text look x = ways_text look x.sender x.y x.ends ++ side_label look x.sender x.sender x.y x.frame
 
+abbrev pub came_label : Look → CameFrame → List ℕ
+came_label look x = side_label look x.sender (across x.sender) x.y x.frame
+
 abbrev pub came_text : Look → CameFrame → List ℕ
-came_text look x = came_line look x.sender x.y ++ ring_text look x.y ++ head_text x.sender x.y None
-    ++ side_label look x.sender (across x.sender) x.y x.frame
+came_text look x =
+    came_line look x.sender x.y ++ ring_text look x.y ++ head_text x.sender x.y None ++ came_label look x
 
 -- The text of all arrows: of those that were sent, and of those that came from nowhere.
 abbrev pub arrows_text : Look → List Rung → List ℕ

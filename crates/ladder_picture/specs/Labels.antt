@@ -17,6 +17,7 @@ use Rattle.ladder_picture.specs.declared.row.Fate.{Fate}
 use Rattle.ladder_picture.specs.declared.row.Fate.TheVariants as fates
 use Rattle.ladder_picture.specs.declared.row.Frame.{Frame}
 use Rattle.ladder_picture.specs.declared.labels.Origins.{Origins}
+use Rattle.ladder_picture.specs.Elements.{counted}
 
 -- ----- XML
 -- a byte as it stands in a text (XML 1.0, section 2.4)
@@ -42,9 +43,9 @@ len_text n = if n == 0 then [] else codes " len " ++ decimal n
 -- What is told of a frame: flags, number, acknowledgement, length, window, and the MSS and the window's scale where it
 -- has them. Numbers are told from the origins of its sender and its receiver.
 abbrev pub label_text : Origins → Frame → List ℕ
-label_text o f = flags_text f.head.flags ++ codes " " ++ decimal (behind o.sender f.head.seq)
+label_text o f = flags_text f.head.flags ++ counted (codes " ") (behind o.sender f.head.seq)
     ++ ack_text f.head.flags (behind o.receiver f.head.ack) ++ len_text f.len
-    ++ codes " win " ++ decimal f.head.window ++ mss_text f.head.mss ++ scale_text f.head.scale
+    ++ counted (codes " win ") f.head.window ++ mss_text f.head.mss ++ scale_text f.head.scale
 
 -- ----- notes
 abbrev pub asked_text : Asked → List ℕ

@@ -1,8 +1,8 @@
 -- The rungs of a ladder: which rows stand side by side, and how far down.
 use Rattle.std.specs.Prelude.{ℕ, suc, zero, ◌+◌, ◌-◌, ◌^◌, ◌==◌, Bool, true, false, not, ◌&&◌, List, [], ◌∷◌, ◌++◌}
 use Rattle.std.specs.Prelude.{length, take, drop}
-use Rattle.std.specs.Prelude.{min, nat_lt, Option, Some, None, is_some, if◌then◌else◌}
-use Rattle.std.specs.List.{position_or_len, filter}
+use Rattle.std.specs.Prelude.{min, nat_lt, unwrap_or, Option, Some, None, is_some, if◌then◌else◌}
+use Rattle.std.specs.List.{position, filter}
 use Rattle.tas_model.specs.declared.entry.FrameId.{FrameId}
 use Rattle.ladder_picture.specs.declared.row.Framed.{Framed}
 use Rattle.ladder_picture.specs.declared.row.Framed.TheVariants as framed
@@ -77,9 +77,9 @@ abbrev pub rungs_of : (left right : List Row) → List Rung
 rungs_of left right = rungs_from (length left + length right) None left right
 
 -- ----- the rows of a log
--- the place behind the rows of its tick
+-- the place before the first row of a later tick, or behind all
 abbrev pub place_in : List Row → (tick : ℕ) → ℕ
-place_in rows tick = position_or_len (λ (x : Row). nat_lt tick x.tick) rows
+place_in rows tick = unwrap_or (position (λ (x : Row). nat_lt tick x.tick) rows) (length rows)
 
 -- rows with those of another list, each behind the rows of its tick; both are in order of time
 abbrev pub merged : (rows more : List Row) → List Row

@@ -1,4 +1,5 @@
 ghost use Rattle.std.specs.Prelude.{◌≡◌, ◌++◌, flat_map, map, OnOk};
+ghost use Rattle.ladder_picture.specs.Elements.{counted, path_start, path_end};
 ghost use Rattle.ladder_picture.specs.ArrowTexts as texts;
 ghost use Rattle.ladder_picture.specs.Views.{seen_sent};
 
@@ -74,13 +75,35 @@ fn way_end(sender: Side) -> &'static [u8]
     }
 }
 
+/// Appends the beginning of an arrow's line, at this height.
+fn put_line_start(out: &mut Vec<u8>, sender: Side, y: u128) -> Result<(), AllocError>
+    ensures { OnOk result (out.new.items ≡ out.old.items
+        ++ path_start (texts.side_name sender) (texts.lifeline sender) y) }
+{
+    put_path_start(out, side_name(sender), lifeline(sender), y)
+}
+
+/// Appends where an arrow's line turns to another height.
+fn put_turn(out: &mut Vec<u8>, sender: Side, to: u128) -> Result<(), AllocError>
+    ensures { OnOk result (out.new.items ≡ out.old.items ++ counted (texts.turn sender) to) }
+{
+    put_counted(out, turn(sender), to)
+}
+
+/// Appends the rest of an arrow's line.
+fn put_line_end(out: &mut Vec<u8>, sender: Side) -> Result<(), AllocError>
+    ensures { OnOk result (out.new.items ≡ out.old.items ++ (texts.way_end sender ++ path_end)) }
+{
+    put_path_end(out, way_end(sender))
+}
+
 /// Appends the line of an arrow from a height to another.
 fn put_line(out: &mut Vec<u8>, sender: Side, from: u128, to: u128) -> Result<(), AllocError>
     ensures { OnOk result (out.new.items ≡ out.old.items ++ texts.line_text sender from to) }
 {
-    put_path_start(out, side_name(sender), lifeline(sender), from)?;
-    put_counted(out, turn(sender), to)?;
-    put_path_end(out, way_end(sender))
+    put_line_start(out, sender, from)?;
+    put_turn(out, sender, to)?;
+    put_line_end(out, sender)
 }
 
 /// What a head is called that a side sent: filled where the connection had the frame.
@@ -272,21 +295,40 @@ fn origin(look: &Look, sender: Side) -> &'static [u8]
     lifeline(sender)
 }
 
-/// Appends the arrow of a frame that came from nowhere that is shown.
-fn put_came(out: &mut Vec<u8>, look: &Look, came: &CameFrame) -> Result<(), AllocError>
-    ensures { OnOk result (out.new.items ≡ out.old.items ++ texts.came_text look.now came.now) }
+/// Appends the line of a frame that came from nowhere that is shown.
+fn put_came_line(
+    out: &mut Vec<u8>,
+    look: &Look,
+    sender: Side,
+    y: u128,
+) -> Result<(), AllocError>
+    ensures { OnOk result (out.new.items ≡ out.old.items ++ texts.came_line look.now sender y) }
 {
-    let sender = came.sender;
     put_path(
         out,
         side_name(sender),
         origin(look, sender),
-        came.y,
+        y,
         way_end(sender),
-    )?;
+    )
+}
+
+/// Appends its label, where it came.
+fn put_came_label(out: &mut Vec<u8>, look: &Look, came: &CameFrame) -> Result<(), AllocError>
+    ensures { OnOk result (out.new.items ≡ out.old.items ++ texts.came_label look.now came.now) }
+{
+    let at = across(came.sender);
+    put_side_label(out, look, came.sender, at, came.y, &came.frame)
+}
+
+/// Appends the arrow of a frame that came from nowhere that is shown.
+fn put_came(out: &mut Vec<u8>, look: &Look, came: &CameFrame) -> Result<(), AllocError>
+    ensures { OnOk result (out.new.items ≡ out.old.items ++ texts.came_text look.now came.now) }
+{
+    put_came_line(out, look, came.sender, came.y)?;
     put_ring(out, look, came.y)?;
-    put_head(out, sender, came.y, None)?;
-    put_side_label(out, look, sender, across(sender), came.y, &came.frame)
+    put_head(out, came.sender, came.y, None)?;
+    put_came_label(out, look, came)
 }
 
 /// Appends the arrows of frames that were sent.

@@ -119,10 +119,9 @@ fn place_in(rows: &[Row], tick: u32) -> usize
     ensures place { result ≡ rules.place_in rows.now tick }
     ensures within { result ≤ length rows.now }
 {
-    match rows.iter().position(|row| row.tick > tick) {
-        Some(at) => at,
-        None => rows.len(),
-    }
+    rows.iter()
+        .position(|row| row.tick > tick)
+        .unwrap_or(rows.len())
 }
 
 /// Whether this is the number of the flow.
