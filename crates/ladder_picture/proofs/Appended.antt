@@ -72,14 +72,15 @@ one_more f xs i d before now after below so_far more =
     ∙ ap (λ (t : List ℕ). flat_map f (take i xs) ++ t) (append-nil (f (get_or xs i d))))))))
 
 -- the same of items as they are seen
-pub one_seen : {A B : Type 0} (f : B → List ℕ) (see : A → B) (xs : List A) (i : ℕ) (d : A) (before now after : List ℕ)
-    → i < length xs → now ≡ before ++ flat_map f (map see (take i xs)) → after ≡ now ++ f (see (get_or xs i d))
+pub one_seen : {A B : Type 0} (f : B → List ℕ) (see : A → B) (xs : List A) (i : ℕ) (x : A) (before now after : List ℕ)
+    → i < length xs → x ≡ get_or xs i x → now ≡ before ++ flat_map f (map see (take i xs)) → after ≡ now ++ f (see x)
     → after ≡ before ++ flat_map f (map see (take (i + 1) xs))
-one_seen f see xs i d before now after below so_far more =
+one_seen f see xs i x before now after below is so_far more =
+    let front : map see (take (i + 1) xs) ≡ map see (take i xs) ++ see x ∷ [] =
+    ap (map see) (take_more xs i x below ∙ ap (λ y. take i xs ++ y ∷ []) (sym is)) ∙ map-append see (take i xs) (x ∷ []) in
     more
-    ∙ (ap (λ (t : List ℕ). t ++ f (see (get_or xs i d))) so_far
-    ∙ (append_assoc before (flat_map f (map see (take i xs))) (f (see (get_or xs i d)))
-    ∙ ap (λ (t : List ℕ). before ++ t) (sym (ap (λ (l : List _). flat_map f (map see l)) (take_more xs i d below)
-    ∙ (ap (flat_map f) (map-append see (take i xs) (get_or xs i d ∷ []))
-    ∙ (flat_map-append f (map see (take i xs)) (see (get_or xs i d) ∷ [])
-    ∙ ap (λ (t : List ℕ). flat_map f (map see (take i xs)) ++ t) (append-nil (f (see (get_or xs i d))))))))))
+    ∙ (ap (λ (t : List ℕ). t ++ f (see x)) so_far
+    ∙ (append_assoc before (flat_map f (map see (take i xs))) (f (see x))
+    ∙ ap (λ (t : List ℕ). before ++ t) (sym (ap (flat_map f) front
+    ∙ (flat_map-append f (map see (take i xs)) (see x ∷ [])
+    ∙ ap (λ (t : List ℕ). flat_map f (map see (take i xs)) ++ t) (append-nil (f (see x))))))))

@@ -1,12 +1,12 @@
 -- Rows side by side, one rung more.
 use Rattle.std.proofs.Common.{◌≡◌, ℕ, zero, suc, ◌+◌, ◌≤◌, ◌<◌, ◌==◌, Bool, true, false, List, [], ◌∷◌, ◌++◌, length}
 use Rattle.std.proofs.Common.{take, drop}
-use Rattle.std.proofs.Common.{Option, Some, None, refl, sym, ap, ◌∙◌, arith, append_assoc}
+use Rattle.std.proofs.Common.{Option, Some, None, refl, sym, ap, ◌∙◌, subst, arith, append_assoc, append-nil}
 use Rattle.std.specs.Prelude.{min, nat_lt}
 use Rattle.std.proofs.lemmas.Bool.Decides.{nat_tests}
 use Rattle.ladder_picture.specs.declared.row.Row.{Row}
 use Rattle.ladder_picture.specs.declared.rungs.Rung.{Rung}
-use Rattle.ladder_picture.specs.Rungs.{rungs_from, first_rung, are_over, first_tick, rows_behind}
+use Rattle.ladder_picture.specs.Rungs.{rungs_from, first_rung, are_over, first_tick, rows_behind, row_at, below}
 use Rattle.ladder_picture.specs.Drawing.{bottom_from}
 
 -- ----- rungs
@@ -70,8 +70,44 @@ one_rung (suc m) above ls rs put all e h is =
     let whole : put ++ first_rung above ls rs ∷ rest ≡ all =
     ap (λ (l : List Rung). put ++ l) (sym (open_rungs m above ls rs e)) ∙ is in (
       m,
-      (omega (arith, less, h), append_assoc put (first_rung above ls rs ∷ []) rest ∙ whole),
+      omega (arith, less, h),
+      append_assoc put (first_rung above ls rs ∷ []) rest ∙ whole,
     )
+
+-- the same by what the loop has
+abbrev IsNext : (all put : List Rung) → Rung → (ls rs : List Row) → Type 0
+IsNext all put rung ls rs =
+    (m : ℕ) × (length ls + length rs ≤ m) × (put ++ rungs_from m (Some rung) ls rs ≡ all)
+
+pub next_rung : (most : ℕ) (above : Option Rung) (ls rs ls' rs' : List Row) (put put' all : List Rung) (tick : ℕ)
+    (left right : Option Row) (rung : Rung) → are_over ls rs ≡ false → tick ≡ first_tick ls rs → left ≡ row_at tick ls
+    → right ≡ row_at tick rs → rung ≡ below above tick left right → ls' ≡ rows_behind tick ls
+    → rs' ≡ rows_behind tick rs → put' ≡ put ++ rung ∷ [] → length ls + length rs ≤ most
+    → put ++ rungs_from most above ls rs ≡ all → IsNext all put' rung ls' rs'
+next_rung most above ls rs ls' rs' put put' all tick left right rung more t l r is els ers eput h whole =
+    let first : rung ≡ first_rung above ls rs =
+    is ∙ (ap (λ (x : Option Row). below above tick x right) l
+    ∙ (ap (λ (x : Option Row). below above tick (row_at tick ls) x) r
+    ∙ ap (λ (n : ℕ). below above n (row_at n ls) (row_at n rs)) t)) in
+    let left_is : ls' ≡ rows_behind (first_tick ls rs) ls = els ∙ ap (λ (n : ℕ). rows_behind n ls) t in
+    let right_is : rs' ≡ rows_behind (first_tick ls rs) rs = ers ∙ ap (λ (n : ℕ). rows_behind n rs) t in
+    let put_is : put' ≡ put ++ first_rung above ls rs ∷ [] =
+    eput ∙ ap (λ (x : Rung). put ++ x ∷ []) first in
+    let one = one_rung most above ls rs put all more h whole in
+    let two = subst (λ (x : List Rung). IsNext all x (first_rung above ls rs) (rows_behind (first_tick ls rs) ls)
+    (rows_behind (first_tick ls rs) rs)) (sym put_is) one in
+    let three = subst (λ (x : Rung). IsNext all put' x (rows_behind (first_tick ls rs) ls)
+    (rows_behind (first_tick ls rs) rs)) (sym first) two in
+    let four = subst (λ (x : List Row). IsNext all put' rung x (rows_behind (first_tick ls rs) rs)) (sym left_is) three in
+    subst (λ (x : List Row). IsNext all put' rung ls' x) (sym right_is) four
+
+pub all_put : (most : ℕ) (above : Option Rung) (ls rs : List Row) (put all : List Rung) → are_over ls rs ≡ true
+    → put ++ rungs_from most above ls rs ≡ all → put ≡ all
+all_put most above [] [] put all e is =
+    sym (append-nil put) ∙ (ap (λ (l : List Rung). put ++ l) (sym (no_rungs most above)) ∙ is)
+all_put most above (l ∷ ls) [] put all e is = absurd (cc (e))
+all_put most above [] (r ∷ rs) put all e is = absurd (cc (e))
+all_put most above (l ∷ ls) (r ∷ rs) put all e is = absurd (cc (e))
 
 -- how far down the last one stands
 pub last_height : (y : ℕ) (rungs : List Rung) (r : Rung) → bottom_from y (rungs ++ r ∷ []) ≡ r.y

@@ -77,9 +77,12 @@ abbrev pub rungs_of : (left right : List Row) → List Rung
 rungs_of left right = rungs_from (length left + length right) None left right
 
 -- ----- the rows of a log
+abbrev pub is_later : (tick : ℕ) → Row → Bool
+is_later tick r = nat_lt tick r.tick
+
 -- the place before the first row of a later tick, or behind all
 abbrev pub place_in : List Row → (tick : ℕ) → ℕ
-place_in rows tick = unwrap_or (position (λ (x : Row). nat_lt tick x.tick) rows) (length rows)
+place_in rows tick = unwrap_or (position (is_later tick) rows) (length rows)
 
 -- rows with those of another list, each behind the rows of its tick; both are in order of time
 abbrev pub merged : (rows more : List Row) → List Row

@@ -1,4 +1,4 @@
-ghost use Rattle.std.specs.Prelude.{◌≡◌, ◌<◌, ◌≤◌, ◌+◌, ◌*◌, ℕ, length, IfOk, OnOk, Some, None};
+ghost use Rattle.std.specs.Prelude.{◌≡◌, ◌<◌, ◌≤◌, length, position, IfOk, IfSome};
 ghost use Rattle.ladder_picture.specs.Rungs as rules;
 ghost use Rattle.ladder_picture.specs.Arrows.{framed_on, row_on};
 
@@ -94,6 +94,16 @@ fn below(above: Option<Rung>, tick: u32, left: Option<Row>, right: Option<Row>) 
     }
 }
 
+/// Whether neither side has rows left.
+fn are_over(left: &[Row], right: &[Row]) -> bool
+    ensures { result ≡ rules.are_over left.now right.now }
+{
+    match (left, right) {
+        ([], []) => true,
+        _ => false,
+    }
+}
+
 /// The rungs of two lists of rows: in each tick the first rows of both sides on one rung, and so on. The error is want
 /// of memory.
 pub fn rungs_of(alloc: Global, left: &[Row], right: &[Row]) -> Result<Vec<Rung>, AllocError>
@@ -103,7 +113,7 @@ pub fn rungs_of(alloc: Global, left: &[Row], right: &[Row]) -> Result<Vec<Rung>,
     let mut ours = left;
     let mut theirs = right;
     let mut last: Option<Rung> = None;
-    'rungs: while !ours.is_empty() || !theirs.is_empty() {
+    'rungs: while !are_over(ours, theirs) {
         let tick = first_tick(ours, theirs);
         let rung = below(last, tick, row_at(tick, ours), row_at(tick, theirs));
         rungs.push(rung)?;
@@ -114,14 +124,30 @@ pub fn rungs_of(alloc: Global, left: &[Row], right: &[Row]) -> Result<Vec<Rung>,
     Ok(rungs)
 }
 
+/// Whether a row is of a later tick.
+fn is_later(row: &Row, tick: u32) -> bool
+    ensures { result ≡ rules.is_later tick row.now }
+{
+    row.tick > tick
+}
+
+/// The place of the first row of a later tick.
+fn first_later(rows: &[Row], tick: u32) -> Option<usize>
+    ensures place { result ≡ position (rules.is_later tick) rows.now }
+    ensures within { IfSome result (λ at. at < length rows.now) }
+{
+    rows.iter().position(|row| is_later(row, tick))
+}
+
 /// Where a row of a log stands among rows: behind those of its tick.
 fn place_in(rows: &[Row], tick: u32) -> usize
     ensures place { result ≡ rules.place_in rows.now tick }
     ensures within { result ≤ length rows.now }
 {
-    rows.iter()
-        .position(|row| row.tick > tick)
-        .unwrap_or(rows.len())
+    match first_later(rows, tick) {
+        Some(at) => at,
+        None => rows.len(),
+    }
 }
 
 /// Whether this is the number of the flow.
