@@ -2,3 +2,5 @@ pub mod Appended
 pub mod Heights
 pub mod Sides
 pub mod OneMore
+pub mod Forms
+pub mod Pictures

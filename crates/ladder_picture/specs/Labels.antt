@@ -1,6 +1,6 @@
 -- The words of a picture.
 use Rattle.std.specs.Prelude.{ℕ, ◌+◌, ◌-◌, ◌%◌, ◌^◌, ◌==◌, Bool, true, false, List, [], ◌∷◌, ◌++◌, codes, decimal}
-use Rattle.std.specs.Prelude.{flat_map, Option, Some, None}
+use Rattle.std.specs.Prelude.{◌&&◌, nat_le, flat_map, Option, Some, None}
 use Rattle.std.specs.Prelude.{if◌then◌else◌}
 use Rattle.tas_num.specs.declared.seq.Seq.{Seq}
 use Rattle.segment_fields.specs.ControlBits.{ack, has}
@@ -20,11 +20,11 @@ use Rattle.ladder_picture.specs.declared.labels.Origins.{Origins}
 use Rattle.ladder_picture.specs.Elements.{counted}
 
 -- ----- XML
--- a byte as it stands in a text (XML 1.0, section 2.4)
+-- a byte as it stands in a text (XML 1.0, section 2.4); others than those of printable ASCII are shown by `?`
 abbrev pub escaped_byte : ℕ → List ℕ
 escaped_byte c =
     if c == 38 then codes "&amp;" else if c == 60 then codes "&lt;" else if c == 62 then codes "&gt;"
-    else if c == 34 then codes "&quot;" else c ∷ []
+    else if c == 34 then codes "&quot;" else if nat_le 32 c && nat_le c 126 then c ∷ [] else codes "?"
 
 abbrev pub escaped : List ℕ → List ℕ
 escaped text = flat_map escaped_byte text

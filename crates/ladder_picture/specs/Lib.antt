@@ -6,3 +6,4 @@ pub mod Elements
 pub mod ArrowTexts
 pub mod Drawing
 pub mod Views
+pub mod WellFormed
