@@ -4,3 +4,5 @@ pub mod Sides
 pub mod OneMore
 pub mod Forms
 pub mod Pictures
+pub mod Once
+pub mod Joining

@@ -67,7 +67,7 @@ key_flip : (a b : FrameKey) → equal_key a b ≡ equal_key b a
 key_flip a b = rw (number_flip a.host b.host, number_flip a.flow b.flow, number_flip a.number b.number) refl
 
 -- ----- arrivals
-arrivals_cons : (s : Side) (k : FrameKey) (q : Pass) (qs : List Pass)
+pub arrivals_cons : (s : Side) (k : FrameKey) (q : Pass) (qs : List Pass)
     → arrivals s k (q ∷ qs) ≡ (if sends s k q then [] else arrival_at s k q ++ arrivals s k qs)
 arrivals_cons s k q qs =
     ap (flat_map (arrival_at s k)) (take_while-cons (λ (p : Pass). not (sends s k p)) q qs)
@@ -185,7 +185,7 @@ same_last s k (Some n) a xs = ended_last s k n a xs
 
 -- ----- a frame that comes
 -- it comes from a side alone, and is no other frame
-abbrev Comes : Pass → (sender : Side) → FrameKey → Arrival → Type 0
+abbrev pub Comes : Pass → (sender : Side) → FrameKey → Arrival → Type 0
 Comes p sender key a = (s : Side) (k : FrameKey)
     → (sends s k p ≡ false) × (arrival_at s k p ≡ (if is_side s sender && equal_key k key then a ∷ [] else []))
 
@@ -263,7 +263,7 @@ came_more earlier (q ∷ qs) p =
     ++ came_in l p.side p.y p.framed) (append_assoc earlier (q ∷ []) qs))
 
 -- ----- what is known
-no_arrival : (b : Bool) → ◌≡◌ {A = List Arrival} (if b then [] else []) []
+pub no_arrival : (b : Bool) → ◌≡◌ {A = List Arrival} (if b then [] else []) []
 no_arrival true = refl
 no_arrival false = refl
 
@@ -324,7 +324,7 @@ came_taken a b ps p key arrival are comes none sent places came =
     }
 
 -- a frame comes to one side, and is one frame
-comes_by : (side : Side) (y : ℕ) (f : Framed) (key : FrameKey) (a : Arrival)
+pub comes_by : (side : Side) (y : ℕ) (f : Framed) (key : FrameKey) (a : Arrival)
     → ((k : FrameKey) → arrival_in y k f ≡ (if equal_key key k then a ∷ [] else []))
     → ((s : Side) (k : FrameKey) → sends s k (pass side y f) ≡ false) → Comes (pass side y f) (across side) key a
 comes_by side y f key a arrives no_send = λ s k. (no_send s k, both s k) where
@@ -335,11 +335,11 @@ comes_by side y f key a arrives no_send = λ s k. (no_send s k, both s k) where
       ≡ (if is_side s (across side) && equal_key k key then a ∷ [] else [])
   both s k = rw (arrives k, turned side s, key_flip key k) (by (is_side s (across side)) (equal_key k key))
 
-never : (b : Bool) → (b && false) ≡ false
+pub never : (b : Bool) → (b && false) ≡ false
 never true = refl
 never false = refl
 
-abbrev arrival_of : (y : ℕ) → Option Fate → FrameId → Arrival
+abbrev pub arrival_of : (y : ℕ) → Option Fate → FrameId → Arrival
 arrival_of y fate id = record { y = y; fate = fate; again = nat_lt 0 id.copy }
 
 pub met_taken : (a b : Arrows) (ps : List Pass) (side : Side) (y : ℕ) (id : FrameId) (fate : Fate) → AreOf a ps

@@ -7,3 +7,4 @@ pub mod ArrowTexts
 pub mod Drawing
 pub mod Views
 pub mod WellFormed
+pub mod OneArrow
