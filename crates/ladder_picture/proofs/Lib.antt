@@ -6,3 +6,4 @@ pub mod Forms
 pub mod Pictures
 pub mod Once
 pub mod Joining
+pub mod Standing

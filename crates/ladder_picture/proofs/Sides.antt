@@ -1,12 +1,14 @@
 -- Rows side by side, one rung more.
-use Rattle.std.proofs.Common.{◌≡◌, ℕ, zero, suc, ◌+◌, ◌≤◌, ◌<◌, ◌==◌, Bool, true, false, List, [], ◌∷◌, ◌++◌, length}
+use Rattle.std.proofs.Common.{◌≡◌, ℕ, zero, suc, ◌+◌, ◌-◌, ◌*◌, ◌^◌, ◌≤◌, ◌<◌, ◌==◌, Bool, true, false, List, [], ◌∷◌, ◌++◌, length}
 use Rattle.std.proofs.Common.{take, drop}
 use Rattle.std.proofs.Common.{Option, Some, None, refl, sym, ap, ◌∙◌, subst, arith, append_assoc, append-nil}
-use Rattle.std.specs.Prelude.{min, nat_lt}
+use Rattle.std.proofs.Common.{if◌then◌else◌}
+use Rattle.std.specs.Prelude.{min, nat_lt, IfSome}
+use Rattle.std.proofs.lemmas.List.{length-append}
 use Rattle.std.proofs.lemmas.Bool.Decides.{nat_tests}
 use Rattle.ladder_picture.specs.declared.row.Row.{Row}
 use Rattle.ladder_picture.specs.declared.rungs.Rung.{Rung}
-use Rattle.ladder_picture.specs.Rungs.{rungs_from, first_rung, are_over, first_tick, rows_behind, row_at, below}
+use Rattle.ladder_picture.specs.Rungs.{rungs_from, first_rung, are_over, first_tick, rows_behind, row_at, below, distance}
 use Rattle.ladder_picture.specs.Drawing.{bottom_from}
 
 -- ----- rungs
@@ -27,7 +29,7 @@ no_more tick (r ∷ rs) = by (r.tick == tick) refl where
   by false e = rw e (omega arith)
 
 -- the first rows of the earlier tick go
-fewer : (ls rs : List Row) → are_over ls rs ≡ false
+pub fewer : (ls rs : List Row) → are_over ls rs ≡ false
     → length (rows_behind (first_tick ls rs) ls) + length (rows_behind (first_tick ls rs) rs) < length ls + length rs
 fewer [] [] e = absurd (cc (e))
 fewer (l ∷ ls) [] e = let one = gone l.tick l ls refl in omega (arith, one)
@@ -47,7 +49,7 @@ fewer (l ∷ ls) (r ∷ rs) e = by (nat_lt r.tick l.tick) refl where
       let other = no_more (min l.tick r.tick) (r ∷ rs) in
       omega (arith, one, other)
 
-open_rungs : (m : ℕ) (above : Option Rung) (ls rs : List Row) → are_over ls rs ≡ false
+pub open_rungs : (m : ℕ) (above : Option Rung) (ls rs : List Row) → are_over ls rs ≡ false
     → rungs_from (suc m) above ls rs ≡ first_rung above ls rs ∷ rungs_from m (Some (first_rung above ls rs))
     (rows_behind (first_tick ls rs) ls) (rows_behind (first_tick ls rs) rs)
 unfolding rungs_from
@@ -113,3 +115,37 @@ all_put most above (l ∷ ls) (r ∷ rs) put all e is = absurd (cc (e))
 pub last_height : (y : ℕ) (rungs : List Rung) (r : Rung) → bottom_from y (rungs ++ r ∷ []) ≡ r.y
 last_height y [] r = refl
 last_height y (q ∷ qs) r = last_height q.y qs r
+
+-- ----- heights
+pub far : (later : ℕ) → distance later ≤ 54
+far later = by (later == 0) (later == 1) where
+  by : (a b : Bool) → (if a then 20 else if b then 30 else 54) ≤ 54
+  by true b = omega arith
+  by false true = omega arith
+  by false false = omega arith
+
+pub near : (later : ℕ) → 0 < distance later
+near later = by (later == 0) (later == 1) where
+  by : (a b : Bool) → 0 < (if a then 20 else if b then 30 else 54)
+  by true b = omega arith
+  by false true = omega arith
+  by false false = omega arith
+
+pub next_high : (above : Option Rung) (tick : ℕ) (left right : Option Row) (rung : Rung) (put put' : List Rung)
+    → IfSome above (λ (r : Rung). r.y ≤ 104 + 54 * length put) → rung ≡ below above tick left right
+    → put' ≡ put ++ rung ∷ [] → rung.y ≤ 104 + 54 * length put'
+next_high above tick left right rung put put' high is more =
+    let count : length put' ≡ length put + 1 = ap (λ (l : List Rung). length l) more ∙ length-append put (rung ∷ []) in
+    let low : rung.y ≤ 104 + 54 * (length put + 1) =
+    subst (λ (r : Rung). r.y ≤ 104 + 54 * (length put + 1)) (sym is) (by above high) in
+    omega (arith, count, low)
+  where
+    by : (a : Option Rung) → IfSome a (λ (r : Rung). r.y ≤ 104 + 54 * length put)
+        → (below a tick left right).y ≤ 104 + 54 * (length put + 1)
+    by None h = omega arith
+    by (Some last) h = let d = far (tick - last.tick) in omega (arith, h, d)
+
+pub still_small : (above : Option Rung) (put : List Rung) → IfSome above (λ (r : Rung). r.y ≤ 104 + 54 * length put)
+    → length put < 2 ^ 64 → IfSome above (λ (last : Rung). last.y + 54 < 2 ^ 128)
+still_small None put h n = tt
+still_small (Some last) put h n = omega (arith, h, n)

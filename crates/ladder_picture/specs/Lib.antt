@@ -8,3 +8,4 @@ pub mod Drawing
 pub mod Views
 pub mod WellFormed
 pub mod OneArrow
+pub mod Kept

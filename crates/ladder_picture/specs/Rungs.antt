@@ -28,7 +28,7 @@ below None tick left right =
     record { tick = tick; y = top; quiet = 0; opens = true; left = left; right = right }
 below (Some last) tick left right = record {
   tick = tick;
-  y = min (last.y + distance (tick - last.tick)) (2 ^ 128 - 1);
+  y = last.y + distance (tick - last.tick);
   quiet = tick - last.tick - 1;
   opens = nat_lt 0 (tick - last.tick);
   left = left;

@@ -14,7 +14,8 @@ pub use arrows::Look;
 pub use drawing::{EndName, put_drawing};
 pub use labels::has;
 pub use laws::{
-    drawings_are_well_formed, emissions_join_their_arrivals, entries_stand_in_one_arrow,
+    arrows_go_down, drawings_are_well_formed, emissions_join_their_arrivals,
+    entries_stand_in_one_arrow, rows_stand_on_rungs,
 };
 pub use row::{Asked, Fate, Frame, Framed, Note, Row, Timer, Told};
 pub use rungs::{rungs_of, with_log};

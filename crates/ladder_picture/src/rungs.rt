@@ -1,4 +1,4 @@
-ghost use Rattle.std.specs.Prelude.{◌≡◌, ◌<◌, ◌≤◌, length, position, IfOk, IfSome};
+ghost use Rattle.std.specs.Prelude.{◌≡◌, ◌<◌, ◌≤◌, ◌+◌, ◌^◌, length, position, IfOk, IfSome};
 ghost use Rattle.ladder_picture.specs.Rungs as rules;
 ghost use Rattle.ladder_picture.specs.Arrows.{framed_on, row_on};
 
@@ -58,7 +58,8 @@ fn rows_behind(tick: u32, rows: &[Row]) -> &[Row]
 
 /// How far a rung stands below the one above it, which is so many ticks earlier.
 fn distance(later: u32) -> u128
-    ensures { result ≡ rules.distance later }
+    ensures distance { result ≡ rules.distance later }
+    ensures short { result ≤ 54 }
 {
     match later {
         0 => 20,
@@ -69,6 +70,7 @@ fn distance(later: u32) -> u128
 
 /// The rung of a tick below another one, or the first of all.
 fn below(above: Option<Rung>, tick: u32, left: Option<Row>, right: Option<Row>) -> Rung
+    requires { IfSome above (λ last. last.y + 54 < 2 ^ 128) }
     ensures { result ≡ rules.below above tick left right }
 {
     match above {
@@ -84,7 +86,7 @@ fn below(above: Option<Rung>, tick: u32, left: Option<Row>, right: Option<Row>) 
             let later = tick.saturating_sub(last.tick);
             Rung {
                 tick,
-                y: last.y.saturating_add(distance(later)),
+                y: last.y + distance(later),
                 quiet: later.saturating_sub(1),
                 opens: later > 0,
                 left,
