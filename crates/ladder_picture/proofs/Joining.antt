@@ -131,9 +131,9 @@ one_pass_more : (q : Pass) (ps : List Pass) (xs : List Sent) → Each (EndsAreOf
 one_pass_more q ps [] each = tt
 one_pass_more q ps (x ∷ xs) each = (
   λ p. (let here = each.0 p in
-  let all = count_both p (arrival_at x.sender (key_of x.frame.id) q)
-  (flat_map (arrival_at x.sender (key_of x.frame.id)) ps) in
-  omega (arith, here, all)),
+      let all = count_both p (arrival_at x.sender (key_of x.frame.id) q)
+      (flat_map (arrival_at x.sender (key_of x.frame.id)) ps) in
+      omega (arith, here, all)),
   one_pass_more q ps xs each.1,
 )
 
@@ -144,8 +144,8 @@ all_of_its (q ∷ qs) = by q.framed (one_pass_more q qs (sent_arrows qs) (all_of
       → Each (EndsAreOfIts (q ∷ qs)) (sent_in q.side q.y qs f ++ sent_arrows qs)
   by (framed.Sent f) rest = (
     λ p. (let here = front_fewer p (arrival_at q.side (key_of f.id)) (λ (r : Pass). not (sends q.side (key_of f.id) r)) qs in
-    let all = count_both p (arrival_at q.side (key_of f.id) q) (flat_map (arrival_at q.side (key_of f.id)) qs) in
-    omega (arith, here, all)),
+        let all = count_both p (arrival_at q.side (key_of f.id) q) (flat_map (arrival_at q.side (key_of f.id)) qs) in
+        omega (arith, here, all)),
     rest,
   )
   by (framed.Came f) rest = rest

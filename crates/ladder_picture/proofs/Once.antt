@@ -174,6 +174,7 @@ with_came p ps side y f are =
   where
     single : (s : Side) → s ≡ side → count_by p (stop s y (key_of f.id) ∷ []) ≡ count_by p (pass_stops (pass side y (framed.Came f)))
     single s e = ap (λ (t : Side). count_by p (stop t y (key_of f.id) ∷ [])) e
+
     one_of : (b c : Bool) → b ≡ c
         → (if b then count_by p (end_stops (across (across side)) (key_of f.id) (arrival_of y None f.id)) else 0)
         + tally p came_stops (if c then [] else record { sender = across side; y = y; frame = f } ∷ [])

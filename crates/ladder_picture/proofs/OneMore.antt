@@ -150,6 +150,7 @@ any_last s k (q ∷ qs) = by q.framed (any_last s k qs) where
   none : (b c : Bool) → c ≡ (b && false || c)
   none true c = refl
   none false c = refl
+
   by : (f : Framed) → is_some (last_of (is_from s k) (sent_arrows qs)) ≡ list_any (sends s k) qs
       → is_some (last_of (is_from s k) (sent_arrows (pass q.side q.y f ∷ qs)))
       ≡ list_any (sends s k) (pass q.side q.y f ∷ qs)
@@ -224,6 +225,7 @@ sent_ends (q ∷ qs) p sender key a comes none = by q.framed (sent_ends qs p sen
       let facts = comes q.side (key_of f.id) in
       more_arrivals q.side (key_of f.id) qs p
       ∙ rw (facts.0, facts.1) refl
+
   same : (f : Frame) → (is_side q.side sender && equal_key (key_of f.id) key) ≡ true
       → is_some (last_of (is_from sender key) (sent_arrows qs)) ≡ list_any (sends q.side (key_of f.id)) qs
   same f e =
@@ -233,6 +235,7 @@ sent_ends (q ∷ qs) p sender key a comes none = by q.framed (sent_ends qs p sen
       any_last sender key qs
       ∙ (ap (λ (s : Side). list_any (sends s key) qs) (sym side)
       ∙ ap (λ (k : FrameKey). list_any (sends q.side k) qs) (sym is))
+
   by : (f : Framed)
       → sent_arrows (qs ++ p ∷ []) ≡ with_end (last_of (is_from sender key) (sent_arrows qs)) a (sent_arrows qs)
       → sent_in q.side q.y (qs ++ p ∷ []) f ++ sent_arrows (qs ++ p ∷ [])
@@ -331,6 +334,7 @@ comes_by side y f key a arrives no_send = λ s k. (no_send s k, both s k) where
   by : (b c : Bool) → (if b then (if c then a ∷ [] else []) else []) ≡ (if b && c then a ∷ [] else [])
   by true c = refl
   by false c = refl
+
   both : (s : Side) (k : FrameKey) → arrival_at s k (pass side y f)
       ≡ (if is_side s (across side) && equal_key k key then a ∷ [] else [])
   both s k = rw (arrives k, turned side s, key_flip key k) (by (is_side s (across side)) (equal_key k key))
@@ -380,6 +384,7 @@ placed_alike a b now side key key' n n' left right same_key same_n place =
     old : (s : Side) (k : FrameKey) → place_in b s k ≡ place_in a s k
     old Left k = rw left refl
     old Right k = rw right refl
+
     by : (s : Side) (k : FrameKey)
         → place_in now s k ≡ (if is_side side s && equal_key key k then Some n else place_in a s k)
     by s k = place s k ∙ ap (λ (o : Option ℕ). if is_side side s && equal_key key k then Some n else o) (old s k)
@@ -389,6 +394,7 @@ same_again a b now left right same = λ s k. by s k where
   new : (s : Side) (k : FrameKey) → place_in now s k ≡ place_in b s k
   new Left k = rw left refl
   new Right k = rw right refl
+
   by : (s : Side) (k : FrameKey) → place_in now s k ≡ place_in a s k
   by s k = new s k ∙ same s k
 

@@ -139,8 +139,8 @@ in_order_step above ls rs rungs more rest = λ t l r.
     let is = tick_is above (first_tick ls rs) (row_at (first_tick ls rs) ls) (row_at (first_tick ls rs) rs) in (
       subst (λ (n : ℕ). t ≤ n) (sym is) now,
       subst (λ (n : ℕ). TicksAreInOrder n rungs) (sym is) (rest (first_tick ls rs)
-      (left_in_order t (first_tick ls rs) ls l now (first_of_left ls rs))
-      (left_in_order t (first_tick ls rs) rs r now (first_of_right ls rs))),
+          (left_in_order t (first_tick ls rs) ls l now (first_of_left ls rs))
+          (left_in_order t (first_tick ls rs) rs r now (first_of_right ls rs))),
     )
 
 pub ticks_in_order : (ls rs : List Row) → AreInOrder 0 ls → AreInOrder 0 rs → TicksAreInOrder 0 (rungs_of ls rs)

@@ -120,13 +120,7 @@ impl Arrows {
     }
 
     /// Takes up a frame that a side sent.
-    fn send(
-        &mut self,
-        alloc: Global,
-        side: Side,
-        y: u128,
-        frame: Frame,
-    ) -> Result<(), AllocError>
+    fn send(&mut self, alloc: Global, side: Side, y: u128, frame: Frame) -> Result<(), AllocError>
         ensures { OnOk result ((ps : List Pass) → AreOf self.old ps
             → AreOf self.new (ps ++ pass side y (framed.Sent frame) ∷ [])) }
     {
