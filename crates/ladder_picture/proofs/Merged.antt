@@ -1,5 +1,6 @@
 -- Rows of two lists in one.
-use Rattle.std.proofs.Common.{◌≡◌, ℕ, zero, suc, ◌+◌, ◌≤◌, ◌<◌, Bool, true, false, List, [], ◌∷◌, ◌++◌, length, take, drop}
+use Rattle.std.proofs.Common.{◌≡◌, ℕ, zero, suc, ◌+◌, ◌≤◌, ◌<◌, Bool, true, false, List, [], ◌∷◌, ◌++◌, length}
+use Rattle.std.proofs.Common.{take, drop}
 use Rattle.std.proofs.Common.{Option, Some, None, refl, sym, ap, subst, ◌∙◌, arith, cond, not, if◌then◌else◌}
 use Rattle.std.specs.Prelude.{⊤, nat_lt, count_by, unwrap_or}
 use Rattle.std.specs.List.{position_or_len, filter}
@@ -11,7 +12,8 @@ use Rattle.ladder_picture.specs.Kept.{AreInOrder}
 use Rattle.ladder_picture.proofs.Once.{count_both}
 
 -- ----- counts
-both_parts : (p : Row → Bool) (n : ℕ) (rows : List Row) → count_by p (take n rows) + count_by p (drop n rows) ≡ count_by p rows
+both_parts : (p : Row → Bool) (n : ℕ) (rows : List Row) → count_by p (take n rows) + count_by p (drop n rows) ≡
+    count_by p rows
 both_parts p zero rows = omega arith
 both_parts p (suc n) [] = refl
 both_parts p (suc n) (r ∷ rs) =
@@ -20,7 +22,8 @@ both_parts p (suc n) (r ∷ rs) =
     let whole = count_both p (r ∷ []) rs in
     omega (arith, rest, front, whole)
 
-merged_count : (p : Row → Bool) (more rows : List Row) → count_by p (merged rows more) ≡ count_by p rows + count_by p more
+merged_count : (p : Row → Bool) (more rows : List Row) → count_by p (merged rows more) ≡ count_by p rows + count_by
+    p more
 merged_count p [] rows = omega arith
 merged_count p (m ∷ ms) rows =
     let n = place_in rows m.tick in
@@ -72,10 +75,18 @@ into t (r ∷ rs) m behind o h each =
     subst (λ (n : ℕ). AreInOrder t (take n (r ∷ rs) ++ m ∷ behind (drop n (r ∷ rs)))) (sym (place_first r rs m.tick))
     (by (is_later m.tick r) refl (λ low. into r.tick rs m behind o.1 low each)) where
       by : (b : Bool) → is_later m.tick r ≡ b
-          → (r.tick ≤ m.tick → AreInOrder r.tick (take (place_in rs m.tick) rs ++ m ∷ behind (drop (place_in rs m.tick) rs)))
+          → (r.tick ≤ m.tick → AreInOrder r.tick (take (place_in rs m.tick) rs ++ m ∷ behind
+          (drop (place_in rs m.tick) rs)))
           → AreInOrder t (take (if b then 0 else suc (place_in rs m.tick)) (r ∷ rs)
           ++ m ∷ behind (drop (if b then 0 else suc (place_in rs m.tick)) (r ∷ rs)))
-      by true e rest = (h, each (r ∷ rs) (let late : m.tick < r.tick = grind (arith, nat_tests, e) in omega (arith, late), o.1))
+      by true e rest = (
+        h,
+        each (r ∷ rs) (
+          let late : m.tick < r.tick = grind (arith, nat_tests, e) in omega
+              (arith, late),
+          o.1,
+        ),
+      )
       by false e rest = (o.0, rest (grind (arith, nat_tests, e)))
 
 merged_in_order : (more : List Row) (t : ℕ) (rows : List Row) → AreInOrder t rows → AreInOrder t more

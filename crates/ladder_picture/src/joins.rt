@@ -232,7 +232,8 @@ impl Arrows {
 
 /// The arrows of a ladder. The error is want of memory.
 pub fn arrows_of(alloc: Global, rungs: &[Rung]) -> Result<Arrows, AllocError>
-    ensures sent { IfOk result (λ arrows. map seen_sent arrows.sent.items ≡ rules.sent_arrows (rules.passes rungs.now)) }
+    ensures sent { IfOk result (λ arrows. map seen_sent arrows.sent.items
+        ≡ rules.sent_arrows (rules.passes rungs.now)) }
     ensures came { IfOk result (λ arrows. arrows.came.items ≡ rules.came_arrows [] (rules.passes rungs.now)) }
 {
     let mut arrows = Arrows::new(alloc);

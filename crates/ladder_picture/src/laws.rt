@@ -31,8 +31,8 @@ pub fn emissions_join_their_arrivals()
     ensures alone { (rungs : List Rung) → AreOfOneFrame rungs }
 {}
 
-/// Each row stands on exactly one rung, which is of its tick; each rung stands below the one above it, and where the rows
-/// are in order of time, the rungs are.
+/// Each row stands on exactly one rung, which is of its tick; each rung stands below the one above it, and where the
+/// rows are in order of time, the rungs are.
 pub fn rows_stand_on_rungs()
     ensures left { (left right : List Row) → kept.lefts (rungs_of left right) ≡ left }
     ensures right { (left right : List Row) → kept.rights (rungs_of left right) ≡ right }
