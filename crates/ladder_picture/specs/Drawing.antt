@@ -31,7 +31,7 @@ bottom_from y (r ∷ rs) = bottom_from r.y rs
 abbrev pub bottom : List Rung → ℕ
 bottom rungs = bottom_from top rungs
 
--- so much farther down
+-- so much farther down; heights have 128 bits
 abbrev pub down : (y more : ℕ) → ℕ
 down y more = min (y + more) (2 ^ 128 - 1)
 
