@@ -1,7 +1,7 @@
 -- What is written of a picture is well-formed.
-use Rattle.std.proofs.Common.{◌≡◌, ℕ, zero, suc, ◌+◌, ◌/◌, ◌%◌, ◌==◌, ◌<◌, Bool, true, false, not, ◌&&◌, ◌||◌, List, []}
-use Rattle.std.proofs.Common.{◌∷◌, ◌++◌, fold, refl, sym, ap, ◌∙◌, arith, if◌then◌else◌, cond}
-use Rattle.std.specs.Prelude.{codes, decimal, flat_map, bytes_eq, nat_lt}
+use Rattle.std.proofs.Common.{◌≡◌, ℕ, zero, suc, ◌/◌, ◌%◌, ◌==◌, ◌<◌, Bool, true, false, not, ◌&&◌, List, []}
+use Rattle.std.proofs.Common.{◌∷◌, ◌++◌, fold, refl, ap, ◌∙◌, arith, if◌then◌else◌}
+use Rattle.std.specs.Prelude.{codes, decimal, flat_map, nat_lt}
 use Rattle.std.specs.List.{list_all}
 use Rattle.std.specs.Fmt.{digit_glyph, digits_onto, digits}
 use Rattle.std.proofs.lemmas.Bool.{and_parts}

@@ -1,15 +1,14 @@
 -- Each arrow joins what is sent to what comes of the same name.
-use Rattle.std.proofs.Common.{◌≡◌, ℕ, zero, suc, ◌+◌, ◌≤◌, ◌==◌, Bool, true, false, not, ◌&&◌, ◌||◌, List, []}
+use Rattle.std.proofs.Common.{◌≡◌, ℕ, ◌≤◌, ◌==◌, Bool, true, false, not, ◌||◌, List, []}
 use Rattle.std.proofs.Common.{◌∷◌, ◌++◌}
-use Rattle.std.proofs.Common.{flat_map, Option, Some, None, refl, sym, ap, subst, ◌∙◌, arith, append_assoc, append-nil}
+use Rattle.std.proofs.Common.{flat_map, refl, ap, ◌∙◌, arith}
 use Rattle.std.proofs.Common.{if◌then◌else◌, cond}
-use Rattle.std.specs.Prelude.{count_by, nat_lt}
+use Rattle.std.specs.Prelude.{count_by}
 use Rattle.std.specs.List.{list_any, take_while}
 use Rattle.std.proofs.lemmas.Bool.Decides.{nat_tests}
 use Rattle.std.proofs.lemmas.List.Folds.{list_any-append}
 use Rattle.std.proofs.lemmas.List.Sums.{take_while-cons}
 use Rattle.host_rounds.specs.Lists.{Each}
-use Rattle.ladder_picture.specs.declared.row.Fate.{Fate}
 use Rattle.ladder_picture.specs.declared.row.Frame.{Frame}
 use Rattle.ladder_picture.specs.declared.row.Framed.{Framed}
 use Rattle.ladder_picture.specs.declared.row.Framed.TheVariants as framed
@@ -18,7 +17,7 @@ use Rattle.ladder_picture.specs.declared.rungs.Side.TheVariants.{Left, Right}
 use Rattle.ladder_picture.specs.declared.rungs.Rung.{Rung}
 use Rattle.ladder_picture.specs.declared.joins.Arrival.{Arrival}
 use Rattle.ladder_picture.specs.declared.joins.FrameKey.{FrameKey}
-use Rattle.ladder_picture.specs.Arrows.{Pass, pass, passes, Sent, across, is_side, key_of, equal_key, sends, sends_in}
+use Rattle.ladder_picture.specs.Arrows.{Pass, pass, passes, Sent, across, is_side, key_of, equal_key, sends}
 use Rattle.ladder_picture.specs.Arrows.{arrival_in, arrival_at, arrivals, sent_in, sent_arrows}
 use Rattle.ladder_picture.specs.OneArrow.{joins, names, AreJoined, EndsAreOfIts, AreOfOneFrame}
 use Rattle.ladder_picture.proofs.OneMore.{arrivals_cons}

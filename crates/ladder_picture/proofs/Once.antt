@@ -1,7 +1,7 @@
 -- The entries with a segment that arrows show are those that rungs show.
-use Rattle.std.proofs.Common.{◌≡◌, ℕ, zero, suc, ◌+◌, Bool, true, false, ◌&&◌, List, [], ◌∷◌, ◌++◌, Option, Some, None}
+use Rattle.std.proofs.Common.{◌≡◌, ℕ, suc, ◌+◌, Bool, true, false, List, [], ◌∷◌, ◌++◌, Option, Some, None}
 use Rattle.std.proofs.Common.{flat_map, refl, sym, ap, subst, ◌∙◌, arith, append_assoc, append-nil, if◌then◌else◌}
-use Rattle.std.specs.Prelude.{count_by, is_some, nat_lt}
+use Rattle.std.specs.Prelude.{count_by, is_some}
 use Rattle.std.specs.List.{list_any}
 use Rattle.std.proofs.lemmas.Bool.{and_parts}
 use Rattle.std.proofs.lemmas.List.Sums.{sum_by-append}
@@ -16,11 +16,10 @@ use Rattle.ladder_picture.specs.declared.rungs.Side.TheVariants.{Left, Right}
 use Rattle.ladder_picture.specs.declared.rungs.Rung.{Rung}
 use Rattle.ladder_picture.specs.declared.joins.Arrival.{Arrival}
 use Rattle.ladder_picture.specs.declared.joins.FrameKey.{FrameKey}
-use Rattle.ladder_picture.specs.declared.joins.CameFrame.{CameFrame}
 use Rattle.ladder_picture.specs.Rungs.{framed_in}
 use Rattle.ladder_picture.specs.Arrows.{Pass, pass, passes, rung_passes, Sent, across, is_side, key_of, equal_key}
 use Rattle.ladder_picture.specs.Arrows.{sends}
-use Rattle.ladder_picture.specs.Arrows.{sent_arrows, came_in, came_arrows, sent_in}
+use Rattle.ladder_picture.specs.Arrows.{sent_arrows, came_in, came_arrows}
 use Rattle.ladder_picture.specs.Joined.{is_from, last_by, last_of, add_end, end_at, with_end}
 use Rattle.ladder_picture.specs.OneArrow.{Stop, stop, stop_in, rung_stops, end_stops, sent_stops, came_stops, StandOnce}
 use Rattle.ladder_picture.proofs.OneMore.{side_exact, key_exact, sent_more, sent_ends, came_more, any_last, no_arrival}

@@ -1,15 +1,15 @@
 -- Each part of a picture may stand between tags, and so the whole is well-formed.
-use Rattle.std.proofs.Common.{◌≡◌, ℕ, ◌==◌, Bool, true, false, not, ◌&&◌, List, [], ◌∷◌, ◌++◌, refl, sym, ap, ◌∙◌}
-use Rattle.std.proofs.Common.{append_assoc, ◌/◌, ◌%◌}
-use Rattle.std.proofs.Common.{if◌then◌else◌, Option, Some, None, arith}
-use Rattle.std.specs.Prelude.{codes, decimal, flat_map, nat_le}
+use Rattle.std.proofs.Common.{◌≡◌, ℕ, ◌==◌, Bool, true, false, ◌&&◌, List, [], ◌∷◌, refl}
+use Rattle.std.proofs.Common.{◌/◌, ◌%◌}
+use Rattle.std.proofs.Common.{if◌then◌else◌, Option, Some, None}
+use Rattle.std.specs.Prelude.{codes, nat_le}
 use Rattle.std.specs.List.{list_all}
 use Rattle.segment_fields.specs.ControlBits.{has, ack}
 use Rattle.tas_model.specs.declared.entry.Phase.{Phase}
 use Rattle.tas_model.specs.declared.entry.Phase.TheVariants as phases
 use Rattle.tas_model.specs.declared.entry.Reason.{Reason}
 use Rattle.tas_model.specs.declared.entry.Reason.TheVariants as reasons
-use Rattle.tas_runs.specs.Report.{letter, letters, flags_text, mss_text, scale_text, phase_text, reason_text, port_text}
+use Rattle.tas_runs.specs.Report.{letter, flags_text, mss_text, scale_text, phase_text, reason_text, port_text}
 use Rattle.ladder_picture.specs.declared.row.Asked.{Asked}
 use Rattle.ladder_picture.specs.declared.row.Asked.TheVariants as asks
 use Rattle.ladder_picture.specs.declared.row.Told.{Told}
@@ -29,7 +29,7 @@ use Rattle.ladder_picture.specs.declared.arrows.Look.{Look}
 use Rattle.ladder_picture.specs.declared.labels.Origins.{Origins}
 use Rattle.ladder_picture.specs.WellFormed.{Begun, Before, Content, Value, After, at, IsWellFormed}
 use Rattle.ladder_picture.specs.Elements.{text}
-use Rattle.ladder_picture.specs.Labels.{escaped, escaped_byte, behind, ack_text, len_text, label_text, asked_text}
+use Rattle.ladder_picture.specs.Labels.{escaped_byte, behind, ack_text, len_text, label_text, asked_text}
 use Rattle.ladder_picture.specs.Labels.{told_text}
 use Rattle.ladder_picture.specs.Labels.{note_text, fate_text}
 use Rattle.ladder_picture.specs.declared.joins.CameFrame.{CameFrame}

@@ -1,13 +1,11 @@
 -- What holds of all rungs, rung by rung.
 use Rattle.std.proofs.Common.{◌≡◌, ℕ, zero, suc, ◌+◌, ◌-◌, ◌≤◌, ◌<◌, ◌==◌, Bool, true, false, List, [], ◌∷◌, ◌++◌}
 use Rattle.std.proofs.Common.{length}
-use Rattle.std.proofs.Common.{Option, Some, None, refl, sym, ap, subst, ◌∙◌, arith, if◌then◌else◌, not}
-use Rattle.std.specs.Prelude.{⊤, min, nat_lt, option_to_list, flat_map}
-use Rattle.std.specs.List.{take_while}
+use Rattle.std.proofs.Common.{Option, Some, None, refl, sym, ap, subst, ◌∙◌, arith, if◌then◌else◌}
+use Rattle.std.specs.Prelude.{⊤, min, nat_lt, option_to_list}
 use Rattle.std.proofs.lemmas.Bool.Decides.{nat_tests}
 use Rattle.host_rounds.specs.Lists.{Each}
 use Rattle.ladder_picture.specs.declared.row.Row.{Row}
-use Rattle.ladder_picture.specs.declared.row.Frame.{Frame}
 use Rattle.ladder_picture.specs.declared.row.Framed.{Framed}
 use Rattle.ladder_picture.specs.declared.row.Framed.TheVariants as framed
 use Rattle.ladder_picture.specs.declared.rungs.Side.{Side}
@@ -16,7 +14,7 @@ use Rattle.ladder_picture.specs.declared.joins.Arrival.{Arrival}
 use Rattle.ladder_picture.specs.declared.joins.FrameKey.{FrameKey}
 use Rattle.ladder_picture.specs.Rungs.{rungs_from, rungs_of, first_rung, are_over, first_tick, row_at}
 use Rattle.ladder_picture.specs.Rungs.{rows_behind, below}
-use Rattle.ladder_picture.specs.Arrows.{Pass, passes, Sent, across, is_side, key_of, sends, arrival_in, arrival_at}
+use Rattle.ladder_picture.specs.Arrows.{Pass, passes, across, is_side, key_of, sends, arrival_in}
 use Rattle.ladder_picture.specs.Arrows.{arrivals, sent_in, sent_arrows}
 use Rattle.ladder_picture.specs.Kept.{lefts, rights, IsOfTick, HasItsTick, GoDown, AreInOrder, TicksAreInOrder}
 use Rattle.ladder_picture.specs.Kept.{GoesDown}

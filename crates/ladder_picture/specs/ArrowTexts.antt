@@ -1,5 +1,5 @@
 -- The text of arrows.
-use Rattle.std.specs.Prelude.{ℕ, Bool, true, false, List, [], ◌∷◌, ◌++◌, codes, decimal, flat_map}
+use Rattle.std.specs.Prelude.{ℕ, Bool, List, [], ◌∷◌, ◌++◌, codes, flat_map}
 use Rattle.std.specs.Prelude.{Option, Some, None, if◌then◌else◌}
 use Rattle.ladder_picture.specs.declared.row.Fate.{Fate}
 use Rattle.ladder_picture.specs.declared.row.Frame.{Frame}

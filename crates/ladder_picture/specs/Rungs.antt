@@ -1,9 +1,8 @@
 -- The rungs of a ladder: which rows stand side by side, and how far down.
-use Rattle.std.specs.Prelude.{ℕ, suc, zero, ◌+◌, ◌-◌, ◌^◌, ◌==◌, Bool, true, false, not, ◌&&◌, List, [], ◌∷◌, ◌++◌}
+use Rattle.std.specs.Prelude.{ℕ, suc, zero, ◌+◌, ◌-◌, ◌==◌, Bool, true, false, ◌&&◌, List, [], ◌∷◌, ◌++◌}
 use Rattle.std.specs.Prelude.{length, take, drop}
-use Rattle.std.specs.Prelude.{min, nat_lt, unwrap_or, Option, Some, None, is_some, if◌then◌else◌}
+use Rattle.std.specs.Prelude.{min, nat_lt, unwrap_or, Option, Some, None, if◌then◌else◌}
 use Rattle.std.specs.List.{position, filter}
-use Rattle.tas_model.specs.declared.entry.FrameId.{FrameId}
 use Rattle.ladder_picture.specs.declared.row.Framed.{Framed}
 use Rattle.ladder_picture.specs.declared.row.Framed.TheVariants as framed
 use Rattle.ladder_picture.specs.declared.row.Row.{Row}

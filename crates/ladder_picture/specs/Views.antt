@@ -1,5 +1,4 @@
 -- What the code has, as the definitions see it.
-use Rattle.std.specs.Prelude.{ℕ, List}
 use Rattle.ladder_picture.specs.declared.drawing.EndName.{EndName}
 use Rattle.ladder_picture.specs.declared.joins.SentFrame.{SentFrame}
 use Rattle.ladder_picture.specs.Arrows.{Sent}

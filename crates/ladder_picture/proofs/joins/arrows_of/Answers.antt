@@ -1,4 +1,3 @@
-use Rattle.std.proofs.Common.{refl, ◌∙◌, sym, ap}
 use Rattle.ladder_picture.proofs.OneMore.{rung_taken}
 use Rattle.ladder_picture.proofs.joins.arrows_of.Goals as goal
 
