@@ -1,0 +1,10 @@
+pub mod Appended
+pub mod Heights
+pub mod Sides
+pub mod OneMore
+pub mod Forms
+pub mod Pictures
+pub mod Once
+pub mod Joining
+pub mod Standing
+pub mod Merged
