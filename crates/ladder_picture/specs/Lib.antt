@@ -1,0 +1,9 @@
+pub mod Rungs
+pub mod Arrows
+pub mod Labels
+pub mod Elements
+pub mod ArrowTexts
+pub mod Drawing
+pub mod Views
+pub mod WellFormed
+pub mod OneArrow

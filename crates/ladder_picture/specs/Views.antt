@@ -1,0 +1,8 @@
+-- What the code has, as the definitions see it.
+use Rattle.std.specs.Prelude.{ℕ, List}
+use Rattle.ladder_picture.specs.declared.drawing.EndName.{EndName}
+use Rattle.ladder_picture.specs.Drawing.{End}
+
+-- one end
+abbrev pub seen_end : EndName → End
+seen_end e = record { name = e.name.now; addr = e.addr; port = e.port }

@@ -1,0 +1,17 @@
+//! The ladder of a connection: rows of two ends side by side, the arrows between them, and its picture in SVG.
+#![tactic(auto)]
+
+mod arrows;
+mod drawing;
+mod labels;
+mod laws;
+mod row;
+mod rungs;
+mod text;
+
+pub use arrows::Look;
+pub use drawing::{EndName, put_drawing};
+pub use labels::has;
+pub use laws::{drawings_are_well_formed, entries_stand_in_one_arrow};
+pub use row::{Asked, Fate, Frame, Framed, Note, Row, Timer, Told};
+pub use rungs::{insert_log, rungs_of};
