@@ -41,7 +41,7 @@ fn main(rt: HostRuntime) -> ExitCode {
             Ok(()) => ExitCode::from(0),
             Err(_) => told(rt.stderr(), Stop::Write),
         },
-        Err(PictureFault::Refused { line }) => told(rt.stderr(), Stop::Line(line)),
+        Err(PictureFault::Refused { line } | PictureFault::Absent { line }) => told(rt.stderr(), Stop::Line(line)),
         Err(PictureFault::OutOfMemory) => told(rt.stderr(), Stop::Memory),
     }
 }

@@ -1,11 +1,17 @@
-//! The picture of a connection, as a report of a run tells of it.
+//! The picture of a connection, as a report of a run or a replay tells of it.
 #![tactic(auto)]
 
-mod gathered;
-mod index;
+mod choice;
+mod ends;
+mod flows;
+mod hosts;
 mod known;
+mod lines;
+mod listing;
 mod pictures;
 mod rows;
+mod said;
+mod stage;
 
-pub use index::Wanted;
+pub use choice::Wanted;
 pub use pictures::{PictureFault, picture};

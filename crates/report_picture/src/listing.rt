@@ -1,0 +1,93 @@
+//! The first reading of a report: whether it is one, and its flows.
+
+ghost use Rattle.std.specs.Prelude.{◌≡◌, ◌<◌, ◌+◌, ◌-◌, ◌^◌, length, map, List, OnOk, IfOk, IfErr, true, false};
+ghost use Rattle.report_lines.specs.Shown.{AreNames};
+ghost use Rattle.trace_audit.specs.TextLines.{text_lines};
+ghost use Rattle.report_picture.specs.Reading as rules;
+ghost use Rattle.report_picture.specs.Hosts.{seen_hosts, hosts_in};
+
+use crate::flows::{Above, Flow, push_begun};
+use crate::hosts::Hosts;
+use crate::lines::next_line;
+use crate::pictures::PictureFault;
+use crate::said::{SaidLine, said_of};
+use crate::stage::Stage;
+use std::alloc::{AllocError, Global};
+
+/// How far a report was read: how many lines, where it stands, and the flows so far.
+#[derive(Drop)]
+pub struct Listing {
+    pub count: usize,
+    pub stage: Stage,
+    pub above: Above,
+    pub flows: Vec<Flow>,
+}
+
+impl Listing {
+    /// Nothing was read.
+    fn new(alloc: Global) -> Listing
+        ensures { rules.HasListed_nothing result }
+    {
+        Listing {
+            count: 0,
+            stage: Stage::start(),
+            above: Above::nowhere(),
+            flows: Vec::new(alloc),
+        }
+    }
+
+    /// Takes what a line says. The error is want of memory.
+    fn take_said(&mut self, said: &SaidLine<'_>) -> Result<(), AllocError>
+    {
+        let SaidLine::Plain(line) = said else {
+            return Ok(());
+        };
+        push_begun(&mut self.flows, &self.above, line)?;
+        self.above = self.above.with_line(line);
+        Ok(())
+    }
+
+    /// Takes a line; false where it is at fault. The error is want of memory.
+    fn take(&mut self, hosts: &Hosts<'_>, text: &[u8]) -> Result<bool, AllocError>
+    {
+        let Some(said) = said_of(hosts.replay, &hosts.names, text) else {
+            return Ok(false);
+        };
+        let Some(stage) = self.stage.next(hosts.replay, &hosts.addrs, &said) else {
+            return Ok(false);
+        };
+        self.take_said(&said)?;
+        self.stage = stage;
+        self.count += 1;
+        Ok(true)
+    }
+}
+
+/// The flows of a report, which names these hosts. A text that is none is refused at the earliest line at fault.
+pub fn flows_of(
+    alloc: Global,
+    hosts: &Hosts<'_>,
+    report: &[u8],
+) -> Result<Vec<Flow>, PictureFault>
+{
+    let mut listing = Listing::new(alloc);
+    let mut rest = report;
+    while let Some((line, more)) = next_line(rest) {
+        match listing.take(hosts, line) {
+            Ok(true) => {}
+            Ok(false) => {
+                return Err(PictureFault::Refused {
+                    line: listing.count as u64 + 1,
+                });
+            }
+            Err(_) => return Err(PictureFault::OutOfMemory),
+        }
+        rest = more;
+    }
+    if !listing.stage.is_over() {
+        return Err(PictureFault::Refused {
+            line: listing.count as u64 + 1,
+        });
+    }
+    Ok(listing.flows)
+}
