@@ -1,0 +1,9 @@
+mod Leading
+mod Ending
+mod RunForm
+mod ReplayLeads
+mod ReplayForm
+mod Texts
+mod SaidLines
+mod OneSaid
+mod Shown

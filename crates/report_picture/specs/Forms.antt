@@ -1,5 +1,5 @@
 -- Which texts are a report, of a run or of a replay, and at which line a text is none.
-use Rattle.std.specs.Prelude.{◌≡◌, ℕ, ◌+◌, Bool, true, false, List, [], ◌∷◌, ◌++◌, length, map, codes, bytes_eq, ⊤, ⊥}
+use Rattle.std.specs.Prelude.{◌≡◌, ℕ, ◌+◌, Bool, true, false, List, [], ◌∷◌, ◌++◌, length, map, codes, bytes_eq, ⊤}
 use Rattle.std.specs.Prelude.{Option, Some, None, is_some}
 use Rattle.report_lines.specs.Fronts.{behind}
 use Rattle.report_lines.specs.Lines.{Line, Title, End}
@@ -24,6 +24,10 @@ seen_said said_lines.Counts = Counts
 -- a line of counts is looked at no further than its first word
 abbrev pub is_counts : (text : List ℕ) → Bool
 is_counts text = is_some (behind (codes "records ") text)
+
+abbrev pub is_run_title : Line → Bool
+is_run_title Title = true
+is_run_title _ = false
 
 -- In a replay: its own title stands for that of a run, then there are counts, and every other line is a run's.
 abbrev pub IsOfReplay : (title counts : Bool) → (names : List (List ℕ)) → (text : List ℕ) → Said → Type 0
@@ -51,7 +55,7 @@ AreOf replay names (text ∷ texts) (s ∷ ss) = IsOf replay names text s × Are
 pub record IsReplay (addrs : List ℕ) (said : List Said) (lines : List Line) : Type 0 where
   pub front : List Line
   pub ticks : ℕ
-  pub lines : lines ≡ front ++ End ticks ∷ []
+  pub is : lines ≡ front ++ End ticks ∷ []
   pub shown : said ≡ map Plain front ++ Counts ∷ Plain (End ticks) ∷ []
   pub order : IsReport addrs lines
 
@@ -80,11 +84,15 @@ abbrev pub IsWrong : Named → (before rest : List (List ℕ)) → Type 0
 IsWrong n before [] = (lines : List Line) → AreReport n before lines → ⊥
 IsWrong n before (line ∷ rest) = BeginReport n (before ++ line ∷ []) → ⊥
 
--- The line of this number, counted from 1, is the earliest that is at fault.
-pub record IsFault (text : List ℕ) (number : ℕ) : Type 0 where
+-- Of these lines the one of this number, counted from 1, is the earliest that is at fault.
+pub record IsFaultIn (n : Named) (texts : List (List ℕ)) (number : ℕ) : Type 0 where
   pub before : List (List ℕ)
   pub rest : List (List ℕ)
-  pub lines : text_lines text ≡ before ++ rest
-  pub number : number ≡ length before + 1
-  pub right : BeginReport (hosts_in text) before
-  pub wrong : IsWrong (hosts_in text) before rest
+  pub texts_are : texts ≡ before ++ rest
+  pub place : number ≡ length before + 1
+  pub right : BeginReport n before
+  pub wrong : IsWrong n before rest
+
+-- A text is refused at the line of this number.
+abbrev pub IsFault : (text : List ℕ) → (number : ℕ) → Type 0
+IsFault text number = IsFaultIn (hosts_in text) (text_lines text) number

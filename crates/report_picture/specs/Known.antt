@@ -1,5 +1,5 @@
 -- What the entries of one end of a connection tell of its state (RFC 9293, section 3.3.2).
-use Rattle.std.specs.Prelude.{ℕ, ◌+◌, ◌-◌, ◌%◌, ◌^◌, ◌==◌, Bool, true, false, not, ◌&&◌, ◌||◌, List, length, nat_lt}
+use Rattle.std.specs.Prelude.{ℕ, ◌+◌, ◌-◌, ◌*◌, ◌%◌, ◌^◌, ◌==◌, Bool, true, false, not, ◌&&◌, ◌||◌, length, nat_lt}
 use Rattle.std.specs.Prelude.{min}
 use Rattle.std.specs.Prelude.{Option, Some, None, is_some, option_map, if◌then◌else◌}
 use Rattle.tas_num.specs.declared.seq.Seq.{Seq}
@@ -32,6 +32,8 @@ nothing = record {
   begun = false;
   iss = record { 0 = 0 };
   peer = None;
+  scale = None;
+  scaled = false;
   syn_acked = false;
   shut = false;
   fin = None;
@@ -77,7 +79,7 @@ abbrev pub after_answer : Known → Head → Reply → Known
 after_answer k head reply =
     if not (has head.flags ack) || not (head.ack.0 == (plus k.iss 1).0) then k
     else if has head.flags rst then record k { closed = true }
-    else if is_sent reply && has head.flags syn then record k { peer = Some head.seq; syn_acked = true }
+    else if is_sent reply && has head.flags syn then record k { peer = Some head.seq; scaled = is_some head.scale; syn_acked = true }
     else k
 
 -- it is heard: one with ACK and without SYN, which begins in the window, or brings on what is expected
@@ -119,7 +121,13 @@ after_rx k seg reply =
 abbrev pub after_call : Known → Call → Reply → Known
 after_call k (calls.Connect iss) reply = record k { begun = true; iss = iss }
 after_call k (calls.Passive frame iss seg) reply =
-    record k { begun = true; iss = iss; peer = Some seg.head.seq; next = plus seg.head.seq 1 }
+    record k {
+      begun = true;
+      iss = iss;
+      peer = Some seg.head.seq;
+      scaled = is_some seg.head.scale;
+      next = plus seg.head.seq 1;
+    }
 after_call k (calls.Rx frame seg) reply = after_rx k seg reply
 after_call k calls.Shut reply = record k { shut = k.shut || is_ok reply }
 after_call k calls.Close reply = record k { shut = k.shut || is_ok reply }
@@ -131,11 +139,24 @@ after_call k _ reply = k
 abbrev pub tells : Head → Bool
 tells head = has head.flags ack && not (has head.flags rst)
 
+-- the shift of its own windows: none, unless both SYN segments bore one (RFC 7323, section 2.2)
+abbrev pub shift_by : (scaled : Bool) → Option ℕ → ℕ
+shift_by true (Some shift) = shift
+shift_by scaled shift = 0
+
+abbrev pub shift_of : Known → ℕ
+shift_of k = shift_by k.scaled k.scale
+
+-- the window that a segment offers, in bytes: its field by the shift, but in a SYN (section 2.3)
+abbrev pub window_in : Known → Head → ℕ
+window_in k head = if has head.flags syn then head.window else head.window * 2 ^ min (shift_of k) 14
+
 abbrev pub after_sent : Known → Head → (len : ℕ) → Known
 after_sent k head len = record k {
   fin = if has head.flags fin then Some (behind_fin head len) else k.fin;
   next = if tells head then head.ack else k.next;
-  window = if tells head then head.window else k.window;
+  window = if tells head then window_in k head else k.window;
+  scale = if has head.flags syn then head.scale else k.scale;
   sent = min (k.sent + 1) (2 ^ 64 - 1);
 }
 

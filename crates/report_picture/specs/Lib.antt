@@ -5,3 +5,4 @@ pub mod Forms
 pub mod Stages
 pub mod Flows
 pub mod Pictures
+pub mod Reading

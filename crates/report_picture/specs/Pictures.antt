@@ -31,7 +31,7 @@ is_name None name = false
 is_name (Some own) name = bytes_eq own name
 
 -- it is wanted: the first one, or this host's of this number
-abbrev pub is_wanted : (names : List (List ℕ)) → Wanted → Flow → Bool
+unfoldable pub is_wanted : (names : List (List ℕ)) → Wanted → Flow → Bool
 is_wanted names wants.First f = true
 is_wanted names (wants.Flow host number) f = f.number == number && is_name (slice_get names f.host) host.now
 
@@ -56,7 +56,7 @@ are_ends one other = one.laddr == other.raddr && one.lport == other.rport && one
 abbrev pub is_same_flow : (one other : Flow) → Bool
 is_same_flow one other = one.host == other.host && one.number == other.number
 
-abbrev pub is_other_end : (peer : Option ℕ) → (drawn : Flow) → Flow → Bool
+unfoldable pub is_other_end : (peer : Option ℕ) → (drawn : Flow) → Flow → Bool
 is_other_end peer drawn f =
     is_host peer f.host && are_ends drawn.tuple f.tuple && not (is_same_flow drawn f)
 
@@ -171,7 +171,7 @@ pub record IsAbsent (text : List ℕ) (wanted : Wanted) (number : ℕ) : Type 0 
   pub lines : List Line
   pub form : IsForm text lines
   pub chosen : chosen (hosts_in text).names wanted (flows_in lines) ≡ None
-  pub number : number ≡ length (text_lines text) + 1
+  pub place : number ≡ length (text_lines text) + 1
 
 -- Why there is no picture; want of memory is free.
 abbrev pub IsUndrawn : (text : List ℕ) → (wanted : Wanted) → PictureFault → Type 0

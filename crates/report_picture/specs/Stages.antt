@@ -1,5 +1,5 @@
 -- How far a report was read, and which line may come then.
-use Rattle.std.specs.Prelude.{◌≡◌, ℕ, Bool, true, false, List, [], ◌∷◌, Option, Some, None}
+use Rattle.std.specs.Prelude.{◌≡◌, ℕ, Bool, true, false, not, ◌&&◌, ◌||◌, List, [], ◌∷◌, Option, Some, None}
 use Rattle.report_lines.specs.Lines.{Line, End}
 use Rattle.report_form.specs.Places.{next_place}
 use Rattle.report_form.specs.declared.place.Place.{Place}
@@ -26,9 +26,9 @@ next_plain false false place = at false place
 next_plain _ _ place = None
 
 -- the counts come once, where the end may come
-abbrev pub counted_at : Stage → (ended : Option Place) → Option Stage
+abbrev pub counted_at : Stage → (last : Option Place) → Option Stage
 counted_at s None = None
-counted_at s (Some ended) = at true (Some s.place)
+counted_at s (Some last) = at true (Some s.place)
 
 abbrev pub next_counts : (counted : Bool) → Stage → (ended : Option Place) → Option Stage
 next_counts true s ended = None
@@ -49,3 +49,11 @@ led replay addrs s (x ∷ xs) = elim (next_stage replay addrs s x) [ None ↦ No
 -- The lines lead from a report's beginning to this stage.
 abbrev pub IsAt : (replay : Bool) → (addrs : List ℕ) → List Said → Stage → Type 0
 IsAt replay addrs said stage = led replay addrs start said ≡ Some stage
+
+-- the report has ended: that of a replay with its counts
+abbrev pub is_ended : Place → Bool
+is_ended places.Ended = true
+is_ended _ = false
+
+abbrev pub is_over : (replay : Bool) → Stage → Bool
+is_over replay s = is_ended s.place && (not replay || s.counted)

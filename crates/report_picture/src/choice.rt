@@ -1,6 +1,6 @@
 //! Which flow of a report is drawn, and which is its other end.
 
-ghost use Rattle.std.specs.Prelude.{◌≡◌, map, slice_get};
+ghost use Rattle.std.specs.Prelude.{◌≡◌, ◌==◌, map, slice_get, position};
 ghost use Rattle.report_picture.specs.Pictures as rules;
 
 use crate::flows::Flow;
@@ -24,8 +24,9 @@ fn is_name(names: &[&[u8]], host: usize, name: &[u8]) -> bool
 }
 
 /// Whether a flow is wanted.
+#[tactic(auto, unfolding(crate::specs::Pictures::is_wanted))]
 fn is_wanted(names: &[&[u8]], wanted: Wanted<'_>, flow: &Flow) -> bool
-    ensures { result ≡ rules.is_wanted (map (λ n. n.now) names.now) wanted flow.now }
+    ensures { result ≡ rules.is_wanted (map (λ n. n.now) names.now) wanted.entry flow.now }
 {
     match wanted {
         Wanted::First => true,
@@ -35,12 +36,19 @@ fn is_wanted(names: &[&[u8]], wanted: Wanted<'_>, flow: &Flow) -> bool
 
 /// The first flow that is wanted.
 pub fn chosen(names: &[&[u8]], wanted: Wanted<'_>, flows: &[Flow]) -> Option<Flow>
-    ensures { result ≡ rules.chosen (map (λ n. n.now) names.now) wanted flows.now }
+    ensures { result ≡ rules.chosen (map (λ n. n.now) names.now) wanted.entry flows.now }
 {
-    flows
+    let flow = flows
         .iter()
-        .find(|flow| is_wanted(names, wanted, flow))
-        .copied()
+        .find(|flow| is_wanted(names, wanted, flow))?;
+    Some(*flow)
+}
+
+/// The host of this address, by its number.
+fn host_of(addrs: &[u32], addr: u32) -> Option<usize>
+    ensures { result ≡ position (λ a. a == addr) addrs.now }
+{
+    addrs.iter().position(|a| *a == addr)
 }
 
 /// The host at the other end, by its number, where it is in the report; a replay has one host alone.
@@ -50,7 +58,7 @@ pub fn peer_of(replay: bool, addrs: &[u32], flow: &Flow) -> Option<usize>
     if replay {
         return None;
     }
-    addrs.iter().position(|addr| *addr == flow.tuple.raddr)
+    host_of(addrs, flow.tuple.raddr)
 }
 
 /// Whether two four-tuples are one connection's, seen from both ends.
@@ -64,6 +72,7 @@ fn are_ends(one: &FourTuple, other: &FourTuple) -> bool
 }
 
 /// Whether a flow is the other end of the one that is drawn.
+#[tactic(auto, unfolding(crate::specs::Pictures::is_other_end))]
 fn is_other_end(peer: Option<usize>, drawn: &Flow, flow: &Flow) -> bool
     ensures { result ≡ rules.is_other_end peer drawn.now flow.now }
 {
@@ -76,8 +85,8 @@ fn is_other_end(peer: Option<usize>, drawn: &Flow, flow: &Flow) -> bool
 pub fn other_end(peer: Option<usize>, drawn: &Flow, flows: &[Flow]) -> Option<Flow>
     ensures { result ≡ rules.other_end peer drawn.now flows.now }
 {
-    flows
+    let flow = flows
         .iter()
-        .find(|flow| is_other_end(peer, drawn, flow))
-        .copied()
+        .find(|flow| is_other_end(peer, drawn, flow))?;
+    Some(*flow)
 }

@@ -1,5 +1,19 @@
 //! The second reading of a report: what it shows of both ends of a connection.
 
+ghost use Rattle.std.specs.Prelude.{◌≡◌, ◌++◌, ◌∷◌, [], ℕ, List, fold, OnOk, IfOk, Option};
+ghost use Rattle.report_lines.specs.Lines.{Line};
+ghost use Rattle.report_lines.specs.Shown.{AreNames};
+ghost use Rattle.report_lines.specs.Views.{seen_entry, seen_event, seen_line};
+ghost use Rattle.trace_audit.specs.TextLines.{text_lines};
+ghost use Rattle.report_picture.specs.Known.{after};
+ghost use Rattle.report_picture.specs.Rows.{rows_of, logged_row as model_logged_row};
+ghost use Rattle.report_picture.specs.Flows.{one};
+ghost use Rattle.report_picture.specs.declared.flows.Flow as model_flows;
+ghost use Rattle.report_picture.specs.Forms.{Said, IsOf, AreReport};
+ghost use Rattle.report_picture.specs.Hosts.{seen_hosts};
+ghost use Rattle.report_picture.specs.Pictures.{owner};
+ghost use Rattle.report_picture.specs.Reading.{plain, made_for, rows_for, logged_for, IsShown, AreShown};
+
 use crate::flows::{Above, Flow};
 use crate::hosts::Hosts;
 use crate::known::Known;
@@ -29,6 +43,7 @@ pub struct Ends {
 impl End {
     /// Nothing is shown.
     fn new(alloc: Global) -> End
+        ensures { (flow : Option model_flows.Flow) (host : Option ℕ) → IsShown result flow host [] }
     {
         End {
             rows: Vec::new(alloc),
@@ -39,9 +54,13 @@ impl End {
 
     /// Takes an entry of this flow. The error is want of memory.
     fn take_entry(&mut self, flow: &Flow, entry: &EntryLine<'_>) -> Result<(), AllocError>
+        ensures rows { OnOk result (self.new.rows.items
+            ≡ self.old.rows.items ++ rows_of (owner flow.now) self.old.known (seen_entry entry.now)) }
+        ensures known { OnOk result (self.new.known ≡ after self.old.known (seen_entry entry.now)) }
+        ensures log { OnOk result (self.new.log.items ≡ self.old.log.items) }
     {
         let owner = Owner {
-            host: flow.host as u32,
+            host: (flow.host % 4_294_967_296) as u32,
             flow: flow.number,
         };
         push_rows(&mut self.rows, owner, &self.known, entry)?;
@@ -51,6 +70,10 @@ impl End {
 
     /// Takes what a log tells. The error is want of memory.
     fn take_event(&mut self, tick: u32, event: &EventLine<'_>) -> Result<(), AllocError>
+        ensures log { OnOk result
+            (self.new.log.items ≡ self.old.log.items ++ one (model_logged_row tick (seen_event event.now))) }
+        ensures rows { OnOk result (self.new.rows.items ≡ self.old.rows.items) }
+        ensures known { OnOk result (self.new.known ≡ self.old.known) }
     {
         if let Some(row) = logged_row(tick, event) {
             self.log.push(row)?;
@@ -67,6 +90,12 @@ impl End {
         above: &Above,
         line: &ReportLine<'_>,
     ) -> Result<(), AllocError>
+        ensures rows { OnOk result (self.new.rows.items
+            ≡ self.old.rows.items ++ rows_for flow self.old.known (made_for flow above.now (seen_line line.now))) }
+        ensures known { OnOk result
+            (self.new.known ≡ fold after self.old.known (made_for flow above.now (seen_line line.now))) }
+        ensures log { OnOk result
+            (self.new.log.items ≡ self.old.log.items ++ logged_for host above.now (seen_line line.now)) }
     {
         match line {
             ReportLine::Made(entry) => match flow {
@@ -84,6 +113,7 @@ impl End {
 impl Ends {
     /// Nothing was read.
     fn new(alloc: Global) -> Ends
+        ensures { (drawn : model_flows.Flow) (peer : Option ℕ) (other : Option model_flows.Flow) → AreShown result drawn peer other [] }
     {
         Ends {
             above: Above::nowhere(),
@@ -100,12 +130,34 @@ impl Ends {
         other: Option<Flow>,
         line: &ReportLine<'_>,
     ) -> Result<(), AllocError>
+        ensures { OnOk result ((lines : List Line) → AreShown self.old drawn.now peer other lines
+            → AreShown self.new drawn.now peer other (lines ++ seen_line line.now ∷ [])) }
     {
         self.ours
             .take(Some(*drawn), Some(drawn.host), &self.above, line)?;
         self.theirs.take(other, peer, &self.above, line)?;
         self.above = self.above.with_line(line);
         Ok(())
+    }
+
+    /// Takes a line of a text. The error is want of memory.
+    fn take_text(
+        &mut self,
+        hosts: &Hosts<'_>,
+        drawn: &Flow,
+        peer: Option<usize>,
+        other: Option<Flow>,
+        text: &[u8],
+    ) -> Result<(), AllocError>
+        requires names { AreNames (seen_hosts hosts.now).names }
+        ensures { OnOk result ((said : Said) → IsOf hosts.now.replay (seen_hosts hosts.now).names text.now said
+            → (lines : List Line) → AreShown self.old drawn.now peer other lines
+            → AreShown self.new drawn.now peer other (lines ++ plain (said ∷ []))) }
+    {
+        match said_of(hosts.replay, &hosts.names, text) {
+            Some(SaidLine::Plain(line)) => self.take(drawn, peer, other, &line),
+            _ => Ok(()),
+        }
     }
 }
 
@@ -118,13 +170,15 @@ pub fn ends_of(
     peer: Option<usize>,
     other: Option<Flow>,
 ) -> Result<Ends, AllocError>
+    requires names { AreNames (seen_hosts hosts.now).names }
+    ensures { IfOk result (λ ends. (lines : List Line)
+        → AreReport (seen_hosts hosts.now) (text_lines report.now) lines
+        → AreShown ends drawn.now peer other lines) }
 {
     let mut ends = Ends::new(alloc);
     let mut rest = report;
     while let Some((line, more)) = next_line(rest) {
-        if let Some(SaidLine::Plain(line)) = said_of(hosts.replay, &hosts.names, line) {
-            ends.take(drawn, peer, other, &line)?;
-        }
+        ends.take_text(hosts, drawn, peer, other, line)?;
         rest = more;
     }
     Ok(ends)

@@ -1,6 +1,7 @@
 //! The hosts that a report names.
 
-ghost use Rattle.std.specs.Prelude.{◌≡◌, ◌||◌, OnOk, IfOk, []};
+ghost use Rattle.std.specs.Prelude.{◌≡◌, ◌||◌, bytes_eq, map, OnOk, IfOk, []};
+ghost use Rattle.std.specs.List.{list_any};
 ghost use Rattle.scenario_text.specs.Words as words;
 ghost use Rattle.report_lines.specs.Shown.{AreNames};
 ghost use Rattle.report_picture.specs.Hosts as rules;
@@ -44,6 +45,20 @@ fn told_addr(name: &[u8], line: &[u8]) -> Option<u32>
     }
 }
 
+/// Whether this is one of the names, which stand there as slices.
+fn any_is(names: &[&[u8]], name: &[u8]) -> bool
+    ensures { result ≡ list_any (λ n. bytes_eq n.now name.now) names.now }
+{
+    names.iter().any(|n| *n == name)
+}
+
+/// Whether this is one of the names.
+fn is_among(names: &[&[u8]], name: &[u8]) -> bool
+    ensures { result ≡ rules.is_there (map (λ n. n.now) names.now) name.now }
+{
+    any_is(names, name)
+}
+
 impl<'a> Hosts<'a> {
     /// No host was named yet.
     fn new(alloc: Global, replay: bool) -> Hosts<'a>
@@ -60,7 +75,7 @@ impl<'a> Hosts<'a> {
     fn is_there(&self, name: &[u8]) -> bool
         ensures { result ≡ rules.is_there (rules.seen_hosts self.now).names name.now }
     {
-        self.names.iter().any(|n| *n == name)
+        is_among(&self.names, name)
     }
 
     /// Whether one host more may have this name: none has it, and a replay has one host, `local`.

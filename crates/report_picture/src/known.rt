@@ -15,6 +15,9 @@ pub struct Known {
     /// Its own first sequence number, and the peer's, once its SYN was taken.
     pub iss: Seq,
     pub peer: Option<Seq>,
+    /// The shift of windows that its own SYN bore, and whether the peer's bore one, too (RFC 7323, section 2.2).
+    pub scale: Option<u8>,
+    pub scaled: bool,
     /// Whether its SYN is acknowledged.
     pub syn_acked: bool,
     /// Whether its application ended the stream, the number behind the FIN once that was sent, and whether this is
@@ -51,6 +54,8 @@ impl Known {
             begun: false,
             iss: Seq(0),
             peer: None,
+            scale: None,
+            scaled: false,
             syn_acked: false,
             shut: false,
             fin: None,
@@ -126,6 +131,7 @@ impl Known {
                 begun: true,
                 iss: *iss,
                 peer: Some(seg.head.seq),
+                scaled: seg.head.scale.is_some(),
                 next: seg.head.seq.plus(1),
                 ..*self
             },
@@ -181,6 +187,7 @@ impl Known {
         match reply {
             ReplyLine::Sent { .. } if has(head.flags, 2) => Known {
                 peer: Some(head.seq),
+                scaled: head.scale.is_some(),
                 syn_acked: true,
                 ..*self
             },
@@ -244,6 +251,26 @@ impl Known {
         }
     }
 
+    /// The shift of its own windows.
+    fn shift(&self) -> u8
+        ensures { result ≡ rules.shift_of self.now }
+    {
+        match self.scale {
+            Some(shift) if self.scaled => shift,
+            _ => 0,
+        }
+    }
+
+    /// The window that a segment offers, in bytes: its field by the shift, but in a SYN (RFC 7323, section 2.3).
+    fn window_in(&self, head: &Head) -> u64
+        ensures { result ≡ rules.window_in self.now head.now }
+    {
+        if has(head.flags, 2) {
+            return u64::from(head.window);
+        }
+        u64::from(head.window) << self.shift().min(14)
+    }
+
     /// What a segment tells that was sent.
     fn after_sent(&self, head: &Head, len: usize) -> Known
         ensures { result ≡ rules.after_sent self.now head.now len }
@@ -257,9 +284,14 @@ impl Known {
             },
             next: if tells { head.ack } else { self.next },
             window: if tells {
-                u64::from(head.window)
+                self.window_in(head)
             } else {
                 self.window
+            },
+            scale: if has(head.flags, 2) {
+                head.scale
+            } else {
+                self.scale
             },
             sent: self.sent.saturating_add(1),
             ..*self

@@ -1,10 +1,13 @@
 //! The first reading of a report: whether it is one, and its flows.
 
-ghost use Rattle.std.specs.Prelude.{◌≡◌, ◌<◌, ◌+◌, ◌-◌, ◌^◌, length, map, List, OnOk, IfOk, IfErr, true, false};
+ghost use Rattle.std.specs.Prelude.{◌≡◌, ◌<◌, ◌+◌, ◌-◌, ◌^◌, ◌++◌, ◌∷◌, [], ℕ, List, OnOk, IfOk, IfErr, true, false};
+ghost use Rattle.report_lines.specs.Lines.{Line};
 ghost use Rattle.report_lines.specs.Shown.{AreNames};
 ghost use Rattle.trace_audit.specs.TextLines.{text_lines};
-ghost use Rattle.report_picture.specs.Reading as rules;
-ghost use Rattle.report_picture.specs.Hosts.{seen_hosts, hosts_in};
+ghost use Rattle.report_picture.specs.Flows.{flows_in};
+ghost use Rattle.report_picture.specs.Forms.{seen_said, AreReport, BeginReport};
+ghost use Rattle.report_picture.specs.Hosts.{Named, seen_hosts};
+ghost use Rattle.report_picture.specs.Reading.{HasListed, IsUnlisted, begun_by, above_by};
 
 use crate::flows::{Above, Flow, push_begun};
 use crate::hosts::Hosts;
@@ -26,7 +29,8 @@ pub struct Listing {
 impl Listing {
     /// Nothing was read.
     fn new(alloc: Global) -> Listing
-        ensures { rules.HasListed_nothing result }
+        ensures listed { (n : Named) → HasListed n result [] }
+        ensures count { result.count ≡ 0 }
     {
         Listing {
             count: 0,
@@ -38,6 +42,10 @@ impl Listing {
 
     /// Takes what a line says. The error is want of memory.
     fn take_said(&mut self, said: &SaidLine<'_>) -> Result<(), AllocError>
+        ensures flows { OnOk result
+            (self.new.flows.items ≡ self.old.flows.items ++ begun_by self.old.above (seen_said said.now)) }
+        ensures above { OnOk result (self.new.above ≡ above_by self.old.above (seen_said said.now)) }
+        ensures count { OnOk result (self.new.count ≡ self.old.count) }
     {
         let SaidLine::Plain(line) = said else {
             return Ok(());
@@ -49,6 +57,15 @@ impl Listing {
 
     /// Takes a line; false where it is at fault. The error is want of memory.
     fn take(&mut self, hosts: &Hosts<'_>, text: &[u8]) -> Result<bool, AllocError>
+        requires names { AreNames (seen_hosts hosts.now).names }
+        requires few { self.old.count < 2 ^ 64 - 1 }
+        ensures taken { IfOk result (λ right. right ≡ true → (before : List (List ℕ))
+            → HasListed (seen_hosts hosts.now) self.old before
+            → HasListed (seen_hosts hosts.now) self.new (before ++ text.now ∷ [])) }
+        ensures counted { IfOk result (λ right. right ≡ true → self.new.count ≡ self.old.count + 1) }
+        ensures refused { IfOk result (λ right. right ≡ false → (before : List (List ℕ))
+            → HasListed (seen_hosts hosts.now) self.old before
+            → BeginReport (seen_hosts hosts.now) (before ++ text.now ∷ []) → ⊥) }
     {
         let Some(said) = said_of(hosts.replay, &hosts.names, text) else {
             return Ok(false);
@@ -69,6 +86,10 @@ pub fn flows_of(
     hosts: &Hosts<'_>,
     report: &[u8],
 ) -> Result<Vec<Flow>, PictureFault>
+    requires names { AreNames (seen_hosts hosts.now).names }
+    ensures found { IfOk result (λ flows. (lines : List Line)
+        × AreReport (seen_hosts hosts.now) (text_lines report.now) lines × (flows.items ≡ flows_in lines)) }
+    ensures unfound { IfErr result (IsUnlisted (seen_hosts hosts.now) (text_lines report.now)) }
 {
     let mut listing = Listing::new(alloc);
     let mut rest = report;
@@ -84,7 +105,7 @@ pub fn flows_of(
         }
         rest = more;
     }
-    if !listing.stage.is_over() {
+    if !listing.stage.is_over(hosts.replay) {
         return Err(PictureFault::Refused {
             line: listing.count as u64 + 1,
         });

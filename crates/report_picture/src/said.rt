@@ -49,6 +49,13 @@ fn is_counts(text: &[u8]) -> bool
     behind(text, b"records ").is_some()
 }
 
+/// Whether a line says that it is the title of a run's report.
+fn is_run_title(line: &ReportLine<'_>) -> bool
+    ensures { result ≡ rules.is_run_title (seen_line line.now) }
+{
+    matches!(line, ReportLine::Title)
+}
+
 /// What a line of a replay's report says that is no title and no line of counts.
 fn later_line<'a>(names: &[&[u8]], text: &'a [u8]) -> Option<SaidLine<'a>>
     requires names { AreNames (map (λ n. n.now) names.now) }
@@ -58,11 +65,11 @@ fn later_line<'a>(names: &[&[u8]], text: &'a [u8]) -> Option<SaidLine<'a>>
     ensures only { (s : Said) → rules.IsOf true (map (λ n. n.now) names.now) text.now s
         → option_map rules.seen_said result ≡ Some s }
 {
-    match plain_line(names, text) {
-        Some(ReportLine::Title) => None,
-        Some(line) => Some(SaidLine::Plain(line)),
-        None => None,
+    let line = plain_line(names, text)?;
+    if is_run_title(&line) {
+        return None;
     }
+    Some(SaidLine::Plain(line))
 }
 
 /// What a line says; `None` where it is of no form. `names` are those of the hosts.

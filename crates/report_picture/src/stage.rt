@@ -1,8 +1,7 @@
 //! How far a report was read, and which line may come then.
 
-ghost use Rattle.std.specs.Prelude.{◌≡◌, true, false, ⊥};
+ghost use Rattle.std.specs.Prelude.{◌≡◌};
 ghost use Rattle.report_lines.specs.Views.{seen_line};
-ghost use Rattle.report_form.specs.declared.place.Place.TheVariants as places;
 ghost use Rattle.report_picture.specs.Forms.{seen_said, Plain, Counts};
 ghost use Rattle.report_picture.specs.Stages as rules;
 
@@ -74,11 +73,10 @@ impl Stage {
         })
     }
 
-    /// Whether the report has ended.
-    pub fn is_over(&self) -> bool
-        ensures over { result ≡ true → self.now.place ≡ places.Ended }
-        ensures before { result ≡ false → self.now.place ≡ places.Ended → ⊥ }
+    /// Whether the report has ended: that of a replay with its counts.
+    pub fn is_over(&self, replay: bool) -> bool
+        ensures { result ≡ rules.is_over replay self.now }
     {
-        matches!(self.place, Place::Ended)
+        matches!(self.place, Place::Ended) && (!replay || self.counted)
     }
 }
