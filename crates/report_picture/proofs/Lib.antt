@@ -7,3 +7,4 @@ mod Texts
 mod SaidLines
 mod OneSaid
 mod Shown
+mod HostNames

@@ -1,6 +1,7 @@
 //! Which flow of a report is drawn, and which is its other end.
 
 ghost use Rattle.std.specs.Prelude.{◌≡◌, ◌==◌, map, slice_get, position};
+ghost use Rattle.std.specs.Option.{option_map};
 ghost use Rattle.report_picture.specs.Pictures as rules;
 
 use crate::flows::Flow;
@@ -34,13 +35,18 @@ fn is_wanted(names: &[&[u8]], wanted: Wanted<'_>, flow: &Flow) -> bool
     }
 }
 
+/// The first flow that is wanted, where it stands.
+fn first_wanted<'a>(names: &[&[u8]], wanted: Wanted<'_>, flows: &'a [Flow]) -> Option<&'a Flow>
+    ensures { option_map (λ f. f.now) result ≡ rules.chosen (map (λ n. n.now) names.now) wanted.entry flows.now }
+{
+    flows.iter().find(|flow| is_wanted(names, wanted, flow))
+}
+
 /// The first flow that is wanted.
 pub fn chosen(names: &[&[u8]], wanted: Wanted<'_>, flows: &[Flow]) -> Option<Flow>
     ensures { result ≡ rules.chosen (map (λ n. n.now) names.now) wanted.entry flows.now }
 {
-    let flow = flows
-        .iter()
-        .find(|flow| is_wanted(names, wanted, flow))?;
+    let flow = first_wanted(names, wanted, flows)?;
     Some(*flow)
 }
 
@@ -81,12 +87,17 @@ fn is_other_end(peer: Option<usize>, drawn: &Flow, flow: &Flow) -> bool
         && !(drawn.host == flow.host && drawn.number == flow.number)
 }
 
+/// The first flow of that host with the same ends, where it stands.
+fn first_end<'a>(peer: Option<usize>, drawn: &Flow, flows: &'a [Flow]) -> Option<&'a Flow>
+    ensures { option_map (λ f. f.now) result ≡ rules.other_end peer drawn.now flows.now }
+{
+    flows.iter().find(|flow| is_other_end(peer, drawn, flow))
+}
+
 /// The first flow of that host with the same ends.
 pub fn other_end(peer: Option<usize>, drawn: &Flow, flows: &[Flow]) -> Option<Flow>
     ensures { result ≡ rules.other_end peer drawn.now flows.now }
 {
-    let flow = flows
-        .iter()
-        .find(|flow| is_other_end(peer, drawn, flow))?;
+    let flow = first_end(peer, drawn, flows)?;
     Some(*flow)
 }
