@@ -1,7 +1,7 @@
 -- The names of a report's hosts are of letters and digits, and each is found at its own place alone.
 use Rattle.std.proofs.Common.{◌≡◌, ℕ, zero, suc, ◌+◌, ◌≤◌, ◌<◌, Bool, true, false, not, cond, ltb, List, [], ◌∷◌, ◌++◌}
 use Rattle.std.proofs.Common.{length, Option, Some, None, refl, sym, ◌∙◌, ap, subst, arith, length-append, inl, inr, ◌⊎◌}
-use Rattle.std.specs.Prelude.{slice_get, bytes_eq, position, codes, ◌||◌, ◌&&◌}
+use Rattle.std.specs.Prelude.{slice_get, bytes_eq, position, codes, nat_lt, ◌||◌, ◌&&◌}
 use Rattle.std.specs.List.{position_or_len, list_all, list_any, take_while}
 use Rattle.std.proofs.lemmas.Bool.{and_parts}
 use Rattle.std.proofs.lemmas.Bool.Decides.{nat_tests}
@@ -38,11 +38,12 @@ place_is p xs i is below = by_place (position_or_len p xs) (length xs) is below 
 still : {A : Type 0} (p : A → Bool) (xs ys : List A) → position_or_len p xs < length xs
     → position_or_len p (xs ++ ys) ≡ position_or_len p xs
 still p [] ys h = absurd (omega (arith, h))
-still p (x ∷ xs) ys h = by_first (p x) refl h where
+still p (x ∷ xs) ys h = by_first (p x) refl h (λ below. still p xs ys below) where
   by_first : (b : Bool) → p x ≡ b → cond (not b) (1 + position_or_len p xs) 0 < suc (length xs)
+      → (position_or_len p xs < length xs → position_or_len p (xs ++ ys) ≡ position_or_len p xs)
       → cond (not b) (1 + position_or_len p (xs ++ ys)) 0 ≡ cond (not b) (1 + position_or_len p xs) 0
-  by_first true is h = refl
-  by_first false is h = ap (λ (n : ℕ). 1 + n) (still p xs ys (omega (arith, h)))
+  by_first true is h more = refl
+  by_first false is h more = ap (λ (n : ℕ). 1 + n) (more (omega (arith, h)))
 
 -- the first that passes stands behind those that do not
 last_place : {A : Type 0} (p : A → Bool) (xs : List A) (y : A) → list_any p xs ≡ false → p y ≡ true
@@ -51,12 +52,13 @@ last_place p [] y none passes = by_test (p y) passes where
   by_test : (b : Bool) → b ≡ true → cond (not b) (1 + 0) 0 ≡ 0
   by_test true e = refl
   by_test false e = absurd (cc (e))
-last_place p (x ∷ xs) y none passes = by_first (p x) none where
+last_place p (x ∷ xs) y none passes = by_first (p x) none (λ rest. last_place p xs y rest passes) where
   by_first : (b : Bool) → (b || list_any p xs) ≡ false
+      → (list_any p xs ≡ false → position_or_len p (xs ++ y ∷ []) ≡ length xs)
       → cond (not b) (1 + position_or_len p (xs ++ y ∷ [])) 0 ≡ suc (length xs)
-  by_first true none = absurd (cc (none))
-  by_first false none =
-      let later : position_or_len p (xs ++ y ∷ []) ≡ length xs = last_place p xs y none passes in
+  by_first true none more = absurd (cc (none))
+  by_first false none more =
+      let later : position_or_len p (xs ++ y ∷ []) ≡ length xs = more none in
       omega (arith, later)
 
 -- ----- one name more
@@ -123,8 +125,9 @@ with_kept : (n : Named) (name : List ℕ) (addr : ℕ) (b : Bool) → may_be_nam
     → AreNames (cond b (record n { names = n.names ++ name ∷ []; addrs = n.addrs ++ addr ∷ [] }) n).names
 with_kept n name addr false may plain ok = ok
 with_kept n name addr true may plain ok =
-    let first = and_parts _ _ may in
-    let second = and_parts _ _ first.0 in
+    let first = and_parts (nat_lt (length n.names) 8 && not (is_there n.names name))
+    (not n.replay || bytes_eq name (codes "local")) may in
+    let second = and_parts (nat_lt (length n.names) 8) (not (is_there n.names name)) first.0 in
     names_more n.names name ok (grind (arith, nat_tests, second.0)) (is_false (is_there n.names name) second.1) plain
     where
       is_false : (b : Bool) → not b ≡ true → b ≡ false

@@ -8,3 +8,5 @@ mod SaidLines
 mod OneSaid
 mod Shown
 mod HostNames
+mod Reports
+mod EndsRead

@@ -19,7 +19,7 @@ use crate::hosts::Hosts;
 use crate::known::Known;
 use crate::lines::next_line;
 use crate::rows::{Owner, logged_row, push_rows};
-use crate::said::{SaidLine, said_of};
+use crate::said::{SaidLine, said_by};
 use ladder_picture::Row;
 use report_lines::{EntryLine, EventLine, ReportLine};
 use std::alloc::{AllocError, Global};
@@ -154,7 +154,7 @@ impl Ends {
             → (lines : List Line) → AreShown self.old drawn.now peer other lines
             → AreShown self.new drawn.now peer other (lines ++ plain (said ∷ []))) }
     {
-        match said_of(hosts.replay, &hosts.names, text) {
+        match said_by(hosts, text) {
             Some(SaidLine::Plain(line)) => self.take(drawn, peer, other, &line),
             _ => Ok(()),
         }

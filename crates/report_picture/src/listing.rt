@@ -13,7 +13,7 @@ use crate::flows::{Above, Flow, push_begun};
 use crate::hosts::Hosts;
 use crate::lines::next_line;
 use crate::pictures::PictureFault;
-use crate::said::{SaidLine, said_of};
+use crate::said::{SaidLine, said_by};
 use crate::stage::Stage;
 use std::alloc::{AllocError, Global};
 
@@ -67,10 +67,10 @@ impl Listing {
             → HasListed (seen_hosts hosts.now) self.old before
             → BeginReport (seen_hosts hosts.now) (before ++ text.now ∷ []) → ⊥) }
     {
-        let Some(said) = said_of(hosts.replay, &hosts.names, text) else {
+        let Some(said) = said_by(hosts, text) else {
             return Ok(false);
         };
-        let Some(stage) = self.stage.next(hosts.replay, &hosts.addrs, &said) else {
+        let Some(stage) = self.stage.next_by(hosts, &said) else {
             return Ok(false);
         };
         self.take_said(&said)?;
@@ -94,11 +94,12 @@ pub fn flows_of(
     let mut listing = Listing::new(alloc);
     let mut rest = report;
     while let Some((line, more)) = next_line(rest) {
+        let count = listing.count;
         match listing.take(hosts, line) {
             Ok(true) => {}
             Ok(false) => {
                 return Err(PictureFault::Refused {
-                    line: listing.count as u64 + 1,
+                    line: count as u64 + 1,
                 });
             }
             Err(_) => return Err(PictureFault::OutOfMemory),

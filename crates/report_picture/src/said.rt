@@ -6,10 +6,11 @@ ghost use Rattle.report_lines.specs.Lines.{Line};
 ghost use Rattle.report_lines.specs.Shown.{AreNames};
 ghost use Rattle.report_lines.specs.Views.{seen_line};
 ghost use Rattle.trace_audit.specs.Forms.{IsSaid};
-ghost use Rattle.report_picture.specs.Hosts.{replay_title};
+ghost use Rattle.report_picture.specs.Hosts.{replay_title, seen_hosts};
 ghost use Rattle.report_picture.specs.Forms.{Said};
 ghost use Rattle.report_picture.specs.Forms as rules;
 
+use crate::hosts::Hosts;
 use crate::lines::behind;
 use report_lines::{ReportLine, read_line};
 
@@ -73,7 +74,7 @@ fn later_line<'a>(names: &[&[u8]], text: &'a [u8]) -> Option<SaidLine<'a>>
 }
 
 /// What a line says; `None` where it is of no form. `names` are those of the hosts.
-pub fn said_of<'a>(replay: bool, names: &[&[u8]], text: &'a [u8]) -> Option<SaidLine<'a>>
+fn said_of<'a>(replay: bool, names: &[&[u8]], text: &'a [u8]) -> Option<SaidLine<'a>>
     requires names { AreNames (map (λ n. n.now) names.now) }
     ensures found { IfSome result (λ s. rules.IsOf replay (map (λ n. n.now) names.now) text.now (rules.seen_said s)) }
     ensures only { (s : Said) → rules.IsOf replay (map (λ n. n.now) names.now) text.now s
@@ -90,4 +91,15 @@ pub fn said_of<'a>(replay: bool, names: &[&[u8]], text: &'a [u8]) -> Option<Said
         return Some(SaidLine::Counts);
     }
     later_line(names, text)
+}
+
+/// What a line of a report says that names these hosts; `None` where it is of no form.
+pub fn said_by<'a>(hosts: &Hosts<'_>, text: &'a [u8]) -> Option<SaidLine<'a>>
+    requires names { AreNames (seen_hosts hosts.now).names }
+    ensures found { IfSome result
+        (λ s. rules.IsOf hosts.now.replay (seen_hosts hosts.now).names text.now (rules.seen_said s)) }
+    ensures only { (s : Said) → rules.IsOf hosts.now.replay (seen_hosts hosts.now).names text.now s
+        → option_map rules.seen_said result ≡ Some s }
+{
+    said_of(hosts.replay, &hosts.names, text)
 }

@@ -3,8 +3,10 @@
 ghost use Rattle.std.specs.Prelude.{◌≡◌};
 ghost use Rattle.report_lines.specs.Views.{seen_line};
 ghost use Rattle.report_picture.specs.Forms.{seen_said, Plain, Counts};
+ghost use Rattle.report_picture.specs.Hosts.{seen_hosts};
 ghost use Rattle.report_picture.specs.Stages as rules;
 
+use crate::hosts::Hosts;
 use crate::said::SaidLine;
 use report_form::Place;
 use report_lines::ReportLine;
@@ -36,7 +38,7 @@ impl Stage {
 
     /// Where a line leads; `None` where it may not come here. `addrs` are the addresses of the hosts.
     #[tactic(auto, unfolding(crate::specs::Stages::next_stage))]
-    pub fn next(&self, replay: bool, addrs: &[u32], said: &SaidLine<'_>) -> Option<Stage>
+    fn next(&self, replay: bool, addrs: &[u32], said: &SaidLine<'_>) -> Option<Stage>
         ensures { result ≡ rules.next_stage replay addrs.now self.now (seen_said said.now) }
     {
         match said {
@@ -71,6 +73,14 @@ impl Stage {
             place: self.place,
             counted: true,
         })
+    }
+
+    /// Where a line of a report leads that names these hosts; `None` where it may not come here.
+    pub fn next_by(&self, hosts: &Hosts<'_>, said: &SaidLine<'_>) -> Option<Stage>
+        ensures { result
+            ≡ rules.next_stage hosts.now.replay (seen_hosts hosts.now).addrs self.now (seen_said said.now) }
+    {
+        self.next(hosts.replay, &hosts.addrs, said)
     }
 
     /// Whether the report has ended: that of a replay with its counts.
