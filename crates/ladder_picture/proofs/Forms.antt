@@ -7,23 +7,29 @@ use Rattle.std.specs.Fmt.{digit_glyph, digits_onto, digits}
 use Rattle.std.proofs.lemmas.Bool.{and_parts}
 use Rattle.std.proofs.lemmas.Bool.Decides.{nat_tests}
 use Rattle.std.proofs.lemmas.List.Sums.{fold-append}
-use Rattle.ladder_picture.specs.WellFormed.{Scan, Spot, Content, Tag, Value, at, next}
-use Rattle.ladder_picture.specs.Elements.{text, path}
+use Rattle.std.proofs.lemmas.List.Folds.{list_all-append}
+use Rattle.ladder_picture.specs.WellFormed.{Scan, Begun, Content, Value, at, next, is_character}
+use Rattle.ladder_picture.specs.Elements.{text, path, counted}
 
 -- ----- runs
 -- one goes through a text from one spot to another
-abbrev pub Runs : (t : List ℕ) → (from to : Scan) → Type 0
-Runs t s s' = fold next s t ≡ s'
+pub record Runs (t : List ℕ) (from to : Scan) : Type 0 where
+  pub is : fold next from t ≡ to
 
-pub runs_on : (a b : List ℕ) (s s1 s2 : Scan) → Runs a s s1 → Runs b s1 s2 → Runs (a ++ b) s s2
-runs_on a b s s1 s2 p q = fold-append next s a b ∙ (ap (λ (x : Scan). fold next x b) p ∙ q)
+pub runs : (t : List ℕ) (from to : Scan) → fold next from t ≡ to → Runs t from to
+runs t from to e = record { is = e }
+
+pub runs_on : {a b : List ℕ} {s s1 s2 : Scan} → Runs a s s1 → Runs b s1 s2 → Runs (a ++ b) s s2
+runs_on {a} {b} {s} {s1} {s2} p q =
+    record { is = fold-append next s a b ∙ (ap (λ (x : Scan). fold next x b) p.is ∙ q.is) }
 
 -- ----- plain bytes
 -- a byte that stands for itself, in a text and in quotes
 abbrev pub is_plain : (c : ℕ) → Bool
-is_plain c = not (c == 34) && (not (c == 60) && (not (c == 38) && not (c == 62)))
+is_plain c = is_character c && (not (c == 34) && (not (c == 60) && (not (c == 38) && not (c == 62))))
 
 record Tests (c : ℕ) : Type 0 where
+  pub character : is_character c ≡ true
   pub quote : (c == 34) ≡ false
   pub less : (c == 60) ≡ false
   pub and_sign : (c == 38) ≡ false
@@ -35,35 +41,56 @@ no_more true e = absurd (cc (e))
 
 tests : (c : ℕ) → is_plain c ≡ true → Tests c
 tests c e =
-    let one = and_parts (not (c == 34)) (not (c == 60) && (not (c == 38) && not (c == 62))) e in
+    let zero = and_parts (is_character c) (not (c == 34) && (not (c == 60) && (not (c == 38) && not (c == 62)))) e in
+    let one = and_parts (not (c == 34)) (not (c == 60) && (not (c == 38) && not (c == 62))) zero.1 in
     let two = and_parts (not (c == 60)) (not (c == 38) && not (c == 62)) one.1 in
     let three = and_parts (not (c == 38)) (not (c == 62)) two.1 in
     record {
+      character = zero.0;
       quote = no_more (c == 34) one.0;
       less = no_more (c == 60) two.0;
       and_sign = no_more (c == 38) three.0;
       more = no_more (c == 62) three.1;
     }
 
-value_stays : (w : List (List ℕ)) (name : List ℕ) (c : ℕ) → Tests c
-    → next (at w (Value name)) c ≡ at w (Value name)
-value_stays w name c t = rw (t.quote, t.less, t.and_sign, t.more) refl
+value_stays : (w : List (List ℕ)) (b : Begun) (c : ℕ) → Tests c → next (at w (Value b)) c ≡ at w (Value b)
+value_stays w b c t = rw (t.quote, t.less, t.and_sign, t.more, t.character) refl
 
 content_stays : (w : List (List ℕ)) (c : ℕ) → Tests c → next (at w Content) c ≡ at w Content
-content_stays w c t = rw (t.less, t.and_sign, t.more) refl
+content_stays w c t = rw (t.less, t.and_sign, t.more, t.character) refl
 
-pub in_quotes : (w : List (List ℕ)) (name t : List ℕ) → list_all is_plain t ≡ true
-    → Runs t (at w (Value name)) (at w (Value name))
-in_quotes w name [] e = refl
-in_quotes w name (c ∷ cs) e =
-    let parts = and_parts (is_plain c) (list_all is_plain cs) e in
-    ap (λ (s : Scan). fold next s cs) (value_stays w name c (tests c parts.0)) ∙ in_quotes w name cs parts.1
+-- all bytes of a text
+pub record Plain (t : List ℕ) : Type 0 where
+  pub is : list_all is_plain t ≡ true
 
-pub in_text : (w : List (List ℕ)) (t : List ℕ) → list_all is_plain t ≡ true → Runs t (at w Content) (at w Content)
-in_text w [] e = refl
-in_text w (c ∷ cs) e =
+pub word : (t : List ℕ) → list_all is_plain t ≡ true → Plain t
+word t e = record { is = e }
+
+pub two : {a b : List ℕ} → Plain a → Plain b → Plain (a ++ b)
+two {a} {b} p q = record { is = list_all-append is_plain a b ∙ both (list_all is_plain a) (list_all is_plain b) p.is q.is }
+  where
+    both : (x y : Bool) → x ≡ true → y ≡ true → (x && y) ≡ true
+    both x y e h = rw (e, h) refl
+
+pub either : {x y : List ℕ} (b : Bool) → Plain x → Plain y → Plain (if b then x else y)
+either true p q = p
+either false p q = q
+
+quotes_stay : (w : List (List ℕ)) (b : Begun) (t : List ℕ) → list_all is_plain t ≡ true
+    → fold next (at w (Value b)) t ≡ at w (Value b)
+quotes_stay w b [] e = refl
+quotes_stay w b (c ∷ cs) e =
     let parts = and_parts (is_plain c) (list_all is_plain cs) e in
-    ap (λ (s : Scan). fold next s cs) (content_stays w c (tests c parts.0)) ∙ in_text w cs parts.1
+    ap (λ (s : Scan). fold next s cs) (value_stays w b c (tests c parts.0)) ∙ quotes_stay w b cs parts.1
+
+pub in_quotes : {t : List ℕ} (w : List (List ℕ)) (b : Begun) → Plain t → Runs t (at w (Value b)) (at w (Value b))
+in_quotes {t} w b p = record { is = quotes_stay w b t p.is }
+
+text_stays : (w : List (List ℕ)) (t : List ℕ) → list_all is_plain t ≡ true → fold next (at w Content) t ≡ at w Content
+text_stays w [] e = refl
+text_stays w (c ∷ cs) e =
+    let parts = and_parts (is_plain c) (list_all is_plain cs) e in
+    ap (λ (s : Scan). fold next s cs) (content_stays w c (tests c parts.0)) ∙ text_stays w cs parts.1
 
 -- ----- digits
 glyph_plain : (d : ℕ) → d < 10 → is_plain (digit_glyph false d) ≡ true
@@ -77,66 +104,100 @@ digits_plain zero n acc e = e
 digits_plain (suc k) n acc e =
     let here : list_all is_plain (digit_glyph false (n % 10) ∷ acc) ≡ true =
     rw (glyph_plain (n % 10) (omega arith), e) refl in
-    by (n / 10 == 0) here (digits_plain k (n / 10) (digit_glyph false (n % 10) ∷ acc) here) where
-      by : (b : Bool) {xs ys : List ℕ} → list_all is_plain xs ≡ true → list_all is_plain ys ≡ true
+    by (n / 10 == 0) _ _ here (digits_plain k (n / 10) (digit_glyph false (n % 10) ∷ acc) here) where
+      by : (b : Bool) (xs ys : List ℕ) → list_all is_plain xs ≡ true → list_all is_plain ys ≡ true
           → list_all is_plain (if b then xs else ys) ≡ true
-      by true p q = p
-      by false p q = q
+      by true xs ys p q = p
+      by false xs ys p q = q
 
-pub decimal_plain : (n : ℕ) → list_all is_plain (decimal n) ≡ true
+decimal_plain : (n : ℕ) → list_all is_plain (decimal n) ≡ true
 unfolding digits
 decimal_plain n = digits_plain 64 n [] refl
 
+pub number : (n : ℕ) → Plain (decimal n)
+number n = record { is = decimal_plain n }
+
+pub count : {w : List ℕ} → Plain w → (n : ℕ) → Plain (counted w n)
+count p n = two p (number n)
+
 -- ----- elements
-abbrev text_name : List ℕ
-text_name = codes "txet"
-
-abbrev path_name : List ℕ
-path_name = codes "htap"
-
--- It may stand between tags.
-abbrev pub IsContent : (t : List ℕ) → Type 0
-IsContent t = (w : List (List ℕ)) → Runs t (at w Content) (at w Content)
+-- It may stand between tags, within an element.
+pub record IsContent (t : List ℕ) : Type 0 where
+  pub stays : (top : List ℕ) (w : List (List ℕ)) → Runs t (at (top ∷ w) Content) (at (top ∷ w) Content)
 
 pub none : IsContent []
-none w = refl
+none = record { stays = λ top w. record { is = refl } }
 
-pub both_content : (a b : List ℕ) → IsContent a → IsContent b → IsContent (a ++ b)
-both_content a b p q w = runs_on a b (at w Content) (at w Content) (at w Content) (p w) (q w)
+pub both : {a b : List ℕ} → IsContent a → IsContent b → IsContent (a ++ b)
+both p q = record { stays = λ top w. runs_on (p.stays top w) (q.stays top w) }
 
-pub plain_content : (t : List ℕ) → list_all is_plain t ≡ true → IsContent t
-plain_content t e w = in_text w t e
+pub words : {t : List ℕ} → Plain t → IsContent t
+words {t} p = record { stays = λ top w. record { is = text_stays (top ∷ w) t p.is } }
 
-pub all_content : {A : Type 0} (f : A → List ℕ) (xs : List A) → ((x : A) → IsContent (f x)) → IsContent (flat_map f xs)
-all_content f [] each = none
-all_content f (x ∷ xs) each = both_content (f x) (flat_map f xs) (each x) (all_content f xs each)
+pub all : {A : Type 0} (f : A → List ℕ) (xs : List A) → ((x : A) → IsContent (f x)) → IsContent (flat_map f xs)
+all f [] each = none
+all f (x ∷ xs) each = both (each x) (all f xs each)
 
-pub text_content : (class x : List ℕ) (y : ℕ) (dy content : List ℕ) → list_all is_plain class ≡ true
-    → list_all is_plain x ≡ true → list_all is_plain dy ≡ true → IsContent content
+-- in the quotes of a tag's last attribute
+abbrev tag : (name : List ℕ) → (attributes : List (List ℕ)) → Begun
+tag name attributes = record { name = name; attributes = attributes }
+
+abbrev quotes : (within : List (List ℕ)) → Begun → Scan
+quotes w b = at w (Value b)
+
+-- the tags of a text and of a path, up to the quotes of each attribute
+abbrev in_text : (attributes : List (List ℕ)) → (top : List ℕ) → (w : List (List ℕ)) → Scan
+in_text attributes top w = quotes (top ∷ w) (tag (codes "txet") attributes)
+
+abbrev in_path : (attributes : List (List ℕ)) → (top : List ℕ) → (w : List (List ℕ)) → Scan
+in_path attributes top w = quotes (top ∷ w) (tag (codes "htap") attributes)
+
+abbrev a1 : List (List ℕ)
+a1 = codes "ssalc" ∷ []
+
+abbrev a2 : List (List ℕ)
+a2 = codes "x" ∷ a1
+
+abbrev a3 : List (List ℕ)
+a3 = codes "y" ∷ a2
+
+abbrev a4 : List (List ℕ)
+a4 = codes "yd" ∷ a3
+
+abbrev d2 : List (List ℕ)
+d2 = codes "d" ∷ a1
+
+abbrev out : (top : List ℕ) → (w : List (List ℕ)) → Scan
+out top w = at (top ∷ w) Content
+
+pub element : {class x dy content : List ℕ} (y : ℕ) → Plain class → Plain x → Plain dy → IsContent content
     → IsContent (text class x y dy content)
-text_content class x y dy content plain_class plain_x plain_dy inner w =
-    let value = at w (Value text_name) in
-    let inside = at (text_name ∷ w) Content in
-    let rest = runs_on content (codes "</text>\n") inside inside (at w Content) (inner (text_name ∷ w)) refl in
-    let s8 = runs_on dy (codes "\">") value value inside (in_quotes w text_name dy plain_dy) refl in
-    let s7 = runs_on (codes "\" dy=\"") (dy ++ codes "\">") value value inside refl s8 in
-    let s6 = runs_on (decimal y) _ value value inside (in_quotes w text_name (decimal y) (decimal_plain y)) s7 in
-    let s5 = runs_on (codes "\" y=\"") _ value value inside refl s6 in
-    let s4 = runs_on x _ value value inside (in_quotes w text_name x plain_x) s5 in
-    let s3 = runs_on (codes "\" x=\"") _ value value inside refl s4 in
-    let s2 = runs_on class _ value value inside (in_quotes w text_name class plain_class) s3 in
-    let s1 = runs_on (codes "<text class=\"") _ (at w Content) value inside refl s2 in
-    runs_on _ (content ++ codes "</text>\n") (at w Content) inside (at w Content) s1 rest
+element y class x dy inner = record {
+  stays = λ top w.
+      runs_on (runs_on (runs_on (runs_on (runs_on (runs_on (runs_on (runs_on (runs_on
+      (runs (codes "<text class=\"") (out top w) (in_text a1 top w) refl)
+      (in_quotes (top ∷ w) (tag (codes "txet") a1) class))
+      (runs (codes "\" x=\"") (in_text a1 top w) (in_text a2 top w) refl))
+      (in_quotes (top ∷ w) (tag (codes "txet") a2) x))
+      (runs_on (runs (codes "\" y=\"") (in_text a2 top w) (in_text a3 top w) refl)
+      (in_quotes (top ∷ w) (tag (codes "txet") a3) (number y))))
+      (runs (codes "\" dy=\"") (in_text a3 top w) (in_text a4 top w) refl))
+      (in_quotes (top ∷ w) (tag (codes "txet") a4) dy))
+      (runs (codes "\">") (in_text a4 top w) (at (codes "txet" ∷ top ∷ w) Content) refl))
+      (inner.stays (codes "txet") (top ∷ w)))
+      (runs (codes "</text>\n") (at (codes "txet" ∷ top ∷ w) Content) (out top w) refl);
+}
 
-pub path_content : (class x : List ℕ) (y : ℕ) (way : List ℕ) → list_all is_plain class ≡ true
-    → list_all is_plain x ≡ true → list_all is_plain way ≡ true → IsContent (path class x y way)
-path_content class x y way plain_class plain_x plain_way w =
-    let value = at w (Value path_name) in
-    let s6 = runs_on (codes " ") (decimal y) value value value refl
-    (in_quotes w path_name (decimal y) (decimal_plain y)) in
-    let s5 = runs_on x _ value value value (in_quotes w path_name x plain_x) s6 in
-    let s4 = runs_on (codes "\" d=\"M") _ value value value refl s5 in
-    let s3 = runs_on class _ value value value (in_quotes w path_name class plain_class) s4 in
-    let s2 = runs_on (codes "<path class=\"") _ (at w Content) value value refl s3 in
-    let end = runs_on way (codes "\"/>\n") value value (at w Content) (in_quotes w path_name way plain_way) refl in
-    runs_on _ (way ++ codes "\"/>\n") (at w Content) value (at w Content) s2 end
+pub line : {class x way : List ℕ} (y : ℕ) → Plain class → Plain x → Plain way → IsContent (path class x y way)
+line y class x way = record {
+  stays = λ top w.
+      runs_on (runs_on (runs_on (runs_on (runs_on (runs_on
+      (runs (codes "<path class=\"") (out top w) (in_path a1 top w) refl)
+      (in_quotes (top ∷ w) (tag (codes "htap") a1) class))
+      (runs (codes "\" d=\"M") (in_path a1 top w) (in_path d2 top w) refl))
+      (in_quotes (top ∷ w) (tag (codes "htap") d2) x))
+      (runs_on (runs (codes " ") (in_path d2 top w) (in_path d2 top w) refl)
+      (in_quotes (top ∷ w) (tag (codes "htap") d2) (number y))))
+      (in_quotes (top ∷ w) (tag (codes "htap") d2) way))
+      (runs (codes "\"/>\n") (in_path d2 top w) (out top w) refl);
+}

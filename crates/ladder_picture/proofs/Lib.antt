@@ -1,5 +1,9 @@
-pub mod Forms
-pub mod OneArrow
-pub mod Pictures
-pub mod Ways
+pub mod Appended
+pub mod Heights
 pub mod Sides
+pub mod OneMore
+pub mod Forms
+pub mod Pictures
+pub mod Once
+pub mod Joining
+pub mod Standing

@@ -1,18 +1,18 @@
 -- The text of arrows.
-use Rattle.std.specs.Prelude.{ℕ, Bool, true, false, is_some, List, [], ◌∷◌, ◌++◌, codes, decimal, flat_map}
-use Rattle.std.specs.Prelude.{option_to_list, Option, Some, None, if◌then◌else◌}
-use Rattle.tas_model.specs.declared.entry.FrameId.{FrameId}
+use Rattle.std.specs.Prelude.{ℕ, Bool, true, false, List, [], ◌∷◌, ◌++◌, codes, decimal, flat_map}
+use Rattle.std.specs.Prelude.{Option, Some, None, if◌then◌else◌}
 use Rattle.ladder_picture.specs.declared.row.Fate.{Fate}
 use Rattle.ladder_picture.specs.declared.row.Frame.{Frame}
 use Rattle.ladder_picture.specs.declared.rungs.Side.{Side}
 use Rattle.ladder_picture.specs.declared.rungs.Side.TheVariants.{Left, Right}
 use Rattle.ladder_picture.specs.declared.rungs.Rung.{Rung}
-use Rattle.ladder_picture.specs.declared.rungs.Arrival.{Arrival}
+use Rattle.ladder_picture.specs.declared.joins.Arrival.{Arrival}
+use Rattle.ladder_picture.specs.declared.joins.CameFrame.{CameFrame}
 use Rattle.ladder_picture.specs.declared.arrows.Look.{Look}
 use Rattle.ladder_picture.specs.declared.labels.Origins.{Origins}
-use Rattle.ladder_picture.specs.Arrows.{across, Arrow, Sent, Came, arrival_on}
+use Rattle.ladder_picture.specs.Arrows.{across, Sent, passes, sent_arrows, came_arrows}
 use Rattle.ladder_picture.specs.Labels.{label_text, fate_text}
-use Rattle.ladder_picture.specs.Elements.{text, path}
+use Rattle.ladder_picture.specs.Elements.{text, path, counted}
 
 -- ----- sides
 -- from which numbers those of a frame are told that a side sends
@@ -41,7 +41,7 @@ way_end Right = codes "H348"
 
 abbrev pub line_text : (sender : Side) → (start height : ℕ) → List ℕ
 line_text sender start height =
-    path (side_name sender) (lifeline sender) start (turn sender ++ decimal height ++ way_end sender)
+    path (side_name sender) (lifeline sender) start (counted (turn sender) height ++ way_end sender)
 
 -- ----- heads
 -- filled where the connection had the frame
@@ -91,12 +91,6 @@ mark_text sender a = text (mark_name (across sender)) (label_place (across sende
 abbrev pub arrival_text : (sender : Side) → (y : ℕ) → Arrival → List ℕ
 arrival_text sender y a = line_text sender y a.y ++ head_text sender a.y a.fate ++ mark_text sender a
 
-abbrev pub ways_on : (sender : Side) → (y : ℕ) → FrameId → Rung → List ℕ
-ways_on sender y id r = flat_map (arrival_text sender y) (option_to_list (arrival_on (across sender) id r))
-
-abbrev pub comes_on : (sender : Side) → FrameId → Rung → Bool
-comes_on sender id r = is_some (arrival_on (across sender) id r)
-
 -- a frame that came nowhere: lost with a cross where both ends are in the report, and else of an end that is not known
 abbrev pub lost_line : (sender : Side) → (y : ℕ) → List ℕ
 lost_line sender y = path (side_name sender) (lifeline sender) y (codes "H620")
@@ -126,8 +120,17 @@ ways_text look sender y [] = lost_text look sender y
 ways_text look sender y (a ∷ rest) = flat_map (arrival_text sender y) (a ∷ rest)
 
 -- The text of an arrow.
-abbrev pub arrow_text : Look → Arrow → List ℕ
-arrow_text look (Sent sender y f ends) = ways_text look sender y ends ++ side_label look sender sender y f
-arrow_text look (Came sender y f) =
-    came_line look sender y ++ ring_text look y
-    ++ head_text sender y None ++ side_label look sender (across sender) y f
+abbrev pub sent_text : Look → Sent → List ℕ
+sent_text look x = ways_text look x.sender x.y x.ends ++ side_label look x.sender x.sender x.y x.frame
+
+abbrev pub came_label : Look → CameFrame → List ℕ
+came_label look x = side_label look x.sender (across x.sender) x.y x.frame
+
+abbrev pub came_text : Look → CameFrame → List ℕ
+came_text look x =
+    came_line look x.sender x.y ++ ring_text look x.y ++ head_text x.sender x.y None ++ came_label look x
+
+-- The text of all arrows: of those that were sent, and of those that came from nowhere.
+abbrev pub arrows_text : Look → List Rung → List ℕ
+arrows_text look rungs = flat_map (sent_text look) (sent_arrows (passes rungs))
+    ++ flat_map (came_text look) (came_arrows [] (passes rungs))

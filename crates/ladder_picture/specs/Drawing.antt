@@ -12,9 +12,8 @@ use Rattle.ladder_picture.specs.declared.rungs.Side.TheVariants.{Left, Right}
 use Rattle.ladder_picture.specs.declared.rungs.Rung.{Rung}
 use Rattle.ladder_picture.specs.declared.arrows.Look.{Look}
 use Rattle.ladder_picture.specs.Rungs.{top}
-use Rattle.ladder_picture.specs.Arrows.{arrows}
-use Rattle.ladder_picture.specs.ArrowTexts.{arrow_text, lifeline}
-use Rattle.ladder_picture.specs.Elements.{text, path}
+use Rattle.ladder_picture.specs.ArrowTexts.{arrows_text, lifeline}
+use Rattle.ladder_picture.specs.Elements.{text, path, counted}
 use Rattle.ladder_picture.specs.Labels.{escaped, note_text}
 
 -- ----- the frame
@@ -49,19 +48,25 @@ style = codes "<style>text{font-family:monospace;font-size:12px;fill:#111}"
     ++ codes ".ring{fill:#fff;stroke:#a40000}.fold{stroke:#fff;stroke-width:4;stroke-dasharray:3 3}</style>\n"
 
 -- the beginning of the document: its size, how its parts look, and the white ground
-abbrev pub begin_text : (end : ℕ) → List ℕ
-begin_text end =
-    codes "<svg xmlns=\"http://www.w3.org/2000/svg\" version=\"1.1\" width=\"1200\" height=\"" ++ decimal (down end 64)
-    ++ codes "\" viewBox=\"0 0 1200 " ++ decimal (down end 64) ++ codes "\">\n" ++ style
+abbrev pub begin_text : (height : ℕ) → List ℕ
+begin_text height =
+    counted (codes "<svg xmlns=\"http://www.w3.org/2000/svg\" version=\"1.1\" width=\"1200\" height=\"") height
+    ++ counted (codes "\" viewBox=\"0 0 1200 ") height ++ codes "\">\n" ++ style
     ++ codes "<rect width=\"100%\" height=\"100%\" fill=\"#fff\"/>\n"
 
+-- a lifeline, down to its end
 abbrev pub line_text : Side → (end : ℕ) → List ℕ
-line_text side end = path (codes "line") (lifeline side) 68 (codes "V" ++ decimal (down end 20))
+line_text side end = path (codes "line") (lifeline side) 68 (counted (codes "V") end)
 
 -- the head of a lifeline
+abbrev pub name_text : Side → (name : List ℕ) → List ℕ
+name_text side name = text (codes "name") (lifeline side) 34 (codes "0") (escaped name)
+
+abbrev pub address_text : Side → (addr port : ℕ) → List ℕ
+address_text side addr port = text (codes "socket") (lifeline side) 54 (codes "0") (port_text addr port)
+
 abbrev pub end_text : Side → End → List ℕ
-end_text side e = text (codes "name") (lifeline side) 34 (codes "0") (escaped e.name)
-    ++ text (codes "socket") (lifeline side) 54 (codes "0") (port_text e.addr e.port)
+end_text side e = name_text side e.name ++ address_text side e.addr e.port
 
 -- ----- beside the lifelines
 abbrev pub tick_label : Rung → List ℕ
@@ -77,11 +82,15 @@ tick_head = text (codes "tick") (codes "14") 54 (codes "0") (codes "tick")
 abbrev pub quiet_text : (ticks : ℕ) → List ℕ
 quiet_text ticks = decimal ticks ++ (if ticks == 1 then codes " quiet tick" else codes " quiet ticks")
 
--- the fold of quiet ticks above a rung
+-- the fold of quiet ticks above a rung: a gap in each lifeline, and their number
+abbrev pub gap : Side → (y : ℕ) → List ℕ
+gap side y = path (codes "fold") (lifeline side) y (codes "m0 -38v20")
+
+abbrev pub fold_label : (y ticks : ℕ) → List ℕ
+fold_label y ticks = text (codes "tick") (codes "14") y (codes "-24") (quiet_text ticks)
+
 abbrev pub folded : Rung → List ℕ
-folded r = path (codes "fold") (codes "340") r.y (codes "m0 -38v20")
-    ++ path (codes "fold") (codes "900") r.y (codes "m0 -38v20")
-    ++ text (codes "tick") (codes "14") r.y (codes "-24") (quiet_text r.quiet)
+folded r = gap Left r.y ++ gap Right r.y ++ fold_label r.y r.quiet
 
 abbrev pub fold_text : Rung → List ℕ
 fold_text r = if r.quiet == 0 then [] else folded r
@@ -128,18 +137,17 @@ key_words absolute = if absolute then codes "flags, number, ack, length, window"
     else codes "flags, number, ack, length, window; the numbers of each side count from its first"
 
 -- what the labels tell, and the end of the document
-abbrev pub close_text : (absolute : Bool) → (end : ℕ) → List ℕ
-close_text absolute end =
-    text (codes "key") (codes "354") (down end 48) (codes "0") (key_words absolute) ++ codes "</svg>\n"
+abbrev pub close_text : (absolute : Bool) → (y : ℕ) → List ℕ
+close_text absolute y = text (codes "key") (codes "354") y (codes "0") (key_words absolute) ++ codes "</svg>\n"
 
--- what stands between the beginning and the end
-abbrev pub parts_text : Look → (left right : End) → List Rung → List ℕ
-parts_text look left right rungs =
-    line_text Left (bottom rungs) ++ line_text Right (bottom rungs)
-    ++ tick_head ++ end_text Left left ++ end_text Right right
-    ++ flat_map rung_text rungs ++ flat_map (arrow_text look) (arrows rungs)
+-- what stands between the beginning and the end; the lifelines reach so far down
+abbrev pub parts_text : Look → (left right : End) → List Rung → (end : ℕ) → List ℕ
+parts_text look left right rungs end =
+    line_text Left end ++ line_text Right end ++ tick_head ++ end_text Left left ++ end_text Right right
+    ++ flat_map rung_text rungs ++ arrows_text look rungs
 
 -- The picture of a ladder.
 abbrev pub drawing : Look → (absolute : Bool) → (left right : End) → List Rung → List ℕ
 drawing look absolute left right rungs =
-    begin_text (bottom rungs) ++ parts_text look left right rungs ++ close_text absolute (bottom rungs)
+    begin_text (down (bottom rungs) 64) ++ parts_text look left right rungs (down (bottom rungs) 20)
+    ++ close_text absolute (down (bottom rungs) 48)

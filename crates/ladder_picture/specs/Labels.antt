@@ -1,10 +1,10 @@
 -- The words of a picture.
 use Rattle.std.specs.Prelude.{ℕ, ◌+◌, ◌-◌, ◌%◌, ◌^◌, ◌==◌, Bool, true, false, List, [], ◌∷◌, ◌++◌, codes, decimal}
-use Rattle.std.specs.Prelude.{flat_map, Option, Some, None}
+use Rattle.std.specs.Prelude.{◌&&◌, nat_le, flat_map, Option, Some, None}
 use Rattle.std.specs.Prelude.{if◌then◌else◌}
 use Rattle.tas_num.specs.declared.seq.Seq.{Seq}
 use Rattle.segment_fields.specs.ControlBits.{ack, has}
-use Rattle.tas_runs.specs.Report.{flags_text, mss_text, reason_text}
+use Rattle.tas_runs.specs.Report.{flags_text, mss_text, scale_text, reason_text}
 use Rattle.ladder_picture.specs.declared.row.Asked.{Asked}
 use Rattle.ladder_picture.specs.declared.row.Asked.TheVariants as asks
 use Rattle.ladder_picture.specs.declared.row.Told.{Told}
@@ -17,13 +17,14 @@ use Rattle.ladder_picture.specs.declared.row.Fate.{Fate}
 use Rattle.ladder_picture.specs.declared.row.Fate.TheVariants as fates
 use Rattle.ladder_picture.specs.declared.row.Frame.{Frame}
 use Rattle.ladder_picture.specs.declared.labels.Origins.{Origins}
+use Rattle.ladder_picture.specs.Elements.{counted}
 
 -- ----- XML
--- a byte as it stands in a text (XML 1.0, section 2.4)
+-- a byte as it stands in a text (XML 1.0, section 2.4); others than those of printable ASCII are shown by `?`
 abbrev pub escaped_byte : ℕ → List ℕ
 escaped_byte c =
     if c == 38 then codes "&amp;" else if c == 60 then codes "&lt;" else if c == 62 then codes "&gt;"
-    else if c == 34 then codes "&quot;" else c ∷ []
+    else if c == 34 then codes "&quot;" else if nat_le 32 c && nat_le c 126 then c ∷ [] else codes "?"
 
 abbrev pub escaped : List ℕ → List ℕ
 escaped text = flat_map escaped_byte text
@@ -39,12 +40,12 @@ ack_text flags number = if has flags ack then codes " ack " ++ decimal number el
 abbrev pub len_text : ℕ → List ℕ
 len_text n = if n == 0 then [] else codes " len " ++ decimal n
 
--- What is told of a frame: flags, number, acknowledgement, length, window, and the MSS where it has one. Numbers are
--- told from the origins of its sender and its receiver.
+-- What is told of a frame: flags, number, acknowledgement, length, window, and the MSS and the window's scale where it
+-- has them. Numbers are told from the origins of its sender and its receiver.
 abbrev pub label_text : Origins → Frame → List ℕ
-label_text o f = flags_text f.head.flags ++ codes " " ++ decimal (behind o.sender f.head.seq)
+label_text o f = flags_text f.head.flags ++ counted (codes " ") (behind o.sender f.head.seq)
     ++ ack_text f.head.flags (behind o.receiver f.head.ack) ++ len_text f.len
-    ++ codes " win " ++ decimal f.head.window ++ mss_text f.head.mss
+    ++ counted (codes " win ") f.head.window ++ mss_text f.head.mss ++ scale_text f.head.scale
 
 -- ----- notes
 abbrev pub asked_text : Asked → List ℕ

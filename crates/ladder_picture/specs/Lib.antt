@@ -1,5 +1,6 @@
 pub mod Rungs
 pub mod Arrows
+pub mod Joined
 pub mod Labels
 pub mod Elements
 pub mod ArrowTexts
@@ -7,3 +8,4 @@ pub mod Drawing
 pub mod Views
 pub mod WellFormed
 pub mod OneArrow
+pub mod Kept

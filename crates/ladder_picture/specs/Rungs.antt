@@ -1,8 +1,8 @@
 -- The rungs of a ladder: which rows stand side by side, and how far down.
 use Rattle.std.specs.Prelude.{ℕ, suc, zero, ◌+◌, ◌-◌, ◌^◌, ◌==◌, Bool, true, false, not, ◌&&◌, List, [], ◌∷◌, ◌++◌}
 use Rattle.std.specs.Prelude.{length, take, drop}
-use Rattle.std.specs.Prelude.{fold, min, nat_lt, Option, Some, None, is_some, if◌then◌else◌}
-use Rattle.std.specs.List.{position_or_len}
+use Rattle.std.specs.Prelude.{min, nat_lt, unwrap_or, Option, Some, None, is_some, if◌then◌else◌}
+use Rattle.std.specs.List.{position, filter}
 use Rattle.tas_model.specs.declared.entry.FrameId.{FrameId}
 use Rattle.ladder_picture.specs.declared.row.Framed.{Framed}
 use Rattle.ladder_picture.specs.declared.row.Framed.TheVariants as framed
@@ -28,7 +28,7 @@ below None tick left right =
     record { tick = tick; y = top; quiet = 0; opens = true; left = left; right = right }
 below (Some last) tick left right = record {
   tick = tick;
-  y = min (last.y + distance (tick - last.tick)) (2 ^ 128 - 1);
+  y = last.y + distance (tick - last.tick);
   quiet = tick - last.tick - 1;
   opens = nat_lt 0 (tick - last.tick);
   left = left;
@@ -77,25 +77,30 @@ abbrev pub rungs_of : (left right : List Row) → List Rung
 rungs_of left right = rungs_from (length left + length right) None left right
 
 -- ----- the rows of a log
--- the place behind the rows of its tick
-abbrev pub place_in : List Row → (tick : ℕ) → ℕ
-place_in rows tick = position_or_len (λ (x : Row). nat_lt tick x.tick) rows
+abbrev pub is_later : (tick : ℕ) → Row → Bool
+is_later tick r = nat_lt tick r.tick
 
-abbrev pub inserted : List Row → Row → List Row
-inserted rows r = take (place_in rows r.tick) rows ++ r ∷ drop (place_in rows r.tick) rows
+-- the place before the first row of a later tick, or behind all
+abbrev pub place_in : List Row → (tick : ℕ) → ℕ
+place_in rows tick = unwrap_or (position (is_later tick) rows) (length rows)
+
+-- rows with those of another list, each behind the rows of its tick; both are in order of time
+abbrev pub merged : (rows more : List Row) → List Row
+merged rows [] = rows
+merged rows (m ∷ ms) = take (place_in rows m.tick) rows ++ m ∷ merged (drop (place_in rows m.tick) rows) ms
 
 -- it tells of a frame of this host's flow
 abbrev pub is_flow : (flow : ℕ) → Option ℕ → Bool
 is_flow flow None = false
 is_flow flow (Some own) = flow == own
 
-abbrev pub tells_in : Framed → (host : ℕ) → (flow : Option ℕ) → Bool
-tells_in (framed.Met id fate) host flow = id.host == host && is_flow id.flow flow
-tells_in _ host flow = false
+abbrev pub tells_in : (host : ℕ) → (flow : Option ℕ) → Framed → Bool
+tells_in host flow (framed.Met id fate) = id.host == host && is_flow id.flow flow
+tells_in host flow _ = false
 
-abbrev pub with_logged : (host : ℕ) → (flow : Option ℕ) → List Row → Row → List Row
-with_logged host flow rows r = if tells_in r.framed host flow then inserted rows r else rows
+abbrev pub tells : (host : ℕ) → (flow : Option ℕ) → Row → Bool
+tells host flow r = tells_in host flow r.framed
 
 -- Rows with those of a log that tell of frames of this host's flow.
 abbrev pub with_log : (rows log : List Row) → (host : ℕ) → (flow : Option ℕ) → List Row
-with_log rows log host flow = fold (with_logged host flow) rows log
+with_log rows log host flow = merged rows (filter (tells host flow) log)

@@ -1,15 +1,14 @@
-ghost use Rattle.std.specs.Prelude.{◌≡◌, ◌++◌, not, length, flat_map, take, drop, IfOk, OnOk};
-ghost use Rattle.std.specs.List.{list_any};
-ghost use Rattle.ladder_picture.specs.Arrows as rules;
+ghost use Rattle.std.specs.Prelude.{◌≡◌, ◌++◌, flat_map, map, OnOk};
+ghost use Rattle.ladder_picture.specs.Elements.{counted, path_start, path_end};
 ghost use Rattle.ladder_picture.specs.ArrowTexts as texts;
-ghost use Rattle.ladder_picture.specs.declared.rungs.Side.TheVariants as sides;
+ghost use Rattle.ladder_picture.specs.Views.{seen_sent};
 
+use crate::joins::{Arrival, CameFrame, SentFrame, across, arrows_of};
 use crate::labels::{Origins, put_fate, put_label};
-use crate::row::{Fate, Frame, Framed};
-use crate::rungs::{Arrival, Rung, Side};
+use crate::row::{Fate, Frame};
+use crate::rungs::{Rung, Side};
 use crate::text::{put, put_counted, put_path, put_path_end, put_path_start, put_text_end, put_text_start};
-use std::alloc::AllocError;
-use tas_model::FrameId;
+use std::alloc::{AllocError, Global};
 use tas_num::Seq;
 
 /// How a ladder is drawn: whether both ends are in the report, and the sequence numbers that those of each side are
@@ -34,16 +33,6 @@ fn origins(look: &Look, sender: Side) -> Origins
             sender: look.right,
             receiver: look.left,
         },
-    }
-}
-
-/// The side across.
-pub fn across(side: Side) -> Side
-    ensures { result ≡ rules.across side }
-{
-    match side {
-        Side::Left => Side::Right,
-        Side::Right => Side::Left,
     }
 }
 
@@ -86,13 +75,35 @@ fn way_end(sender: Side) -> &'static [u8]
     }
 }
 
+/// Appends the beginning of an arrow's line, at this height.
+fn put_line_start(out: &mut Vec<u8>, sender: Side, y: u128) -> Result<(), AllocError>
+    ensures { OnOk result (out.new.items ≡ out.old.items
+        ++ path_start (texts.side_name sender) (texts.lifeline sender) y) }
+{
+    put_path_start(out, side_name(sender), lifeline(sender), y)
+}
+
+/// Appends where an arrow's line turns to another height.
+fn put_turn(out: &mut Vec<u8>, sender: Side, to: u128) -> Result<(), AllocError>
+    ensures { OnOk result (out.new.items ≡ out.old.items ++ counted (texts.turn sender) to) }
+{
+    put_counted(out, turn(sender), to)
+}
+
+/// Appends the rest of an arrow's line.
+fn put_line_end(out: &mut Vec<u8>, sender: Side) -> Result<(), AllocError>
+    ensures { OnOk result (out.new.items ≡ out.old.items ++ (texts.way_end sender ++ path_end)) }
+{
+    put_path_end(out, way_end(sender))
+}
+
 /// Appends the line of an arrow from a height to another.
 fn put_line(out: &mut Vec<u8>, sender: Side, from: u128, to: u128) -> Result<(), AllocError>
     ensures { OnOk result (out.new.items ≡ out.old.items ++ texts.line_text sender from to) }
 {
-    put_path_start(out, side_name(sender), lifeline(sender), from)?;
-    put_counted(out, turn(sender), to)?;
-    put_path_end(out, way_end(sender))
+    put_line_start(out, sender, from)?;
+    put_turn(out, sender, to)?;
+    put_line_end(out, sender)
 }
 
 /// What a head is called that a side sent: filled where the connection had the frame.
@@ -213,43 +224,19 @@ fn put_side_label(
     put_text_end(out)
 }
 
-/// Appends the arrival of a frame on a rung, where it came there, and tells whether it did.
-fn put_arrival_on(
-    out: &mut Vec<u8>,
-    sender: Side,
-    y: u128,
-    id: &FrameId,
-    rung: &Rung,
-) -> Result<bool, AllocError>
-    ensures text { OnOk result (out.new.items ≡ out.old.items
-        ++ texts.ways_on sender y id.now rung.now) }
-    ensures comes { IfOk result (λ comes. comes ≡ texts.comes_on sender id.now rung.now) }
-{
-    match rung.arrival(across(sender), id) {
-        Some(arrival) => {
-            put_arrival(out, sender, y, &arrival)?;
-            Ok(true)
-        }
-        None => Ok(false),
-    }
-}
-
-/// Appends the arrivals of a frame on the rungs below, and tells whether there are any.
+/// Appends the ways of a frame to where it came.
 fn put_arrivals(
     out: &mut Vec<u8>,
     sender: Side,
     y: u128,
-    id: &FrameId,
-    below: &[Rung],
-) -> Result<bool, AllocError>
-    ensures text { OnOk result (out.new.items ≡ out.old.items ++ flat_map (texts.ways_on sender y id.now) below.now) }
-    ensures comes { IfOk result (λ comes. comes ≡ list_any (texts.comes_on sender id.now) below.now) }
+    ends: &[Arrival],
+) -> Result<(), AllocError>
+    ensures { OnOk result (out.new.items ≡ out.old.items ++ flat_map (texts.arrival_text sender y) ends.now) }
 {
-    let mut any = false;
-    for rung in below {
-        any = put_arrival_on(out, sender, y, id, rung)? || any;
+    for end in ends {
+        put_arrival(out, sender, y, end)?;
     }
-    Ok(any)
+    Ok(())
 }
 
 /// Appends a frame that came nowhere: it is lost where both ends are in the report, and else its end is not known.
@@ -264,22 +251,28 @@ fn put_lost(out: &mut Vec<u8>, look: &Look, sender: Side, y: u128) -> Result<(),
     put_head(out, sender, y, None)
 }
 
-/// Appends a frame that was sent from a side.
-fn put_sent(
+/// Appends the ways of a frame, or that it came nowhere.
+fn put_ways(
     out: &mut Vec<u8>,
     look: &Look,
     sender: Side,
     y: u128,
-    frame: &Frame,
-    below: &[Rung],
+    ends: &[Arrival],
 ) -> Result<(), AllocError>
-    ensures { OnOk result (out.new.items ≡ out.old.items ++ texts.arrow_text look.now
-        (rules.Sent sender y frame.now (rules.arrivals (rules.across sender) frame.now.id below.now))) }
+    ensures { OnOk result (out.new.items ≡ out.old.items ++ texts.ways_text look.now sender y ends.now) }
 {
-    if !put_arrivals(out, sender, y, &frame.id, below)? {
-        put_lost(out, look, sender, y)?;
+    if ends.is_empty() {
+        return put_lost(out, look, sender, y);
     }
-    put_side_label(out, look, sender, sender, y, frame)
+    put_arrivals(out, sender, y, ends)
+}
+
+/// Appends the arrow of a frame that was sent.
+fn put_sent(out: &mut Vec<u8>, look: &Look, sent: &SentFrame) -> Result<(), AllocError>
+    ensures { OnOk result (out.new.items ≡ out.old.items ++ texts.sent_text look.now (seen_sent sent.now)) }
+{
+    put_ways(out, look, sent.sender, sent.y, &sent.ends)?;
+    put_side_label(out, look, sent.sender, sent.sender, sent.y, &sent.frame)
 }
 
 /// Appends the ring half way of a frame whose sender is in the report, and that comes from elsewhere.
@@ -302,15 +295,14 @@ fn origin(look: &Look, sender: Side) -> &'static [u8]
     lifeline(sender)
 }
 
-/// Appends a frame that came from nowhere that is shown.
-fn put_came(
+/// Appends the line of a frame that came from nowhere that is shown.
+fn put_came_line(
     out: &mut Vec<u8>,
     look: &Look,
     sender: Side,
     y: u128,
-    frame: &Frame,
 ) -> Result<(), AllocError>
-    ensures { OnOk result (out.new.items ≡ out.old.items ++ texts.arrow_text look.now (rules.Came sender y frame.now)) }
+    ensures { OnOk result (out.new.items ≡ out.old.items ++ texts.came_line look.now sender y) }
 {
     put_path(
         out,
@@ -318,71 +310,58 @@ fn put_came(
         origin(look, sender),
         y,
         way_end(sender),
-    )?;
-    put_ring(out, look, y)?;
-    put_head(out, sender, y, None)?;
-    put_side_label(out, look, sender, across(sender), y, frame)
+    )
 }
 
-/// Whether a frame was sent from a side on one of these rungs.
-fn is_sent_on(rungs: &[Rung], side: Side, id: &FrameId) -> bool
-    ensures { result ≡ list_any (rules.sends side id.now) rungs.now }
+/// Appends its label, where it came.
+fn put_came_label(out: &mut Vec<u8>, look: &Look, came: &CameFrame) -> Result<(), AllocError>
+    ensures { OnOk result (out.new.items ≡ out.old.items ++ texts.came_label look.now came.now) }
 {
-    rungs.iter().any(|rung| rung.sends(side, id))
+    let at = across(came.sender);
+    put_side_label(out, look, came.sender, at, came.y, &came.frame)
 }
 
-/// Appends the arrow that begins at a side on a rung: of a frame that was sent there, or of one that came there and was
-/// not sent on a rung above.
-fn put_side_arrow(
-    out: &mut Vec<u8>,
-    look: &Look,
-    side: Side,
-    above: &[Rung],
-    rung: &Rung,
-    below: &[Rung],
-) -> Result<(), AllocError>
+/// Appends the arrow of a frame that came from nowhere that is shown.
+fn put_came(out: &mut Vec<u8>, look: &Look, came: &CameFrame) -> Result<(), AllocError>
+    ensures { OnOk result (out.new.items ≡ out.old.items ++ texts.came_text look.now came.now) }
+{
+    put_came_line(out, look, came.sender, came.y)?;
+    put_ring(out, look, came.y)?;
+    put_head(out, came.sender, came.y, None)?;
+    put_came_label(out, look, came)
+}
+
+/// Appends the arrows of frames that were sent.
+fn put_all_sent(out: &mut Vec<u8>, look: &Look, sent: &[SentFrame]) -> Result<(), AllocError>
     ensures { OnOk result (out.new.items ≡ out.old.items
-        ++ flat_map (texts.arrow_text look.now) (rules.arrow_on side above.now rung.now below.now)) }
+        ++ flat_map (texts.sent_text look.now) (map seen_sent sent.now)) }
 {
-    match rung.framed(side) {
-        Framed::Sent(frame) => put_sent(out, look, side, rung.y, &frame, below),
-        Framed::Came(frame) => {
-            if is_sent_on(above, across(side), &frame.id) {
-                return Ok(());
-            }
-            put_came(out, look, across(side), rung.y, &frame)
-        }
-        Framed::Met { .. } | Framed::Nothing => Ok(()),
-    }
-}
-
-/// Appends the arrows that begin on a rung.
-fn put_rung_arrows(
-    out: &mut Vec<u8>,
-    look: &Look,
-    above: &[Rung],
-    rung: &Rung,
-    below: &[Rung],
-) -> Result<(), AllocError>
-    ensures { OnOk result (out.new.items ≡ out.old.items
-        ++ (flat_map (texts.arrow_text look.now) (rules.arrow_on sides.Left above.now rung.now below.now)
-        ++ flat_map (texts.arrow_text look.now) (rules.arrow_on sides.Right above.now rung.now below.now))) }
-{
-    put_side_arrow(out, look, Side::Left, above, rung, below)?;
-    put_side_arrow(out, look, Side::Right, above, rung, below)
-}
-
-/// Appends the arrows of a ladder, in the order of their first ends. The error is want of memory.
-pub fn put_arrows(out: &mut Vec<u8>, look: &Look, rungs: &[Rung]) -> Result<(), AllocError>
-    ensures { OnOk result (out.new.items ≡ out.old.items
-        ++ flat_map (texts.arrow_text look.now) (rules.arrows rungs.now)) }
-{
-    let mut rest = rungs;
-    let mut count: usize = 0;
-    while let [rung, below @ ..] = rest {
-        put_rung_arrows(out, look, &rungs[..count], rung, below)?;
-        count += 1;
-        rest = below;
+    for arrow in sent {
+        put_sent(out, look, arrow)?;
     }
     Ok(())
+}
+
+/// Appends the arrows of frames that came from nowhere that is shown.
+fn put_all_came(out: &mut Vec<u8>, look: &Look, came: &[CameFrame]) -> Result<(), AllocError>
+    ensures { OnOk result (out.new.items ≡ out.old.items ++ flat_map (texts.came_text look.now) came.now) }
+{
+    for arrow in came {
+        put_came(out, look, arrow)?;
+    }
+    Ok(())
+}
+
+/// Appends the arrows of a ladder. The error is want of memory.
+pub fn put_arrows(
+    alloc: Global,
+    out: &mut Vec<u8>,
+    look: &Look,
+    rungs: &[Rung],
+) -> Result<(), AllocError>
+    ensures { OnOk result (out.new.items ≡ out.old.items ++ texts.arrows_text look.now rungs.now) }
+{
+    let arrows = arrows_of(alloc, rungs)?;
+    put_all_sent(out, look, &arrows.sent)?;
+    put_all_came(out, look, &arrows.came)
 }

@@ -10,7 +10,7 @@ use crate::text::{
     put, put_counted, put_escaped, put_number, put_path, put_path_end, put_path_start,
     put_text_end, put_text_start,
 };
-use std::alloc::AllocError;
+use std::alloc::{AllocError, Global};
 use tas_model::Phase;
 
 /// One end as its lifeline's head tells it: the host's name, where it is in the report, and its address and port.
@@ -32,6 +32,13 @@ fn bottom(rungs: &[Rung]) -> u128
     y
 }
 
+/// So much farther down.
+fn down(y: u128, more: u128) -> u128
+    ensures { result ≡ rules.down y more }
+{
+    y.saturating_add(more)
+}
+
 /// Appends how the parts of a picture look.
 fn put_style(out: &mut Vec<u8>) -> Result<(), AllocError>
     ensures { OnOk result (out.new.items ≡ out.old.items ++ rules.style) }
@@ -48,10 +55,9 @@ fn put_style(out: &mut Vec<u8>) -> Result<(), AllocError>
 }
 
 /// Appends the beginning of the document: its size, how its parts look, and the ground, on which all is dark.
-fn put_begin(out: &mut Vec<u8>, end: u128) -> Result<(), AllocError>
-    ensures { OnOk result (out.new.items ≡ out.old.items ++ rules.begin_text end) }
+fn put_begin(out: &mut Vec<u8>, height: u128) -> Result<(), AllocError>
+    ensures { OnOk result (out.new.items ≡ out.old.items ++ rules.begin_text height) }
 {
-    let height = end.saturating_add(64);
     put_counted(
         out,
         b"<svg xmlns=\"http://www.w3.org/2000/svg\" version=\"1.1\" width=\"1200\" height=\"",
@@ -68,20 +74,34 @@ fn put_lifeline(out: &mut Vec<u8>, side: Side, end: u128) -> Result<(), AllocErr
     ensures { OnOk result (out.new.items ≡ out.old.items ++ rules.line_text side end) }
 {
     put_path_start(out, b"line", lifeline(side), 68)?;
-    put_counted(out, b"V", end.saturating_add(20))?;
+    put_counted(out, b"V", end)?;
     put_path_end(out, b"")
+}
+
+/// Appends a host's name above a lifeline.
+fn put_name(out: &mut Vec<u8>, side: Side, name: &[u8]) -> Result<(), AllocError>
+    ensures { OnOk result (out.new.items ≡ out.old.items ++ rules.name_text side name.now) }
+{
+    put_text_start(out, b"name", lifeline(side), 34, b"0")?;
+    put_escaped(out, name)?;
+    put_text_end(out)
+}
+
+/// Appends an address and a port above a lifeline.
+fn put_address(out: &mut Vec<u8>, side: Side, addr: u32, port: u16) -> Result<(), AllocError>
+    ensures { OnOk result (out.new.items ≡ out.old.items ++ rules.address_text side addr port) }
+{
+    put_text_start(out, b"socket", lifeline(side), 54, b"0")?;
+    put_socket(out, addr, port)?;
+    put_text_end(out)
 }
 
 /// Appends the head of a lifeline.
 fn put_end_name(out: &mut Vec<u8>, side: Side, end: &EndName<'_>) -> Result<(), AllocError>
     ensures { OnOk result (out.new.items ≡ out.old.items ++ rules.end_text side (seen_end end.now)) }
 {
-    put_text_start(out, b"name", lifeline(side), 34, b"0")?;
-    put_escaped(out, end.name)?;
-    put_text_end(out)?;
-    put_text_start(out, b"socket", lifeline(side), 54, b"0")?;
-    put_socket(out, end.addr, end.port)?;
-    put_text_end(out)
+    put_name(out, side, end.name)?;
+    put_address(out, side, end.addr, end.port)
 }
 
 /// Appends the head of the column of ticks.
@@ -116,6 +136,15 @@ fn put_quiet(out: &mut Vec<u8>, ticks: u32) -> Result<(), AllocError>
     put(out, b" quiet ticks")
 }
 
+/// Appends how many ticks are folded above this height.
+fn put_fold_text(out: &mut Vec<u8>, y: u128, ticks: u32) -> Result<(), AllocError>
+    ensures { OnOk result (out.new.items ≡ out.old.items ++ rules.fold_label y ticks) }
+{
+    put_text_start(out, b"tick", b"14", y, b"-24")?;
+    put_quiet(out, ticks)?;
+    put_text_end(out)
+}
+
 /// Appends the fold of quiet ticks above a rung, where there are some.
 fn put_fold(out: &mut Vec<u8>, rung: &Rung) -> Result<(), AllocError>
     ensures { OnOk result (out.new.items ≡ out.old.items ++ rules.fold_text rung.now) }
@@ -123,11 +152,16 @@ fn put_fold(out: &mut Vec<u8>, rung: &Rung) -> Result<(), AllocError>
     if rung.quiet == 0 {
         return Ok(());
     }
-    put_path(out, b"fold", b"340", rung.y, b"m0 -38v20")?;
-    put_path(out, b"fold", b"900", rung.y, b"m0 -38v20")?;
-    put_text_start(out, b"tick", b"14", rung.y, b"-24")?;
-    put_quiet(out, rung.quiet)?;
-    put_text_end(out)
+    put_gap(out, Side::Left, rung.y)?;
+    put_gap(out, Side::Right, rung.y)?;
+    put_fold_text(out, rung.y, rung.quiet)
+}
+
+/// Appends the gap in a lifeline above this height.
+fn put_gap(out: &mut Vec<u8>, side: Side, y: u128) -> Result<(), AllocError>
+    ensures { OnOk result (out.new.items ≡ out.old.items ++ rules.gap side y) }
+{
+    put_path(out, b"fold", lifeline(side), y, b"m0 -38v20")
 }
 
 /// What a note at a side is called, and where it stands.
@@ -238,39 +272,48 @@ fn key_words(absolute: bool) -> &'static [u8]
     b"flags, number, ack, length, window; the numbers of each side count from its first"
 }
 
-/// Appends what the labels tell, and the end of the document.
-fn put_close(out: &mut Vec<u8>, absolute: bool, end: u128) -> Result<(), AllocError>
-    ensures { OnOk result (out.new.items ≡ out.old.items ++ rules.close_text absolute end) }
+/// Appends them.
+fn put_key_words(out: &mut Vec<u8>, absolute: bool) -> Result<(), AllocError>
+    ensures { OnOk result (out.new.items ≡ out.old.items ++ rules.key_words absolute) }
 {
-    put_text_start(out, b"key", b"354", end.saturating_add(48), b"0")?;
-    put(out, key_words(absolute))?;
+    put(out, key_words(absolute))
+}
+
+/// Appends what the labels tell, so far down, and the end of the document.
+fn put_close(out: &mut Vec<u8>, absolute: bool, y: u128) -> Result<(), AllocError>
+    ensures { OnOk result (out.new.items ≡ out.old.items ++ rules.close_text absolute y) }
+{
+    put_text_start(out, b"key", b"354", y, b"0")?;
+    put_key_words(out, absolute)?;
     put_text_end(out)?;
     put(out, b"</svg>\n")
 }
 
-/// Appends what stands between the beginning and the end.
+/// Appends what stands between the beginning and the end; the lifelines reach so far down.
 fn put_parts(
+    alloc: Global,
     out: &mut Vec<u8>,
     look: &Look,
     left: &EndName<'_>,
     right: &EndName<'_>,
     rungs: &[Rung],
+    end: u128,
 ) -> Result<(), AllocError>
     ensures { OnOk result (out.new.items ≡ out.old.items
-        ++ rules.parts_text look.now (seen_end left.now) (seen_end right.now) rungs.now) }
+        ++ rules.parts_text look.now (seen_end left.now) (seen_end right.now) rungs.now end) }
 {
-    let end = bottom(rungs);
     put_lifeline(out, Side::Left, end)?;
     put_lifeline(out, Side::Right, end)?;
     put_tick_head(out)?;
     put_end_name(out, Side::Left, left)?;
     put_end_name(out, Side::Right, right)?;
     put_rungs(out, rungs)?;
-    put_arrows(out, look, rungs)
+    put_arrows(alloc, out, look, rungs)
 }
 
 /// Appends the picture of a ladder. The error is want of memory.
 pub fn put_drawing(
+    alloc: Global,
     out: &mut Vec<u8>,
     look: &Look,
     absolute: bool,
@@ -282,7 +325,8 @@ pub fn put_drawing(
         ++ rules.drawing look.now absolute (seen_end left.now) (seen_end right.now) rungs.now) }
 {
     let end = bottom(rungs);
-    put_begin(out, end)?;
-    put_parts(out, look, left, right, rungs)?;
-    put_close(out, absolute, end)
+    put_begin(out, down(end, 64))?;
+    put_parts(alloc, out, look, left, right, rungs, down(end, 20))?;
+    put_close(out, absolute, down(end, 48))?;
+    Ok(())
 }

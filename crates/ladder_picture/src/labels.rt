@@ -1,6 +1,7 @@
 ghost use Rattle.std.specs.Prelude.{◌≡◌, ◌<◌, ◌++◌, codes, OnOk};
 ghost use Rattle.segment_fields.specs.ControlBits as bits;
-ghost use Rattle.tas_runs.specs.Report.{letter, flags_text, mss_text, reason_text, phase_text, port_text};
+ghost use Rattle.tas_runs.specs.Report.{letter, flags_text, mss_text, scale_text, reason_text, phase_text, port_text};
+ghost use Rattle.ladder_picture.specs.Elements.{counted};
 ghost use Rattle.ladder_picture.specs.Labels as rules;
 
 use crate::row::{Asked, Fate, Frame, Note, Timer, Told};
@@ -52,14 +53,28 @@ fn put_flags(out: &mut Vec<u8>, flags: u8) -> Result<(), AllocError>
     put_flag(out, flags, 1, b"F")
 }
 
-/// Appends the number that is acknowledged, where one is.
-fn put_ack(out: &mut Vec<u8>, flags: u8, ack: u32) -> Result<(), AllocError>
-    ensures { OnOk result (out.new.items ≡ out.old.items ++ rules.ack_text flags ack) }
+/// Appends a sequence number, as one that counts from a first one.
+fn put_seq(out: &mut Vec<u8>, first: Seq, seq: Seq) -> Result<(), AllocError>
+    ensures { OnOk result (out.new.items ≡ out.old.items ++ counted (codes " ") (rules.behind first seq)) }
+{
+    put_counted(out, b" ", u128::from(seq.minus(first)))
+}
+
+/// Appends the number that is acknowledged, where one is, as one that counts from a first one.
+fn put_ack(out: &mut Vec<u8>, flags: u8, first: Seq, ack: Seq) -> Result<(), AllocError>
+    ensures { OnOk result (out.new.items ≡ out.old.items ++ rules.ack_text flags (rules.behind first ack)) }
 {
     if has(flags, 16) {
-        return put_counted(out, b" ack ", u128::from(ack));
+        return put_counted(out, b" ack ", u128::from(ack.minus(first)));
     }
     Ok(())
+}
+
+/// Appends a window.
+fn put_window(out: &mut Vec<u8>, window: u16) -> Result<(), AllocError>
+    ensures { OnOk result (out.new.items ≡ out.old.items ++ counted (codes " win ") window) }
+{
+    put_counted(out, b" win ", u128::from(window))
 }
 
 /// Appends how many bytes a segment has, where it has some.
@@ -82,17 +97,28 @@ fn put_mss(out: &mut Vec<u8>, mss: Option<u16>) -> Result<(), AllocError>
     }
 }
 
+/// Appends the shift of a window scale, where there is one.
+fn put_scale(out: &mut Vec<u8>, scale: Option<u8>) -> Result<(), AllocError>
+    ensures { OnOk result (out.new.items ≡ out.old.items ++ scale_text scale) }
+{
+    match scale {
+        Some(shift) => put_counted(out, b" ws ", u128::from(shift)),
+        None => Ok(()),
+    }
+}
+
 /// Appends what is told of a frame: its flags, its numbers, its length and its window. The error is want of memory.
 pub fn put_label(out: &mut Vec<u8>, origins: Origins, frame: &Frame) -> Result<(), AllocError>
     ensures { OnOk result (out.new.items ≡ out.old.items ++ rules.label_text origins frame.now) }
 {
     let head = frame.head;
     put_flags(out, head.flags)?;
-    put_counted(out, b" ", u128::from(head.seq.minus(origins.sender)))?;
-    put_ack(out, head.flags, head.ack.minus(origins.receiver))?;
+    put_seq(out, origins.sender, head.seq)?;
+    put_ack(out, head.flags, origins.receiver, head.ack)?;
     put_len(out, frame.len)?;
-    put_counted(out, b" win ", u128::from(head.window))?;
-    put_mss(out, head.mss)
+    put_window(out, head.window)?;
+    put_mss(out, head.mss)?;
+    put_scale(out, head.scale)
 }
 
 /// Appends what was asked.

@@ -3,6 +3,7 @@
 
 mod arrows;
 mod drawing;
+mod joins;
 mod labels;
 mod laws;
 mod row;
@@ -12,6 +13,9 @@ mod text;
 pub use arrows::Look;
 pub use drawing::{EndName, put_drawing};
 pub use labels::has;
-pub use laws::{drawings_are_well_formed, entries_stand_in_one_arrow};
+pub use laws::{
+    arrows_go_down, drawings_are_well_formed, emissions_join_their_arrivals,
+    entries_stand_in_one_arrow, rows_stand_on_rungs,
+};
 pub use row::{Asked, Fate, Frame, Framed, Note, Row, Timer, Told};
-pub use rungs::{insert_log, rungs_of};
+pub use rungs::{rungs_of, with_log};

@@ -1,14 +1,12 @@
-ghost use Rattle.std.specs.Prelude.{◌≡◌, ◌<◌, ◌≤◌, ◌+◌, ◌*◌, ℕ, length, IfOk, OnOk, Some, None};
+ghost use Rattle.std.specs.Prelude.{◌≡◌, ◌<◌, ◌≤◌, ◌+◌, ◌^◌, length, position, IfOk, IfSome};
 ghost use Rattle.ladder_picture.specs.Rungs as rules;
-ghost use Rattle.ladder_picture.specs.Arrows.{is_same as model_is_same, framed_on, arrival_in, arrival_on, is_sent_in};
-ghost use Rattle.ladder_picture.specs.Arrows.{sends as model_sends, row_on};
+ghost use Rattle.ladder_picture.specs.Arrows.{framed_on, row_on};
 
-use crate::row::{Fate, Framed, Row};
+use crate::row::{Framed, Row};
 use std::alloc::{AllocError, Global};
-use tas_model::FrameId;
 
 /// An end of the connection: the flow that is drawn stands at the left.
-#[derive(Clone, Copy, PartialEq, Eq)]
+#[derive(Clone, Copy)]
 pub enum Side {
     Left,
     Right,
@@ -24,15 +22,6 @@ pub struct Rung {
     pub opens: bool,
     pub left: Option<Row>,
     pub right: Option<Row>,
-}
-
-/// Where a frame came: how far down, what became of it where the connection had it not, and whether it is a second
-/// copy.
-#[derive(Clone, Copy)]
-pub struct Arrival {
-    pub y: u128,
-    pub fate: Option<Fate>,
-    pub again: bool,
 }
 
 /// The earlier tick of the first rows of both sides, or of the one side that has rows.
@@ -69,7 +58,8 @@ fn rows_behind(tick: u32, rows: &[Row]) -> &[Row]
 
 /// How far a rung stands below the one above it, which is so many ticks earlier.
 fn distance(later: u32) -> u128
-    ensures { result ≡ rules.distance later }
+    ensures distance { result ≡ rules.distance later }
+    ensures short { result ≤ 54 }
 {
     match later {
         0 => 20,
@@ -80,6 +70,7 @@ fn distance(later: u32) -> u128
 
 /// The rung of a tick below another one, or the first of all.
 fn below(above: Option<Rung>, tick: u32, left: Option<Row>, right: Option<Row>) -> Rung
+    requires { IfSome above (λ last. last.y + 54 < 2 ^ 128) }
     ensures { result ≡ rules.below above tick left right }
 {
     match above {
@@ -95,13 +86,23 @@ fn below(above: Option<Rung>, tick: u32, left: Option<Row>, right: Option<Row>) 
             let later = tick.saturating_sub(last.tick);
             Rung {
                 tick,
-                y: last.y.saturating_add(distance(later)),
+                y: last.y + distance(later),
                 quiet: later.saturating_sub(1),
                 opens: later > 0,
                 left,
                 right,
             }
         }
+    }
+}
+
+/// Whether neither side has rows left.
+fn are_over(left: &[Row], right: &[Row]) -> bool
+    ensures { result ≡ rules.are_over left.now right.now }
+{
+    match (left, right) {
+        ([], []) => true,
+        _ => false,
     }
 }
 
@@ -114,7 +115,7 @@ pub fn rungs_of(alloc: Global, left: &[Row], right: &[Row]) -> Result<Vec<Rung>,
     let mut ours = left;
     let mut theirs = right;
     let mut last: Option<Rung> = None;
-    'rungs: while !ours.is_empty() || !theirs.is_empty() {
+    'rungs: while !are_over(ours, theirs) {
         let tick = first_tick(ours, theirs);
         let rung = below(last, tick, row_at(tick, ours), row_at(tick, theirs));
         rungs.push(rung)?;
@@ -125,12 +126,27 @@ pub fn rungs_of(alloc: Global, left: &[Row], right: &[Row]) -> Result<Vec<Rung>,
     Ok(rungs)
 }
 
+/// Whether a row is of a later tick.
+fn is_later(row: &Row, tick: u32) -> bool
+    ensures { result ≡ rules.is_later tick row.now }
+{
+    row.tick > tick
+}
+
+/// The place of the first row of a later tick.
+fn first_later(rows: &[Row], tick: u32) -> Option<usize>
+    ensures place { result ≡ position (rules.is_later tick) rows.now }
+    ensures within { IfSome result (λ at. at < length rows.now) }
+{
+    rows.iter().position(|row| is_later(row, tick))
+}
+
 /// Where a row of a log stands among rows: behind those of its tick.
 fn place_in(rows: &[Row], tick: u32) -> usize
     ensures place { result ≡ rules.place_in rows.now tick }
     ensures within { result ≤ length rows.now }
 {
-    match rows.iter().position(|row| row.tick > tick) {
+    match first_later(rows, tick) {
         Some(at) => at,
         None => rows.len(),
     }
@@ -146,72 +162,39 @@ fn is_flow(flow: u32, own: Option<u32>) -> bool
     }
 }
 
-/// Whether a row of a log tells of a frame of this host's flow.
-fn tells_in(framed: Framed, host: usize, flow: Option<u32>) -> bool
-    ensures { result ≡ rules.tells_in framed host flow }
+/// Whether a row tells of a frame of this host's flow.
+fn tells(row: &Row, host: usize, flow: Option<u32>) -> bool
+    ensures { result ≡ rules.tells host flow row.now }
 {
-    match framed {
+    match row.framed {
         Framed::Met { id, .. } => id.host as usize == host && is_flow(id.flow, flow),
         Framed::Nothing | Framed::Sent(_) | Framed::Came(_) => false,
     }
 }
 
-/// Puts a row of a log among rows, where it tells of a frame of this host's flow.
-fn insert_row(
-    rows: &mut Vec<Row>,
-    row: &Row,
-    host: usize,
-    flow: Option<u32>,
-) -> Result<(), AllocError>
-    ensures { OnOk result (rows.new.items ≡ rules.with_logged host flow rows.old.items row.now) }
-{
-    if !tells_in(row.framed, host, flow) {
-        return Ok(());
-    }
-    let at = place_in(rows, row.tick);
-    rows.insert(at, *row)?;
-    Ok(())
-}
-
-/// Puts the rows of a log among rows that tell of frames of this host's flow. The error is want of memory.
-pub fn insert_log(
-    rows: &mut Vec<Row>,
+/// Rows with those of a log that tell of frames of this host's flow, each behind the rows of its tick. The error is
+/// want of memory.
+pub fn with_log(
+    alloc: Global,
+    rows: &[Row],
     log: &[Row],
     host: usize,
     flow: Option<u32>,
-) -> Result<(), AllocError>
-    ensures { OnOk result (rows.new.items ≡ rules.with_log rows.old.items log.now host flow) }
+) -> Result<Vec<Row>, AllocError>
+    ensures { IfOk result (λ merged. merged.items ≡ rules.with_log rows.now log.now host flow) }
 {
+    let mut merged: Vec<Row> = Vec::new(alloc);
+    let mut rest = rows;
     for row in log {
-        insert_row(rows, row, host, flow)?;
+        if tells(row, host, flow) {
+            let (first, behind) = rest.split_at(place_in(rest, row.tick));
+            merged.extend_from_slice(first)?;
+            merged.push(*row)?;
+            rest = behind;
+        }
     }
-    Ok(())
-}
-
-/// Whether these are the same frame, whichever copy.
-fn is_same(one: &FrameId, other: &FrameId) -> bool
-    ensures { result ≡ model_is_same one.now other.now }
-{
-    one.host == other.host && one.flow == other.flow && one.number == other.number
-}
-
-/// The arrival of a frame at this height.
-fn arrival_of(y: u128, id: &FrameId, framed: Framed) -> Option<Arrival>
-    ensures { result ≡ arrival_in y id.now framed }
-{
-    match framed {
-        Framed::Came(frame) if is_same(&frame.id, id) => Some(Arrival {
-            y,
-            fate: None,
-            again: frame.id.copy > 0,
-        }),
-        Framed::Met { id: met, fate } if is_same(&met, id) => Some(Arrival {
-            y,
-            fate: Some(fate),
-            again: met.copy > 0,
-        }),
-        _ => None,
-    }
+    merged.extend_from_slice(rest)?;
+    Ok(merged)
 }
 
 /// What passes in a row, where there is one.
@@ -240,22 +223,5 @@ impl Rung {
         ensures { result ≡ framed_on side self.now }
     {
         framed_in(self.row(side))
-    }
-
-    /// The arrival of a frame at a side.
-    pub fn arrival(&self, side: Side, id: &FrameId) -> Option<Arrival>
-        ensures { result ≡ arrival_on side id.now self.now }
-    {
-        arrival_of(self.y, id, self.framed(side))
-    }
-
-    /// Whether a frame was sent here from a side.
-    pub fn sends(&self, side: Side, id: &FrameId) -> bool
-        ensures { result ≡ model_sends side id.now self.now }
-    {
-        match self.framed(side) {
-            Framed::Sent(frame) => is_same(&frame.id, id),
-            Framed::Nothing | Framed::Came(_) | Framed::Met { .. } => false,
-        }
     }
 }

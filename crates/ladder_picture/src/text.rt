@@ -27,7 +27,7 @@ pub fn put_counted(out: &mut Vec<u8>, word: &[u8], number: u128) -> Result<(), A
     put_number(out, number)
 }
 
-/// Appends a byte, escaped.
+/// Appends a byte, escaped, or `?` for one that is not of printable ASCII.
 fn put_byte(out: &mut Vec<u8>, c: u8) -> Result<(), AllocError>
     ensures { OnOk result (out.new.items ≡ out.old.items ++ escaped_byte c) }
 {
@@ -36,7 +36,8 @@ fn put_byte(out: &mut Vec<u8>, c: u8) -> Result<(), AllocError>
         b'<' => put(out, b"&lt;"),
         b'>' => put(out, b"&gt;"),
         b'"' => put(out, b"&quot;"),
-        _ => put(out, &[c]),
+        b' '..=b'~' => put(out, &[c]),
+        _ => put(out, b"?"),
     }
 }
 

@@ -1,5 +1,5 @@
-use Rattle.ladder_picture.proofs.OneArrow.{stand_once}
+use Rattle.ladder_picture.proofs.Once.{stand_once}
 use Rattle.ladder_picture.proofs.laws.entries_stand_in_one_arrow.Goals as goal
 
 pub returns : goal.returns
-returns c = λ rungs own. stand_once rungs own
+returns c = stand_once
