@@ -10,3 +10,4 @@ mod Shown
 mod HostNames
 mod Reports
 mod EndsRead
+mod Drawn
