@@ -77,7 +77,8 @@ pub one_seen : {A B : Type 0} (f : B → List ℕ) (see : A → B) (xs : List A)
     → after ≡ before ++ flat_map f (map see (take (i + 1) xs))
 one_seen f see xs i x before now after below is so_far more =
     let front : map see (take (i + 1) xs) ≡ map see (take i xs) ++ see x ∷ [] =
-    ap (map see) (take_more xs i x below ∙ ap (λ y. take i xs ++ y ∷ []) (sym is)) ∙ map-append see (take i xs) (x ∷ []) in
+    ap (map see) (take_more xs i x below ∙ ap (λ y. take i xs ++ y ∷ []) (sym is)) ∙ map-append see (take i xs)
+    (x ∷ []) in
     more
     ∙ (ap (λ (t : List ℕ). t ++ f (see x)) so_far
     ∙ (append_assoc before (flat_map f (map see (take i xs))) (f (see x))

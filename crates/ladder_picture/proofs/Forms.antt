@@ -67,7 +67,10 @@ pub word : (t : List ℕ) → list_all is_plain t ≡ true → Plain t
 word t e = record { is = e }
 
 pub two : {a b : List ℕ} → Plain a → Plain b → Plain (a ++ b)
-two {a} {b} p q = record { is = list_all-append is_plain a b ∙ both (list_all is_plain a) (list_all is_plain b) p.is q.is }
+two {a} {b} p q = record {
+  is = list_all-append is_plain a b ∙ both (list_all is_plain a) (list_all is_plain b) p.is
+      q.is;
+}
   where
     both : (x y : Bool) → x ≡ true → y ≡ true → (x && y) ≡ true
     both x y e h = rw (e, h) refl

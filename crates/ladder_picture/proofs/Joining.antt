@@ -1,5 +1,6 @@
 -- Each arrow joins what is sent to what comes of the same name.
-use Rattle.std.proofs.Common.{◌≡◌, ℕ, zero, suc, ◌+◌, ◌≤◌, ◌==◌, Bool, true, false, not, ◌&&◌, ◌||◌, List, [], ◌∷◌, ◌++◌}
+use Rattle.std.proofs.Common.{◌≡◌, ℕ, zero, suc, ◌+◌, ◌≤◌, ◌==◌, Bool, true, false, not, ◌&&◌, ◌||◌, List, []}
+use Rattle.std.proofs.Common.{◌∷◌, ◌++◌}
 use Rattle.std.proofs.Common.{flat_map, Option, Some, None, refl, sym, ap, subst, ◌∙◌, arith, append_assoc, append-nil}
 use Rattle.std.proofs.Common.{if◌then◌else◌, cond}
 use Rattle.std.specs.Prelude.{count_by, nat_lt}
@@ -127,13 +128,14 @@ front_fewer p f t (q ∷ qs) =
     by true h = h
     by false h = omega arith
 
-one_pass_more : (q : Pass) (ps : List Pass) (xs : List Sent) → Each (EndsAreOfIts ps) xs → Each (EndsAreOfIts (q ∷ ps)) xs
+one_pass_more : (q : Pass) (ps : List Pass) (xs : List Sent) → Each (EndsAreOfIts ps) xs → Each
+    (EndsAreOfIts (q ∷ ps)) xs
 one_pass_more q ps [] each = tt
 one_pass_more q ps (x ∷ xs) each = (
   λ p. (let here = each.0 p in
-  let all = count_both p (arrival_at x.sender (key_of x.frame.id) q)
-  (flat_map (arrival_at x.sender (key_of x.frame.id)) ps) in
-  omega (arith, here, all)),
+      let all = count_both p (arrival_at x.sender (key_of x.frame.id) q)
+      (flat_map (arrival_at x.sender (key_of x.frame.id)) ps) in
+      omega (arith, here, all)),
   one_pass_more q ps xs each.1,
 )
 
@@ -143,9 +145,10 @@ all_of_its (q ∷ qs) = by q.framed (one_pass_more q qs (sent_arrows qs) (all_of
   by : (f : Framed) → Each (EndsAreOfIts (q ∷ qs)) (sent_arrows qs)
       → Each (EndsAreOfIts (q ∷ qs)) (sent_in q.side q.y qs f ++ sent_arrows qs)
   by (framed.Sent f) rest = (
-    λ p. (let here = front_fewer p (arrival_at q.side (key_of f.id)) (λ (r : Pass). not (sends q.side (key_of f.id) r)) qs in
-    let all = count_both p (arrival_at q.side (key_of f.id) q) (flat_map (arrival_at q.side (key_of f.id)) qs) in
-    omega (arith, here, all)),
+    λ p. (let here = front_fewer p (arrival_at q.side (key_of f.id)) (λ (r : Pass). not
+        (sends q.side (key_of f.id) r)) qs in
+        let all = count_both p (arrival_at q.side (key_of f.id) q) (flat_map (arrival_at q.side (key_of f.id)) qs) in
+        omega (arith, here, all)),
     rest,
   )
   by (framed.Came f) rest = rest

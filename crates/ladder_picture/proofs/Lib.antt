@@ -7,3 +7,4 @@ pub mod Pictures
 pub mod Once
 pub mod Joining
 pub mod Standing
+pub mod Merged

@@ -18,7 +18,8 @@ use Rattle.ladder_picture.specs.declared.joins.Arrival.{Arrival}
 use Rattle.ladder_picture.specs.declared.joins.FrameKey.{FrameKey}
 use Rattle.ladder_picture.specs.declared.joins.CameFrame.{CameFrame}
 use Rattle.ladder_picture.specs.Rungs.{framed_in}
-use Rattle.ladder_picture.specs.Arrows.{Pass, pass, passes, rung_passes, Sent, across, is_side, key_of, equal_key, sends}
+use Rattle.ladder_picture.specs.Arrows.{Pass, pass, passes, rung_passes, Sent, across, is_side, key_of, equal_key}
+use Rattle.ladder_picture.specs.Arrows.{sends}
 use Rattle.ladder_picture.specs.Arrows.{sent_arrows, came_in, came_arrows, sent_in}
 use Rattle.ladder_picture.specs.Joined.{is_from, last_by, last_of, add_end, end_at, with_end}
 use Rattle.ladder_picture.specs.OneArrow.{Stop, stop, stop_in, rung_stops, end_stops, sent_stops, came_stops, StandOnce}
@@ -84,7 +85,8 @@ ended_stops p s k a (x ∷ xs) (Some n) e =
           place : {i j : ℕ} → Some i ≡ Some j → i ≡ j
           place h = cc (h)
       by None true is here rest =
-          let at_0 : n ≡ 0 = place (sym e ∙ (ap (λ (o : Option ℕ). last_by o (is_from s k x)) is ∙ ap (last_by None) here)) in
+          let at_0 : n ≡ 0 = place (sym e ∙ (ap (λ (o : Option ℕ). last_by o (is_from s k x)) is ∙ ap (last_by None)
+          here)) in
           let parts = and_parts (is_side x.sender s) (equal_key (key_of x.frame.id) k) here in
           let old = tally_first p sent_stops x xs in
           let new = tally_first p sent_stops (add_end a x) xs in
@@ -100,7 +102,8 @@ ended_stops p s k a (x ∷ xs) (Some n) e =
           place : {i j : ℕ} → Some i ≡ Some j → i ≡ j
           place h = cc (h)
       by None false is here rest =
-          absurd (let h = sym e ∙ (ap (λ (o : Option ℕ). last_by o (is_from s k x)) is ∙ ap (last_by None) here) in cc (h))
+          absurd (let h = sym e ∙ (ap (λ (o : Option ℕ). last_by o (is_from s k x)) is ∙ ap (last_by None) here) in
+          cc (h))
 
 -- ----- a pass more
 abbrev shown : (Stop → Bool) → List Pass → ℕ
@@ -167,13 +170,16 @@ with_came p ps side y f are =
     let comes = comes_by side y (framed.Came f) k a (λ k. refl) (λ s k. never (is_side side s)) in
     let sent = ap (tally p sent_stops) (sent_ends ps q (across side) k a comes (λ side y. refl)) in
     let ends = ended_stops p (across side) k a (sent_arrows ps) o refl in
-    let came = ap (tally p came_stops) (came_more [] ps q) ∙ tally_both p came_stops (came_arrows [] ps) (came_in ps side y (framed.Came f)) in
+    let came = ap (tally p came_stops) (came_more [] ps q) ∙ tally_both p came_stops (came_arrows [] ps)
+    (came_in ps side y (framed.Came f)) in
     let last = tally_one p pass_stops ps q in
     let one = one_of (is_some o) (list_any (sends (across side) k) ps) (any_last (across side) k ps) in
     omega (arith, sent, ends, came, last, one, are)
   where
-    single : (s : Side) → s ≡ side → count_by p (stop s y (key_of f.id) ∷ []) ≡ count_by p (pass_stops (pass side y (framed.Came f)))
+    single : (s : Side) → s ≡ side → count_by p (stop s y (key_of f.id) ∷ []) ≡ count_by p
+        (pass_stops (pass side y (framed.Came f)))
     single s e = ap (λ (t : Side). count_by p (stop t y (key_of f.id) ∷ [])) e
+
     one_of : (b c : Bool) → b ≡ c
         → (if b then count_by p (end_stops (across (across side)) (key_of f.id) (arrival_of y None f.id)) else 0)
         + tally p came_stops (if c then [] else record { sender = across side; y = y; frame = f } ∷ [])
@@ -209,5 +215,6 @@ rung_by_rung (r ∷ rs) =
 
 pub stand_once : (rungs : List Rung) → StandOnce rungs
 stand_once rungs = λ p.
-    count_both p (flat_map sent_stops (sent_arrows (passes rungs))) (flat_map came_stops (came_arrows [] (passes rungs)))
+    count_both p (flat_map sent_stops (sent_arrows (passes rungs))) (flat_map came_stops
+    (came_arrows [] (passes rungs)))
     ∙ (all_shown p [] (passes rungs) refl ∙ ap (count_by p) (rung_by_rung rungs))

@@ -1,10 +1,12 @@
 -- The arrows of what passed, with one pass more.
-use Rattle.std.proofs.Common.{◌≡◌, ℕ, zero, suc, ◌+◌, ◌<◌, ◌≤◌, ◌==◌, Bool, true, false, not, ◌&&◌, ◌||◌, List, [], ◌∷◌, ◌++◌, length}
+use Rattle.std.proofs.Common.{◌≡◌, ℕ, zero, suc, ◌+◌, ◌<◌, ◌≤◌, ◌==◌, Bool, true, false, not, ◌&&◌, ◌||◌, List}
+use Rattle.std.proofs.Common.{[], ◌∷◌, ◌++◌, length}
 use Rattle.std.proofs.Common.{get_or, take}
 use Rattle.std.proofs.Math.ListN.{set}
 use Rattle.std.proofs.lemmas.List.{take_more}
 use Rattle.std.proofs.lemmas.List.Concat.{flat_map-append}
-use Rattle.std.proofs.Common.{map, flat_map, Option, Some, None, refl, sym, ap, subst, ◌∙◌, arith, append_assoc, append-nil}
+use Rattle.std.proofs.Common.{map, flat_map, Option, Some, None, refl, sym, ap, subst, ◌∙◌, arith, append_assoc}
+use Rattle.std.proofs.Common.{append-nil}
 use Rattle.std.proofs.Common.{if◌then◌else◌, cond}
 use Rattle.std.specs.Prelude.{is_some, nat_lt}
 use Rattle.std.specs.List.{list_any, take_while}
@@ -25,9 +27,11 @@ use Rattle.ladder_picture.specs.declared.joins.Arrows.{Arrows}
 use Rattle.ladder_picture.specs.declared.joins.FrameKey.{FrameKey}
 use Rattle.ladder_picture.specs.declared.joins.SentFrame.{SentFrame}
 use Rattle.ladder_picture.specs.declared.joins.CameFrame.{CameFrame}
-use Rattle.ladder_picture.specs.Arrows.{Pass, pass, passes, rung_passes, Sent, across, is_side, key_of, equal_key, sends, arrival_in, arrival_at}
+use Rattle.ladder_picture.specs.Arrows.{Pass, pass, passes, rung_passes, Sent, across, is_side, key_of, equal_key}
+use Rattle.ladder_picture.specs.Arrows.{sends, arrival_in, arrival_at}
 use Rattle.ladder_picture.specs.Arrows.{arrivals, sent_in, sent_arrows, came_in, came_arrows}
-use Rattle.ladder_picture.specs.Joined.{AreOf, is_from, last_by, last_of, add_end, end_at, with_end, place_in, with_place}
+use Rattle.ladder_picture.specs.Joined.{AreOf, is_from, last_by, last_of, add_end, end_at, with_end, place_in}
+use Rattle.ladder_picture.specs.Joined.{with_place}
 use Rattle.ladder_picture.specs.Joined.{same_places}
 use Rattle.ladder_picture.specs.Views.{seen_sent}
 
@@ -150,6 +154,7 @@ any_last s k (q ∷ qs) = by q.framed (any_last s k qs) where
   none : (b c : Bool) → c ≡ (b && false || c)
   none true c = refl
   none false c = refl
+
   by : (f : Framed) → is_some (last_of (is_from s k) (sent_arrows qs)) ≡ list_any (sends s k) qs
       → is_some (last_of (is_from s k) (sent_arrows (pass q.side q.y f ∷ qs)))
       ≡ list_any (sends s k) (pass q.side q.y f ∷ qs)
@@ -224,6 +229,7 @@ sent_ends (q ∷ qs) p sender key a comes none = by q.framed (sent_ends qs p sen
       let facts = comes q.side (key_of f.id) in
       more_arrivals q.side (key_of f.id) qs p
       ∙ rw (facts.0, facts.1) refl
+
   same : (f : Frame) → (is_side q.side sender && equal_key (key_of f.id) key) ≡ true
       → is_some (last_of (is_from sender key) (sent_arrows qs)) ≡ list_any (sends q.side (key_of f.id)) qs
   same f e =
@@ -233,6 +239,7 @@ sent_ends (q ∷ qs) p sender key a comes none = by q.framed (sent_ends qs p sen
       any_last sender key qs
       ∙ (ap (λ (s : Side). list_any (sends s key) qs) (sym side)
       ∙ ap (λ (k : FrameKey). list_any (sends q.side k) qs) (sym is))
+
   by : (f : Framed)
       → sent_arrows (qs ++ p ∷ []) ≡ with_end (last_of (is_from sender key) (sent_arrows qs)) a (sent_arrows qs)
       → sent_in q.side q.y (qs ++ p ∷ []) f ++ sent_arrows (qs ++ p ∷ [])
@@ -242,7 +249,8 @@ sent_ends (q ∷ qs) p sender key a comes none = by q.framed (sent_ends qs p sen
       first_step (last_of (is_from sender key) (sent_arrows qs))
       (is_side q.side sender && equal_key (key_of f.id) key)
       (sent_as q.side q.y f (arrivals q.side (key_of f.id) qs))
-      (sent_as q.side q.y f (arrivals q.side (key_of f.id) (qs ++ p ∷ []))) (sent_arrows qs) (sent_arrows (qs ++ p ∷ []))
+      (sent_as q.side q.y f (arrivals q.side (key_of f.id) (qs ++ p ∷ []))) (sent_arrows qs)
+      (sent_arrows (qs ++ p ∷ []))
       a (first_ends (last_of (is_from sender key) (sent_arrows qs)) (list_any (sends q.side (key_of f.id)) qs)
       (is_side q.side sender && equal_key (key_of f.id) key) q.side q.y f (arrivals q.side (key_of f.id) qs)
       (arrivals q.side (key_of f.id) (qs ++ p ∷ [])) a (same f) (now f)) e
@@ -270,7 +278,8 @@ no_arrival false = refl
 pub nothing_taken : (a : Arrows) (ps : List Pass) (side : Side) (y : ℕ) → AreOf a ps
     → AreOf a (ps ++ pass side y framed.Nothing ∷ [])
 nothing_taken a ps side y are =
-    let same = sent_more ps (pass side y framed.Nothing) (λ s k. no_arrival (is_side side (across s))) ∙ append-nil (sent_arrows ps) in
+    let same = sent_more ps (pass side y framed.Nothing) (λ s k. no_arrival (is_side side (across s))) ∙ append-nil
+    (sent_arrows ps) in
     record {
       sent = are.sent ∙ sym same;
       came = are.came ∙ sym (came_more [] ps (pass side y framed.Nothing) ∙ append-nil (came_arrows [] ps));
@@ -295,7 +304,8 @@ sent_taken a b ps side y f x are sent is came place =
       came = came ∙ (are.came ∙ sym (came_more [] ps p ∙ append-nil (came_arrows [] ps)));
       places = λ s k.
           place s k
-          ∙ (ap (λ (o : Option ℕ). if is_side side s && equal_key (key_of f.id) k then Some (length a.sent.items) else o)
+          ∙ (ap (λ (o : Option ℕ). if is_side side s && equal_key (key_of f.id) k then Some (length a.sent.items)
+          else o)
           (are.places s k)
           ∙ (ap (λ (n : ℕ). if is_side side s && equal_key (key_of f.id) k then Some n
           else last_of (is_from s k) (sent_arrows ps)) count
@@ -316,7 +326,8 @@ came_taken a b ps p key arrival are comes none sent places came =
     let more = sent_ends ps p (across p.side) key arrival comes none in
     record {
       sent = now ∙ sym more;
-      came = came ∙ (ap (λ (l : List CameFrame). l ++ came_in ps p.side p.y p.framed) are.came ∙ sym (came_more [] ps p));
+      came = came ∙ (ap (λ (l : List CameFrame). l ++ came_in ps p.side p.y p.framed) are.came ∙ sym
+          (came_more [] ps p));
       places = λ s k.
           places s k
           ∙ (are.places s k
@@ -331,6 +342,7 @@ comes_by side y f key a arrives no_send = λ s k. (no_send s k, both s k) where
   by : (b c : Bool) → (if b then (if c then a ∷ [] else []) else []) ≡ (if b && c then a ∷ [] else [])
   by true c = refl
   by false c = refl
+
   both : (s : Side) (k : FrameKey) → arrival_at s k (pass side y f)
       ≡ (if is_side s (across side) && equal_key k key then a ∷ [] else [])
   both s k = rw (arrives k, turned side s, key_flip key k) (by (is_side s (across side)) (equal_key k key))
@@ -361,12 +373,14 @@ pub had_taken : (a b : Arrows) (ps : List Pass) (side : Side) (y : ℕ) (f : Fra
     → AreOf b (ps ++ pass side y (framed.Came f) ∷ [])
 had_taken a b ps side y f found are sent places is came =
     let known : found ≡ list_any (sends (across side) (key_of f.id)) ps =
-    is ∙ (ap (λ (o : Option ℕ). is_some o) (are.places (across side) (key_of f.id)) ∙ any_last (across side) (key_of f.id) ps) in
+    is ∙ (ap (λ (o : Option ℕ). is_some o) (are.places (across side) (key_of f.id)) ∙ any_last (across side)
+    (key_of f.id) ps) in
     came_taken a b ps (pass side y (framed.Came f)) (key_of f.id) (arrival_of y None f.id) are
     (comes_by side y (framed.Came f) (key_of f.id) (arrival_of y None f.id) (λ k. refl)
     (λ s k. never (is_side side s)))
     (λ side y. refl) sent places
-    (came ∙ ap (λ (b : Bool). a.came.items ++ (if b then [] else record { sender = across side; y = y; frame = f } ∷ []))
+    (came ∙ ap (λ (b : Bool). a.came.items ++ (if b then [] else record { sender = across side; y = y; frame = f } ∷
+    []))
     known)
 
 -- ----- parts of the arrows
@@ -380,6 +394,7 @@ placed_alike a b now side key key' n n' left right same_key same_n place =
     old : (s : Side) (k : FrameKey) → place_in b s k ≡ place_in a s k
     old Left k = rw left refl
     old Right k = rw right refl
+
     by : (s : Side) (k : FrameKey)
         → place_in now s k ≡ (if is_side side s && equal_key key k then Some n else place_in a s k)
     by s k = place s k ∙ ap (λ (o : Option ℕ). if is_side side s && equal_key key k then Some n else o) (old s k)
@@ -389,6 +404,7 @@ same_again a b now left right same = λ s k. by s k where
   new : (s : Side) (k : FrameKey) → place_in now s k ≡ place_in b s k
   new Left k = rw left refl
   new Right k = rw right refl
+
   by : (s : Side) (k : FrameKey) → place_in now s k ≡ place_in a s k
   by s k = new s k ∙ same s k
 

@@ -37,7 +37,8 @@ use Rattle.ladder_picture.specs.Arrows.{across, Sent, passes, sent_arrows, came_
 use Rattle.ladder_picture.specs.ArrowTexts as shapes
 use Rattle.ladder_picture.specs.Drawing as parts
 use Rattle.ladder_picture.specs.Drawing.{End}
-use Rattle.ladder_picture.proofs.Forms.{is_plain, Runs, runs, runs_on, in_quotes, Plain, word, two, either, number, count, IsContent, none}
+use Rattle.ladder_picture.proofs.Forms.{is_plain, Runs, runs, runs_on, in_quotes, Plain, word, two, either}
+use Rattle.ladder_picture.proofs.Forms.{number, count, IsContent, none}
 use Rattle.ladder_picture.proofs.Forms.{both, words, all, element, line}
 
 -- ----- words
@@ -127,17 +128,19 @@ phase_plain phases.Closed = word _ refl
 
 -- a name, escaped
 escaped_content : (c : ℕ) → IsContent (escaped_byte c)
-escaped_content c = by (c == 38) (c == 60) (c == 62) (c == 34) (nat_le 32 c && nat_le c 126) refl refl refl refl refl where
-  by : (b1 b2 b3 b4 b5 : Bool) → (c == 38) ≡ b1 → (c == 60) ≡ b2 → (c == 62) ≡ b3 → (c == 34) ≡ b4
-      → (nat_le 32 c && nat_le c 126) ≡ b5 → IsContent (escaped_byte c)
-  by true b2 b3 b4 b5 e1 e2 e3 e4 e5 = rw e1 (record { stays = λ top w. record { is = refl } })
-  by false true b3 b4 b5 e1 e2 e3 e4 e5 = rw (e1, e2) (record { stays = λ top w. record { is = refl } })
-  by false false true b4 b5 e1 e2 e3 e4 e5 = rw (e1, e2, e3) (record { stays = λ top w. record { is = refl } })
-  by false false false true b5 e1 e2 e3 e4 e5 = rw (e1, e2, e3, e4) (record { stays = λ top w. record { is = refl } })
-  by false false false false false e1 e2 e3 e4 e5 =
-      rw (e1, e2, e3, e4, e5) (record { stays = λ top w. record { is = refl } })
-  by false false false false true e1 e2 e3 e4 e5 =
-      rw (e1, e2, e3, e4, e5) (words (word (c ∷ []) (rw (e1, e2, e3, e4, e5) refl)))
+escaped_content c = by (c == 38) (c == 60) (c == 62) (c == 34) (nat_le 32 c && nat_le c 126) refl refl refl refl
+    refl where
+      by : (b1 b2 b3 b4 b5 : Bool) → (c == 38) ≡ b1 → (c == 60) ≡ b2 → (c == 62) ≡ b3 → (c == 34) ≡ b4
+          → (nat_le 32 c && nat_le c 126) ≡ b5 → IsContent (escaped_byte c)
+      by true b2 b3 b4 b5 e1 e2 e3 e4 e5 = rw e1 (record { stays = λ top w. record { is = refl } })
+      by false true b3 b4 b5 e1 e2 e3 e4 e5 = rw (e1, e2) (record { stays = λ top w. record { is = refl } })
+      by false false true b4 b5 e1 e2 e3 e4 e5 = rw (e1, e2, e3) (record { stays = λ top w. record { is = refl } })
+      by false false false true b5 e1 e2 e3 e4 e5 =
+          rw (e1, e2, e3, e4) (record { stays = λ top w. record { is = refl } })
+      by false false false false false e1 e2 e3 e4 e5 =
+          rw (e1, e2, e3, e4, e5) (record { stays = λ top w. record { is = refl } })
+      by false false false false true e1 e2 e3 e4 e5 =
+          rw (e1, e2, e3, e4, e5) (words (word (c ∷ []) (rw (e1, e2, e3, e4, e5) refl)))
 
 -- ----- arrows
 side_plain : (s : Side) → Plain (shapes.side_name s)

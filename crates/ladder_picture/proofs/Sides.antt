@@ -1,5 +1,6 @@
 -- Rows side by side, one rung more.
-use Rattle.std.proofs.Common.{◌≡◌, ℕ, zero, suc, ◌+◌, ◌-◌, ◌*◌, ◌^◌, ◌≤◌, ◌<◌, ◌==◌, Bool, true, false, List, [], ◌∷◌, ◌++◌, length}
+use Rattle.std.proofs.Common.{◌≡◌, ℕ, zero, suc, ◌+◌, ◌-◌, ◌*◌, ◌^◌, ◌≤◌, ◌<◌, ◌==◌, Bool, true, false, List, []}
+use Rattle.std.proofs.Common.{◌∷◌, ◌++◌, length}
 use Rattle.std.proofs.Common.{take, drop}
 use Rattle.std.proofs.Common.{Option, Some, None, refl, sym, ap, ◌∙◌, subst, arith, append_assoc, append-nil}
 use Rattle.std.proofs.Common.{if◌then◌else◌}
@@ -8,7 +9,8 @@ use Rattle.std.proofs.lemmas.List.{length-append}
 use Rattle.std.proofs.lemmas.Bool.Decides.{nat_tests}
 use Rattle.ladder_picture.specs.declared.row.Row.{Row}
 use Rattle.ladder_picture.specs.declared.rungs.Rung.{Rung}
-use Rattle.ladder_picture.specs.Rungs.{rungs_from, first_rung, are_over, first_tick, rows_behind, row_at, below, distance}
+use Rattle.ladder_picture.specs.Rungs.{rungs_from, first_rung, are_over, first_tick, rows_behind, row_at, below}
+use Rattle.ladder_picture.specs.Rungs.{distance}
 use Rattle.ladder_picture.specs.Drawing.{bottom_from}
 
 -- ----- rungs
@@ -100,7 +102,8 @@ next_rung most above ls rs ls' rs' put put' all tick left right rung more t l r 
     (rows_behind (first_tick ls rs) rs)) (sym put_is) one in
     let three = subst (λ (x : Rung). IsNext all put' x (rows_behind (first_tick ls rs) ls)
     (rows_behind (first_tick ls rs) rs)) (sym first) two in
-    let four = subst (λ (x : List Row). IsNext all put' rung x (rows_behind (first_tick ls rs) rs)) (sym left_is) three in
+    let four = subst (λ (x : List Row). IsNext all put' rung x (rows_behind (first_tick ls rs) rs)) (sym left_is)
+    three in
     subst (λ (x : List Row). IsNext all put' rung ls' x) (sym right_is) four
 
 pub all_put : (most : ℕ) (above : Option Rung) (ls rs : List Row) (put all : List Rung) → are_over ls rs ≡ true

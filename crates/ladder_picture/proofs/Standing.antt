@@ -1,5 +1,6 @@
 -- What holds of all rungs, rung by rung.
-use Rattle.std.proofs.Common.{◌≡◌, ℕ, zero, suc, ◌+◌, ◌-◌, ◌≤◌, ◌<◌, ◌==◌, Bool, true, false, List, [], ◌∷◌, ◌++◌, length}
+use Rattle.std.proofs.Common.{◌≡◌, ℕ, zero, suc, ◌+◌, ◌-◌, ◌≤◌, ◌<◌, ◌==◌, Bool, true, false, List, [], ◌∷◌, ◌++◌}
+use Rattle.std.proofs.Common.{length}
 use Rattle.std.proofs.Common.{Option, Some, None, refl, sym, ap, subst, ◌∙◌, arith, if◌then◌else◌, not}
 use Rattle.std.specs.Prelude.{⊤, min, nat_lt, option_to_list, flat_map}
 use Rattle.std.specs.List.{take_while}
@@ -13,10 +14,12 @@ use Rattle.ladder_picture.specs.declared.rungs.Side.{Side}
 use Rattle.ladder_picture.specs.declared.rungs.Rung.{Rung}
 use Rattle.ladder_picture.specs.declared.joins.Arrival.{Arrival}
 use Rattle.ladder_picture.specs.declared.joins.FrameKey.{FrameKey}
-use Rattle.ladder_picture.specs.Rungs.{rungs_from, rungs_of, first_rung, are_over, first_tick, row_at, rows_behind, below}
+use Rattle.ladder_picture.specs.Rungs.{rungs_from, rungs_of, first_rung, are_over, first_tick, row_at}
+use Rattle.ladder_picture.specs.Rungs.{rows_behind, below}
 use Rattle.ladder_picture.specs.Arrows.{Pass, passes, Sent, across, is_side, key_of, sends, arrival_in, arrival_at}
 use Rattle.ladder_picture.specs.Arrows.{arrivals, sent_in, sent_arrows}
-use Rattle.ladder_picture.specs.Kept.{lefts, rights, IsOfTick, HasItsTick, GoDown, AreInOrder, TicksAreInOrder, GoesDown}
+use Rattle.ladder_picture.specs.Kept.{lefts, rights, IsOfTick, HasItsTick, GoDown, AreInOrder, TicksAreInOrder}
+use Rattle.ladder_picture.specs.Kept.{GoesDown}
 use Rattle.ladder_picture.proofs.Sides.{no_rungs, open_rungs, fewer, near}
 use Rattle.ladder_picture.proofs.OneMore.{arrivals_cons}
 
@@ -38,11 +41,13 @@ along P none step (suc m) above [] [] h = subst (P above [] []) (sym (no_rungs (
 along P none step (suc m) above (l ∷ ls) [] h =
     let less = fewer (l ∷ ls) [] refl in
     subst (P above (l ∷ ls) []) (sym (open_rungs m above (l ∷ ls) [] refl))
-    (step above (l ∷ ls) [] _ refl (along P none step m (Some (first_rung above (l ∷ ls) [])) _ _ (omega (arith, h, less))))
+    (step above (l ∷ ls) [] _ refl (along P none step m (Some (first_rung above (l ∷ ls) [])) _ _
+    (omega (arith, h, less))))
 along P none step (suc m) above [] (r ∷ rs) h =
     let less = fewer [] (r ∷ rs) refl in
     subst (P above [] (r ∷ rs)) (sym (open_rungs m above [] (r ∷ rs) refl))
-    (step above [] (r ∷ rs) _ refl (along P none step m (Some (first_rung above [] (r ∷ rs))) _ _ (omega (arith, h, less))))
+    (step above [] (r ∷ rs) _ refl (along P none step m (Some (first_rung above [] (r ∷ rs))) _ _
+    (omega (arith, h, less))))
 along P none step (suc m) above (l ∷ ls) (r ∷ rs) h =
     let less = fewer (l ∷ ls) (r ∷ rs) refl in
     subst (P above (l ∷ ls) (r ∷ rs)) (sym (open_rungs m above (l ∷ ls) (r ∷ rs) refl))
@@ -139,8 +144,8 @@ in_order_step above ls rs rungs more rest = λ t l r.
     let is = tick_is above (first_tick ls rs) (row_at (first_tick ls rs) ls) (row_at (first_tick ls rs) rs) in (
       subst (λ (n : ℕ). t ≤ n) (sym is) now,
       subst (λ (n : ℕ). TicksAreInOrder n rungs) (sym is) (rest (first_tick ls rs)
-      (left_in_order t (first_tick ls rs) ls l now (first_of_left ls rs))
-      (left_in_order t (first_tick ls rs) rs r now (first_of_right ls rs))),
+          (left_in_order t (first_tick ls rs) ls l now (first_of_left ls rs))
+          (left_in_order t (first_tick ls rs) rs r now (first_of_right ls rs))),
     )
 
 pub ticks_in_order : (ls rs : List Row) → AreInOrder 0 ls → AreInOrder 0 rs → TicksAreInOrder 0 (rungs_of ls rs)
@@ -184,11 +189,13 @@ each_both P (x ∷ xs) ys a b = (a.0, each_both P xs ys a.1 b)
 
 here_behind : (y z : ℕ) (k : FrameKey) (f : Framed) → y ≤ z → Each (λ (a : Arrival). y ≤ a.y) (arrival_in z k f)
 here_behind y z k (framed.Came f) h = by _ where
-  by : (b : Bool) → Each (λ (a : Arrival). y ≤ a.y) (if b then record { y = z; fate = None; again = nat_lt 0 f.id.copy } ∷ [] else [])
+  by : (b : Bool) → Each (λ (a : Arrival). y ≤ a.y) (if b then record
+      { y = z; fate = None; again = nat_lt 0 f.id.copy } ∷ [] else [])
   by true = (h, tt)
   by false = tt
 here_behind y z k (framed.Met id fate) h = by _ where
-  by : (b : Bool) → Each (λ (a : Arrival). y ≤ a.y) (if b then record { y = z; fate = Some fate; again = nat_lt 0 id.copy } ∷ [] else [])
+  by : (b : Bool) → Each (λ (a : Arrival). y ≤ a.y) (if b then record
+      { y = z; fate = Some fate; again = nat_lt 0 id.copy } ∷ [] else [])
   by true = (h, tt)
   by false = tt
 here_behind y z k (framed.Sent f) h = tt
@@ -205,7 +212,8 @@ ends_behind y s k (q ∷ qs) b =
         → Each (λ (a : Arrival). y ≤ a.y)
         (if one then [] else (if other then arrival_in q.y k q.framed else []) ++ arrivals s k qs)
     by true other rest = tt
-    by false true rest = each_both _ (arrival_in q.y k q.framed) (arrivals s k qs) (here_behind y q.y k q.framed b.0) rest
+    by false true rest = each_both _ (arrival_in q.y k q.framed) (arrivals s k qs)
+        (here_behind y q.y k q.framed b.0) rest
     by false false rest = rest
 
 all_go_down : (ps : List Pass) → Sorted ps → Each GoesDown (sent_arrows ps)

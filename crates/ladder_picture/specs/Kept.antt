@@ -26,11 +26,12 @@ abbrev pub GoDown : (y : ℕ) → List Rung → Type 0
 GoDown y [] = ⊤
 GoDown y (r ∷ rs) = (y < r.y) × GoDown r.y rs
 
--- rows are in order of time, and rungs are
+-- rows are in order of time, none of an earlier tick than this
 abbrev pub AreInOrder : (tick : ℕ) → List Row → Type 0
 AreInOrder tick [] = ⊤
 AreInOrder tick (r ∷ rs) = (tick ≤ r.tick) × AreInOrder r.tick rs
 
+-- the same of rungs
 abbrev pub TicksAreInOrder : (tick : ℕ) → List Rung → Type 0
 TicksAreInOrder tick [] = ⊤
 TicksAreInOrder tick (r ∷ rs) = (tick ≤ r.tick) × TicksAreInOrder r.tick rs

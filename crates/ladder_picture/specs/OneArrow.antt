@@ -53,11 +53,12 @@ abbrev pub came_stops : CameFrame → List Stop
 came_stops x = stop (across x.sender) x.y (key_of x.frame.id) ∷ []
 
 abbrev pub arrow_stops : List Rung → List Stop
-arrow_stops rungs = flat_map sent_stops (sent_arrows (passes rungs)) ++ flat_map came_stops (came_arrows [] (passes rungs))
+arrow_stops rungs = flat_map sent_stops (sent_arrows (passes rungs)) ++ flat_map came_stops
+    (came_arrows [] (passes rungs))
 
 -- ----- the laws
--- The entries with a segment that arrows show, each under the frame of its arrow, are those that the rungs show, each as
--- often as there.
+-- The entries with a segment that arrows show, each under the frame of its arrow, are those that the rungs show, each
+-- as often as there.
 abbrev pub StandOnce : List Rung → Type 0
 StandOnce rungs = (test : Stop → Bool)
     → count_by test (arrow_stops rungs) ≡ count_by test (flat_map rung_stops rungs)
@@ -74,8 +75,8 @@ names key (framed.Came f) = equal_key (key_of f.id) key
 names key (framed.Met id fate) = equal_key (key_of id) key
 names key _ = false
 
--- Where a side sends a frame that comes later to the other side, and that is not sent again meanwhile, an arrow goes from
--- there to where it comes.
+-- Where a side sends a frame that comes later to the other side, and that is not sent again meanwhile, an arrow goes
+-- from there to where it comes.
 abbrev pub AreJoined : List Rung → Type 0
 AreJoined rungs = (above between below : List Pass) (side : Side) (from to : ℕ) (f : Frame) (came : Framed)
     → passes rungs ≡ above ++ pass side from (framed.Sent f) ∷ (between ++ pass (across side) to came ∷ below)

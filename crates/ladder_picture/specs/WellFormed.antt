@@ -1,6 +1,6 @@
--- Which texts are well-formed documents of XML 1.0, of those that have no prolog, comments, instructions and sections of
--- raw characters: one element, with balanced elements in it, attributes of different names, and escaped text in printable
--- ASCII. A text is gone through byte by byte.
+-- Which texts are well-formed documents of XML 1.0, of those without a prolog, comments, instructions and sections of
+-- raw characters: one element, with balanced elements in it, attributes of different names, and escaped text in
+-- printable ASCII. A text is gone through byte by byte.
 use Rattle.std.specs.Prelude.{◌≡◌, ℕ, ◌==◌, Bool, not, ◌&&◌, ◌||◌, List, [], ◌∷◌, codes, bytes_eq, fold, nat_le}
 use Rattle.std.specs.Prelude.{if◌then◌else◌}
 use Rattle.std.specs.List.{list_any}
@@ -13,8 +13,8 @@ is_letter c = nat_le 97 c && nat_le c 122 || nat_le 65 c && nat_le c 90
 abbrev pub is_character : (c : ℕ) → Bool
 is_character c = nat_le 32 c && nat_le c 126 || c == 10
 
--- A tag that begins an element, as far as it stands: the element's name and the names of attributes. Names are kept from
--- their last letter on.
+-- A tag that begins an element, as far as it stands: the element's name and the names of attributes. Names are kept
+-- from their last letter on.
 pub record Begun : Type 0 where
   pub name : List ℕ
   pub attributes : List (List ℕ)

@@ -1,3 +1,5 @@
+//! The text of arrows.
+
 ghost use Rattle.std.specs.Prelude.{◌≡◌, ◌++◌, flat_map, map, OnOk};
 ghost use Rattle.ladder_picture.specs.Elements.{counted, path_start, path_end};
 ghost use Rattle.ladder_picture.specs.ArrowTexts as texts;
@@ -7,7 +9,9 @@ use crate::joins::{Arrival, CameFrame, SentFrame, across, arrows_of};
 use crate::labels::{Origins, put_fate, put_label};
 use crate::row::{Fate, Frame};
 use crate::rungs::{Rung, Side};
-use crate::text::{put, put_counted, put_path, put_path_end, put_path_start, put_text_end, put_text_start};
+use crate::text::{
+    put, put_counted, put_path, put_path_end, put_path_start, put_text_end, put_text_start,
+};
 use std::alloc::{AllocError, Global};
 use tas_num::Seq;
 
@@ -296,12 +300,7 @@ fn origin(look: &Look, sender: Side) -> &'static [u8]
 }
 
 /// Appends the line of a frame that came from nowhere that is shown.
-fn put_came_line(
-    out: &mut Vec<u8>,
-    look: &Look,
-    sender: Side,
-    y: u128,
-) -> Result<(), AllocError>
+fn put_came_line(out: &mut Vec<u8>, look: &Look, sender: Side, y: u128) -> Result<(), AllocError>
     ensures { OnOk result (out.new.items ≡ out.old.items ++ texts.came_line look.now sender y) }
 {
     put_path(

@@ -1,3 +1,5 @@
+//! The text of a whole picture.
+
 ghost use Rattle.std.specs.Prelude.{◌≡◌, ◌++◌, flat_map, OnOk};
 ghost use Rattle.ladder_picture.specs.Drawing as rules;
 ghost use Rattle.ladder_picture.specs.Views.{seen_end};
@@ -43,15 +45,42 @@ fn down(y: u128, more: u128) -> u128
 fn put_style(out: &mut Vec<u8>) -> Result<(), AllocError>
     ensures { OnOk result (out.new.items ≡ out.old.items ++ rules.style) }
 {
-    put(out, b"<style>text{font-family:monospace;font-size:12px;fill:#111}")?;
-    put(out, b".name{font-size:16px;font-weight:bold;text-anchor:middle}.socket{text-anchor:middle}")?;
-    put(out, b".at-right,.mark-right,.state-left,.note-left{text-anchor:end}")?;
-    put(out, b".state-left,.state-right{font-weight:bold;fill:#6a1b7a}.mark-left,.mark-right{fill:#a40000}")?;
-    put(out, b".tick,.key{fill:#555}.from-left{fill:#0b3d91}.from-right{fill:#14591d}")?;
-    put(out, b"path{fill:none;stroke-width:1.5}.line{stroke:#888}.left,.left-mark{stroke:#0b3d91}")?;
-    put(out, b".right,.right-mark{stroke:#14591d}.left-head{fill:#0b3d91}.right-head{fill:#14591d}")?;
-    put(out, b".left-mark,.right-mark{fill:#fff}.cross{stroke:#a40000;stroke-width:2.5}")?;
-    put(out, b".ring{fill:#fff;stroke:#a40000}.fold{stroke:#fff;stroke-width:4;stroke-dasharray:3 3}</style>\n")
+    put(
+        out,
+        b"<style>text{font-family:monospace;font-size:12px;fill:#111}",
+    )?;
+    put(
+        out,
+        b".name{font-size:16px;font-weight:bold;text-anchor:middle}.socket{text-anchor:middle}",
+    )?;
+    put(
+        out,
+        b".at-right,.mark-right,.state-left,.note-left{text-anchor:end}",
+    )?;
+    put(
+        out,
+        b".state-left,.state-right{font-weight:bold;fill:#6a1b7a}.mark-left,.mark-right{fill:#a40000}",
+    )?;
+    put(
+        out,
+        b".tick,.key{fill:#555}.from-left{fill:#0b3d91}.from-right{fill:#14591d}",
+    )?;
+    put(
+        out,
+        b"path{fill:none;stroke-width:1.5}.line{stroke:#888}.left,.left-mark{stroke:#0b3d91}",
+    )?;
+    put(
+        out,
+        b".right,.right-mark{stroke:#14591d}.left-head{fill:#0b3d91}.right-head{fill:#14591d}",
+    )?;
+    put(
+        out,
+        b".left-mark,.right-mark{fill:#fff}.cross{stroke:#a40000;stroke-width:2.5}",
+    )?;
+    put(
+        out,
+        b".ring{fill:#fff;stroke:#a40000}.fold{stroke:#fff;stroke-width:4;stroke-dasharray:3 3}</style>\n",
+    )
 }
 
 /// Appends the beginning of the document: its size, how its parts look, and the ground, on which all is dark.
@@ -66,7 +95,10 @@ fn put_begin(out: &mut Vec<u8>, height: u128) -> Result<(), AllocError>
     put_counted(out, b"\" viewBox=\"0 0 1200 ", height)?;
     put(out, b"\">\n")?;
     put_style(out)?;
-    put(out, b"<rect width=\"100%\" height=\"100%\" fill=\"#fff\"/>\n")
+    put(
+        out,
+        b"<rect width=\"100%\" height=\"100%\" fill=\"#fff\"/>\n",
+    )
 }
 
 /// Appends a lifeline, down to its end.
@@ -215,12 +247,7 @@ fn state_place(side: Side) -> &'static [u8]
 }
 
 /// Appends a new state beside a lifeline, where there is one.
-fn put_state(
-    out: &mut Vec<u8>,
-    side: Side,
-    y: u128,
-    state: Option<Phase>,
-) -> Result<(), AllocError>
+fn put_state(out: &mut Vec<u8>, side: Side, y: u128, state: Option<Phase>) -> Result<(), AllocError>
     ensures { OnOk result (out.new.items ≡ out.old.items ++ rules.side_state side y state) }
 {
     let Some(phase) = state else {

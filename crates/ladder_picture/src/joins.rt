@@ -120,13 +120,7 @@ impl Arrows {
     }
 
     /// Takes up a frame that a side sent.
-    fn send(
-        &mut self,
-        alloc: Global,
-        side: Side,
-        y: u128,
-        frame: Frame,
-    ) -> Result<(), AllocError>
+    fn send(&mut self, alloc: Global, side: Side, y: u128, frame: Frame) -> Result<(), AllocError>
         ensures { OnOk result ((ps : List Pass) → AreOf self.old ps
             → AreOf self.new (ps ++ pass side y (framed.Sent frame) ∷ [])) }
     {
@@ -238,7 +232,8 @@ impl Arrows {
 
 /// The arrows of a ladder. The error is want of memory.
 pub fn arrows_of(alloc: Global, rungs: &[Rung]) -> Result<Arrows, AllocError>
-    ensures sent { IfOk result (λ arrows. map seen_sent arrows.sent.items ≡ rules.sent_arrows (rules.passes rungs.now)) }
+    ensures sent { IfOk result (λ arrows. map seen_sent arrows.sent.items
+        ≡ rules.sent_arrows (rules.passes rungs.now)) }
     ensures came { IfOk result (λ arrows. arrows.came.items ≡ rules.came_arrows [] (rules.passes rungs.now)) }
 {
     let mut arrows = Arrows::new(alloc);

@@ -1,3 +1,5 @@
+//! The words of a picture.
+
 ghost use Rattle.std.specs.Prelude.{◌≡◌, ◌<◌, ◌++◌, codes, OnOk};
 ghost use Rattle.segment_fields.specs.ControlBits as bits;
 ghost use Rattle.tas_runs.specs.Report.{letter, flags_text, mss_text, scale_text, reason_text, phase_text, port_text};

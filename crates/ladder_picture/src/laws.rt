@@ -1,12 +1,13 @@
 //! Laws of pictures.
 
-ghost use Rattle.std.specs.Prelude.{◌≡◌, Bool, List};
+ghost use Rattle.std.specs.Prelude.{◌≡◌, ◌+◌, ℕ, Bool, List, Option, count_by};
+ghost use Rattle.std.specs.List.{filter};
 ghost use Rattle.host_rounds.specs.Lists.{Each};
 ghost use Rattle.ladder_picture.specs.Arrows.{passes, sent_arrows};
 ghost use Rattle.ladder_picture.specs.Drawing.{End, drawing};
 ghost use Rattle.ladder_picture.specs.Kept as kept;
 ghost use Rattle.ladder_picture.specs.OneArrow.{StandOnce, AreJoined, AreOfOneFrame};
-ghost use Rattle.ladder_picture.specs.Rungs.{rungs_of};
+ghost use Rattle.ladder_picture.specs.Rungs.{rungs_of, tells, with_log};
 ghost use Rattle.ladder_picture.specs.WellFormed.{IsWellFormed};
 ghost use Rattle.ladder_picture.specs.declared.arrows.Look.{Look};
 ghost use Rattle.ladder_picture.specs.declared.row.Row.{Row};
@@ -30,8 +31,8 @@ pub fn emissions_join_their_arrivals()
     ensures alone { (rungs : List Rung) → AreOfOneFrame rungs }
 {}
 
-/// Each row stands on exactly one rung, which is of its tick; each rung stands below the one above it, and where the rows
-/// are in order of time, the rungs are.
+/// Each row stands on exactly one rung, which is of its tick; each rung stands below the one above it, and where the
+/// rows are in order of time, the rungs are.
 pub fn rows_stand_on_rungs()
     ensures left { (left right : List Row) → kept.lefts (rungs_of left right) ≡ left }
     ensures right { (left right : List Row) → kept.rights (rungs_of left right) ≡ right }
@@ -44,4 +45,14 @@ pub fn rows_stand_on_rungs()
 /// No arrow ends above where it begins.
 pub fn arrows_go_down()
     ensures { (left right : List Row) → Each kept.GoesDown (sent_arrows (passes (rungs_of left right))) }
+{}
+
+/// Rows with those of a log are the given ones and those of the log that tell of frames of the host's flow, each as
+/// often as there; and where both are in order of time, they are.
+pub fn log_rows_are_kept()
+    ensures kept { (rows log : List Row) (host : ℕ) (flow : Option ℕ) (test : Row → Bool)
+        → count_by test (with_log rows log host flow)
+        ≡ count_by test rows + count_by test (filter (tells host flow) log) }
+    ensures order { (rows log : List Row) (host : ℕ) (flow : Option ℕ) (tick : ℕ) → kept.AreInOrder tick rows
+        → kept.AreInOrder tick log → kept.AreInOrder tick (with_log rows log host flow) }
 {}

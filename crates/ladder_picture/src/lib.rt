@@ -15,7 +15,7 @@ pub use drawing::{EndName, put_drawing};
 pub use labels::has;
 pub use laws::{
     arrows_go_down, drawings_are_well_formed, emissions_join_their_arrivals,
-    entries_stand_in_one_arrow, rows_stand_on_rungs,
+    entries_stand_in_one_arrow, log_rows_are_kept, rows_stand_on_rungs,
 };
 pub use row::{Asked, Fate, Frame, Framed, Note, Row, Timer, Told};
-pub use rungs::{rungs_of, with_log};
+pub use rungs::{Rung, rungs_of, with_log};

@@ -1,3 +1,5 @@
+//! What a row of a lifeline shows.
+
 use tas_model::{FrameId, Head, Phase, Reason};
 
 /// What an application asked of its connection. Numbers are of bytes.

@@ -1,3 +1,5 @@
+//! Which rows stand side by side, and how far down.
+
 ghost use Rattle.std.specs.Prelude.{◌≡◌, ◌<◌, ◌≤◌, ◌+◌, ◌^◌, length, position, IfOk, IfSome};
 ghost use Rattle.ladder_picture.specs.Rungs as rules;
 ghost use Rattle.ladder_picture.specs.Arrows.{framed_on, row_on};

@@ -1,3 +1,5 @@
+//! The elements of a picture, and the numbers and names in them.
+
 ghost use Rattle.std.specs.Prelude.{◌≡◌, ◌++◌, codes, decimal, OnOk};
 ghost use Rattle.ladder_picture.specs.Labels.{escaped, escaped_byte};
 ghost use Rattle.ladder_picture.specs.Elements as elements;
@@ -79,12 +81,7 @@ pub fn put_text_end(out: &mut Vec<u8>) -> Result<(), AllocError>
 }
 
 /// Appends the beginning of a path: its kind, and where it begins. The error is want of memory.
-pub fn put_path_start(
-    out: &mut Vec<u8>,
-    class: &[u8],
-    x: &[u8],
-    y: u128,
-) -> Result<(), AllocError>
+pub fn put_path_start(out: &mut Vec<u8>, class: &[u8], x: &[u8], y: u128) -> Result<(), AllocError>
     ensures { OnOk result (out.new.items ≡ out.old.items ++ elements.path_start class.now x.now y) }
 {
     put(out, b"<path class=\"")?;
