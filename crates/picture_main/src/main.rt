@@ -1,28 +1,18 @@
 //! The program: a picture of a connection, of a report on standard input.
 #![tactic(auto)]
 
+mod drawn;
 mod words;
 
-use report_picture::{PictureFault, Wanted, picture};
+use drawn::{Stop, drawn};
 use std::alloc::{AllocError, Global};
 use std::env;
 use std::io::{Read, Stderr, Write};
 use std::process::ExitCode;
-use words::{Asked, asked_by};
+use words::asked_by;
 
 /// The most bytes that a report may have: 64 MiB.
 const MOST_BYTES: usize = 67_108_864;
-
-/// Why there is no picture.
-#[derive(Clone, Copy)]
-enum Stop {
-    Words,
-    Line(u64),
-    Read,
-    Write,
-    Memory,
-    TooLong,
-}
 
 fn main(rt: HostRuntime) -> ExitCode {
     let alloc = rt.alloc();
@@ -36,24 +26,12 @@ fn main(rt: HostRuntime) -> ExitCode {
         Ok(report) => report,
         Err(stop) => return told(rt.stderr(), stop),
     };
-    match picture(alloc, &report, wanted(&asked), asked.absolute) {
+    match drawn(alloc, &report, &asked) {
         Ok(out) => match rt.stdout().write_all(&out) {
             Ok(()) => ExitCode::from(0),
             Err(_) => told(rt.stderr(), Stop::Write),
         },
-        Err(PictureFault::Refused { line } | PictureFault::Absent { line }) => told(rt.stderr(), Stop::Line(line)),
-        Err(PictureFault::OutOfMemory) => told(rt.stderr(), Stop::Memory),
-    }
-}
-
-/// The flow that is wanted.
-fn wanted<'a>(asked: &Asked<'a>) -> Wanted<'a> {
-    match asked.flow {
-        Some((host, number)) => Wanted::Flow {
-            host: host.as_bytes(),
-            number,
-        },
-        None => Wanted::First,
+        Err(stop) => told(rt.stderr(), stop),
     }
 }
 
@@ -90,23 +68,15 @@ fn report_in<R: Read>(alloc: Global, stream: &mut R) -> Result<Vec<u8>, Stop> {
 /// Tells of a stop, and answers its status. Where that can't be written, the status alone tells.
 fn told(faults: Stderr, stop: Stop) -> ExitCode {
     let mut faults = faults;
-    let status = match stop {
-        Stop::Words => 2,
-        Stop::Line(_) => 3,
-        Stop::Read => 4,
-        Stop::Write => 5,
-        Stop::Memory => 6,
-        Stop::TooLong => 7,
-    };
     let _ = match stop {
         Stop::Words => faults.write_all(b"picture: words\n"),
-        Stop::Line(number) => put_line(&mut faults, number),
+        Stop::Line { number } => put_line(&mut faults, number),
         Stop::Read => faults.write_all(b"picture: read\n"),
         Stop::Write => faults.write_all(b"picture: write\n"),
         Stop::Memory => faults.write_all(b"picture: memory\n"),
         Stop::TooLong => faults.write_all(b"picture: too long\n"),
     };
-    ExitCode::from(status)
+    ExitCode::from(stop.status())
 }
 
 /// Tells of the line that is wrong.
