@@ -47,10 +47,7 @@ fn wanted<'a>(asked: &Asked<'a>) -> Wanted<'a>
     ensures { result ≡ rules.wanted asked.now }
 {
     match asked.flow {
-        Some((host, number)) => Wanted::Flow {
-            host: host.as_bytes(),
-            number,
-        },
+        Some((host, number)) => Wanted::Flow { host, number },
         None => Wanted::First,
     }
 }

@@ -1,12 +1,14 @@
+//! The words of the program: which flow is wanted, and how its numbers are told.
+
 /// What the words ask for: the flow that is wanted, where one is named, and whether numbers are absolute.
 #[derive(Clone, Copy)]
 pub struct Asked<'a> {
-    pub flow: Option<(&'a str, u32)>,
+    pub flow: Option<(&'a [u8], u32)>,
     pub absolute: bool,
 }
 
 /// What `HOST:N` names: a host, and a flow of it by its opening number, which has no sign and no leading zero.
-fn flow_of(text: &str) -> Option<(&str, u32)> {
+fn flow_of(text: &str) -> Option<(&[u8], u32)> {
     let (host, number) = text.split_once(':')?;
     let digits = number.as_bytes();
     let is_plain = digits.iter().all(|c| c.is_ascii_digit());
@@ -14,7 +16,7 @@ fn flow_of(text: &str) -> Option<(&str, u32)> {
         return None;
     }
     let number = number.parse::<u32>().ok()?;
-    Some((host, number))
+    Some((host.as_bytes(), number))
 }
 
 /// What the words ask for; `None` where they are of no form: `--flow HOST:N`, or `--flow=HOST:N`, and `--absolute`, in

@@ -1,5 +1,6 @@
 -- The picture of a flow, by what was read of both of its ends.
-use Rattle.std.proofs.Common.{◌≡◌, ℕ, Bool, List, [], ◌++◌, Option, Some, Result, Ok, Err, IfOk, refl, sym, ap, ◌∙◌, subst}
+use Rattle.std.proofs.Common.{◌≡◌, ℕ, Bool, List, [], ◌++◌, Option, Some, Result, Ok, Err, IfOk, refl, sym, ap, ◌∙◌}
+use Rattle.std.proofs.Common.{subst}
 use Rattle.report_lines.specs.Lines.{Line}
 use Rattle.ladder_picture.specs.Drawing.{End, drawing}
 use Rattle.ladder_picture.specs.Rungs.{rungs_of, with_log}
@@ -59,8 +60,14 @@ flow_drawn n names addrs absolute drawn peer other flows lines e out same_names 
           (with_log e.theirs.rows.items e.theirs.log.items drawn.host (Some drawn.number)))
           ≡ drawn_text names absolute drawn peer other lines
       by_shown =
-          rw (shown.ours.rows, shown.ours.log, shown.ours.known, shown.theirs.rows, shown.theirs.log,
-          shown.theirs.known) refl
+          rw (
+            shown.ours.rows,
+            shown.ours.log,
+            shown.ours.known,
+            shown.theirs.rows,
+            shown.theirs.log,
+            shown.theirs.known,
+          ) refl
 
 -- The whole.
 pub picture_is : (text : List ℕ) (wanted : Wanted) (absolute : Bool) (n : Named) (names : List (List ℕ))
@@ -73,7 +80,7 @@ picture_is text wanted absolute n names flows drawn out lines hosts report all s
   form = subst (λ (m : Named). AreReport m (text_lines text) lines) hosts report;
   flow = drawn;
   chosen = sym (ap (λ (ns : List (List ℕ)). chosen ns wanted (flows_in lines))
-          (same_names ∙ ap (λ (m : Named). m.names) hosts))
+      (same_names ∙ ap (λ (m : Named). m.names) hosts))
       ∙ (sym (ap (λ (fs : List Flow). chosen names wanted fs) all) ∙ is);
   shown = shown ∙ ap (λ (m : Named). flow_text m absolute drawn lines) hosts;
 }

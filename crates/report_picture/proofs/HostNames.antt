@@ -1,6 +1,7 @@
 -- The names of a report's hosts are of letters and digits, and each is found at its own place alone.
 use Rattle.std.proofs.Common.{◌≡◌, ℕ, zero, suc, ◌+◌, ◌≤◌, ◌<◌, Bool, true, false, not, cond, ltb, List, [], ◌∷◌, ◌++◌}
-use Rattle.std.proofs.Common.{length, Option, Some, None, refl, sym, ◌∙◌, ap, subst, arith, length-append, inl, inr, ◌⊎◌}
+use Rattle.std.proofs.Common.{length, Option, Some, None, refl, sym, ◌∙◌, ap, subst, arith, length-append, inl, inr}
+use Rattle.std.proofs.Common.{◌⊎◌}
 use Rattle.std.specs.Prelude.{slice_get, bytes_eq, position, codes, nat_lt, ◌||◌, ◌&&◌}
 use Rattle.std.specs.List.{position_or_len, list_all, list_any, take_while}
 use Rattle.std.proofs.lemmas.Bool.{and_parts}
@@ -129,10 +130,10 @@ with_kept n name addr true may plain ok =
     (not n.replay || bytes_eq name (codes "local")) may in
     let second = and_parts (nat_lt (length n.names) 8) (not (is_there n.names name)) first.0 in
     names_more n.names name ok (grind (arith, nat_tests, second.0)) (is_false (is_there n.names name) second.1) plain
-    where
-      is_false : (b : Bool) → not b ≡ true → b ≡ false
-      is_false true e = absurd (cc (e))
-      is_false false e = refl
+  where
+    is_false : (b : Bool) → not b ≡ true → b ≡ false
+    is_false true e = absurd (cc (e))
+    is_false false e = refl
 
 addr_kept : (n : Named) (name : List ℕ) (addr : Option ℕ) → (addr ≡ None) ⊎ (is_plain name ≡ true)
     → AreNames n.names → AreNames (with_addr n name addr).names

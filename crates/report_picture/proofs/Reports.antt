@@ -1,5 +1,6 @@
 -- The lines that lead to the end are a report, those that lead anywhere may begin one, and no others do.
-use Rattle.std.proofs.Common.{◌≡◌, ℕ, Bool, true, false, not, List, [], ◌∷◌, ◌++◌, length, map, fold, Option, Some, None}
+use Rattle.std.proofs.Common.{◌≡◌, ℕ, Bool, true, false, not, List, [], ◌∷◌, ◌++◌, length, map, fold, Option, Some}
+use Rattle.std.proofs.Common.{None}
 use Rattle.std.proofs.Common.{◌+◌, refl, sym, ap, ◌∙◌, subst, append_assoc}
 use Rattle.std.specs.Prelude.{◌&&◌, ◌||◌}
 use Rattle.std.proofs.lemmas.Bool.{and_parts}
@@ -127,8 +128,7 @@ pub has_ended : (n : Named) (l : Listing) (texts : List (List ℕ)) → HasListe
     → is_over n.replay l.stage ≡ true
     → (lines : List Line) × AreReport n texts lines × (l.flows.items ≡ flows_in lines)
 has_ended n l texts has over =
-    let form = led_report n.replay n.addrs has.said l.stage has.at over in
-    (
+    let form = led_report n.replay n.addrs has.said l.stage has.at over in (
       form.0,
       (has.said, has.of, form.1),
       has.flows ∙ ap flows_in (plain_report n.replay n.addrs has.said form.0 form.1),

@@ -60,7 +60,8 @@ led_run addrs s t [] e =
       place_in None = None
       place_in (Some u) = Some u.place
 led_run addrs s t (Counts ∷ xs) e =
-    absurd (by_none (next_stage false addrs s Counts) (counts_next addrs s) (sym (led_is false addrs s Counts xs) ∙ e)) where
+    absurd (by_none (next_stage false addrs s Counts) (counts_next addrs s)
+    (sym (led_is false addrs s Counts xs) ∙ e)) where
       by_none : (o : Option Stage) → o ≡ None → behind false addrs xs o ≡ Some t → ⊥
       by_none None none e = absurd (cc (e))
       by_none (Some r) none e = absurd (cc (none))
@@ -100,8 +101,7 @@ pub led_run_begins : (addrs : List ℕ) (said : List Said) (t : Stage) → led f
     → (rest : List Said) × (lines : List Line) × (said ++ rest ≡ map Plain lines) × IsReport addrs lines
 led_run_begins addrs said t e =
     let run : IsRunAt addrs places.Start said t.place = led_run addrs start t said e in
-    let begins : MayBegin addrs run.lines = may_begin addrs run.lines t.place run.leads in
-    (
+    let begins : MayBegin addrs run.lines = may_begin addrs run.lines t.place run.leads in (
       map Plain begins.rest,
       run.lines ++ begins.rest,
       ap (λ (xs : List Said). xs ++ map Plain begins.rest) run.shown ∙ sym (map_append Plain run.lines begins.rest),

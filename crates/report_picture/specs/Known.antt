@@ -79,7 +79,8 @@ abbrev pub after_answer : Known → Head → Reply → Known
 after_answer k head reply =
     if not (has head.flags ack) || not (head.ack.0 == (plus k.iss 1).0) then k
     else if has head.flags rst then record k { closed = true }
-    else if is_sent reply && has head.flags syn then record k { peer = Some head.seq; scaled = is_some head.scale; syn_acked = true }
+    else if is_sent reply && has head.flags syn then
+    record k { peer = Some head.seq; scaled = is_some head.scale; syn_acked = true }
     else k
 
 -- it is heard: one with ACK and without SYN, which begins in the window, or brings on what is expected

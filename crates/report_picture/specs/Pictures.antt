@@ -146,8 +146,8 @@ abbrev pub right_end : (names : List (List ℕ)) → (peer : Option ℕ) → Flo
 right_end names peer f = record { name = peer_name names peer; addr = f.tuple.raddr; port = f.tuple.rport }
 
 -- The picture of a flow with its other end.
-abbrev pub drawn_text : (names : List (List ℕ)) → (absolute : Bool) → Flow → (peer : Option ℕ) → (other : Option Flow) → List Line
-    → List ℕ
+abbrev pub drawn_text : (names : List (List ℕ)) → (absolute : Bool) → Flow → (peer : Option ℕ)
+    → (other : Option Flow) → List Line → List ℕ
 drawn_text names absolute f peer other lines =
     drawing (look absolute peer (known_by (shown_entries (Some f) lines)) (known_by (shown_entries other lines)))
     absolute (left_end names f) (right_end names peer f)

@@ -113,7 +113,8 @@ impl End {
 impl Ends {
     /// Nothing was read.
     fn new(alloc: Global) -> Ends
-        ensures { (drawn : model_flows.Flow) (peer : Option ℕ) (other : Option model_flows.Flow) → AreShown result drawn peer other [] }
+        ensures { (drawn : model_flows.Flow) (peer : Option ℕ) (other : Option model_flows.Flow)
+            → AreShown result drawn peer other [] }
     {
         Ends {
             above: Above::nowhere(),

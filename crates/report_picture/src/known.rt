@@ -40,9 +40,7 @@ pub struct Known {
 fn behind_fin(head: &Head, len: usize) -> Seq
     ensures { result ≡ rules.behind_fin head.now len }
 {
-    head.seq
-        .plus((len as u64 % 4_294_967_296) as u32)
-        .plus(1)
+    head.seq.plus((len as u64 % 4_294_967_296) as u32).plus(1)
 }
 
 impl Known {

@@ -81,11 +81,7 @@ impl Listing {
 }
 
 /// The flows of a report, which names these hosts. A text that is none is refused at the earliest line at fault.
-pub fn flows_of(
-    alloc: Global,
-    hosts: &Hosts<'_>,
-    report: &[u8],
-) -> Result<Vec<Flow>, PictureFault>
+pub fn flows_of(alloc: Global, hosts: &Hosts<'_>, report: &[u8]) -> Result<Vec<Flow>, PictureFault>
     requires names { AreNames (seen_hosts hosts.now).names }
     ensures found { IfOk result (λ flows. (lines : List Line)
         × AreReport (seen_hosts hosts.now) (text_lines report.now) lines × (flows.items ≡ flows_in lines)) }

@@ -251,7 +251,11 @@ pub fn logged_row(tick: u32, event: &EventLine<'_>) -> Option<Row>
         EventLine::Dropped { frame, backlog } => {
             Some(met(tick, *frame, Fate::Dropped { backlog: *backlog }))
         }
-        EventLine::Refused { frame, rule } => Some(met(tick, *frame, Fate::Refused { rule: *rule })),
+        EventLine::Refused { frame, rule } => Some(met(
+            tick,
+            *frame,
+            Fate::Refused { rule: *rule },
+        )),
         _ => None,
     }
 }
