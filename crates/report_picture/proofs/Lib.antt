@@ -11,3 +11,4 @@ mod HostNames
 mod Reports
 mod EndsRead
 mod Drawn
+mod NoFault

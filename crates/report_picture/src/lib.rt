@@ -6,6 +6,7 @@ mod ends;
 mod flows;
 mod hosts;
 mod known;
+mod laws;
 mod lines;
 mod listing;
 mod pictures;
@@ -14,4 +15,5 @@ mod said;
 mod stage;
 
 pub use choice::Wanted;
+pub use laws::a_report_has_no_fault;
 pub use pictures::{PictureFault, picture};
