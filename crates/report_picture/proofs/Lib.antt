@@ -1,0 +1,14 @@
+mod Leading
+mod Ending
+mod RunForm
+mod ReplayLeads
+mod ReplayForm
+mod Texts
+mod SaidLines
+mod OneSaid
+mod Shown
+mod HostNames
+mod Reports
+mod EndsRead
+mod Drawn
+mod NoFault
