@@ -3,4 +3,5 @@ pub mod Attempts
 pub mod Lanes
 pub mod Phases
 pub mod Hosts
+pub mod Parts
 pub mod Words

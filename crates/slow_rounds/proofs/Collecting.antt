@@ -26,7 +26,8 @@ use Rattle.phase_orders.specs.Collecting.{collected}
 use Rattle.phase_orders.specs.CoreTurns.{arrivals_of, frame_in, lines_of}
 use Rattle.phase_orders.proofs.Collecting.{broken_lines}
 use Rattle.slow_rounds.specs.Collecting.{IsLaneCollected, AreCollected}
-use Rattle.slow_rounds.specs.Rests.{starts_by, rest_of, IsCounted}
+use Rattle.sound_hosts.specs.Counting.{IsCounted}
+use Rattle.slow_rounds.specs.Rests.{starts_by, rest_of}
 use Rattle.slow_rounds.proofs.FirstTurns.{same_host}
 use Rattle.slow_rounds.proofs.LaterTurns.{later_made}
 

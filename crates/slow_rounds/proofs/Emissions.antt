@@ -101,7 +101,7 @@ all_sent s tick (id ∷ ids) v w alone indexed (u, sent, rest) =
     (r.0, r.1, r.2 ∙ one_sent s tick id v u alone indexed sent)
 
 -- then nothing is left to send
-none_left : (t : ℕ) (known : List Held) (bs : List Book) → Each (IsSilent known) bs
+pub none_left : (t : ℕ) (known : List Held) (bs : List Book) → Each (IsSilent known) bs
     → map (quieted t) (map (live_in known) bs) ≡ map (live_in known) bs
 none_left t known [] each = refl
 none_left t known (b ∷ bs) each =

@@ -44,7 +44,7 @@ use Rattle.sound_turns.proofs.Steps as steps
 use Rattle.sound_turns.proofs.Times.{first, from_place, host_sound}
 use Rattle.sound_turns.proofs.Times as times
 use Rattle.sound_turns.proofs.Whole.{posted_like}
-use Rattle.slow_rounds.specs.Rests.{IsCounted}
+use Rattle.sound_hosts.specs.Counting.{IsCounted}
 use Rattle.slow_rounds.specs.SoFar.{phased, is_in, AreSoFar, AreStepped}
 use Rattle.slow_rounds.proofs.Phased.{closed_phased, filed_phased, timed_phased}
 use Rattle.slow_rounds.proofs.Stepping.{Once, once_rest, apart_rest, all_stepped, books_stay, one_changes}

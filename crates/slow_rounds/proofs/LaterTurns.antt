@@ -49,7 +49,8 @@ use Rattle.sound_turns.specs.Serving.{quiet, without_frames, ids_of, syn_book, b
 use Rattle.sound_turns.proofs.Serving.{At, IsServedSound, one_served, like_sound}
 use Rattle.sound_turns.proofs.Whole.{posted_like}
 use Rattle.phase_orders.specs.CoreTurns.{arrivals_of, frame_in}
-use Rattle.slow_rounds.specs.Rests.{starts_by, rest_of, IsCounted}
+use Rattle.sound_hosts.specs.Counting.{IsCounted}
+use Rattle.slow_rounds.specs.Rests.{starts_by, rest_of}
 use Rattle.slow_rounds.proofs.FirstTurns.{same_host}
 use Rattle.slow_rounds.proofs.Found.{first_changes, first_any, none_indexed, placed}
 use Rattle.slow_rounds.proofs.Meeting.{met_made}

@@ -15,3 +15,5 @@ pub mod Openings
 pub mod Ready
 pub mod Sent
 pub mod GivenUp
+mod SentRest
+mod Kicked

@@ -28,7 +28,7 @@ use Rattle.sound_hosts.specs.Leaving.{reheld}
 use Rattle.sound_hosts.specs.Opening.{new_book, with_book}
 use Rattle.sound_hosts.specs.Sound.{IsHostSound}
 use Rattle.slow_rounds.specs.Opening.{IsOpening, reheld_as}
-use Rattle.slow_rounds.specs.Rests.{IsCounted}
+use Rattle.sound_hosts.specs.Counting.{IsCounted}
 use Rattle.slow_rounds.proofs.Opens.{free, opened_made}
 
 -- ----- a connect

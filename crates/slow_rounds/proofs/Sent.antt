@@ -9,7 +9,7 @@ use Rattle.tas_model.specs.declared.entry.Reason.{Reason}
 use Rattle.tas_model.specs.ApplicationCalls.{Column, Opening, Over, Running, column, column_by}
 use Rattle.tas_model.specs.NextSegment.{Going}
 use Rattle.flow_state.specs.declared.call.CallIn.TheVariants.{Emit}
-use Rattle.flow_state.specs.Flow.{next_entry, reply_to}
+use Rattle.flow_state.specs.Flow.{Flow, next_entry, reply_to}
 use Rattle.host_rounds.specs.Lists.{Each}
 use Rattle.flow_lock.specs.Orders.{known_of, same_flow}
 use Rattle.flow_lock.specs.Words.{word_at}
@@ -17,7 +17,7 @@ use Rattle.flow_lock.specs.declared.view.Deed.{Deed}
 use Rattle.flow_lock.specs.declared.view.Held.{Held}
 use Rattle.flow_lock.specs.declared.view.History.{History}
 use Rattle.flow_lock.specs.declared.view.View.{View}
-use Rattle.app_reaper.specs.OneCall.{history, history_with}
+use Rattle.app_reaper.specs.OneCall.{history, history_with, IsOwn, IsUse}
 use Rattle.core_phase.specs.Deeds.{IsSend, KeepsColumn}
 use Rattle.flow_clock.specs.Histories.{endpoint_of, is_over, is_running, is_running_in}
 use Rattle.flow_clock.proofs.Keeping.{after_use}
@@ -33,14 +33,14 @@ use Rattle.sound_hosts.proofs.OneFlow.{used_leads, words_same}
 use Rattle.sound_hosts.proofs.Reheld.{StaysWaiting, waiting_same}
 use Rattle.sound_turns.proofs.Steps.{same_led}
 use Rattle.sound_turns.proofs.Sweeps.{base_leads}
-use Rattle.slow_rounds.specs.Rests.{IsCounted}
+use Rattle.sound_hosts.specs.Counting.{IsCounted}
 use Rattle.slow_rounds.specs.Sending.{IsSent, AreSent, with_view}
 
 -- ----- histories
-abbrev column_in : FlowId → List Held → Column
+abbrev pub column_in : FlowId → List Held → Column
 column_in f known = column (endpoint_of (known_of f known))
 
-led_twice : (x y z : History) → LedOn x y → LedOn y z → LedOn x z
+pub led_twice : (x y z : History) → LedOn x y → LedOn y z → LedOn x z
 led_twice x y z a b = record {
   tuple = b.tuple ∙ a.tuple;
   over = λ o. b.over (a.over o);
@@ -69,13 +69,13 @@ over_is None (Some first) una = by (una == 0)
 module _ (sends_keep : (core t : ℕ) (d : Deed) → IsSend core t d → KeepsColumn d) (h : CoreHost) (tick : ℕ)
     (sound : IsHostSound h) where
   -- what is as it was
-  record IsStill (w : View) : Type 0 where
+  pub record IsStill (w : View) : Type 0 where
     pub on : IsMovedOn h w
     pub words : (slot : ℕ) → word_at w.words slot ≡ word_at h.slow.pass.view.words slot
     pub columns : (f : FlowId) → column_in f w.base ≡ column_in f (known_in h)
     pub opened : w.opened ≡ h.slow.pass.view.opened
 
-  begun : IsStill h.slow.pass.view
+  pub begun : IsStill h.slow.pass.view
   begun = record {
     on = record {
       alone = sound.alone;
@@ -91,46 +91,32 @@ module _ (sends_keep : (core t : ℕ) (d : Deed) → IsSend core t d → KeepsCo
     opened = refl;
   }
 
-  -- ----- one segment
-  module _ (id : FlowId) (v w : View) (still : IsStill v) (sent : IsSent tick id v w) where
-    abbrev after : History
-    after = history_with sent.flow (Core 0) tick Emit
+  -- ----- one record
+  module _ (id : FlowId) (r : Flow) (k : History) (v w : View) (still : IsStill v) (own : IsOwn id v r)
+      (given : IsUse id r k v w) (on : LedOn (history r) k)
+      (same_column : column (endpoint_of k) ≡ column (endpoint_of (history r))) where
+    is_known : history r ≡ known_of id v.base
+    is_known = own.known still.on.alone
 
-    is_known : history sent.flow ≡ known_of id v.base
-    is_known = sent.own.known still.on.alone
-
-    led : IsLed id after v w
-    led = used_leads id sent.flow after v w still.on.alone sent.given
+    led : IsLed id k v w
+    led = used_leads id r k v w still.on.alone given
 
     leads : Leads v.base w.base
-    leads = base_leads id after v w
-        (subst (λ (k : History). LedOn k after) is_known
-        (call_leads (history sent.flow) (Core 0) tick calls.Emit [] sent.own.legal)) led
-
-    same_column : column (endpoint_of after) ≡ column (endpoint_of (history sent.flow))
-    same_column = sends_keep 0 tick (record {
-      flow = id;
-      before = history sent.flow;
-      entry = next_entry sent.flow.entries (Core 0) tick calls.Emit
-          (reply_to sent.flow.params sent.flow.entries tick calls.Emit []);
-    }) (record {
-      goes = ap (λ (o : Option Going). is_some o) sent.may_go;
-      adds = record { legal = sent.own.legal; made = refl };
-    })
+    leads = base_leads id k v w (subst (λ (x : History). LedOn x k) is_known on) led
 
     columns : (f : FlowId) → column_in f w.base ≡ column_in f v.base
     columns f = ap (column_in f) led.base ∙ by (same_flow id f) refl
       where
         by : (s : Bool) → same_flow id f ≡ s
-            → column (endpoint_of (cond (same_flow id f) after (known_of f v.base))) ≡ column_in f v.base
+            → column (endpoint_of (cond (same_flow id f) k (known_of f v.base))) ≡ column_in f v.base
         by true e =
-            ap (λ s. column (endpoint_of (cond s after (known_of f v.base)))) e
+            ap (λ s. column (endpoint_of (cond s k (known_of f v.base)))) e
             ∙ (same_column
-            ∙ (ap (λ (k : History). column (endpoint_of k)) is_known
+            ∙ (ap (λ (x : History). column (endpoint_of x)) is_known
             ∙ ap (λ g. column_in g v.base) (is_same_flow id f e)))
-        by false e = ap (λ s. column (endpoint_of (cond s after (known_of f v.base)))) e
+        by false e = ap (λ s. column (endpoint_of (cond s k (known_of f v.base)))) e
 
-    one_still : IsStill w
+    pub one_still : IsStill w
     one_still = record {
       on = record {
         alone = led.alone;
@@ -144,13 +130,34 @@ module _ (sends_keep : (core t : ℕ) (d : Deed) → IsSend core t d → KeepsCo
       };
       words = λ slot. led.words slot ∙ still.words slot;
       columns = λ f. columns f ∙ still.columns f;
-      opened = (after_use id sent.flow after v w sent.given).opened ∙ still.opened;
+      opened = (after_use id r k v w given).opened ∙ still.opened;
     }
+
+  -- ----- one segment
+  module _ (id : FlowId) (v w : View) (still : IsStill v) (sent : IsSent tick id v w) where
+    abbrev after : History
+    after = history_with sent.flow (Core 0) tick Emit
+
+    after_column : column (endpoint_of after) ≡ column (endpoint_of (history sent.flow))
+    after_column = sends_keep 0 tick (record {
+      flow = id;
+      before = history sent.flow;
+      entry = next_entry sent.flow.entries (Core 0) tick calls.Emit
+          (reply_to sent.flow.params sent.flow.entries tick calls.Emit []);
+    }) (record {
+      goes = ap (λ (o : Option Going). is_some o) sent.may_go;
+      adds = record { legal = sent.own.legal; made = refl };
+    })
+
+    one_sent : IsStill w
+    one_sent =
+        one_still id sent.flow after v w still sent.own sent.given
+        (call_leads (history sent.flow) (Core 0) tick calls.Emit [] sent.own.legal) after_column
 
   -- ----- all of them
   all_still : (ids : List FlowId) (v w : View) → IsStill v → AreSent tick ids v w → IsStill w
   all_still [] v w still same = subst IsStill (sym same) still
-  all_still (id ∷ ids) v w still (u, sent, rest) = all_still ids u w (one_still id v u still sent) rest
+  all_still (id ∷ ids) v w still (u, sent, rest) = all_still ids u w (one_sent id v u still sent) rest
 
   module _ (w : View) (still : IsStill w) where
     stay : (bs : List Book) → Each (StaysWaiting (known_in h) w.base) bs
@@ -167,7 +174,7 @@ module _ (sends_keep : (core t : ℕ) (d : Deed) → IsSend core t d → KeepsCo
         over : (k : History) → is_over k ≡ over_in (column (endpoint_of k))
         over k = over_is (endpoint_of k).reason (endpoint_of k).peer (endpoint_of k).tx.una
 
-    still_sound : IsHostSound (with_view w h)
+    pub still_sound : IsHostSound (with_view w h)
     still_sound =
         moved_sound h sound w still.on h.slow.path h.apps h.books (λ P keeps p. p) refl
         (sound.opening.flows ∙ sym (waiting_same (known_in h) w.base h.books (stay h.books)))

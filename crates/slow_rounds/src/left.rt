@@ -15,7 +15,8 @@ ghost use Rattle.sound_turns.specs.Serving.{with_opened};
 ghost use Rattle.phase_orders.specs.Collecting.{log_of, all_broken, all_passed, collected};
 ghost use Rattle.phase_orders.specs.CoreTurns.{lines_of};
 ghost use Rattle.slow_rounds.specs.Collecting.{AreCollected};
-ghost use Rattle.slow_rounds.specs.Rests.{starts_by, IsCounted};
+ghost use Rattle.sound_hosts.specs.Counting.{IsCounted};
+ghost use Rattle.slow_rounds.specs.Rests.{starts_by};
 
 /// Where the slow path of a sound host collected what the lanes of a phase left, and then made a later turn alone, the
 /// host is what a run makes of it where all that they left comes to it: the frames whose packets break a rule of

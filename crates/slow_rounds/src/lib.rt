@@ -11,7 +11,10 @@ pub use moving::{
     holders_are_moves, opened_flows_are_moves, ready_flows_are_first, reaped_flows_are_aborted,
     reaped_flows_are_given_up,
 };
-pub use sending::{emissions_alone_are_emit_phases, emissions_alone_keep_it};
+pub use sending::{
+    emissions_alone_are_emit_phases, emissions_alone_keep_it, kicks_alone_keep_it,
+    rests_sent_alone_are_emit_phases,
+};
 pub use turns::{
     collected_lines_are_refusals, first_turns_are_slow_phases, later_turns_are_rest_phases,
 };

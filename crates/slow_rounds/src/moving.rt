@@ -23,7 +23,7 @@ ghost use Rattle.sound_hosts.specs.Opening.{new_book, with_book};
 ghost use Rattle.sound_hosts.specs.Sound.{IsHostSound};
 ghost use Rattle.slow_rounds.specs.Aborting.{aborted_in, given_up_by, left_alone};
 ghost use Rattle.slow_rounds.specs.Opening.{IsOpening, reheld_as};
-ghost use Rattle.slow_rounds.specs.Rests.{IsCounted};
+ghost use Rattle.sound_hosts.specs.Counting.{IsCounted};
 
 /// A flow that an application opened alone, with what [`App::connect`] says of one that it opened, is one that a run's
 /// connect opens, where its first number is the run's, which gives it no scale of its own. The slow path counts it.

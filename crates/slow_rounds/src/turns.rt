@@ -18,7 +18,8 @@ ghost use Rattle.sound_hosts.specs.Sound.{IsHostSound};
 ghost use Rattle.sound_turns.specs.Passing.{AreSwept, with_books};
 ghost use Rattle.sound_turns.specs.Serving.{without_frames, with_opened};
 ghost use Rattle.phase_orders.specs.CoreTurns.{arrivals_of, broken_in, lines_of};
-ghost use Rattle.slow_rounds.specs.Rests.{starts_by, rest_of, IsCounted};
+ghost use Rattle.sound_hosts.specs.Counting.{IsCounted};
+ghost use Rattle.slow_rounds.specs.Rests.{starts_by, rest_of};
 
 /// What the first turn of a tick of the slow path's worker, made alone, makes of a sound host is the slow path's phase
 /// of that tick in a run: closed flows are given up, and time passes for the others. It is so with what

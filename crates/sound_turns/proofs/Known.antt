@@ -13,12 +13,13 @@ use Rattle.flow_lock.specs.Orders.{known_of, same_flow}
 use Rattle.flow_lock.specs.declared.view.Held.{Held}
 use Rattle.app_reaper.specs.Lists.{is_on}
 use Rattle.libtas_sockets.proofs.Pins.{place_none}
+use Rattle.slow_handshake.specs.Openings.{first_port}
 use Rattle.slow_worker.specs.Turns.{pin_at, is_its, is_pinned, still_known}
 use Rattle.slow_worker.specs.declared.known.KnownFlow.{KnownFlow}
 use Rattle.host_books.specs.Books.{Book}
 use Rattle.host_books.proofs.Orders.{same_self}
 use Rattle.sound_hosts.specs.Hosts.{id_of, is_indexed, flows_in, known_flow}
-use Rattle.sound_hosts.specs.Sound.{IsPlain}
+use Rattle.sound_hosts.specs.Sound.{IsPlain, IsBelowNext}
 use Rattle.sound_hosts.proofs.Leaving.{AreApart, IsNumberedBy, any_names}
 use Rattle.sound_hosts.proofs.OpenSockets.{each_at, to_filtered}
 use Rattle.sound_hosts.proofs.Standing.{any_at, none_at, every_at}
@@ -235,6 +236,20 @@ count_swept q (b ∷ bs) (c ∷ cs) swept =
     let z : tally (q c.id) ≡ tally (q b.id) = ap (λ f. tally (q f)) (of swept.0) in
     let r : count_by (λ (d : Book). q d.id) cs ≡ count_by (λ (d : Book). q d.id) bs = count_swept q bs cs swept.1 in
     omega (arith, x, y, z, r)
+  where
+    of : (c ≡ b) ⊎ ((b.filed ≡ false) × (c ≡ swept_book b)) → c.id ≡ b.id
+    of (inl e) = ap id_of e
+    of (inr (f, e)) = ap id_of e
+
+-- the ports of the flows are as they were
+pub below_swept : (known : List Held) (n : ℕ) (bs cs : List Book) → AreSwept bs cs → Each (IsBelowNext known n) bs
+    → Each (IsBelowNext known n) cs
+below_swept known n [] cs swept each = subst (Each (IsBelowNext known n)) (sym swept) tt
+below_swept known n (b ∷ bs) [] swept each = absurd swept
+below_swept known n (b ∷ bs) (c ∷ cs) swept each = (
+  subst (λ (f : FlowId). (known_of f known).tuple.lport < first_port + n) (sym (of swept.0)) each.0,
+  below_swept known n bs cs swept.1 each.1,
+)
   where
     of : (c ≡ b) ⊎ ((b.filed ≡ false) × (c ≡ swept_book b)) → c.id ≡ b.id
     of (inl e) = ap id_of e

@@ -28,7 +28,8 @@ use Rattle.sound_hosts.proofs.OneFlow.{ports_same}
 use Rattle.sound_hosts.proofs.Standing.{stand_marked}
 use Rattle.sound_turns.specs.Passing.{AreSwept, IsPassing, with_books}
 use Rattle.sound_turns.proofs.Closing.{closed_passing}
-use Rattle.sound_turns.proofs.Known.{still_flows, count_swept}
+use Rattle.sound_hosts.proofs.Given.{below_moved}
+use Rattle.sound_turns.proofs.Known.{still_flows, count_swept, below_swept}
 use Rattle.sound_hosts.proofs.Names.{names}
 use Rattle.sound_turns.proofs.Lists.{swept_same}
 use Rattle.sound_turns.proofs.Steps.{timed_passing, again_passing}
@@ -179,6 +180,9 @@ module _ (h : CoreHost) (tick : ℕ) (w : Worker) (sound : IsHostSound h) (passe
             ∙ sym (ports_same (known_in h) w.pass.view.base p.tabled.tuples cs)));
         listeners = λ f. subst (λ (ls : List Listener). Each (λ (x : Listener). x.port < first_port) ls)
             (sym (ap (λ (o : Openings). o.listeners) p.path)) (sound.opening.listeners (unfixed f));
+        given = λ f. below_moved (known_in h) w.pass.view.base p.tabled.tuples h.slow.path.ports w.path.ports
+            (ap (λ (o : Openings). o.ports) p.path) cs
+            (below_swept (known_in h) h.slow.path.ports h.books cs p.tabled.swept (sound.opening.given (unfixed f)));
       };
       shown = record {
         pending = passed.pending;
