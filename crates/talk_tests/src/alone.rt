@@ -18,6 +18,7 @@ use flow_state::FlowRecord;
 use libtas_sockets::{App, Socket, SocketError};
 use slow_handshake::SlowPath;
 use slow_worker::SlowWorker;
+use std::process::Abort;
 use std::sync::Wait;
 use tas_model::{FlowId, FourTuple};
 
@@ -31,62 +32,58 @@ pub const SERVER_ADDRESS: u32 = 167_772_162;
 
 pub const CLIENT_ADDRESS: u32 = 167_772_161;
 
-/// The application makes the call of its step, where that isn't one on a socket that it may try beside cores. `None`
-/// where it fails.
-pub fn call<R: Wait>(rt: &R, slow: &mut SlowWorker, end: &mut End, tick: u32) -> Option<()>
+/// The application makes the call of its step, where that isn't one on a socket that it may try beside cores.
+pub fn call<R: Wait + Abort>(rt: &R, slow: &mut SlowWorker, end: &mut End, tick: u32)
     requires { IsSlow (common_in end.old.team) tick slow.old × IsEnd end.old }
-    ensures { IfSome result (λ _. IsSlow (common_in end.new.team) tick slow.new × IsEnd end.new) }
+    ensures { IsSlow (common_in end.new.team) tick slow.new × IsEnd end.new }
 {
     match end.plan.step {
-        Step::Listen => listen(slow, end, tick),
-        Step::Accept => accept(slow, end, tick),
+        Step::Listen => listen(rt, slow, end, tick),
+        Step::Accept => accept(rt, slow, end, tick),
         Step::Connect => connect(rt, slow, end, tick),
-        Step::Ready => is_ready(slow, end, tick),
-        _ => Some(()),
+        Step::Ready => is_ready(rt, slow, end, tick),
+        _ => (),
     }
 }
 
 /// The application listens.
-fn listen(slow: &mut SlowWorker, end: &mut End, tick: u32) -> Option<()>
+fn listen<R: Abort>(rt: &R, slow: &mut SlowWorker, end: &mut End, tick: u32)
     requires both { IsSlow (common_in end.old.team) tick slow.old × IsEnd end.old }
     requires step { end.old.plan.step ≡ Step.Listen }
-    ensures { IfSome result (λ _. IsSlow (common_in end.new.team) tick slow.new × IsEnd end.new) }
+    ensures { IsSlow (common_in end.new.team) tick slow.new × IsEnd end.new }
 {
-    listen_alone(slow, &mut end.team.app.app)?;
+    listen_alone(rt, slow, &mut end.team.app.app);
     go_on(&mut end.plan);
-    Some(())
 }
 
-fn listen_alone(slow: &mut SlowWorker, app: &mut App) -> Option<()>
-    ensures slow { IfSome result (λ _. slow.new ≡ record slow.old { path = slow.new.path }) }
-    ensures params { IfSome result (λ _. slow.new.path.params ≡ slow.old.path.params) }
+fn listen_alone<R: Abort>(rt: &R, slow: &mut SlowWorker, app: &mut App)
+    ensures slow { slow.new ≡ record slow.old { path = slow.new.path } }
+    ensures params { slow.new.path.params ≡ slow.old.path.params }
     ensures app { app.new ≡ app.old }
 {
     let Ok(()) = app.listen(&mut slow.path, PORT) else {
-        return None;
+        panic!(rt; "the port is another's");
     };
-    Some(())
 }
 
 /// The application accepts a flow, where one waits.
-fn accept(slow: &mut SlowWorker, end: &mut End, tick: u32) -> Option<()>
+fn accept<R: Abort>(rt: &R, slow: &mut SlowWorker, end: &mut End, tick: u32)
     requires both { IsSlow (common_in end.old.team) tick slow.old × IsEnd end.old }
-    ensures { IfSome result (λ _. IsSlow (common_in end.new.team) tick slow.new × IsEnd end.new) }
+    ensures { IsSlow (common_in end.new.team) tick slow.new × IsEnd end.new }
 {
     let Some(id) = slow.path.ready(PORT) else {
-        return Some(());
+        return;
     };
     let shared = &*end.team.part.shared;
     if id.slot >= shared.table.slots() {
-        return None;
+        panic!(rt; "there is no such slot");
     }
     let app = &mut end.team.app.app;
     let Some(socket) = accept_in_turn(shared, &mut slow.pass, &mut slow.path, app, id, tick) else {
-        return None;
+        panic!(rt; "no flow was accepted");
     };
     end.team.app.socket = socket;
     go_on(&mut end.plan);
-    Some(())
 }
 
 /// The application accepts this flow, in a turn that it is lent. Its socket; `None` where it fails.
@@ -116,17 +113,17 @@ fn accept_in_turn(
 }
 
 /// The application connects to the server.
-fn connect<R: Wait>(rt: &R, slow: &mut SlowWorker, end: &mut End, tick: u32) -> Option<()>
+fn connect<R: Wait + Abort>(rt: &R, slow: &mut SlowWorker, end: &mut End, tick: u32)
     requires both { IsSlow (common_in end.old.team) tick slow.old × IsEnd end.old }
-    ensures { IfSome result (λ _. IsSlow (common_in end.new.team) tick slow.new × IsEnd end.new) }
+    ensures { IsSlow (common_in end.new.team) tick slow.new × IsEnd end.new }
 {
     let Some(id) = next_flow(slow) else {
-        return None;
+        panic!(rt; "every slot has a flow");
     };
     let shared = &*end.team.part.shared;
     let app = &mut end.team.app.app;
     let Some(socket) = connect_alone(shared, slow, app, id, tick) else {
-        return None;
+        panic!(rt; "no flow was opened");
     };
     let tuple = FourTuple {
         laddr: CLIENT_ADDRESS,
@@ -135,11 +132,10 @@ fn connect<R: Wait>(rt: &R, slow: &mut SlowWorker, end: &mut End, tick: u32) -> 
         rport: PORT,
     };
     let Ok(()) = slow.know(rt, tuple, id) else {
-        return None;
+        panic!(rt; "memory is wanting");
     };
     end.team.app.socket = socket;
     go_on(&mut end.plan);
-    Some(())
 }
 
 /// The flow that is opened next; `None` where every slot has one.
@@ -208,22 +204,21 @@ fn connect_in_turn(
 }
 
 /// The application asks whether its connection stands.
-fn is_ready(slow: &mut SlowWorker, end: &mut End, tick: u32) -> Option<()>
+fn is_ready<R: Abort>(rt: &R, slow: &mut SlowWorker, end: &mut End, tick: u32)
     requires both { IsSlow (common_in end.old.team) tick slow.old × IsEnd end.old }
     requires step { has_socket end.old.plan.step ≡ true }
-    ensures { IfSome result (λ _. IsSlow (common_in end.new.team) tick slow.new × IsEnd end.new) }
+    ensures { IsSlow (common_in end.new.team) tick slow.new × IsEnd end.new }
 {
     let shared = &*end.team.part.shared;
     let socket = end.team.app.socket;
     let app = &mut end.team.app.app;
     let Some(is_over) = ready_in_turn(shared, &mut slow.pass, app, socket, tick) else {
-        return None;
+        panic!(rt; "the connection failed");
     };
     if !is_over {
-        return Some(());
+        return;
     }
     go_on(&mut end.plan);
-    Some(())
 }
 
 /// It asks in a turn that it is lent. `None` where it fails.

@@ -1,5 +1,5 @@
 //! The link between both ends: what one sent in a tick comes to the other in the next one.
-ghost use Rattle.std.specs.Prelude.{◌≡◌, ◌<◌, length, IfSome};
+ghost use Rattle.std.specs.Prelude.{◌≡◌, ◌<◌, length};
 ghost use Rattle.talk_tests.specs.Ends.{IsSlow, IsEnd, common_in};
 
 use crate::ends::{End, Plan};
@@ -9,6 +9,7 @@ use segment_fields::{Flags, Segment, write};
 use slow_worker::SlowWorker;
 use std::alloc::Global;
 use std::collections::VecDeque;
+use std::process::Abort;
 use tas_model::{Bytes, FourTuple, FrameId, Head};
 
 /// The longest payload of these tests, and the room for a packet with it.
@@ -97,23 +98,29 @@ pub fn sent_from(
 }
 
 /// What the flow of an end, where it has one, has sent since it was last looked at.
-pub fn look(alloc: Global, slow: &mut SlowWorker, end: &End, tick: u32) -> Option<News>
+pub fn look<R: Abort>(rt: &R, alloc: Global, slow: &mut SlowWorker, end: &End, tick: u32) -> News
     requires { IsSlow (common_in end.now.team) tick slow.old }
-    ensures { IfSome result (λ _. IsSlow (common_in end.now.team) tick slow.new) }
+    ensures { IsSlow (common_in end.now.team) tick slow.new }
 {
     if slow.pins.len() == 0 {
-        return Some(News {
+        return News {
             frames: VecDeque::new(alloc),
             entries: end.plan.entries,
             sent: end.plan.sent,
-        });
+        };
     }
     let host = end.team.app.host;
-    first_news(alloc, host, &*end.team.part.shared, slow, &end.plan, tick)
+    let shared = &*end.team.part.shared;
+    let news = first_news(rt, alloc, host, shared, slow, &end.plan, tick);
+    let Some(news) = news else {
+        panic!(rt; "memory is wanting");
+    };
+    news
 }
 
 /// What the slow path's first flow has sent since it was last looked at. `None` where memory is wanting.
-fn first_news(
+fn first_news<R: Abort>(
+    rt: &R,
     alloc: Global,
     host: u32,
     shared: &Shared,
@@ -123,12 +130,12 @@ fn first_news(
 ) -> Option<News>
     requires slow { IsSlow shared.now tick slow.old }
     requires some { 0 < length slow.old.pins }
-    ensures { IfSome result (λ _. IsSlow shared.now tick slow.new) }
+    ensures { IsSlow shared.now tick slow.new }
 {
     let table = &shared.table;
     let pin = slow.pins.pin(0);
     let Ok(flow) = table.slow_take(&mut slow.pass, pin) else {
-        return None;
+        panic!(rt; "the record is another's");
     };
     let news = sent_from(alloc, host, &flow, plan.entries, plan.sent);
     table.slow_give(&mut slow.pass, pin, flow);

@@ -1,5 +1,5 @@
 //! What the slow path and the hand-out of frames do at one end in a tick.
-ghost use Rattle.std.specs.Prelude.{◌≡◌, ◌<◌, ℕ, suc, All, IfSome, length};
+ghost use Rattle.std.specs.Prelude.{◌≡◌, ◌<◌, ℕ, suc, All, length};
 ghost use Rattle.core_phase.specs.Lanes.{IsIdle};
 ghost use Rattle.core_phase.specs.declared.lane.Lane.TheVariants as lanes;
 ghost use Rattle.core_worker.specs.Workers.{Common};
@@ -17,6 +17,7 @@ use slow_handshake::SpacedNumbers;
 use slow_worker::SlowWorker;
 use std::alloc::Global;
 use std::collections::VecDeque;
+use std::process::Abort;
 use std::sync::Wait;
 use steering::group;
 use tas_model::Caller;
@@ -35,16 +36,15 @@ fn numbers_of(slow: &SlowWorker) -> SpacedNumbers {
     }
 }
 
-/// The slow path's next turn in this tick, of which the first is for the time. `None` where memory is wanting.
-pub fn turn<R: Wait>(rt: &R, slow: &mut SlowWorker, shared: &Shared, tick: u32) -> Option<()>
+/// The slow path's next turn in this tick, of which the first is for the time.
+pub fn turn<R: Wait + Abort>(rt: &R, slow: &mut SlowWorker, shared: &Shared, tick: u32)
     requires { IsSlow shared.now tick slow.old }
-    ensures { IfSome result (λ _. IsSlow shared.now tick slow.new) }
+    ensures { IsSlow shared.now tick slow.new }
 {
     let numbers = numbers_of(slow);
     let Ok(()) = slow.turn(rt, shared, &numbers, tick) else {
-        return None;
+        panic!(rt; "memory is wanting");
     };
-    Some(())
 }
 
 /// The group of a frame's flow: 0 where it spells no segment.
@@ -57,104 +57,110 @@ fn group_of(frame: &Frame) -> u32
     }
 }
 
-/// The groups of these frames, in their order. `None` where memory is wanting.
-fn groups_of(alloc: Global, frames: &VecDeque<Frame>) -> Option<Vec<u32>>
-    ensures { IfSome result (λ groups. All (λ group. group < 64) groups.items) }
+/// The groups of these frames, in their order.
+fn groups_of<R: Abort>(rt: &R, alloc: Global, frames: &VecDeque<Frame>) -> Vec<u32>
+    ensures { All (λ group. group < 64) result.items }
 {
     let mut groups = Vec::new(alloc);
     for frame in frames.iter() {
-        add_group(&mut groups, frame)?;
+        add_group(rt, &mut groups, frame);
     }
-    Some(groups)
+    groups
 }
 
-/// Adds the group of a frame. `None` where memory is wanting.
-fn add_group(groups: &mut Vec<u32>, frame: &Frame) -> Option<()>
+/// Adds the group of a frame.
+fn add_group<R: Abort>(rt: &R, groups: &mut Vec<u32>, frame: &Frame)
     requires { All (λ group. group < 64) groups.old.items }
-    ensures { IfSome result (λ _. All (λ group. group < 64) groups.new.items) }
+    ensures { All (λ group. group < 64) groups.new.items }
 {
     let group = group_of(frame);
     let Ok(()) = groups.push(group) else {
-        return None;
+        panic!(rt; "memory is wanting");
     };
-    Some(())
 }
 
-/// Hands the frames of the tick to the cores of their groups. `None` where memory is wanting.
-pub fn hand_due<R: Wait>(rt: &R, alloc: Global, end: &mut End) -> Option<()>
+/// Hands the frames of the tick to the cores of their groups.
+pub fn hand_due<R: Wait + Abort>(rt: &R, alloc: Global, end: &mut End)
     requires { IsEnd end.old }
-    ensures { IfSome result (λ _. IsEnd end.new × IsKeptEnd end.old end.new) }
+    ensures { IsEnd end.new × IsKeptEnd end.old end.new }
 {
-    let groups = groups_of(alloc, &end.plan.due)?;
+    let groups = groups_of(rt, alloc, &end.plan.due);
     let steering = &end.team.part.shared.steering;
     let steer = &mut end.plan.steer;
-    let cores = hand_out(rt, alloc, steering, steer, CORES, groups.as_slice(), &[]).ok()?;
-    hand_each(end, &cores)
+    let handed = hand_out(rt, alloc, steering, steer, CORES, groups.as_slice(), &[]);
+    let Ok(cores) = handed else {
+        panic!(rt; "memory is wanting");
+    };
+    hand_each(rt, end, &cores);
 }
 
 /// Hands the first frames to these cores, one to each.
-fn hand_each(end: &mut End, cores: &Vec<u32>) -> Option<()>
+fn hand_each<R: Abort>(rt: &R, end: &mut End, cores: &Vec<u32>)
     requires { IsEnd end.old }
-    ensures { IfSome result (λ _. IsEnd end.new × IsKeptEnd end.old end.new) }
+    ensures { IsEnd end.new × IsKeptEnd end.old end.new }
 {
     for core in cores.iter() {
-        hand_first(end, *core)?;
+        hand_first(rt, end, *core);
     }
-    Some(())
 }
 
 /// Hands the first frame to a core.
-fn hand_first(end: &mut End, core: u32) -> Option<()>
+fn hand_first<R: Abort>(rt: &R, end: &mut End, core: u32)
     requires { IsEnd end.old }
-    ensures { IfSome result (λ _. IsEnd end.new × IsKeptEnd end.old end.new) }
+    ensures { IsEnd end.new × IsKeptEnd end.old end.new }
 {
-    let frame = end.plan.due.pop_front()?;
+    let Some(frame) = end.plan.due.pop_front() else {
+        panic!(rt; "there are more cores than frames");
+    };
     if core == 0 {
-        hand(&*end.team.part.shared, &mut end.team.first, frame)
+        hand(rt, &*end.team.part.shared, &mut end.team.first, frame);
     } else {
-        hand(&*end.team.part.shared, &mut end.team.second, frame)
+        hand(rt, &*end.team.part.shared, &mut end.team.second, frame);
     }
 }
 
-fn hand(shared: &Shared, lane: &mut CoreLane, frame: Frame) -> Option<()>
+fn hand<R: Abort>(rt: &R, shared: &Shared, lane: &mut CoreLane, frame: Frame)
     requires { IsCoreOf shared.now lane.old }
-    ensures { IfSome result (λ _. IsCoreOf shared.now lane.new) }
+    ensures { IsCoreOf shared.now lane.new }
 {
-    lane.worker.hand(frame.id, frame.packet).ok()
+    let Ok(()) = lane.worker.hand(frame.id, frame.packet) else {
+        panic!(rt; "memory is wanting");
+    };
 }
 
-/// The slow path takes what a core passed on. `None` where memory is wanting.
-fn collect(shared: &Shared, slow: &mut SlowWorker, lane: &mut CoreLane, tick: u32) -> Option<()>
+/// The slow path takes what a core passed on.
+fn collect<R: Abort>(rt: &R, shared: &Shared, slow: &mut SlowWorker, lane: &mut CoreLane, tick: u32)
     requires { IsSlow shared.now tick slow.old × IsCoreOf shared.now lane.old }
-    ensures { IfSome result (λ _. IsSlow shared.now tick slow.new × IsCoreOf shared.now lane.new) }
+    ensures { IsSlow shared.now tick slow.new × IsCoreOf shared.now lane.new }
 {
-    slow.collect(&mut lane.worker).ok()
+    let Ok(()) = slow.collect(&mut lane.worker) else {
+        panic!(rt; "memory is wanting");
+    };
 }
 
-/// The slow path handles what the cores of the end left. `None` where memory is wanting.
-pub fn serve<R: Wait>(rt: &R, slow: &mut SlowWorker, end: &mut End, tick: u32) -> Option<()>
+/// The slow path handles what the cores of the end left.
+pub fn serve<R: Wait + Abort>(rt: &R, slow: &mut SlowWorker, end: &mut End, tick: u32)
     requires { IsSlow (common_in end.old.team) tick slow.old × IsEnd end.old }
-    ensures { IfSome result (λ _. IsSlow (common_in end.new.team) tick slow.new × IsEnd end.new
-        × IsKeptEnd end.old end.new) }
+    ensures { IsSlow (common_in end.new.team) tick slow.new × IsEnd end.new × IsKeptEnd end.old end.new }
 {
     let shared = &*end.team.part.shared;
-    collect(shared, slow, &mut end.team.first, tick)?;
-    collect(shared, slow, &mut end.team.second, tick)?;
-    turn(rt, slow, shared, tick)
+    collect(rt, shared, slow, &mut end.team.first, tick);
+    collect(rt, shared, slow, &mut end.team.second, tick);
+    turn(rt, slow, shared, tick);
 }
 
-/// Sends the next segment of the end's flow. Whether there was one; `None` where memory is wanting.
-fn emit(slow: &mut SlowWorker, shared: &Shared, tick: u32) -> Option<bool>
+/// Sends the next segment of the end's flow. Whether there was one.
+fn emit<R: Abort>(rt: &R, slow: &mut SlowWorker, shared: &Shared, tick: u32) -> bool
     requires { IsSlow shared.now tick slow.old }
     ensures { IsSlow shared.now tick slow.new }
 {
     if slow.pins.len() == 0 {
-        return Some(false);
+        return false;
     }
-    emit_first(slow, shared, tick)
+    emit_first(rt, slow, shared, tick)
 }
 
-fn emit_first(slow: &mut SlowWorker, shared: &Shared, tick: u32) -> Option<bool>
+fn emit_first<R: Abort>(rt: &R, slow: &mut SlowWorker, shared: &Shared, tick: u32) -> bool
     requires slow { IsSlow shared.now tick slow.old }
     requires pins { 0 < length slow.old.pins }
     ensures { IsSlow shared.now tick slow.new }
@@ -171,20 +177,20 @@ fn emit_first(slow: &mut SlowWorker, shared: &Shared, tick: u32) -> Option<bool>
         &call,
         &FastTx,
     ) else {
-        return None;
+        panic!(rt; "memory is wanting, or the record");
     };
-    Some(sent.is_some())
+    sent.is_some()
 }
 
-/// Sends what may still go of the end's flow. `None` where memory is wanting, or that is more than it sends in a tick.
-pub fn emit_all(slow: &mut SlowWorker, shared: &Shared, tick: u32) -> Option<()>
+/// Sends what may still go of the end's flow.
+pub fn emit_all<R: Abort>(rt: &R, slow: &mut SlowWorker, shared: &Shared, tick: u32)
     requires { IsSlow shared.now tick slow.old }
     ensures { IsSlow shared.now tick slow.new }
 {
     for _ in 0..SEGMENTS {
-        if !emit(slow, shared, tick)? {
-            return Some(());
+        if !emit(rt, slow, shared, tick) {
+            return;
         }
     }
-    None
+    panic!(rt; "a flow sends more than it has in this talk");
 }

@@ -1,5 +1,5 @@
 //! An end is put together.
-ghost use Rattle.std.specs.Prelude.{◌≡◌, ◌<◌, ◌∷◌, [], true, false, IfSome, IfOk, length};
+ghost use Rattle.std.specs.Prelude.{◌≡◌, ◌<◌, ◌∷◌, ◌++◌, [], true, false, IfOk, length};
 ghost use Rattle.std.specs.Arc.{arc_value};
 ghost use Rattle.tas_model.specs.Valid.{InRange};
 ghost use Rattle.flow_lock.specs.Orders.{Order};
@@ -23,6 +23,7 @@ use shared_host::{Assembled, add_app, assemble};
 use slow_worker::SlowWorker;
 use std::alloc::{AllocError, Global};
 use std::collections::VecDeque;
+use std::process::Abort;
 use std::sync::{Arc, Wait};
 use tas_model::HostParams;
 
@@ -55,14 +56,14 @@ fn params_of(beginning: Beginning) -> HostParams
     }
 }
 
-/// An end of two cores and one application, and its slow path's worker. `None` where memory is wanting.
-pub fn started<R: Wait>(rt: &R, alloc: Global, beginning: Beginning) -> Option<(SlowWorker, End)>
+/// An end of two cores and one application, and its slow path's worker.
+pub fn started<R: Wait + Abort>(rt: &R, alloc: Global, beginning: Beginning) -> (SlowWorker, End)
     requires host { beginning.host < 67108863 }
     requires step { has_socket beginning.step ≡ false }
-    ensures { IfSome result (λ s. IsSlow (common_in s.1.team) 0 s.0 × IsEnd s.1) }
+    ensures { IsSlow (common_in result.1.team) 0 result.0 × IsEnd result.1 }
 {
     let Ok(assembled) = assemble(rt, alloc, beginning.host, params_of(beginning), CORES) else {
-        return None;
+        panic!(rt; "memory is wanting");
     };
     let Assembled {
         shared,
@@ -70,104 +71,105 @@ pub fn started<R: Wait>(rt: &R, alloc: Global, beginning: Beginning) -> Option<(
         steer,
         cores: workers,
     } = assembled;
-    let team = team_of(alloc, beginning, shared, &mut slow, workers);
-    match team {
-        Some(team) => {
-            let plan = Plan {
-                steer,
-                number: beginning.number,
-                step: beginning.step,
-                has_called: false,
-                due: VecDeque::new(alloc),
-                entries: 0,
-                sent: 0,
-            };
-            Some((slow, End { team, plan }))
-        }
-        None => {
-            drop(slow.end(rt));
-            None
-        }
-    }
+    let team = team_of(rt, alloc, beginning, shared, &mut slow, workers);
+    let plan = Plan {
+        steer,
+        number: beginning.number,
+        step: beginning.step,
+        has_called: false,
+        due: VecDeque::new(alloc),
+        entries: 0,
+        sent: 0,
+    };
+    (slow, End { team, plan })
 }
 
-/// The lanes of a host, whose passes give their turns back. `None` where memory is wanting.
-fn team_of(
+/// The lanes of a host, whose passes give their turns back.
+fn team_of<R: Abort>(
+    rt: &R,
     alloc: Global,
     beginning: Beginning,
     shared: Shared,
     slow: &mut SlowWorker,
     workers: Vec<CoreWorker>,
-) -> Option<Team>
+) -> Team
     requires host { beginning.host < 67108863 }
     requires slow { IsFresh shared slow.old }
     requires cores { AreNewCores shared workers.items }
-    ensures team { IfSome result (λ t. IsTeam t × IsSlow (common_in t) 0 slow.new) }
-    ensures steering { IfSome result (λ t. (common_in t).steering ≡ shared.steering) }
+    ensures team { IsTeam result × IsSlow (common_in result) 0 slow.new }
+    ensures steering { (common_in result).steering ≡ shared.steering }
 {
     let mut shared = shared;
     let mut workers = workers;
-    let mut app = added_to(alloc, beginning.number, &mut shared, slow, &mut workers)?;
-    let both = both_of(workers)?;
+    let mut app = added_to(rt, alloc, beginning.number, &mut shared, slow, &mut workers);
+    let both = both_of(rt, workers);
     let (mut first, mut second) = both;
     rest(&shared, slow, &mut first, &mut second, &mut app);
     let Ok(shares) = shares_of(alloc, shared) else {
-        return None;
+        panic!(rt; "memory is wanting");
     };
-    Some(lanes_of(shares, beginning.host, first, second, app))
+    lanes_of(shares, beginning.host, first, second, app)
 }
 
-/// The host's application is added. `None` where memory is wanting.
-fn added(
+/// The host's application is added.
+fn added<R: Abort>(
+    rt: &R,
     alloc: Global,
     number: u32,
     shared: &mut Shared,
     slow: &mut SlowWorker,
     workers: &mut [CoreWorker],
-) -> Option<App>
+) -> App
     requires slow { IsFresh shared.old slow.old }
     requires cores { AreNewCores shared.old workers.old }
-    ensures app { IfSome result (λ app. IsNewApp shared.new app) }
-    ensures slow { IfSome result (λ _. IsFull shared.new slow.new) }
-    ensures cores { IfSome result (λ _. AreNewCores shared.new workers.new) }
+    ensures app { IsNewApp shared.new result }
+    ensures slow { IsFull shared.new slow.new }
+    ensures cores { AreNewCores shared.new workers.new }
     ensures steering { shared.new.steering ≡ shared.old.steering }
     ensures count { length workers.new ≡ length workers.old }
 {
     let Ok(app) = add_app(alloc, number, shared, slow, workers) else {
-        return None;
+        panic!(rt; "memory is wanting");
     };
-    Some(app)
+    app
 }
 
-fn added_to(
+fn added_to<R: Abort>(
+    rt: &R,
     alloc: Global,
     number: u32,
     shared: &mut Shared,
     slow: &mut SlowWorker,
     workers: &mut Vec<CoreWorker>,
-) -> Option<App>
+) -> App
     requires slow { IsFresh shared.old slow.old }
     requires cores { AreNewCores shared.old workers.old.items }
-    ensures app { IfSome result (λ app. IsNewApp shared.new app) }
-    ensures slow { IfSome result (λ _. IsFull shared.new slow.new) }
-    ensures cores { IfSome result (λ _. AreNewCores shared.new workers.new.items) }
+    ensures app { IsNewApp shared.new result }
+    ensures slow { IsFull shared.new slow.new }
+    ensures cores { AreNewCores shared.new workers.new.items }
     ensures steering { shared.new.steering ≡ shared.old.steering }
 {
-    let Some(app) = added(alloc, number, shared, slow, workers.as_mut_slice()) else {
-        return None;
-    };
-    Some(app)
+    added(rt, alloc, number, shared, slow, workers.as_mut_slice())
 }
 
-/// The workers of both cores. `None` where there are not two.
-fn both_of(workers: Vec<CoreWorker>) -> Option<(CoreWorker, CoreWorker)>
-    ensures { IfSome result (λ both. workers.items ≡ both.0 ∷ both.1 ∷ []) }
+/// The workers of both cores.
+fn both_of<R: Abort>(rt: &R, workers: Vec<CoreWorker>) -> (CoreWorker, CoreWorker)
+    ensures { workers.items ≡ result.0 ∷ result.1 ∷ [] }
 {
     let mut workers = workers;
-    let second = workers.pop()?;
-    let first = workers.pop()?;
-    is_used_up(workers.as_slice())?;
-    Some((first, second))
+    let second = last_worker(rt, &mut workers);
+    let first = last_worker(rt, &mut workers);
+    is_used_up(rt, &workers);
+    (first, second)
+}
+
+fn last_worker<R: Abort>(rt: &R, workers: &mut Vec<CoreWorker>) -> CoreWorker
+    ensures { workers.old.items ≡ workers.new.items ++ result ∷ [] }
+{
+    let Some(worker) = workers.pop() else {
+        panic!(rt; "there is no worker");
+    };
+    worker
 }
 
 /// All turns are given back, and the slow path learns what was done in them.

@@ -11,8 +11,10 @@ use crate::ticks::play_ticks;
 use core_phase::{Lane, with_lanes};
 use crew::{Crew, Run};
 use run_texts::{Writer, write_flow};
+use flow_state::FlowHistory;
 use slow_worker::{SlowRemains, SlowWorker};
 use std::alloc::Global;
+use std::process::Abort;
 use std::sync::Wait;
 use std::thread::Threads;
 use tas_num::{Gate, IoFault, SureSink};
@@ -44,13 +46,14 @@ pub struct Texts {
     pub b: Vec<u8>,
 }
 
-/// The talk, on whatever crew.
+/// The talk, on whatever crew. The host ends the test where memory is wanting.
 #[derive(Drop)]
-struct Talk {
+struct Talk<'a, H: Wait + Abort> {
+    host: &'a H,
     alloc: Global,
 }
 
-impl Run<Lane> for Talk {
+impl<'a, H: Wait + Abort> Run<Lane> for Talk<'a, H> {
     type Answer = Option<Texts>;
 
     ghost can = { λ _. ⊤ };
@@ -63,24 +66,28 @@ impl Run<Lane> for Talk {
         gate: &G,
         crew: &mut Crew<Lane>,
     ) -> Option<Texts> {
-        let (mut one, a) = started(rt, self.alloc, A)?;
-        let Some((mut two, b)) = started(rt, self.alloc, B) else {
-            drop(one.end(rt));
-            return None;
-        };
-        let done = play_all(rt, gate, crew, self.alloc, &mut one, &mut two, (a, b));
-        let one = one.end(rt);
-        let two = two.end(rt);
-        done?;
-        Some(Texts {
-            a: text_of(self.alloc, one)?,
-            b: text_of(self.alloc, two)?,
-        })
+        let [one, two] = remains_of(self.host, gate, crew, self.alloc);
+        texts_of(self.alloc, one, two)
     }
 }
 
+/// What both slow paths leave after the talk.
+fn remains_of<R: Wait + Abort, G: Gate>(
+    rt: &R,
+    gate: &G,
+    crew: &mut Crew<Lane>,
+    alloc: Global,
+) -> [SlowRemains; 2]
+    ensures { crew.new ≡ crew.old }
+{
+    let (mut one, a) = started(rt, alloc, A);
+    let (mut two, b) = started(rt, alloc, B);
+    play_all(rt, gate, crew, alloc, &mut one, &mut two, (a, b));
+    [one.end(rt), two.end(rt)]
+}
+
 /// All ticks, and then the first turn of the next one, which files the flows that were closed.
-fn play_all<R: Wait, G: Gate>(
+fn play_all<R: Wait + Abort, G: Gate>(
     rt: &R,
     gate: &G,
     crew: &mut Crew<Lane>,
@@ -88,36 +95,54 @@ fn play_all<R: Wait, G: Gate>(
     slow: &mut SlowWorker,
     other: &mut SlowWorker,
     ends: (End, End),
-) -> Option<()>
+)
     requires one { IsSlow (common_in ends.0.team) 0 slow.old × IsEnd ends.0 }
     requires two { IsSlow (common_in ends.1.team) 0 other.old × IsEnd ends.1 }
     ensures { crew.new ≡ crew.old }
 {
-    let (one, two) = play_ticks(rt, gate, crew, alloc, slow, other, ends, TICKS)?;
-    turn(rt, slow, &*one.team.part.shared, TICKS)?;
-    turn(rt, other, &*two.team.part.shared, TICKS)
+    let (one, two) = play_ticks(rt, gate, crew, alloc, slow, other, ends, TICKS);
+    turn(rt, slow, &*one.team.part.shared, TICKS);
+    turn(rt, other, &*two.team.part.shared, TICKS);
 }
 
-/// The lines of the first flow that was filed, as a report has them. `None` where there is none.
-fn text_of(alloc: Global, remains: SlowRemains) -> Option<Vec<u8>> {
+/// The texts of what both leave.
+fn texts_of(alloc: Global, one: SlowRemains, two: SlowRemains) -> Option<Texts> {
+    let a = first_filed(one)?;
+    let b = first_filed(two)?;
+    Some(Texts {
+        a: text_of(alloc, &a)?,
+        b: text_of(alloc, &b)?,
+    })
+}
+
+/// The history of the first flow that was filed. `None` where there is none.
+fn first_filed(remains: SlowRemains) -> Option<FlowHistory> {
     let mut filed = remains.filed;
-    let flow = filed.take_first()?.into_history();
-    let names: [&[u8]; 2] = [b"a", b"b"];
+    Some(filed.take_first()?.into_history())
+}
+
+/// The lines of a flow, as a report has them. `None` where memory is wanting.
+fn text_of(alloc: Global, flow: &FlowHistory) -> Option<Vec<u8>> {
     let mut sink = SureSink::new(alloc);
-    let mut writer = Writer::new(alloc).ok()?;
-    write_flow(&mut writer, &mut sink, &names, 0, &flow).ok()?;
-    writer.finish(&mut sink).ok()?;
+    put_lines(alloc, &mut sink, flow)?;
     let mut text = Vec::new(alloc);
     text.extend_from_slice(sink.written()).ok()?;
     Some(text)
 }
 
+fn put_lines(alloc: Global, sink: &mut SureSink, flow: &FlowHistory) -> Option<()> {
+    let names: [&[u8]; 2] = [b"a", b"b"];
+    let mut writer = Writer::new(alloc).ok()?;
+    write_flow(&mut writer, sink, &names, 0, flow).ok()?;
+    writer.finish(sink).ok()
+}
+
 /// What is said on so many threads beside the caller's.
-pub fn spoken<R: Threads + Wait + Sync, G: Gate + Sync>(
+pub fn spoken<R: Threads + Wait + Sync + Abort, G: Gate + Sync>(
     rt: &R,
     gate: &G,
     alloc: Global,
     threads: usize,
 ) -> Option<Texts> {
-    with_lanes(rt, gate, alloc, threads, Talk { alloc }).ok()?
+    with_lanes(rt, gate, alloc, threads, Talk { host: rt, alloc }).ok()?
 }

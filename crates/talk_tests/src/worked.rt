@@ -110,7 +110,7 @@ fn are_alike(alloc: Global, played: &[u8], worked: &[u8]) -> Option<bool> {
 }
 
 /// Whether the histories of both ends are those of the report, on so many threads beside the caller's.
-fn are_worked<R: Threads + Wait + Sync>(
+fn are_worked<R: Threads + Wait + Sync + Abort>(
     rt: &R,
     alloc: Global,
     threads: usize,

@@ -6,9 +6,9 @@ use Rattle.talk_tests.proofs.Added.{written}
 use Rattle.talk_tests.proofs.starting.added_to.Goals as goal
 
 pub returns-clause-cores : goal.returns-clause-cores
-returns-clause-cores c =
+returns-clause-cores g c =
     let old = c.args.workers.now in
     let new = c.added.new.workers in
     let long : length new ≡ old.len = c.added.ensures.count ∙ c.as_mut_slice.ensures.len in
     subst (λ (ws : List Worker). AreNewCores c.added.new.shared ws)
-    (sym (written new (drop (length new) old.items) old.len long)) c.in-Some.ensures.cores
+    (sym (written new (drop (length new) old.items) old.len long)) c.added.ensures.cores
