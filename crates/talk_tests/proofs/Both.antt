@@ -91,6 +91,11 @@ pub three_off : {X : Type 0} (xs ys zs ws : List X) (a b c : X) → xs ≡ ys ++
 three_off xs ys zs ws a b c last second first =
     last ∙ (ap (λ l. l ++ c ∷ []) (two_off ys zs ws a b second first) ∙ append_assoc ws (a ∷ b ∷ []) (c ∷ []))
 
+-- two that were all of a list
+pub all_off : {X : Type 0} (xs ys zs : List X) (a b : X) → xs ≡ ys ++ b ∷ [] → ys ≡ zs ++ a ∷ [] → zs ≡ []
+    → xs ≡ a ∷ b ∷ []
+all_off xs ys zs a b last before none = two_off xs ys zs a b last before ∙ ap (λ l. l ++ a ∷ b ∷ []) none
+
 -- both parts of a list, of which nothing is left
 pub both_off : {X : Type 0} (xs ys zs ps qs : List X) → xs ≡ ys ++ qs → ys ≡ zs ++ ps → zs ≡ [] → xs ≡ ps ++ qs
 both_off xs ys zs ps qs second first none = second ∙ ap (λ l. l ++ qs) (first ∙ ap (λ l. l ++ ps) none)

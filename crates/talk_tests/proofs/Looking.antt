@@ -1,7 +1,7 @@
 -- The slow path looks at the record of its first flow, while it is alone.
 use Rattle.std.proofs.Common.{◌≡◌, ℕ, [], ap, sym, ◌∙◌, subst, refl, inr}
 use Rattle.std.proofs.Common.{append-nil}
-use Rattle.std.specs.Prelude.{Option, Some, None, IfSome, slice_get}
+use Rattle.std.specs.Prelude.{Some, slice_get}
 use Rattle.tas_model.specs.declared.entry.FlowId.{FlowId}
 use Rattle.app_reaper.specs.OneCall.{history, IsUse}
 use Rattle.flow_state.specs.Flow.{Flow}
@@ -17,10 +17,6 @@ use Rattle.core_worker.specs.Workers.{Common}
 use Rattle.slow_worker.specs.Workers.{Worker}
 use Rattle.talk_tests.specs.Ends.{IsSlow}
 use Rattle.talk_tests.proofs.Phases.{kept_alike}
-
-pub whatever : {A : Type 0} (P : Type 0) (o : Option A) → P → IfSome o (λ _. P)
-whatever P None h = tt
-whatever P (Some x) h = h
 
 -- ----- the first pin
 pub first_kept : (c : Common) (tick : ℕ) (w : Worker) (f : FlowId) → slice_get w.pins 0 ≡ Some f → IsSlow c tick w

@@ -8,7 +8,7 @@ use Rattle.talk_tests.proofs.Seating.{slow_back, end_called}
 use Rattle.talk_tests.proofs.alone.accept.Goals as goal
 
 pub returns : goal.returns
-returns c =
+returns g c =
     let did = c.in-Some-accept_in_turn.ensures in
     let slow = subst (λ (w : Worker). IsSlow (common_in c.args.end.now.team) c.args.tick w) (sym c.slow.view_is)
     c.requires.both.0 in

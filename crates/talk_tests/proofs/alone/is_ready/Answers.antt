@@ -8,7 +8,7 @@ use Rattle.talk_tests.proofs.Seating.{slow_back, end_called, same_socket}
 use Rattle.talk_tests.proofs.alone.is_ready.Goals as goal
 
 pub returns-then-not-is_over : goal.returns-then-not-is_over
-returns-then-not-is_over c =
+returns-then-not-is_over g c =
     let app = c.ready_in_turn.ensures.app in
     let slow = subst (λ (w : Worker). IsSlow (common_in c.args.end.now.team) c.args.tick w) (sym c.slow.view_is)
     c.requires.both.0 in
@@ -22,7 +22,7 @@ returns-then-not-is_over c =
     )
 
 pub returns : goal.returns
-returns c =
+returns g c =
     let app = c.ready_in_turn.ensures.app in
     let slow = subst (λ (w : Worker). IsSlow (common_in c.args.end.now.team) c.args.tick w) (sym c.slow.view_is)
     c.requires.both.0 in

@@ -3,4 +3,4 @@ use Rattle.talk_tests.specs.Ends.{IsSlow}
 use Rattle.talk_tests.proofs.serving.emit_all.Given as goal
 
 abbrev pub invariant-loop : goal.invariant-loop
-invariant-loop l = IsSlow l.shared l.tick l.slow
+invariant-loop g l = IsSlow l.shared l.tick l.slow

@@ -18,14 +18,14 @@ team_of-team-requires-clause-cores g c = record {
   count = c.in-Ok.ensures.count;
 }
 
-pub returns-in-Some : goal.returns-in-Some
-returns-in-Some g c = (
-  c.in-Some.ensures.team.1,
+pub returns : goal.returns
+returns g c = (
+  c.team_of-team.ensures.team.1,
   record {
-    team = c.in-Some.ensures.team.0;
+    team = c.team_of-team.ensures.team.0;
     plan = record {
-      steer = ap (λ (s : steering.Sight). s.place) c.in-Ok.ensures.steer ∙ sym c.in-Some.ensures.steering;
-      cores = ap (λ (p : steering.Place). p.cores) c.in-Some.ensures.steering ∙ c.in-Ok.ensures.steering;
+      steer = ap (λ (s : steering.Sight). s.place) c.in-Ok.ensures.steer ∙ sym c.team_of-team.ensures.steering;
+      cores = ap (λ (p : steering.Place). p.cores) c.team_of-team.ensures.steering ∙ c.in-Ok.ensures.steering;
     };
     socket = λ has. absurd (true≢false (sym has ∙ c.requires.step));
   },

@@ -7,21 +7,18 @@ use Rattle.talk_tests.proofs.ticks.play_ticks.Goals as goal
 pub loop-tick-init : goal.loop-tick-init
 loop-tick-init g c = (c.requires.one, c.requires.two, refl)
 
-pub play_tick-requires-clause-one : goal.play_tick-requires-clause-one
-play_tick-requires-clause-one g c = c.loop-tick.invariant.0
+pub play_tick-both-requires-clause-one : goal.play_tick-both-requires-clause-one
+play_tick-both-requires-clause-one g c = c.loop-tick.invariant.0
 
-pub play_tick-requires-clause-two : goal.play_tick-requires-clause-two
-play_tick-requires-clause-two g c = c.loop-tick.invariant.1
-
-pub returns-in_err-a-clause-crew : goal.returns-in_err-a-clause-crew
-returns-in_err-a-clause-crew g c = c.play_tick.ensures.crew ∙ c.loop-tick.invariant.2
+pub play_tick-both-requires-clause-two : goal.play_tick-both-requires-clause-two
+play_tick-both-requires-clause-two g c = c.loop-tick.invariant.1
 
 pub loop-tick-preserved : goal.loop-tick-preserved
 loop-tick-preserved g c =
-    let did = c.in_ok-a.ensures in (
-      (one_later _ c.loop-tick.tick c.play_tick.new.slow did.one.0, did.one.1),
-      (one_later _ c.loop-tick.tick c.play_tick.new.other did.two.0, did.two.1),
-      c.play_tick.ensures.crew ∙ c.loop-tick.invariant.2,
+    let did = c.play_tick-both.ensures in (
+      (one_later _ c.loop-tick.tick c.play_tick-both.new.slow did.one.0, did.one.1),
+      (one_later _ c.loop-tick.tick c.play_tick-both.new.other did.two.0, did.two.1),
+      c.play_tick-both.ensures.crew ∙ c.loop-tick.invariant.2,
     )
 
 pub returns-clause-one : goal.returns-clause-one
