@@ -23,10 +23,10 @@ use Rattle.flow_lock.specs.Histories.{unborn}
 use Rattle.flow_lock.specs.declared.view.History.{History}
 use Rattle.flow_lock.specs.declared.view.Turn.{Turn}
 use Rattle.flow_lock.specs.declared.view.View.{View}
-use Rattle.flow_clock.proofs.Keeping.{after_use, after_refusal}
+use Rattle.flow_clock.proofs.Keeping.{after_use}
 use Rattle.app_reaper.proofs.Walking.{same_pin}
 use Rattle.app_reaper.specs.Lists.{is_on}
-use Rattle.app_reaper.specs.OneCall.{IsUse, IsCallRefused}
+use Rattle.app_reaper.specs.OneCall.{IsUse}
 use Rattle.app_reaper.specs.declared.one_call.CallFault.{CallFault}
 use Rattle.slow_handshake.specs.Openings.{Openings}
 use Rattle.core_worker.specs.Workers.{Common}
@@ -34,7 +34,7 @@ use Rattle.slow_worker.specs.Clocks.{last_tick}
 use Rattle.slow_worker.specs.Workers.{Worker, Sight, sight_of, with_sight}
 use Rattle.slow_worker.specs.Opening.{with_open, IsKnown}
 use Rattle.slow_worker.specs.declared.known.KnownFlow.{KnownFlow}
-use Rattle.slow_worker.proofs.Keeping.{opened_kept, kept_used, kept_refused}
+use Rattle.slow_worker.proofs.Keeping.{opened_kept, kept_used}
 use Rattle.libtas_sockets.specs.Apps.{Application, IsSocket, with_view}
 use Rattle.libtas_sockets.specs.Accepting.{IsAcceptance, after_accept}
 use Rattle.libtas_sockets.specs.Calling.{HasCalled}
@@ -304,17 +304,6 @@ slow_used c tick v w s id r h is e table used = subst (λ (y : Worker). IsSlow c
   senders = is.senders;
   kickers = is.kickers;
   alone = (after_use id r h v.pass.view s.view used).alone is.alone;
-})
-
-pub slow_refused : (c : Common) (tick : ℕ) (v w : Worker) (s : Seen) (id : FlowId) (f : CallFault)
-    → IsSlow c tick v → w ≡ record v { pass = s } → s.table ≡ v.pass.table
-    → IsCallRefused id v.pass.view s.view f → IsSlow c tick w
-slow_refused c tick v w s id f is e table refused = subst (λ (y : Worker). IsSlow c tick y) (sym e) (record {
-  sound = (kept_refused c.table id f v.pass s v.doomed v.pins v.flows table refused is.sound.0, is.sound.1);
-  risen = is.risen;
-  senders = is.senders;
-  kickers = is.kickers;
-  alone = (after_refusal id f v.pass.view s.view refused).alone is.alone;
 })
 
 -- a flow was opened, and its segments are received from now on

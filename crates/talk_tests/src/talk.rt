@@ -54,7 +54,7 @@ struct Talk<'a, H: Wait + Abort> {
 }
 
 impl<'a, H: Wait + Abort> Run<Lane> for Talk<'a, H> {
-    type Answer = Option<Texts>;
+    type Answer = Texts;
 
     ghost can = { λ _. ⊤ };
 
@@ -65,9 +65,12 @@ impl<'a, H: Wait + Abort> Run<Lane> for Talk<'a, H> {
         rt: &R,
         gate: &G,
         crew: &mut Crew<Lane>,
-    ) -> Option<Texts> {
-        let [one, two] = remains_of(self.host, gate, crew, self.alloc);
-        texts_of(self.alloc, one, two)
+    ) -> Texts {
+        let (one, two) = remains_of(self.host, gate, crew, self.alloc);
+        Texts {
+            a: text_left(self.host, self.alloc, one),
+            b: text_left(self.host, self.alloc, two),
+        }
     }
 }
 
@@ -77,13 +80,13 @@ fn remains_of<R: Wait + Abort, G: Gate>(
     gate: &G,
     crew: &mut Crew<Lane>,
     alloc: Global,
-) -> [SlowRemains; 2]
+) -> (SlowRemains, SlowRemains)
     ensures { crew.new ≡ crew.old }
 {
     let (mut one, a) = started(rt, alloc, A);
     let (mut two, b) = started(rt, alloc, B);
     play_all(rt, gate, crew, alloc, &mut one, &mut two, (a, b));
-    [one.end(rt), two.end(rt)]
+    (one.end(rt), two.end(rt))
 }
 
 /// All ticks, and then the first turn of the next one, which files the flows that were closed.
@@ -105,14 +108,15 @@ fn play_all<R: Wait + Abort, G: Gate>(
     turn(rt, other, &*two.team.part.shared, TICKS);
 }
 
-/// The texts of what both leave.
-fn texts_of(alloc: Global, one: SlowRemains, two: SlowRemains) -> Option<Texts> {
-    let a = first_filed(one)?;
-    let b = first_filed(two)?;
-    Some(Texts {
-        a: text_of(alloc, &a)?,
-        b: text_of(alloc, &b)?,
-    })
+/// The text of the first flow that was filed.
+fn text_left<R: Abort>(rt: &R, alloc: Global, remains: SlowRemains) -> Vec<u8> {
+    let Some(flow) = first_filed(remains) else {
+        panic!(rt; "no flow was filed");
+    };
+    let Some(text) = text_of(alloc, &flow) else {
+        panic!(rt; "memory is wanting");
+    };
+    text
 }
 
 /// The history of the first flow that was filed. `None` where there is none.
@@ -144,5 +148,5 @@ pub fn spoken<R: Threads + Wait + Sync + Abort, G: Gate + Sync>(
     alloc: Global,
     threads: usize,
 ) -> Option<Texts> {
-    with_lanes(rt, gate, alloc, threads, Talk { host: rt, alloc }).ok()?
+    with_lanes(rt, gate, alloc, threads, Talk { host: rt, alloc }).ok()
 }

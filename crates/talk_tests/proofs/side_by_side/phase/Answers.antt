@@ -4,8 +4,8 @@ use Rattle.talk_tests.proofs.Both.{is_lent}
 use Rattle.talk_tests.proofs.Over.{phase_over}
 use Rattle.talk_tests.proofs.side_by_side.phase.Goals as goal
 
-pub both_play-requires : goal.both_play-requires
-both_play-requires g c = (
+pub both_play-both-requires : goal.both_play-both-requires
+both_play-both-requires g c = (
   is_lent c.args.tick c.args.slow.now c.args.ends.0 c.lend-one.result.0 c.requires.one.0 c.requires.one.1
       c.lend-one.ensures.team,
   is_lent c.args.tick c.args.other.now c.args.ends.1 c.lend-two.result.0 c.requires.two.0 c.requires.two.1
