@@ -1,0 +1,12 @@
+mod Lists
+mod Turns
+mod Phases
+mod Heard
+mod Begun
+mod Over
+mod Calls
+mod Seating
+mod AllBack
+mod Added
+mod Both
+mod Looking
