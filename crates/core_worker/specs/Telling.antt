@@ -4,6 +4,7 @@ use Rattle.std.specs.Prelude.{position, slice_set}
 use Rattle.tas_model.specs.declared.entry.FlowId.{FlowId}
 use Rattle.tas_model.specs.LegalHistory.{replay}
 use Rattle.flow_state.specs.Application.{application_of}
+use Rattle.flow_lock.specs.declared.view.Held.{Held}
 use Rattle.flow_lock.specs.declared.view.History.{History}
 use Rattle.context_queue.specs.Notes.{Place, Sender}
 use Rattle.context_queue.specs.declared.note.Note.{Note}
@@ -13,6 +14,8 @@ use Rattle.core_worker.specs.Posting.{ArePosted}
 use Rattle.core_worker.specs.declared.news.News.{News}
 use Rattle.core_worker.specs.declared.shared.AppQueue.{AppQueue}
 use Rattle.core_worker.specs.declared.senders.AppSender.{AppSender}
+use Rattle.core_worker.specs.declared.senders.Teller.{Teller}
+use Rattle.core_worker.specs.declared.senders.Teller.TheVariants as tellers
 
 -- ----- queues and senders
 abbrev pub app_with : AppQueue → ℕ
@@ -32,6 +35,11 @@ IsOwnSender queues s = (place : Place) × (queue_of s.app queues ≡ Some place)
 
 abbrev pub AreOwnSenders : List AppQueue → List AppSender → Type 0
 AreOwnSenders queues senders = Each (IsOwnSender queues) senders
+
+-- the records that who tells an application holds
+abbrev pub held_by : Teller → List Held
+held_by (tellers.Worker pass) = pass.now.view.held
+held_by (tellers.Slow pass) = pass.now.view.held
 
 -- ----- notes
 -- what an entry brought, by the history before and after it

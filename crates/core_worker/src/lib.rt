@@ -24,7 +24,7 @@ pub use kicks::{Kick, KickList};
 pub use laws::{no_change_is_no_news, senders_stay_own};
 pub use news::{News, Progress};
 pub use passed::PassedFrames;
-pub use senders::{AppSender, AppSenders};
+pub use senders::{AppSender, AppSenders, Teller};
 pub use sending::send_all;
 pub use shared::{AppQueue, Shared};
 pub use worker::CoreWorker;

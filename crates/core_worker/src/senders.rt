@@ -1,12 +1,14 @@
 //! Senders of notes to applications.
 ghost use Rattle.std.specs.Prelude.{◌≡◌, ◌++◌, ◌∷◌, [], OnOk, OnErr, position};
 ghost use Rattle.core_worker.specs.News.{notes_about};
-ghost use Rattle.core_worker.specs.Telling.{AreOwnSenders, IsTold, is_sender_for};
+ghost use Rattle.core_worker.specs.Telling.{AreOwnSenders, IsTold, is_sender_for, held_by};
 
 use crate::news::News;
 use crate::shared::Shared;
 use app_reaper::NumberList;
 use context_queue::SenderPass;
+use flow_lock::{Pass, SlowPass};
+use flow_state::FlowRecord;
 use std::alloc::{AllocError, Global};
 use std::marker::Model;
 use std::sync::Wait;
@@ -17,6 +19,13 @@ use tas_model::FlowId;
 pub struct AppSender {
     pub app: u32,
     pub sender: SenderPass,
+}
+
+/// The pass of who tells an application.
+#[derive(Clone, Copy)]
+pub enum Teller<'a> {
+    Worker(&'a Pass<FlowRecord>),
+    Slow(&'a SlowPass<FlowRecord>),
 }
 
 /// A worker's senders, one for each application that it tells of its flows. One is found by its application's number
@@ -62,19 +71,23 @@ impl AppSenders {
         Ok(())
     }
 
-    /// Tells an application the news of its flow, where there is one and a sender for it.
+    /// Tells an application the news of its flow, where there is one and a sender for it. Who tells holds no record: an
+    /// application that hears of an entry finds it in the table.
     pub fn tell<R: Wait>(
         &mut self,
         rt: &R,
         shared: &Shared,
+        teller: Teller<'_>,
         app: Option<u32>,
         flow: FlowId,
         news: News,
     )
         requires own { AreOwnSenders shared.now.queues self.old }
+        requires free { held_by teller ≡ [] }
         ensures own { AreOwnSenders shared.now.queues self.new }
         ensures told { IsTold app shared.now.queues (notes_about flow news) self.old self.new }
     {
+        let _ = teller;
         let Some(app) = app else {
             return;
         };
