@@ -230,13 +230,7 @@ fn hear<R: Abort>(rt: &R, end: &mut End)
 }
 
 /// What may still go is sent. What the end has sent in the tick.
-fn finish<R: Abort>(
-    rt: &R,
-    alloc: Global,
-    slow: &mut SlowWorker,
-    end: &mut End,
-    tick: u32,
-) -> News
+fn finish<R: Abort>(rt: &R, alloc: Global, slow: &mut SlowWorker, end: &mut End, tick: u32) -> News
     requires { IsSlow (common_in end.old.team) tick slow.old × IsAnswered end.old }
     ensures { IsSlow (common_in end.new.team) tick slow.new × IsEnd end.new }
 {
