@@ -1,11 +1,14 @@
 -- How the program ends: its status, and what became of its streams.
-use Rattle.std.specs.Prelude.{◌≡◌, ◌⊎◌, ℕ, List, [], Option, Some, None, IfSome, Ok, Err, Result}
+use Rattle.std.specs.Prelude.{◌≡◌, ◌⊎◌, ℕ, ◌≤◌, List, [], length, Option, Some, None, IfSome, Ok, Err, Result}
+use Rattle.tas_num.specs.Causes.{Rose}
+use Rattle.report_lines.specs.Lines as said
+use Rattle.report_picture.specs.Forms.{IsForm}
 use Rattle.tas_num.specs.Streams.{SourceState, SinkState, Wrote}
 use Rattle.tas_num.specs.declared.outside.IoFault.{IoFault}
 use Rattle.tas_num.specs.declared.outside.IoFault.TheVariants.{Failed, OutOfMemory}
 use Rattle.picture_top.specs.Words.{Asked, asked_by}
-use Rattle.picture_top.specs.Pictures.{Shows}
-use Rattle.picture_top.specs.Stops.{status_of, ReadsWhole, Undrawn}
+use Rattle.picture_top.specs.Pictures.{Shows, Misses}
+use Rattle.picture_top.specs.Stops.{status_of, most_bytes, ReadsWhole, Undrawn}
 use Rattle.picture_top.specs.Telling.{IsTold}
 use Rattle.picture_top.specs.declared.stop.Stop.{Stop}
 use Rattle.picture_top.specs.declared.stop.Stop.TheVariants.{Words, Line, Read, Write, Memory, TooLong}
@@ -77,3 +80,17 @@ pub record HasStopped (c : Call) (status : ℕ) : Type 0 where
 -- ----- the whole
 abbrev pub HasEnded : Call → (status : ℕ) → Type 0
 HasEnded c status = ((status ≡ 0) × IsDrawn c) ⊎ HasStopped c status
+
+-- ----- a right input
+-- The words ask for this, the input is told and is a report with it within its length, and no count of faults rose.
+pub record IsDrawable (c : Call) : Type 0 where
+  pub asked : Asked
+  pub words : asked_by c.words ≡ Some asked
+  pub input : List ℕ
+  pub tells : c.source.left ≡ Some input
+  pub short : length input ≤ most_bytes
+  pub lines : List said.Line
+  pub form : IsForm input lines
+  pub has : (number : ℕ) → ¬ Misses asked input number
+  pub read : ¬ Rose c.source.faults c.left.faults
+  pub written : ¬ Rose c.sink.faults c.written.faults

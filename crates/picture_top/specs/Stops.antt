@@ -43,8 +43,8 @@ Unread before after TooLong = ReadsMore before after
 Unread before after _ = ⊥
 
 -- ----- the report
--- why a text has no such picture: this line is the earliest at fault, or the one past a report without the flow; want of
--- memory is free
+-- why a text has no such picture: this line is the earliest at fault, or the one past a report without the flow; want
+-- of memory is free
 abbrev pub Lacks : Asked → (text : List ℕ) → Stop → Type 0
 Lacks asked text (Line number) = IsFault text number ⊎ Misses asked text number
 Lacks asked text Memory = ⊤

@@ -1,7 +1,7 @@
--- The words of the command line, after the program's name: `--flow HOST:N`, or `--flow=HOST:N`, and `--absolute`, in any
--- order and each at most once.
-use Rattle.std.specs.Prelude.{ℕ, ◌<◌, ◌^◌, ◌==◌, ◌&&◌, ◌||◌, Bool, true, false, List, [], ◌∷◌, codes, decimal, drop, take}
-use Rattle.std.specs.Prelude.{length, fold, is_some, is_none, Option, Some, None, if◌then◌else◌, bytes_eq, nat_lt}
+-- The words of the command line, after the program's name: `--flow HOST:N`, or `--flow=HOST:N`, and `--absolute`, in
+-- any order and each at most once.
+use Rattle.std.specs.Prelude.{ℕ, ◌^◌, ◌==◌, ◌&&◌, Bool, true, false, List, [], ◌∷◌, codes, decimal, drop, take}
+use Rattle.std.specs.Prelude.{length, fold, is_some, Option, Some, None, if◌then◌else◌, bytes_eq, nat_lt}
 use Rattle.std.specs.List.{before_first, after_first}
 use Rattle.std.specs.Str.Parse.{digits_value}
 

@@ -45,7 +45,10 @@ fn wanted(flow: Option<FlowName<'_>>) -> Wanted<'_>
     ensures { Wants (option_map name_in flow.entry) result }
 {
     match flow {
-        Some(named) => Wanted::Flow { host: named.host.as_bytes(), number: named.number },
+        Some(named) => Wanted::Flow {
+            host: named.host.as_bytes(),
+            number: named.number,
+        },
         None => Wanted::First,
     }
 }

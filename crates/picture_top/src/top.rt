@@ -1,15 +1,15 @@
 //! The call that the program makes.
 
 ghost use Rattle.std.specs.Prelude.{◌≡◌, ◌≢◌, ◌⊎◌, map, string_bytes};
-ghost use Rattle.picture_top.specs.Answers.{Call, call, IsDrawn, HasStopped, HasEnded};
+ghost use Rattle.picture_top.specs.Answers.{call, IsDrawn, HasStopped, HasEnded, IsDrawable};
 ghost use Rattle.picture_top.specs.Stops.{status_of};
 ghost use Rattle.picture_top.specs.Telling.{IsTold};
-ghost use Rattle.picture_top.specs.declared.stop.Stop as stops;
 
 use crate::drawing::picture_in;
 use crate::stop::Stop;
 use crate::telling::tell;
 use crate::words::asked_by;
+use report_picture::a_report_has_no_fault;
 use std::alloc::Global;
 use tas_num::{IoFault, Sink, Source, write_all};
 
@@ -31,7 +31,12 @@ pub fn draw<S: Source, K: Sink, F: Sink>(
     // a report that has not the flow, 4 the source failed, 5 the sink failed, 6 memory, 7 there are more than 64 MiB.
     ensures cause { result ≢ 0 → HasStopped (call (map string_bytes words.now) (S.state source.old)
         (S.state source.new) (K.state sink.old) (K.state sink.new) (F.state faults.old) (F.state faults.new)) result }
+    // A right input gives status 0, or want of memory, where no stream fails.
+    ensures complete { IsDrawable (call (map string_bytes words.now) (S.state source.old) (S.state source.new)
+        (K.state sink.old) (K.state sink.new) (F.state faults.old) (F.state faults.new))
+        → (result ≡ 0) ⊎ (result ≡ 6) }
 {
+    a_report_has_no_fault();
     answered(alloc, words, source, sink, faults)
 }
 
