@@ -9,7 +9,7 @@ use Rattle.tas_num.specs.declared.outside.IoFault.{IoFault}
 use Rattle.picture_top.specs.Words.{Asked, asked_by}
 use Rattle.picture_top.specs.Pictures.{Shows, Misses}
 use Rattle.picture_top.specs.Stops.{status_of, ReadsWhole, Lacks, Undrawn}
-use Rattle.picture_top.specs.Answers.{Call, WritesPicture, HasNone, Why, IsDrawn, HasStopped}
+use Rattle.picture_top.specs.Answers.{Call, WritesPicture, Why, IsDrawn, HasStopped}
 use Rattle.picture_top.specs.Answers.{HasEnded, IsDrawable}
 use Rattle.picture_top.specs.declared.stop.Stop.{Stop}
 use Rattle.picture_top.specs.declared.stop.Stop.TheVariants.{Words, Line, Read, Write, Memory, TooLong}

@@ -1,7 +1,7 @@
 -- What single words spell: a number, a value behind a name.
-use Rattle.std.proofs.Common.{◌≡◌, ◌≢◌, ℕ, zero, suc, ◌+◌, ◌<◌, ◌^◌, ◌&&◌, Bool, true, false, cond, List}
+use Rattle.std.proofs.Common.{◌≡◌, ◌≢◌, ℕ, ◌+◌, ◌<◌, ◌^◌, ◌&&◌, Bool, true, false, cond, List}
 use Rattle.std.proofs.Common.{[], ◌∷◌, ◌++◌, length, take, drop, decimal, Option, Some, None, Result, Ok, Err}
-use Rattle.std.proofs.Common.{MatchOption, option_map, bytes_eq, Bor, refl, sym, ap, subst, ◌∙◌, arith}
+use Rattle.std.proofs.Common.{MatchOption, option_map, bytes_eq, Bor, refl, sym, ap, ◌∙◌, arith}
 use Rattle.std.specs.Prelude.{nat_lt}
 use Rattle.std.proofs.Math.Seq.{take-append_seam}
 use Rattle.std.proofs.lemmas.Bool.{true≢false}

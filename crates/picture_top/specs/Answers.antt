@@ -1,5 +1,5 @@
 -- How the program ends: its status, and what became of its streams.
-use Rattle.std.specs.Prelude.{◌≡◌, ◌⊎◌, ℕ, ◌≤◌, List, [], length, Option, Some, None, IfSome, Ok, Err, Result}
+use Rattle.std.specs.Prelude.{◌≡◌, ◌⊎◌, ℕ, ◌≤◌, List, [], length, Some, None, IfSome, Ok, Err, Result}
 use Rattle.tas_num.specs.Causes.{Rose}
 use Rattle.report_lines.specs.Lines as said
 use Rattle.report_picture.specs.Forms.{IsForm}
@@ -11,7 +11,7 @@ use Rattle.picture_top.specs.Pictures.{Shows, Misses}
 use Rattle.picture_top.specs.Stops.{status_of, most_bytes, ReadsWhole, Undrawn}
 use Rattle.picture_top.specs.Telling.{IsTold}
 use Rattle.picture_top.specs.declared.stop.Stop.{Stop}
-use Rattle.picture_top.specs.declared.stop.Stop.TheVariants.{Words, Line, Read, Write, Memory, TooLong}
+use Rattle.picture_top.specs.declared.stop.Stop.TheVariants.{Words, Write, Memory}
 
 -- What the call was given, and what became of that: its words, its source, its sink, and the sink of its fault line.
 pub record Call : Type 0 where

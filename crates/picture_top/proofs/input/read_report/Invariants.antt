@@ -1,4 +1,4 @@
-use Rattle.std.proofs.Common.{◌+◌, ◌-◌, ◌≤◌, ◌≡◌, vec_len, length}
+use Rattle.std.proofs.Common.{◌-◌, ◌≤◌, ◌≡◌, vec_len, length}
 use Rattle.std.specs.Io.KnownBytes.{Consumes}
 use Rattle.picture_top.proofs.input.read_report.Given as goal
 

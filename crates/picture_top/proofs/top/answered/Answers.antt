@@ -21,7 +21,7 @@ returns-in-Ok-write_all g c =
             (asked_in c.in-Some.asked) c.in-Ok.out.items c.deref.result.now c.write_all.result (Ok tt)
             words c.in-Ok.ensures.read c.in-Ok.ensures.shown c.deref.ensures.value c.write_all.ensures
             c.in-Ok-write_all.is;
-        silent = refl;
+        silent = refl {a = g.F.Sink.state c.args.faults.now};
       },
     )
 

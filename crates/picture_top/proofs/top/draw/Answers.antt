@@ -1,5 +1,3 @@
-use Rattle.std.proofs.Common.{map, string_bytes}
-use Rattle.picture_top.specs.Answers.{call}
 use Rattle.picture_top.proofs.Ends.{drawn_at_0, stopped_else, ends_well}
 use Rattle.picture_top.proofs.top.draw.Goals as goal
 

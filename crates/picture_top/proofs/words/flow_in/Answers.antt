@@ -1,4 +1,4 @@
-use Rattle.std.proofs.Common.{◌≡◌, ◌∙◌, ap, sym, option_map, arith}
+use Rattle.std.proofs.Common.{◌∙◌, ap, sym, option_map, arith}
 use Rattle.picture_top.specs.Asking.{name_in}
 use Rattle.picture_top.proofs.Spelling.{no_colon}
 use Rattle.picture_top.proofs.words.flow_in.Goals as goal

@@ -1,4 +1,4 @@
-use Rattle.std.proofs.Common.{rules, ◌≡◌, ◌≢◌, decimal, sym, ◌∙◌}
+use Rattle.std.proofs.Common.{rules, ◌≡◌, ◌≢◌, decimal, sym}
 use Rattle.picture_top.proofs.Spelling.{number_found, written_else, unparsed}
 use Rattle.picture_top.proofs.words.number_in.Goals as goal
 
