@@ -1,4 +1,6 @@
+pub mod Books
 pub mod Views
+pub mod Sound
+pub mod Staffing
 pub mod Steps
-pub mod Askings
-pub mod Opened
+pub mod Serving
