@@ -4,4 +4,6 @@ pub mod Turns
 pub mod Staffs
 pub mod Staffing
 pub mod Asks
+pub mod Kin
 pub mod Serving
+pub mod Handing

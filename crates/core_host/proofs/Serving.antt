@@ -1,14 +1,12 @@
 -- The frames that cores left, served by the slow path: for the answer for `CoreHost::serve`.
-use Rattle.std.proofs.Common.{◌≡◌, ◌<◌, ◌≤◌, ◌+◌, ℕ, zero, suc, Bool, true, List, [], ◌∷◌, ◌++◌, map, drop, length, All, refl}
+use Rattle.std.proofs.Common.{◌≡◌, ◌<◌, ◌≤◌, ◌+◌, ℕ, zero, suc, Bool, true, List, [], ◌∷◌, ◌++◌, map, drop, length, refl}
 use Rattle.std.proofs.Common.{sym, ap, ◌∙◌, subst}
 use Rattle.std.proofs.lemmas.List.{map-append}
 use Rattle.std.proofs.lemmas.List.Elements.{filter-append}
 use Rattle.std.proofs.Math.Seq.{drop-append_seam}
 use Rattle.std.specs.List.{filter}
 use Rattle.tas_model.specs.declared.entry.FlowId.{FlowId}
-use Rattle.host_rounds.specs.Lists.{Each}
 use Rattle.host_rounds.specs.Scripts.{Scripts}
-use Rattle.core_worker.specs.Workers.{Common}
 use Rattle.slow_handshake.specs.Numbers.{FirstNumbers}
 use Rattle.slow_worker.specs.Clocks.{served_in}
 use Rattle.slow_worker.specs.Kicking.{CanKick}
@@ -16,7 +14,6 @@ use Rattle.slow_worker.specs.Queues.{Standing}
 use Rattle.slow_worker.specs.Turns.{IsTurn}
 use Rattle.slow_worker.specs.Workers.{Worker, HasSenders}
 use Rattle.host_books.specs.Books.{Book}
-use Rattle.core_phase.specs.Lanes.{IsIdle}
 use Rattle.core_phase.specs.declared.lane.Lane.{Lane}
 use Rattle.core_phase.specs.declared.lane.Lane.TheVariants as lanes
 use Rattle.core_rounds.specs.CoreTicks.{rest_phase}
@@ -29,51 +26,16 @@ use Rattle.slow_rounds.specs.Collecting.{AreCollected}
 use Rattle.slow_rounds.specs.Rests.{IsCounted, starts_by}
 use Rattle.slow_rounds.proofs.Collecting.{left_made}
 use Rattle.core_host.specs.Serving.{cleared, AreLeft, IsServedOf}
-use Rattle.core_host.specs.Sound.{AreApps, AreStaff, IsResting, IsStaffSound}
+use Rattle.core_host.specs.Sound.{IsStaffSound}
 use Rattle.core_host.specs.Views.{Staffed}
+use Rattle.core_host.proofs.Kin.{AreKin, kin_apps, kin_staff, kin_idle, kin_resting}
 use Rattle.core_host.proofs.Staffs.{moved_lanes}
 
 -- ----- lanes of which all was collected
-cleared_apps : (ls : List Lane) → apps_in (map cleared ls) ≡ apps_in ls
-cleared_apps [] = refl
-cleared_apps (lanes.Core l ∷ ls) = cleared_apps ls
-cleared_apps (lanes.App l ∷ ls) = ap (λ xs. l.app ∷ xs) (cleared_apps ls)
-
-cleared_names : (names : List ℕ) (ls : List Lane) → AreApps names ls → AreApps names (map cleared ls)
-cleared_names [] ls are = ap (map cleared) are
-cleared_names (n ∷ ns) [] are = absurd are
-cleared_names (n ∷ ns) (lanes.Core l ∷ ls) are = absurd are
-cleared_names (n ∷ ns) (lanes.App l ∷ ls) are = (are.0, cleared_names ns ls are.1)
-
-cleared_staff : (cores first : ℕ) (names : List ℕ) (ls : List Lane) → AreStaff cores first names ls
-    → AreStaff cores first names (map cleared ls)
-cleared_staff zero first names ls are = cleared_names names ls are
-cleared_staff (suc n) first names [] are = absurd are
-cleared_staff (suc n) first names (lanes.Core l ∷ ls) are = (are.0, cleared_staff n (suc first) names ls are.1)
-cleared_staff (suc n) first names (lanes.App l ∷ ls) are = absurd are
-
-cleared_idle : (c : Common) (ls : List Lane) → All (IsIdle c) ls → All (IsIdle c) (map cleared ls)
-cleared_idle c [] are = tt
-cleared_idle c (lanes.Core l ∷ ls) are =
-    let i = are.0.1 in (
-      (are.0.0, record {
-        table = i.table;
-        turns = i.turns;
-        slow = i.slow;
-        baton = i.baton;
-        pins = i.pins;
-        held = i.held;
-        queue = i.queue;
-        senders = i.senders;
-      }),
-      cleared_idle c ls are.1,
-    )
-cleared_idle c (lanes.App l ∷ ls) are = (are.0, cleared_idle c ls are.1)
-
-cleared_resting : (check : Bool) (ls : List Lane) → Each (IsResting check) ls → Each (IsResting check) (map cleared ls)
-cleared_resting check [] are = tt
-cleared_resting check (lanes.Core l ∷ ls) are = (are.0, cleared_resting check ls are.1)
-cleared_resting check (lanes.App l ∷ ls) are = (are.0, cleared_resting check ls are.1)
+cleared_kin : (ls : List Lane) → AreKin ls (map cleared ls)
+cleared_kin [] = refl
+cleared_kin (lanes.Core l ∷ ls) = (refl, cleared_kin ls)
+cleared_kin (lanes.App l ∷ ls) = (refl, cleared_kin ls)
 
 -- ----- books of flows that were opened
 syn_ids : (ids : List FlowId) → map id_of (filter is_indexed (map syn_book ids)) ≡ ids
@@ -134,14 +96,15 @@ module _ (h : Staffed) (ns : FirstNumbers) (tick : ℕ) (u w : Worker) (books : 
           let is : with_opened ids w h.host ≡ served_host =
           λ i. record (h.host) {
             slow = w;
-            apps = (sound.apps ∙ sym (cleared_apps h.lanes)) i;
+            apps = (sound.apps ∙ sym (kin_apps h.lanes (map cleared h.lanes) (cleared_kin h.lanes))) i;
             books = (ap (λ l. h.host.books ++ map syn_book l) same ∙ sym opened) i;
           } in
           record {
             made = ap host_of (sym is) ∙ made;
             sound = moved_lanes h served_host (map cleared h.lanes) sound (subst IsHostSound is host)
                 (subst IsCounted is counted) refl refl same_check senders kickers same_time
-                (cleared_staff h.cores 0 h.names h.lanes sound.staff) (cleared_idle h.shared h.lanes sound.idle)
-                (cleared_resting h.host.slow.check_sums h.lanes sound.resting);
+                (kin_staff h.cores 0 h.names h.lanes (map cleared h.lanes) sound.staff (cleared_kin h.lanes))
+                (kin_idle h.shared h.lanes (map cleared h.lanes) sound.idle (cleared_kin h.lanes))
+                (kin_resting h.host.slow.check_sums h.lanes (map cleared h.lanes) sound.resting (cleared_kin h.lanes));
             lanes = refl;
           }

@@ -4,3 +4,4 @@ pub mod Sound
 pub mod Staffing
 pub mod Steps
 pub mod Serving
+pub mod Handing

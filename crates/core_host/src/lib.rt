@@ -4,9 +4,11 @@
 
 mod asks;
 mod books;
+mod handing;
 mod host;
 mod serving;
 mod staffing;
 mod time;
 
+pub use handing::Coming;
 pub use host::CoreHost;
