@@ -25,5 +25,6 @@ pub use laws::{no_change_is_no_news, senders_stay_own};
 pub use news::{News, Progress};
 pub use passed::PassedFrames;
 pub use senders::{AppSender, AppSenders};
+pub use sending::send_all;
 pub use shared::{AppQueue, Shared};
 pub use worker::CoreWorker;

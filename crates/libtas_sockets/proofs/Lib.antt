@@ -6,3 +6,4 @@ pub mod Answering
 pub mod Receiving
 pub mod Ends
 mod Apart
+mod Openings

@@ -3,4 +3,5 @@ pub mod Answers
 pub mod Calling
 pub mod Accepting
 pub mod Connecting
+pub mod Opening
 pub mod Ending

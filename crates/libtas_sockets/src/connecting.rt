@@ -214,7 +214,11 @@ fn opens(connected: &Result<Socket, SocketError>) -> bool
 }
 
 /// Opens the next flow for the record, and answers the slow path's pin.
-fn open_next(t: &FlowTable<FlowRecord>, sp: &mut SlowPass<FlowRecord>, flow: FlowRecord) -> Pin
+pub(crate) fn open_next(
+    t: &FlowTable<FlowRecord>,
+    sp: &mut SlowPass<FlowRecord>,
+    flow: FlowRecord,
+) -> Pin
     requires slow { (sp.old.table ≡ t.now) × MayAct sp.old.view }
     requires few { sp.old.view.opened < 4294967295 }
     requires next { next_in sp.old.view.marks ≡ Some flow.id }

@@ -8,6 +8,7 @@ mod calls;
 mod connecting;
 mod ending;
 mod laws;
+mod opening;
 mod pinning;
 mod received;
 mod socket;

@@ -16,11 +16,11 @@ use Rattle.slow_worker.specs.Known.{or_flow, AreFound}
 use Rattle.slow_worker.specs.declared.known.KnownFlow.{KnownFlow}
 
 -- ----- equal four-tuples are one
-both : (a b : Bool) → (a && b) ≡ true → (a ≡ true) × (b ≡ true)
+pub both : (a b : Bool) → (a && b) ≡ true → (a ≡ true) × (b ≡ true)
 both true b h = (refl, h)
 both false b h = absurd (true≢false (sym h))
 
-same_number : (a b : ℕ) → (a == b) ≡ true → a ≡ b
+pub same_number : (a b : ℕ) → (a == b) ≡ true → a ≡ b
 same_number a b h = grind (arith, tests, h)
 
 of_numbers : (t u : FourTuple) → t.laddr ≡ u.laddr → t.lport ≡ u.lport → t.raddr ≡ u.raddr → t.rport ≡ u.rport → t ≡ u

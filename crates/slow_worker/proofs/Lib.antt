@@ -6,3 +6,4 @@ pub mod Serving
 pub mod Ticks
 pub mod Kicks
 pub mod Unopened
+pub mod Walks

@@ -3,12 +3,9 @@ use Rattle.std.proofs.Common.{◌≡◌, List, inr, subst, ap, sym, ◌∙◌}
 use Rattle.segment_fields.specs.declared.segment.Segment.{Segment}
 use Rattle.tas_model.specs.declared.entry.FlowId.{FlowId}
 use Rattle.tas_model.specs.declared.entry.FourTuple.{FourTuple}
-use Rattle.host_rounds.specs.declared.log.LogLine.{LogLine}
-use Rattle.flow_lock.specs.Passes.{Seen}
 use Rattle.slow_handshake.specs.Openings.{Openings}
 use Rattle.core_worker.specs.Frames.{tuple_of}
 use Rattle.core_worker.specs.declared.kicks.Kick.{Kick}
-use Rattle.core_worker.specs.declared.senders.AppSender.{AppSender}
 use Rattle.slow_worker.specs.Workers.{Sight, Worker, sight_of}
 use Rattle.slow_worker.specs.Opening.{IsTouched, IsUnopened, numbered}
 use Rattle.slow_worker.specs.declared.known.KnownFlow.{KnownFlow}

@@ -7,3 +7,4 @@ pub mod Opening
 pub mod Serving
 pub mod Queues
 pub mod Turns
+pub mod Alone

@@ -3,9 +3,11 @@
 
 mod clock;
 mod collecting;
+mod emitting;
 mod entering;
 mod kicking;
 mod known;
+mod looking;
 mod meeting;
 mod opening;
 mod queues;
