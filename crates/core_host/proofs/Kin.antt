@@ -1,5 +1,5 @@
 -- Lanes of which only what was handed to a core or left by it is different: they are the same staff.
-use Rattle.std.proofs.Common.{◌≡◌, ℕ, zero, suc, Bool, List, [], ◌∷◌, All, refl, sym, ap, ◌∙◌, subst}
+use Rattle.std.proofs.Common.{◌≡◌, ℕ, zero, suc, Bool, List, [], ◌∷◌, refl, sym, ap, ◌∙◌, subst}
 use Rattle.host_rounds.specs.Lists.{Each}
 use Rattle.core_worker.specs.Workers.{Common}
 use Rattle.core_phase.specs.Lanes.{IsIdle}
@@ -71,8 +71,8 @@ idle_still c v w (same, is) = (same, record {
   senders = is.senders;
 })
 
-pub kin_idle : (c : Common) (vs ws : List Lane) → All (IsIdle c) vs → AreKin vs ws → All (IsIdle c) ws
-kin_idle c [] ws are kin = subst (All (IsIdle c)) (sym kin) tt
+pub kin_idle : (c : Common) (vs ws : List Lane) → Each (IsIdle c) vs → AreKin vs ws → Each (IsIdle c) ws
+kin_idle c [] ws are kin = subst (Each (IsIdle c)) (sym kin) tt
 kin_idle c (v ∷ vs) [] are kin = absurd kin
 kin_idle c (lanes.Core v ∷ vs) (lanes.App w ∷ ws) are kin = absurd kin.0
 kin_idle c (lanes.App v ∷ vs) (lanes.Core w ∷ ws) are kin = absurd kin.0

@@ -7,3 +7,4 @@ pub mod Asks
 pub mod Kin
 pub mod Serving
 pub mod Handing
+pub mod NewHosts

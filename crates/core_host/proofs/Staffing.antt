@@ -1,6 +1,6 @@
 -- A host that is put together: for the answers for what hires its cores and applications.
 use Rattle.std.proofs.Common.{◌≡◌, ◌<◌, ◌≤◌, ◌+◌, ◌-◌, ◌==◌, ℕ, zero, suc, Bool, true, false, cond, List, [], ◌∷◌, ◌++◌}
-use Rattle.std.proofs.Common.{map, length, take, refl, sym, ap, ◌∙◌, subst, arith, inr, All, count_by}
+use Rattle.std.proofs.Common.{map, length, take, refl, sym, ap, ◌∙◌, subst, arith, inr, count_by}
 use Rattle.std.proofs.lemmas.Bool.Decides.{nat_tests}
 use Rattle.std.specs.Prelude.{Option, Some, None, slice_get, replicate}
 use Rattle.std.specs.Arc.{arc_value}
@@ -325,7 +325,7 @@ lanes_for_more c (x ∷ xs) (k ∷ ls) a l are is = (are.0, lanes_for_more c xs 
 -- what holds of the lanes of a staff that was just hired
 record IsNewStaff (n first : ℕ) (names : List ℕ) (c : Common) (xs : List Application) (ls : List Lane) : Type 0 where
   staff : AreStaff n first names ls
-  idle : All (IsIdle c) ls
+  idle : Each (IsIdle c) ls
   resting : Each (IsResting true) ls
   clear : Each IsClear ls
   apps : apps_in ls ≡ xs

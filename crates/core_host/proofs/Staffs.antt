@@ -1,6 +1,6 @@
 -- A host whose slow path did something is sound still, with its staff as it was: for the answers for the steps of a
 -- tick.
-use Rattle.std.proofs.Common.{◌≡◌, ◌<◌, ℕ, Bool, false, All, List, [], refl, sym, ap, ◌∙◌, subst, arith}
+use Rattle.std.proofs.Common.{◌≡◌, ◌<◌, ℕ, Bool, false, List, [], refl, sym, ap, ◌∙◌, subst, arith}
 use Rattle.std.proofs.lemmas.Bool.Decides.{nat_tests}
 use Rattle.std.specs.Prelude.{IfSome}
 use Rattle.host_rounds.specs.Hosts.{Host}
@@ -33,7 +33,7 @@ use Rattle.core_host.proofs.Kept.{kept_is}
 pub moved_lanes : (h : Staffed) (n : CoreHost) (ls : List Lane) → IsStaffSound h → IsHostSound n → IsCounted n
     → n.table ≡ h.host.table → n.apps ≡ apps_in ls → n.slow.check_sums ≡ h.host.slow.check_sums
     → HasSenders h.shared n.slow → CanKick h.shared n.slow.kickers → ((t : ℕ) → served_in t n.slow.time ≡ 0)
-    → AreStaff h.cores 0 h.names ls → All (IsIdle h.shared) ls → Each (IsResting h.host.slow.check_sums) ls
+    → AreStaff h.cores 0 h.names ls → Each (IsIdle h.shared) ls → Each (IsResting h.host.slow.check_sums) ls
     → IsStaffSound (record h { host = n; lanes = ls })
 moved_lanes h n ls sound host counted table apps checks senders kickers timed staff idle resting = record {
   host = host;

@@ -1,5 +1,5 @@
 -- What holds of a host and its lanes between two steps of a tick.
-use Rattle.std.specs.Prelude.{◌≡◌, ℕ, zero, suc, ◌<◌, ◌≤◌, Bool, List, [], ◌∷◌, All, ⊤}
+use Rattle.std.specs.Prelude.{◌≡◌, ℕ, zero, suc, ◌<◌, Bool, List, [], ◌∷◌, ⊤}
 use Rattle.host_rounds.specs.Lists.{Each}
 use Rattle.slow_worker.specs.Clocks.{served_in}
 use Rattle.slow_worker.specs.Kicking.{CanKick}
@@ -55,6 +55,6 @@ pub record IsStaffSound (h : Staffed) : Type 0 where
   pub steer : h.steer.place ≡ h.shared.steering
   pub apps : h.host.apps ≡ apps_in h.lanes
   pub staff : AreStaff h.cores 0 h.names h.lanes
-  pub idle : All (IsIdle h.shared) h.lanes
+  pub idle : Each (IsIdle h.shared) h.lanes
   pub resting : Each (IsResting h.host.slow.check_sums) h.lanes
   pub room : h.room ≡ 65536

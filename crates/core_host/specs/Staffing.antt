@@ -1,5 +1,5 @@
 -- A host that is being put together: its slow path, its cores and its applications, before they have lanes.
-use Rattle.std.specs.Prelude.{◌≡◌, ℕ, zero, suc, All, ◌<◌, ◌+◌, true, false, List, [], ◌∷◌, ◌++◌, length, replicate, map, ⊤}
+use Rattle.std.specs.Prelude.{◌≡◌, ℕ, zero, suc, ◌<◌, ◌+◌, true, false, List, [], ◌∷◌, ◌++◌, length, replicate, map, ⊤}
 use Rattle.std.specs.Arc.{arc_value}
 use Rattle.atomic_table.specs.Seated.{TableId}
 use Rattle.tas_model.specs.declared.entry.HostParams.{HostParams}
@@ -169,7 +169,7 @@ pub record IsHired (params : HostParams) (n : ℕ) (numbers : List ℕ) (c : Com
   pub slow : IsNewWorker params c passes w
   pub alone : IsAlone w.pass.view
   pub staff : AreStaff n 0 numbers ls
-  pub idle : All (IsIdle c) ls
+  pub idle : Each (IsIdle c) ls
   pub resting : Each (IsResting true) ls
   pub clear : Each IsClear ls
   pub apps : AreNewApps c.table numbers (apps_in ls)

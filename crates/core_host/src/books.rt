@@ -126,6 +126,7 @@ fn keep_one(book: &mut Book, pins: &PinList, at: usize) -> usize
     ensures at { result ≡ at + flag (is_first (drop at pins.now.list) (book_of book.old)) }
     ensures near { result ≤ length pins.now.list }
 {
+    let _pins = pins.len();
     let stays = is_next(*book, pins, at);
     *book = kept(stays, *book);
     at + count_of(stays)
