@@ -3,11 +3,12 @@ use Rattle.std.specs.Prelude.{◌≡◌, ℕ, ◌≤◌, ◌<◌, ◌^◌, List,
 use Rattle.tas_model.specs.declared.entry.Caller.TheVariants.{App}
 use Rattle.tas_model.specs.declared.entry.Call.{Call}
 use Rattle.tas_model.specs.declared.entry.Call.TheVariants as calls
+use Rattle.tas_model.specs.declared.entry.FourTuple.{FourTuple}
 use Rattle.flow_state.specs.declared.call.CallIn.{CallIn}
 use Rattle.flow_state.specs.declared.call.CallIn.TheVariants as ins
 use Rattle.flow_state.specs.declared.call.Answer.{Answer}
 use Rattle.flow_state.specs.declared.call.Answer.TheVariants as answers
-use Rattle.host_rounds.specs.Hosts.{Live, Host, Holder, Application, GivenUp, at_flow, with_call, is_ready}
+use Rattle.host_rounds.specs.Hosts.{Live, Host, Holder, Application, GivenUp, Starts, at_flow, with_call, is_ready}
 
 -- ----- listeners
 abbrev pub listened_by : (app port : ℕ) → Host → Host
@@ -49,6 +50,13 @@ abbrev pub IsAccepting : (app tick port : ℕ) → (before after : Host) → Opt
 IsAccepting app t port before after None = (position (is_ready port) before.flows ≡ None) × (after ≡ before)
 IsAccepting app t port before after (Some n) =
     (position (is_ready port) before.flows ≡ Some n) × (after ≡ accepted_by app n t before)
+
+-- ----- connects
+-- What a flow is given at its opening is a number alone, which goes by its four-tuple and by how many flows the host
+-- opened before it: no flow has a window scale of its own.
+abbrev pub AreNumbersAlone : Starts → Type 0
+AreNumbersAlone starts =
+    (tuple : FourTuple) (k n : ℕ) → starts tuple k n ≡ record { number = (starts tuple 0 n).number; scale = None }
 
 -- ----- answers
 -- What is told of an answer: all but the segment by which a Recv tells the peer of room.

@@ -3,7 +3,7 @@ ghost use Rattle.std.specs.Prelude.{◌≡◌, ◌<◌, length, OnOk, IfOk, ⊤}
 ghost use Rattle.flow_state.specs.Calls.{call_of};
 ghost use Rattle.asked_host.specs.Asking.{IsEndCall, IsAccepting, left_by};
 
-use crate::asked::AskedHost;
+use crate::asked::{AskedHost, ConnectingHost};
 use crate::kill::end_app;
 use flow_state::{Answer, CallIn};
 use local_host::{Connecting, Holder, LocalHost, StartSource};
@@ -14,9 +14,27 @@ use tas_model::Caller;
 impl AskedHost for LocalHost {
     ghost seen = { λ host. host };
 
+    ghost stands = { λ host. ⊤ };
+
     ghost has_app = { λ host app. ⊤ };
 
     ghost has_socket = { λ host app place. place < length host.flows };
+
+    ghost keeps = { λ before after. ⊤ };
+
+    ghost loses = { λ app before after. ⊤ };
+
+    ghost keeps_itself = { λ h sound. tt };
+
+    ghost keeps_on = { λ f g h first later. tt };
+
+    ghost keeps_standing = { λ f g kept. tt };
+
+    ghost keeps_apps = { λ f g app kept has. tt };
+
+    ghost loses_standing = { λ app f g lost. tt };
+
+    ghost loses_one = { λ app other f g lost apart has. tt };
 
     fn is_listened(&self, port: u16) -> bool {
         LocalHost::is_listened(self, port)
@@ -28,17 +46,6 @@ impl AskedHost for LocalHost {
 
     fn accept(&mut self, app: u32, tick: u32, port: u16) -> Result<Option<usize>, AllocError> {
         accept_first(self, app, tick, port)
-    }
-
-    fn connect_out<S: StartSource>(
-        &mut self,
-        app: u32,
-        tick: u32,
-        raddr: u32,
-        rport: u16,
-        starts: &S,
-    ) -> Result<Connecting, AllocError> {
-        LocalHost::connect_out(self, tick, app, raddr, rport, starts)
     }
 
     fn ask(
@@ -67,6 +74,20 @@ impl AskedHost for LocalHost {
 
     fn note(&mut self, tick: u32, event: LogEvent) -> Result<(), AllocError> {
         LocalHost::note(self, tick, event)
+    }
+}
+
+impl<R> ConnectingHost<R> for LocalHost {
+    fn connect_out<S: StartSource>(
+        &mut self,
+        _rt: &R,
+        app: u32,
+        tick: u32,
+        raddr: u32,
+        rport: u16,
+        starts: &S,
+    ) -> Result<Connecting, AllocError> {
+        LocalHost::connect_out(self, tick, app, raddr, rport, starts)
     }
 }
 

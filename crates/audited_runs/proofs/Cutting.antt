@@ -135,8 +135,11 @@ canonical_ends s =
     (all_end kill_text (λ (k : KillLine). line_ends (codes "kill")
     (k.host ∷ k.app ∷ codes "at" ∷ decimal k.at ∷ holding_words k.holding)) s.kills)
 
--- A scenario, the mark and a text have the lines of these.
-pub marked_lines : (s : Scenario) (text : List ℕ)
-    → text_lines (canonical s ++ mark ++ text) ≡ text_lines (canonical s) ++ mark ∷ text_lines text
-marked_lines s text =
-    ap text_lines (append_assoc (canonical s) mark text) ∙ (canonical_ends s).cuts (mark ++ text)
+-- A text that ends in a line, as one with an LF behind it.
+pub text_ends : (text front : List ℕ) → text ≡ front ++ 10 ∷ [] → Ends text
+text_ends text front e = subst Ends (sym e) (ended_ends front)
+
+-- Such a text, the mark and another text have the lines of these.
+pub marked_lines : (scenario : List ℕ) → Ends scenario → (text : List ℕ)
+    → text_lines (scenario ++ mark ++ text) ≡ text_lines scenario ++ mark ∷ text_lines text
+marked_lines scenario ends text = ap text_lines (append_assoc scenario mark text) ∙ ends.cuts (mark ++ text)

@@ -12,6 +12,9 @@ pub mod Inverted
 pub mod Link
 pub mod Running
 pub mod Placing
+pub mod Given
+pub mod Readers
+pub mod ReadCounts
 pub mod Fitting
 pub mod Whole
 pub mod Judged

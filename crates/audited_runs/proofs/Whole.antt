@@ -18,22 +18,23 @@ use Rattle.scenario_runs.specs.Runs.{Run}
 use Rattle.scenario_runs.proofs.AllRuns.{runs_sound}
 use Rattle.scenario_laws.specs.Ends.{OfEachLine, IsNamed}
 use Rattle.scenario_laws.proofs.AllTicks.{hosts_named, hosts_opened}
+use Rattle.log_ranges.specs.Ranges.{Fits, HostFits}
 use Rattle.report_lines.specs.Shown.{AreNames, IsLine}
 use Rattle.trace_audit.specs.TextLines.{text_lines, mark, AreHalves}
 use Rattle.trace_audit.specs.Forms.{names_of, params_of, AreSaid}
 use Rattle.trace_audit.specs.Verdicts.{IsLegal}
 use Rattle.trace_audit.proofs.HostNames.{names_are}
 use Rattle.audited_runs.specs.LogLines.{lines_of, flows_in, entries_in}
-use Rattle.audited_runs.specs.Fits.{Fits, HostFits}
 use Rattle.audited_runs.specs.Told.{AreTold}
 use Rattle.audited_runs.proofs.Saying.{text_of, text_says, report_says}
 use Rattle.audited_runs.proofs.Order.{in_order}
 use Rattle.audited_runs.proofs.Right.{are_right}
 use Rattle.audited_runs.proofs.Counts.{flows_counted, entries_counted}
-use Rattle.audited_runs.proofs.Cutting.{lines_whole, marked_lines}
+use Rattle.audited_runs.proofs.Cutting.{Ends, lines_whole, marked_lines, canonical_ends}
 use Rattle.audited_runs.proofs.Marks.{scenario_lacks}
 use Rattle.audited_runs.proofs.Running.{AreAddrs, addrs_in, params_in, end_told}
 use Rattle.audited_runs.proofs.Placing.{LogTold, log_told, same_names, all_told, few_flows}
+use Rattle.audited_runs.proofs.ReadCounts.{few_read}
 use Rattle.audited_runs.proofs.Fitting.{log_fits}
 
 -- ----- a log by what is known of it
@@ -47,24 +48,29 @@ report_said names log run ok same fits =
     (text_says names (lines_of log) ok fits)
 
 -- the scenario and the report
+halves_of : (s : Scenario) (scenario text : List ℕ) → reads scenario ≡ Ok s → Ends scenario
+    → AreHalves (scenario ++ mark ++ text) (text_lines scenario) (text_lines text)
+halves_of s scenario text back ends =
+    record { lines = marked_lines scenario ends text; first = scenario_lacks scenario s back }
+
 pub halves_are : (s : Scenario) (text : List ℕ) → reads (canonical s) ≡ Ok s
     → AreHalves (canonical s ++ mark ++ text) (text_lines (canonical s)) (text_lines text)
-halves_are s text back = record { lines = marked_lines s text; first = scenario_lacks (canonical s) s back }
+halves_are s text back = halves_of s (canonical s) text back (canonical_ends s)
 
 -- the whole text
-pub log_legal : (s : Scenario) (log : RunLog) → reads (canonical s) ≡ Ok s → log.replay ≡ false
+log_legal : (s : Scenario) (text : List ℕ) (log : RunLog) → reads text ≡ Ok s → Ends text → log.replay ≡ false
     → AreNames (names_of s.hosts) → report.names_of log.hosts ≡ names_of s.hosts
     → Each (IsLine (names_of s.hosts)) (lines_of log)
     → AreTold (params_of s.hosts) (params_of s.hosts) log.hosts
-    → IsLegal (canonical s ++ mark ++ report.report log) (flows_in log.hosts) (entries_in log.hosts)
-log_legal s log back run ok same fits told = record {
-  said = record { scenario = s; before = length (text_lines (canonical s)) + 1; lines = lines_of log };
+    → IsLegal (text ++ mark ++ report.report log) (flows_in log.hosts) (entries_in log.hosts)
+log_legal s text log back ends run ok same fits told = record {
+  said = record { scenario = s; before = length (text_lines text) + 1; lines = lines_of log };
   form = record {
-    scenario = text_lines (canonical s);
+    scenario = text_lines text;
     report = text_lines (report.report log);
-    halves = halves_are s (report.report log) back;
+    halves = halves_of s text (report.report log) back ends;
     before = refl;
-    is = ap reads (lines_whole (canonical s)) ∙ back;
+    is = ap reads (lines_whole text) ∙ back;
     lines = report_said (names_of s.hosts) log run ok same fits;
     order = in_order (params_of s.hosts) log told;
   };
@@ -129,13 +135,20 @@ run_auditable s log range run fits =
       fits =
           log_fits (names_of s.hosts) (addrs_in (params_in s.hosts)) (as_many s.hosts) s.hosts log
           (few_names (addrs_in (params_in s.hosts)) s.hosts log.hosts told) fits
-          (few_flows s.hosts log.hosts (hosts_opened s log run)) told;
+          (few_flows s.hosts log.hosts (hosts_opened s log run)) (few_read s log range run fits.hosts) told;
       told = all_told (params_in s.hosts) s.hosts log.hosts told (runs_sound s log range run);
     }
+
+-- behind any text of its scenario that ends in a line
+pub run_legal_behind : (text other : List ℕ) (s : Scenario) (log : RunLog) → reads text ≡ Ok s → reads other ≡ Ok s
+    → Ends other → Run s log → Fits log
+    → IsLegal (other ++ mark ++ report.report log) (flows_in log.hosts) (entries_in log.hosts)
+run_legal_behind text other s log read back ends run fits =
+    let a : IsAuditable s log =
+    run_auditable s log (hosts_in_range s.hosts (read_in_range text s read).hosts) run fits in
+    log_legal s other log back ends a.run (names_are text s read) a.names a.fits a.told
 
 pub run_legal : (text : List ℕ) (s : Scenario) (log : RunLog) → reads text ≡ Ok s → Run s log → Fits log
     → IsLegal (canonical s ++ mark ++ report.report log) (flows_in log.hosts) (entries_in log.hosts)
 run_legal text s log read run fits =
-    let a : IsAuditable s log =
-    run_auditable s log (hosts_in_range s.hosts (read_in_range text s read).hosts) run fits in
-    log_legal s log (canonical_read text s read) a.run (names_are text s read) a.names a.fits a.told
+    run_legal_behind text (canonical s) s log read (canonical_read text s read) (canonical_ends s) run fits

@@ -1,5 +1,5 @@
 -- Whether the numbers of a log are in the ranges of their fields, by a test that computes.
-use Rattle.std.proofs.Common.{◌≡◌, ℕ, ◌<◌, ◌^◌, ◌&&◌, Bool, true, List, [], ◌∷◌, length, nat_lt}
+use Rattle.std.proofs.Common.{◌≡◌, ℕ, ◌<◌, ◌^◌, ◌&&◌, Bool, true, List, [], ◌∷◌, nat_lt}
 use Rattle.std.proofs.Common.{Option, Some, None, arith}
 use Rattle.std.specs.Prelude.{IfSome}
 use Rattle.std.proofs.lemmas.Bool.{and_parts}
@@ -14,14 +14,13 @@ use Rattle.tas_model.specs.declared.entry.Head.{Head}
 use Rattle.tas_model.specs.declared.entry.Reply.{Reply}
 use Rattle.tas_model.specs.declared.entry.Reply.TheVariants as replies
 use Rattle.tas_model.specs.declared.entry.Seg.{Seg}
-use Rattle.tas_model.specs.Outputs.{bytes_read}
 use Rattle.host_rounds.specs.declared.log.LogEvent.{LogEvent}
 use Rattle.host_rounds.specs.declared.log.LogEvent.TheVariants as events
 use Rattle.host_rounds.specs.declared.log.LogLine.{LogLine}
 use Rattle.host_rounds.specs.Lists.{Each}
 use Rattle.host_rounds.specs.Logs.{Flow, HostRun, RunLog}
-use Rattle.report_lines.specs.Shown.{AreBytes, IsHead, IsSeg, IsCaller, IsReply}
-use Rattle.audited_runs.specs.Fits.{FrameFits, CallFits, EntryFits, EventFits, LineFits, FlowFits, HostFits, Fits}
+use Rattle.log_ranges.specs.Ranges.{AreBytes, HeadFits, SegFits, FrameFits, CallerFits, CallFits, ReplyFits, EntryFits}
+use Rattle.log_ranges.specs.Ranges.{EventFits, LineFits, FlowFits, HostFits, Fits}
 
 -- ----- tests
 below : (n k : ℕ) → nat_lt n k ≡ true → n < k
@@ -39,12 +38,12 @@ each_is P test tells (x ∷ xs) e =
 
 abbrev pub are_bytes : List ℕ → Bool
 are_bytes [] = true
-are_bytes (b ∷ bs) = nat_lt b 256 && are_bytes bs
+are_bytes (b ∷ bs) = nat_lt b (2 ^ 8) && are_bytes bs
 
 bytes_are : (bs : List ℕ) → are_bytes bs ≡ true → AreBytes bs
 bytes_are [] e = tt
 bytes_are (b ∷ bs) e =
-    let parts = and_parts (nat_lt b 256) (are_bytes bs) e in (below b 256 parts.0, bytes_are bs parts.1)
+    let parts = and_parts (nat_lt b (2 ^ 8)) (are_bytes bs) e in (below b (2 ^ 8) parts.0, bytes_are bs parts.1)
 
 abbrev pub option_low : (k : ℕ) → Option ℕ → Bool
 option_low k None = true
@@ -60,7 +59,7 @@ head_fits h =
     nat_lt h.flags (2 ^ 8) && (nat_lt h.seq.0 (2 ^ 32) && (nat_lt h.ack.0 (2 ^ 32) && (nat_lt h.window (2 ^ 16)
     && (option_low (2 ^ 16) h.mss && option_low (2 ^ 8) h.scale))))
 
-head_is : (h : Head) → head_fits h ≡ true → IsHead h
+head_is : (h : Head) → head_fits h ≡ true → HeadFits h
 head_is h e =
     let a = and_parts (nat_lt h.flags (2 ^ 8)) _ e in
     let b = and_parts (nat_lt h.seq.0 (2 ^ 32)) _ a.1 in
@@ -79,7 +78,7 @@ head_is h e =
 abbrev pub seg_fits : Seg → Bool
 seg_fits s = head_fits s.head && are_bytes s.bytes
 
-seg_is : (s : Seg) → seg_fits s ≡ true → IsSeg s
+seg_is : (s : Seg) → seg_fits s ≡ true → SegFits s
 seg_is s e =
     let a = and_parts (head_fits s.head) (are_bytes s.bytes) e in
     record { head = head_is s.head a.0; bytes = bytes_are s.bytes a.1 }
@@ -88,7 +87,7 @@ abbrev pub update_fits : Option Head → Bool
 update_fits None = true
 update_fits (Some h) = head_fits h
 
-update_is : (o : Option Head) → update_fits o ≡ true → IfSome o IsHead
+update_is : (o : Option Head) → update_fits o ≡ true → IfSome o HeadFits
 update_is None e = tt
 update_is (Some h) e = head_is h e
 
@@ -106,7 +105,7 @@ caller_fits Slow = true
 caller_fits (Core k) = nat_lt k (2 ^ 32)
 caller_fits (App k) = nat_lt k (2 ^ 32)
 
-caller_is : (c : Caller) → caller_fits c ≡ true → IsCaller c
+caller_is : (c : Caller) → caller_fits c ≡ true → CallerFits c
 caller_is Slow e = tt
 caller_is (Core k) e = below k (2 ^ 32) e
 caller_is (App k) e = below k (2 ^ 32) e
@@ -138,7 +137,7 @@ reply_fits (replies.Got bytes update) = are_bytes bytes && update_fits update
 reply_fits (replies.Window cwnd ssthresh) = nat_lt cwnd (2 ^ 32) && nat_lt ssthresh (2 ^ 32)
 reply_fits _ = true
 
-reply_is : (r : Reply) → reply_fits r ≡ true → IsReply r
+reply_is : (r : Reply) → reply_fits r ≡ true → ReplyFits r
 reply_is (replies.Sent seg) e = seg_is seg e
 reply_is (replies.Took bytes) e = bytes_are bytes e
 reply_is (replies.Got bytes update) e =
@@ -199,14 +198,15 @@ line_fits l = nat_lt l.tick (2 ^ 32) && event_fits l.event
 
 line_is : (l : LogLine) → line_fits l ≡ true → LineFits l
 line_is l e =
-    let a = and_parts (nat_lt l.tick (2 ^ 32)) _ e in (below l.tick (2 ^ 32) a.0, event_is l.event a.1)
+    let a = and_parts (nat_lt l.tick (2 ^ 32)) _ e in
+    record { tick = below l.tick (2 ^ 32) a.0; event = event_is l.event a.1 }
 
 -- ----- the whole
 abbrev pub flow_fits : Flow → Bool
 flow_fits f =
     nat_lt f.id.slot (2 ^ 32) && (nat_lt f.id.generation (2 ^ 32) && (nat_lt f.tuple.laddr (2 ^ 32)
     && (nat_lt f.tuple.lport (2 ^ 16) && (nat_lt f.tuple.raddr (2 ^ 32) && (nat_lt f.tuple.rport (2 ^ 16)
-    && (nat_lt (length (bytes_read f.entries)) (2 ^ 64) && each entry_fits f.entries))))))
+    && each entry_fits f.entries)))))
 
 flow_is : (f : Flow) → flow_fits f ≡ true → FlowFits f
 flow_is f e =
@@ -216,16 +216,16 @@ flow_is f e =
     let d = and_parts (nat_lt f.tuple.lport (2 ^ 16)) _ c.1 in
     let g = and_parts (nat_lt f.tuple.raddr (2 ^ 32)) _ d.1 in
     let h = and_parts (nat_lt f.tuple.rport (2 ^ 16)) _ g.1 in
-    let i = and_parts (nat_lt (length (bytes_read f.entries)) (2 ^ 64)) _ h.1 in
     record {
-      slot = below f.id.slot (2 ^ 32) a.0;
-      generation = below f.id.generation (2 ^ 32) b.0;
-      laddr = below f.tuple.laddr (2 ^ 32) c.0;
-      lport = below f.tuple.lport (2 ^ 16) d.0;
-      raddr = below f.tuple.raddr (2 ^ 32) g.0;
-      rport = below f.tuple.rport (2 ^ 16) h.0;
-      entries = each_is EntryFits entry_fits entry_is f.entries i.1;
-      read = below (length (bytes_read f.entries)) (2 ^ 64) i.0;
+      ends = record {
+        slot = below f.id.slot (2 ^ 32) a.0;
+        generation = below f.id.generation (2 ^ 32) b.0;
+        laddr = below f.tuple.laddr (2 ^ 32) c.0;
+        lport = below f.tuple.lport (2 ^ 16) d.0;
+        raddr = below f.tuple.raddr (2 ^ 32) g.0;
+        rport = below f.tuple.rport (2 ^ 16) h.0;
+      };
+      entries = each_is EntryFits entry_fits entry_is f.entries h.1;
     }
 
 abbrev pub host_fits : HostRun → Bool

@@ -1,16 +1,18 @@
 //! The laws that lead from a run to its verdict.
 
-ghost use Rattle.std.specs.Prelude.{◌≡◌, ℕ, ◌++◌, List, [], ◌∷◌, Ok, false, count_by};
+ghost use Rattle.std.specs.Prelude.{◌≡◌, ◌<◌, ◌^◌, ℕ, ◌++◌, length, List, [], ◌∷◌, Ok, false, count_by};
 ghost use Rattle.std.specs.List.{concat};
 ghost use Rattle.tas_model.specs.declared.entry.HostParams.{HostParams};
 ghost use Rattle.host_rounds.specs.Lists.{Each};
-ghost use Rattle.host_rounds.specs.Logs.{RunLog};
+ghost use Rattle.tas_model.specs.Outputs.{bytes_read};
+ghost use Rattle.host_rounds.specs.Logs.{Flow, HostRun, RunLog};
 ghost use Rattle.tas_runs.specs.Report.{report, line, names_of as names_in};
 ghost use Rattle.scenario_text.specs.Canonical.{canonical};
 ghost use Rattle.scenario_text.specs.Reads.{reads};
 ghost use Rattle.scenario_text.specs.declared.scenario.Scenario.{Scenario};
 ghost use Rattle.scenario_runs.specs.Histories.{AreInRange};
 ghost use Rattle.scenario_runs.specs.Runs.{Run};
+ghost use Rattle.log_ranges.specs.Ranges.{HostFits, Fits};
 ghost use Rattle.report_lines.specs.Lines.{Line};
 ghost use Rattle.report_lines.specs.Shown.{AreNames, IsLine, line_text};
 ghost use Rattle.report_form.specs.Reports.{IsReport};
@@ -20,8 +22,7 @@ ghost use Rattle.trace_audit.specs.Right.{AreRight};
 ghost use Rattle.trace_audit.specs.Verdicts.{IsLegal, IsFound, begins_flow, is_entry};
 ghost use Rattle.trace_audit.specs.declared.auditing.Verdict as auditing;
 ghost use Rattle.trace_audit.specs.declared.auditing.Verdict.TheVariants as verdicts;
-ghost use Rattle.audited_runs.specs.Audited.{audited};
-ghost use Rattle.audited_runs.specs.Fits.{Fits};
+ghost use Rattle.audited_runs.specs.Audited.{audited, audited_text, EndsInLine};
 ghost use Rattle.audited_runs.specs.LogLines.{lines_of, flows_in, entries_in};
 ghost use Rattle.audited_runs.specs.Told.{AreTold};
 
@@ -76,13 +77,22 @@ pub fn runs_tell_their_ends()
         → AreTold (params_of s.hosts) (params_of s.hosts) log.hosts }
 {}
 
+/// In each of these runs the application of a flow reads fewer than 2^64 bytes: it asks once a tick.
+pub fn reads_can_be_counted()
+    ensures { (s : Scenario) (log : RunLog) → AreInRange s.hosts → Run s log → Each HostFits log.hosts
+        → Each (λ (h : HostRun). Each (λ (f : Flow). length (bytes_read f.entries) < 2 ^ 64) h.flows) log.hosts }
+{}
+
 /// An auditor judges the report of every run legal, with the number of its flows and of its entries: behind the
 /// canonical text of its scenario, which was read from some text, and a line `==`. So it is of every log of a run, on
 /// any number of cores, whose numbers are in the ranges of their fields.
 pub fn reports_of_runs_are_legal()
     ensures legal { (text : List ℕ) (s : Scenario) (log : RunLog) → reads text ≡ Ok s → Run s log → Fits log
         → IsLegal (audited s log) (flows_in log.hosts) (entries_in log.hosts) }
-    // No other verdict is found on that text,
+    // So it is behind the text that the scenario was read from, where the last line of that ends.
+    ensures behind { (text : List ℕ) (s : Scenario) (log : RunLog) → reads text ≡ Ok s → EndsInLine text → Run s log
+        → Fits log → IsLegal (audited_text text log) (flows_in log.hosts) (entries_in log.hosts) }
+    // No other verdict is found on the canonical one,
     ensures found { (text : List ℕ) (s : Scenario) (log : RunLog) → reads text ≡ Ok s → Run s log → Fits log
         → (v : auditing.Verdict) → IsFound (audited s log) v
         → v ≡ verdicts.Legal (flows_in log.hosts) (entries_in log.hosts) }

@@ -10,7 +10,7 @@ ghost use Rattle.tas_model.specs.declared.entry.Reply.TheVariants as replies;
 ghost use Rattle.report_lines.specs.Views.{seen_entry, seen_reply};
 ghost use Rattle.flow_judge.specs.Judging.{HasJudged, IsOpened};
 
-use crate::replies::{decoded, is_text, keep};
+use crate::replies::{decoded, keep};
 use crate::trial::{confirms, segment_with};
 use flow_state::{CallerCounts, FlowRecord};
 use report_lines::{CallLine, EntryLine, HexText, ReplyLine};
@@ -169,20 +169,11 @@ impl FlowJudge {
         parts.phase == phase && parts.reason == reason
     }
 
-    /// Whether these bytes were read, and so many. The error is want of memory.
-    pub fn has_read(
-        &self,
-        alloc: Global,
-        count: u64,
-        bytes: &HexText<'_>,
-    ) -> Result<bool, AllocError>
-        ensures { IfOk result (λ has. (h : List Entry) → HasJudged self.now h
-            → (IsTrue has ↔ (count ≡ length (bytes_read h)) × (bytes.now ≡ bytes_read h))) }
+    /// Whether these bytes were read, and so many.
+    pub fn has_read(&self, count: u64, bytes: &HexText<'_>) -> bool
+        ensures { (h : List Entry) → HasJudged self.now h
+            → (IsTrue result ↔ (count ≡ length (bytes_read h)) × (bytes.now ≡ bytes_read h)) }
     {
-        if count != self.read.len() as u64 {
-            return Ok(false);
-        }
-        let same = is_text(alloc, &self.read, bytes)?;
-        Ok(same)
+        count == self.read.len() as u64 && bytes.is_of(&self.read)
     }
 }

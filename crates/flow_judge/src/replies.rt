@@ -21,14 +21,6 @@ pub fn decoded(alloc: Global, text: &HexText<'_>) -> Result<Vec<u8>, AllocError>
     Ok(bytes)
 }
 
-/// Whether digits write these bytes. The error is want of memory.
-pub fn is_text(alloc: Global, bytes: &[u8], text: &HexText<'_>) -> Result<bool, AllocError>
-    ensures { IfOk result (λ same. same ≡ bytes_eq bytes.now text.now) }
-{
-    let written = decoded(alloc, text)?;
-    Ok(bytes == written.as_slice())
-}
-
 /// The bytes that a reply shows as taken. The error is want of memory.
 pub fn taken(alloc: Global, reply: &ReplyLine<'_>) -> Result<Vec<u8>, AllocError>
     ensures { IfOk result (λ bytes. bytes.items ≡ taken_bytes (seen_reply reply.now)) }
@@ -107,16 +99,14 @@ fn is_nothing(bytes: &[u8]) -> bool
     bytes.is_empty()
 }
 
-/// Whether a line's reply has these bytes. The error is want of memory.
-fn has_bytes(alloc: Global, bytes: &[u8], reply: &ReplyLine<'_>) -> Result<bool, AllocError>
-    ensures { IfOk result (λ same. same ≡ bytes_eq bytes.now (reply_bytes (seen_reply reply.now))) }
+/// Whether a line's reply has these bytes.
+fn has_bytes(bytes: &[u8], reply: &ReplyLine<'_>) -> bool
+    ensures { result ≡ bytes_eq bytes.now (reply_bytes (seen_reply reply.now)) }
 {
     match reply {
-        ReplyLine::Sent { seg } => is_text(alloc, bytes, &seg.bytes),
-        ReplyLine::Took { bytes: text } | ReplyLine::Got { bytes: text, .. } => {
-            is_text(alloc, bytes, text)
-        }
-        _ => Ok(is_nothing(bytes)),
+        ReplyLine::Sent { seg } => seg.bytes.is_of(bytes),
+        ReplyLine::Took { bytes: text } | ReplyLine::Got { bytes: text, .. } => text.is_of(bytes),
+        _ => is_nothing(bytes),
     }
 }
 
@@ -128,19 +118,10 @@ fn are_one(answer: Answer, other: Answer) -> bool
     answer == other
 }
 
-/// Whether an answer with these bytes is a line's reply. The error is want of memory.
-pub fn is_reply(
-    alloc: Global,
-    answer: &Answer,
-    bytes: &[u8],
-    reply: &ReplyLine<'_>,
-) -> Result<bool, AllocError>
-    ensures { IfOk result (λ same. (m : Reply) → answer.now ≡ answer_of m → bytes.now ≡ reply_bytes m
-        → (IsTrue same ↔ m ≡ seen_reply reply.now)) }
+/// Whether an answer with these bytes is a line's reply.
+pub fn is_reply(answer: &Answer, bytes: &[u8], reply: &ReplyLine<'_>) -> bool
+    ensures { (m : Reply) → answer.now ≡ answer_of m → bytes.now ≡ reply_bytes m
+        → (IsTrue result ↔ m ≡ seen_reply reply.now) }
 {
-    if !are_one(bare_answer(answer), bare_reply(reply)) {
-        return Ok(false);
-    }
-    let same = has_bytes(alloc, bytes, reply)?;
-    Ok(same)
+    are_one(bare_answer(answer), bare_reply(reply)) && has_bytes(bytes, reply)
 }

@@ -153,6 +153,5 @@ pub fn confirms(
         return Ok(false);
     };
     let _after = flow.entries();
-    let same = is_reply(alloc, &answer, flow.last_bytes(), &entry.reply)?;
-    Ok(same)
+    Ok(is_reply(&answer, flow.last_bytes(), &entry.reply))
 }

@@ -1,8 +1,8 @@
 -- The bytes of digits, one after the other.
 use Rattle.std.proofs.Common.{◌≡◌, ℕ, ◌+◌, ◌*◌, ◌/◌, ◌≤◌, ◌<◌, List, [], ◌∷◌, ◌++◌, length, get_or, drop}
-use Rattle.std.proofs.Common.{length-drop, take, slice_set}
+use Rattle.std.proofs.Common.{length-drop, take, take-append-drop, slice_set}
 use Rattle.std.proofs.Common.{refl, sym, ap, ◌∙◌, arith, append_assoc}
-use Rattle.std.proofs.lemmas.List.{append-nil, drop_more, take_all, take_more_set}
+use Rattle.std.proofs.lemmas.List.{append-nil, append_cancel_left, drop_more, take_all, take_more, take_more_set}
 use Rattle.report_lines.specs.Fronts.{hex_value, bytes_in}
 
 -- half as many as the digits
@@ -57,3 +57,24 @@ pub all_written : (digits bytes : List ℕ) (i : ℕ) → length digits / 2 ≤ 
     → take i bytes ++ bytes_in (drop (2 * i) digits) ≡ bytes_in digits → bytes ≡ bytes_in digits
 all_written digits bytes i h long so_far =
     sym (take_all i bytes (omega (arith, h, long))) ∙ all_bytes digits (take i bytes) (bytes_in digits) i h so_far
+
+-- one byte more is the same
+pub one_same : (digits bytes : List ℕ) (i byte : ℕ) → i < length digits / 2 → i < length bytes
+    → byte ≡ hex_value (get_or digits (2 * i) 0) * 16 + hex_value (get_or digits (2 * i + 1) 0)
+    → get_or bytes i 0 ≡ byte → take i bytes ++ bytes_in (drop (2 * i) digits) ≡ bytes_in digits
+    → take (i + 1) bytes ++ bytes_in (drop (2 * (i + 1)) digits) ≡ bytes_in digits
+one_same digits bytes i byte h fits is same so_far = rw (take_more bytes i 0 fits)
+    (one_byte digits (take i bytes) (bytes_in digits) i (get_or bytes i 0) h (same ∙ is) so_far)
+
+-- it would be, if all were
+pub one_differs : (digits bytes : List ℕ) (i byte : ℕ) → i < length digits / 2 → i < length bytes
+    → byte ≡ hex_value (get_or digits (2 * i) 0) * 16 + hex_value (get_or digits (2 * i + 1) 0)
+    → take i bytes ++ bytes_in (drop (2 * i) digits) ≡ bytes_in digits → bytes ≡ bytes_in digits
+    → get_or bytes i 0 ≡ byte
+one_differs digits bytes i byte h fits is so_far whole =
+    let rest : drop i bytes ≡ bytes_in (drop (2 * i) digits) =
+    append_cancel_left (take i bytes) (drop i bytes) (bytes_in (drop (2 * i) digits))
+    (take-append-drop i bytes ∙ (whole ∙ sym so_far)) in
+    let next : [] ++ bytes_in (drop (2 * i) digits) ≡ byte ∷ bytes_in (drop (2 * (i + 1)) digits) =
+    sym (one_byte digits [] (bytes_in (drop (2 * i) digits)) i byte h is refl) in
+    ap (λ (w : List ℕ). get_or w 0 0) (sym (drop_more bytes i 0 fits) ∙ (rest ∙ next))

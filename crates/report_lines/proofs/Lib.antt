@@ -1,6 +1,7 @@
 pub mod Texts
 pub mod Exactness
 pub mod HexBytes
+pub mod HexVectors
 pub mod HexRuns
 pub mod HexDigits
 pub mod FlagLetters

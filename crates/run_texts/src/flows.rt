@@ -1,14 +1,17 @@
 //! The lines of a flow.
 
 ghost use Rattle.std.specs.Prelude.{◌≡◌, ℕ, ◌+◌, ◌*◌, ◌^◌, ◌<◌, ◌≤◌, ◌++◌, ◌∷◌, [], List, length, map, take, flat_map};
-ghost use Rattle.std.specs.Prelude.{codes, decimal};
+ghost use Rattle.std.specs.Prelude.{codes, decimal, OnOk};
 ghost use Rattle.tas_model.specs.Endpoint.{Endpoint, phase as phase_of};
 ghost use Rattle.tas_model.specs.LegalHistory.{replay};
 ghost use Rattle.tas_model.specs.Outputs.{bytes_read};
+ghost use Rattle.host_rounds.specs.Lists.{Each};
 ghost use Rattle.host_rounds.specs.Logs.{Flow};
 ghost use Rattle.tas_runs.specs.Report.{line, hex, hex_bytes, read_text, state_text, tuple_text, entries_text};
 ghost use Rattle.tas_runs.specs.Report.{flow_lines};
 ghost use Rattle.flow_state.specs.Views.{seen_stretch};
+ghost use Rattle.log_ranges.specs.Ranges.{EntryFits, FlowFits};
+ghost use Rattle.run_texts.specs.Frames.{history_of};
 ghost use Rattle.run_texts.specs.Writes.{Writes};
 
 use crate::line_texts::{ClosedLine, FlowLine, ReadText, StateLine};
@@ -16,6 +19,7 @@ use crate::stretches::write_stretch;
 use crate::texts::FlowName;
 use crate::writer::Writer;
 use flow_state::{FlowHistory, StretchView};
+use log_ranges::{ends_fit, stretch_fits};
 use tas_num::{IoFault, Sink};
 
 /// Writes the lines of a flow: its ends, its entries, its state and the bytes that were read. `number` is its opening
@@ -27,15 +31,12 @@ pub fn write_flow<K: Sink>(
     number: u64,
     flow: &FlowHistory,
 ) -> Result<(), IoFault>
-    ensures { Writes (K.state sink.old) writer.old result (K.state sink.new) writer.new
-        (flow_lines (map (λ n. n.now) names.now) number
-        (record {
-          id = flow.now.id;
-          tuple = flow.now.tuple;
-          params = flow.now.params;
-          entries = flow.now.entries;
-        })) }
+    ensures writes { Writes (K.state sink.old) writer.old result (K.state sink.new) writer.new
+        (flow_lines (map (λ n. n.now) names.now) number (history_of flow.now)) }
+    // All numbers that were written are in the ranges of their fields.
+    ensures fits { OnOk result (FlowFits (history_of flow.now)) }
 {
+    ends_fit(flow.id(), flow.tuple());
     write_ends(writer, sink, number, flow)?;
     write_entries(writer, sink, names, flow)?;
     write_state(writer, sink, flow)?;
@@ -70,12 +71,15 @@ fn write_entries<K: Sink>(
     names: &[&[u8]],
     flow: &FlowHistory,
 ) -> Result<(), IoFault>
-    ensures { Writes (K.state sink.old) writer.old result (K.state sink.new) writer.new
+    ensures writes { Writes (K.state sink.old) writer.old result (K.state sink.new) writer.new
         (entries_text (map (λ n. n.now) names.now) flow.now.entries) }
+    ensures fits { OnOk result (Each EntryFits flow.now.entries) }
 {
     let stretches = flow.stretches();
     for i in 0..stretches.len() {
-        write_stretch(writer, sink, names, &stretches.get(i))?;
+        let stretch = stretches.get(i);
+        stretch_fits(&stretch);
+        write_stretch(writer, sink, names, &stretch)?;
     }
     Ok(())
 }

@@ -1,8 +1,10 @@
 //! The lines of a host's log.
 
-ghost use Rattle.std.specs.Prelude.{◌≡◌, ◌≤◌, ℕ, ◌++◌, ◌∷◌, [], List, map, flat_map, codes, decimal};
+ghost use Rattle.std.specs.Prelude.{◌≡◌, ◌≤◌, ℕ, ◌++◌, ◌∷◌, [], List, map, flat_map, codes, decimal, OnOk};
 ghost use Rattle.host_rounds.specs.declared.log.LogEvent.TheVariants as events;
 ghost use Rattle.tas_runs.specs.Report.{line, event_text, log_text, frame_text, seg_text, answer_text};
+ghost use Rattle.host_rounds.specs.Lists.{Each};
+ghost use Rattle.log_ranges.specs.Ranges.{LineFits};
 ghost use Rattle.tas_core.specs.Stretches.{lines_in, lines_of, run_lines, numbered_line};
 ghost use Rattle.run_texts.specs.Writes.{Writes};
 
@@ -13,6 +15,7 @@ use crate::text::Text;
 use crate::texts::{AnswerText, PortText};
 use crate::writer::Writer;
 use host_rounds::{LogEvent, LogLine};
+use log_ranges::lines_fit;
 use tas_core::{LogRun, LogStretch, RunKind};
 use tas_model::{CAPTURE, FrameId, Head, Seg};
 use tas_num::{IoFault, Sink};
@@ -24,10 +27,13 @@ pub fn write_log<K: Sink>(
     names: &[&[u8]],
     log: &[LogStretch],
 ) -> Result<(), IoFault>
-    ensures { Writes (K.state sink.old) writer.old result (K.state sink.new) writer.new
+    ensures writes { Writes (K.state sink.old) writer.old result (K.state sink.new) writer.new
         (log_text (map (λ n. n.now) names.now) (lines_of log.now)) }
+    // All numbers that were written are in the ranges of their fields.
+    ensures fits { OnOk result (Each LineFits (lines_of log.now)) }
 {
     for stretch in log {
+        lines_fit(stretch);
         write_stretch(writer, sink, names, stretch)?;
     }
     Ok(())

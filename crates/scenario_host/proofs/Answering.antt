@@ -41,7 +41,7 @@ waited_same replies.Expired s = refl
 waited_same replies.TimedOut s = refl
 waited_same (replies.Window cwnd ssthresh) s = refl
 
-sent_same : (reply : Reply) (all : ℕ) (s : Script) → sent_by (in_calls.answer_of reply) all s ≡ sent_on reply all s
+pub sent_same : (reply : Reply) (all : ℕ) (s : Script) → sent_by (in_calls.answer_of reply) all s ≡ sent_on reply all s
 sent_same replies.Ok all s = refl
 sent_same replies.Nothing all s = refl
 sent_same (replies.Sent seg) all s = refl
@@ -59,7 +59,7 @@ sent_same replies.Expired all s = refl
 sent_same replies.TimedOut all s = refl
 sent_same (replies.Window cwnd ssthresh) all s = refl
 
-received_same : (reply : Reply) (all : Option ℕ) (s : Script)
+pub received_same : (reply : Reply) (all : Option ℕ) (s : Script)
     → received_by (in_calls.answer_of reply) all s ≡ received_on reply all s
 received_same replies.Ok all s = refl
 received_same replies.Nothing all s = refl
@@ -200,11 +200,11 @@ waited_alike : (a b : Answer) (s : Script) → told a ≡ told b → waited_by a
 waited_alike a b s same =
     waited_told a s ∙ (ap (λ (x : Answer). waited_by x s) same ∙ sym (waited_told b s))
 
-sent_alike : (a b : Answer) (all : ℕ) (s : Script) → told a ≡ told b → sent_by a all s ≡ sent_by b all s
+pub sent_alike : (a b : Answer) (all : ℕ) (s : Script) → told a ≡ told b → sent_by a all s ≡ sent_by b all s
 sent_alike a b all s same =
     sent_told a all s ∙ (ap (λ (x : Answer). sent_by x all s) same ∙ sym (sent_told b all s))
 
-received_alike : (a b : Answer) (all : Option ℕ) (s : Script) → told a ≡ told b
+pub received_alike : (a b : Answer) (all : Option ℕ) (s : Script) → told a ≡ told b
     → received_by a all s ≡ received_by b all s
 received_alike a b all s same =
     received_told a all s ∙ (ap (λ (x : Answer). received_by x all s) same ∙ sym (received_told b all s))

@@ -12,5 +12,6 @@ pub mod Sockets
 pub mod Stepping
 pub mod Playing
 pub mod OneTry
+pub mod Trials
 pub mod TriedTurns
 pub mod OnCores

@@ -1,6 +1,9 @@
 -- What applications try while cores take frames, and how their scripts go on by the answers.
-use Rattle.std.specs.Prelude.{◌≡◌, ℕ, ◌+◌, ◌^◌, ◌<◌, ◌≤◌, List, [], ◌∷◌, length, slice_get, Option, Some, None, IfSome}
-use Rattle.std.specs.Prelude.{⊤}
+use Rattle.std.specs.Prelude.{◌≡◌, ℕ, ◌+◌, ◌^◌, ◌<◌, ◌≤◌, Bool, true, false, List, [], ◌∷◌, length, take, drop}
+use Rattle.std.specs.Prelude.{slice_get, Option, Some, None, IfSome, ⊤}
+use Rattle.tas_model.specs.declared.entry.Call.{Call}
+use Rattle.tas_model.specs.declared.entry.Call.TheVariants as calls
+use Rattle.flow_state.specs.Calls.{call_of, offer_of}
 use Rattle.flow_state.specs.declared.call.CallIn.{CallIn}
 use Rattle.flow_state.specs.declared.call.Answer.{Answer}
 use Rattle.host_rounds.specs.Lists.{Each}
@@ -11,7 +14,8 @@ use Rattle.local_host.specs.Trying.{IsTryable, IsMadeBy}
 use Rattle.scenario_text.specs.declared.scenario.Step.{Step}
 use Rattle.scenario_text.specs.declared.scenario.Step.TheVariants as steps
 use Rattle.scenario_ranges.specs.Ranges.{IsStepInRange}
-use Rattle.scenario_runs.specs.Applications.{Script, unbind, stepped, bound_in, flow_of, step_of, turn}
+use Rattle.scenario_runs.specs.Applications.{Script, unbind, stepped, bound_in, flow_of, step_of, turn, is_killed_at}
+use Rattle.scenario_runs.specs.Applications.{most, filling, asks_for}
 use Rattle.scenario_host.specs.Answers.{IsWithin, gave, sent_by, received_by}
 use Rattle.scenario_host.specs.Sound.{IsPartOfFirst}
 use Rattle.scenario_host.specs.Turns.{turn_of}
@@ -61,6 +65,38 @@ pub record IsTryOn (socket : List ℕ) (call : CallIn) (s : Script) (x : Attempt
   pub app : x.app ≡ s.number
   pub calls : x.call ≡ call
   pub fresh : x.answer ≡ None
+
+-- The attempt is this call on the socket of this name; there is none where the name stands for no socket.
+abbrev pub IsTrialOn : (socket : List ℕ) → Call → (offer : List ℕ) → Script → Option Attempt → Type 0
+IsTrialOn socket call offer s None = flow_of (bound_in s.names socket) ≡ None
+IsTrialOn socket call offer s (Some x) =
+    (flow_of (bound_in s.names socket) ≡ Some x.place) × (call_of x.call ≡ call) × (offer_of x.call ≡ offer)
+
+-- The call of this step, with the bytes that it offers, where it is one on a socket.
+abbrev pub IsTrialAt : Step → Script → Option Attempt → Type 0
+IsTrialAt (steps.Send socket text) s o =
+    IsTrialOn socket (calls.Send (length (take most (drop s.done text)))) (take most (drop s.done text)) s o
+IsTrialAt (steps.Fill socket count) s o =
+    IsTrialOn socket (calls.Send (length (take most (drop s.done (filling count)))))
+    (take most (drop s.done (filling count))) s o
+IsTrialAt (steps.Recv socket count) s o = IsTrialOn socket (calls.Recv (asks_for (Some count) s.done)) [] s o
+IsTrialAt (steps.Drain socket) s o = IsTrialOn socket (calls.Recv (asks_for None s.done)) [] s o
+IsTrialAt (steps.Shut socket) s o = IsTrialOn socket calls.Shut [] s o
+IsTrialAt (steps.Close socket) s o = IsTrialOn socket calls.Close [] s o
+IsTrialAt (steps.Abort socket) s o = IsTrialOn socket calls.Abort [] s o
+IsTrialAt _ s o = o ≡ None
+
+abbrev pub IsTrialFirst : List Step → Script → Option Attempt → Type 0
+IsTrialFirst [] s o = o ≡ None
+IsTrialFirst (step ∷ rest) s o = IsTrialAt step s o
+
+abbrev pub IsTrialWhere : (killed_now : Bool) → Script → Option Attempt → Type 0
+IsTrialWhere true s o = o ≡ None
+IsTrialWhere false s o = IsTrialFirst s.left s o
+
+-- What the application tries in the tick: the call of its step, or nothing where it is killed or has ended.
+abbrev pub IsTrialIn : (tick : ℕ) → Script → Option Attempt → Type 0
+IsTrialIn t s o = IsTrialWhere (is_killed_at t s.kill) s o
 
 -- The attempt was made on a host, and this was the answer.
 pub record IsTry (t : ℕ) (x : Attempt) (a : Answer) (before after : Host) : Type 0 where

@@ -295,6 +295,6 @@ fn ask_one(
     ensures { OnOk result (turn_of host.new script.new
         ≡ turn (starts_of starts.now.params) (address_in s.now.hosts) tick (turn_of host.old script.old)) }
 {
-    script.take_turn(host, tick, s.hosts.as_slice(), starts, filling)?;
+    script.take_turn(&(), host, tick, s.hosts.as_slice(), starts, filling)?;
     Ok(script.rest() >= LEAST_REST)
 }

@@ -16,9 +16,11 @@ impl AppScript<'_> {
         host: &mut H,
         tick: u32,
     ) -> Result<(), AllocError>
-        requires { H.has_app host.old self.old.number }
-        ensures { OnOk result (turn_of (H.seen host.new) self.new
+        requires stands { H.stands host.old }
+        requires app { H.has_app host.old self.old.number }
+        ensures made { OnOk result (turn_of (H.seen host.new) self.new
             ≡ killed tick (turn_of (H.seen host.old) self.old)) }
+        ensures lost { OnOk result (H.loses self.old.number host.old host.new) }
     {
         host.kill(self.number(), tick, self.ends_holding())?;
         self.end();

@@ -15,6 +15,7 @@ mod trying;
 
 pub use filling::FillBytes;
 pub use host::ScenarioHost;
+pub use on_cores::moves_at;
 pub use script::AppScript;
 pub use start::scripts_on;
 pub use starts::HostStarts;

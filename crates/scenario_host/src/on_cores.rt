@@ -191,7 +191,7 @@ fn ask_rest(
 {
     for (k, script) in scripts.iter_mut().enumerate() {
         if answer_at(attempts, k).is_none() {
-            script.take_turn(host, tick, s.hosts.as_slice(), starts, filling)?;
+            script.take_turn(&(), host, tick, s.hosts.as_slice(), starts, filling)?;
         }
     }
     Ok(())
@@ -208,7 +208,7 @@ fn name_of(hosts: &[HostLine], number: u32) -> &[u8]
 }
 
 /// The moves of a tick, of the groups of the host with this name. The error is want of memory.
-fn moves_at(
+pub fn moves_at(
     alloc: Global,
     lines: &[MoveLine],
     name: &[u8],

@@ -16,7 +16,7 @@ ghost use Rattle.asked_host.specs.Asking.{IsEndCall};
 use crate::filling::FillBytes;
 use crate::script::{AppScript, Bound};
 use crate::starts::HostStarts;
-use asked_host::AskedHost;
+use asked_host::{AskedHost, ConnectingHost};
 use flow_state::CallIn;
 use local_host::Connecting;
 use scenario_text::{HostLine, Step};
@@ -25,22 +25,28 @@ use tas_core::LogEvent;
 
 impl<'a> AppScript<'a> {
     /// What the application asks in a tick: it is killed, or makes the call of its step; one that has ended asks
-    /// nothing, and need not run on the host any more. The error is want of memory.
+    /// nothing, and need not run on the host any more. All else of the host is kept, but the application where it is
+    /// killed. `rt` is the run's handle, by which a host may wait. The error is want of memory.
     #[inline(always)]
-    pub fn take_turn<H: AskedHost>(
+    pub fn take_turn<R, H: ConnectingHost<R>>(
         &mut self,
+        rt: &R,
         host: &mut H,
         tick: u32,
         hosts: &[HostLine],
         starts: &HostStarts,
         filling: &FillBytes,
     ) -> Result<(), AllocError>
+        requires stands { H.stands host.old }
         requires listens { (H.seen host.old).params.fixed ≡ false }
         requires killed { is_killed_at tick self.old.kill ≡ true → H.has_app host.old self.old.number }
         requires lives { has_ended self.old ≡ false → H.has_app host.old self.old.number }
         requires fit { IsFitFor (H.has_socket host.old self.old.number) self.old }
-        ensures { OnOk result (turn_of (H.seen host.new) self.new
+        ensures made { OnOk result (turn_of (H.seen host.new) self.new
             ≡ turn (starts_of starts.now.params) (address_in hosts.now) tick (turn_of (H.seen host.old) self.old)) }
+        ensures kept { is_killed_at tick self.old.kill ≡ false → OnOk result (H.keeps host.old host.new) }
+        ensures lost { is_killed_at tick self.old.kill ≡ true
+            → OnOk result (H.loses self.old.number host.old host.new) }
     {
         if self.is_killed_at(tick) {
             return self.be_killed(host, tick);
@@ -51,14 +57,15 @@ impl<'a> AppScript<'a> {
                 self.wait(*ticks);
                 Ok(())
             }
-            [step, ..] => self.take_step(host, tick, step, hosts, starts, filling),
+            [step, ..] => self.take_step(rt, host, tick, step, hosts, starts, filling),
         }
     }
 
     /// The call of a step. The error is want of memory.
     #[inline(never)]
-    fn take_step<H: AskedHost>(
+    fn take_step<R, H: ConnectingHost<R>>(
         &mut self,
+        rt: &R,
         host: &mut H,
         tick: u32,
         step: &'a Step,
@@ -66,13 +73,15 @@ impl<'a> AppScript<'a> {
         starts: &HostStarts,
         filling: &FillBytes,
     ) -> Result<(), AllocError>
+        requires stands { H.stands host.old }
         requires listens { (H.seen host.old).params.fixed ≡ false }
         requires lives { H.has_app host.old self.old.number }
         requires range { IsStepInRange step.now }
         requires part { IsPart step.now self.old.done }
         requires names { AreNamesOf (H.has_socket host.old self.old.number) self.old.names }
-        ensures { OnOk result (turn_of (H.seen host.new) self.new ≡ step_of (starts_of starts.now.params)
+        ensures made { OnOk result (turn_of (H.seen host.new) self.new ≡ step_of (starts_of starts.now.params)
             (address_in hosts.now) tick step.now (turn_of (H.seen host.old) self.old)) }
+        ensures kept { OnOk result (H.keeps host.old host.new) }
     {
         match step {
             Step::Listen(name, port) => self.listen(host, tick, name.as_slice(), *port as u16),
@@ -81,7 +90,15 @@ impl<'a> AppScript<'a> {
             }
             Step::Connect(socket, name, port) => {
                 let raddr = address_of(hosts, name.as_slice());
-                self.connect(host, tick, socket.as_slice(), raddr, *port as u16, starts)
+                self.connect(
+                    rt,
+                    host,
+                    tick,
+                    socket.as_slice(),
+                    raddr,
+                    *port as u16,
+                    starts,
+                )
             }
             Step::Send(socket, text) => self.send(host, tick, socket.as_slice(), text.as_slice()),
             Step::Fill(socket, count) => self.fill(host, tick, socket.as_slice(), *count, filling),
@@ -107,10 +124,13 @@ impl<'a> AppScript<'a> {
         name: &'a [u8],
         port: u16,
     ) -> Result<(), AllocError>
+        requires stands { H.stands host.old }
+        requires listens { (H.seen host.old).params.fixed ≡ false }
         requires lives { H.has_app host.old self.old.number }
         requires low { port < first_port }
-        ensures { OnOk result (turn_of (H.seen host.new) self.new
+        ensures made { OnOk result (turn_of (H.seen host.new) self.new
             ≡ listens tick name.now port (turn_of (H.seen host.old) self.old)) }
+        ensures kept { OnOk result (H.keeps host.old host.new) }
     {
         let app = self.number();
         if host.is_listened(port) {
@@ -147,10 +167,12 @@ impl<'a> AppScript<'a> {
         socket: &'a [u8],
         listener: &[u8],
     ) -> Result<(), AllocError>
-        requires { H.has_app host.old self.old.number }
-        ensures { OnOk result (turn_of (H.seen host.new) self.new
+        requires stands { H.stands host.old }
+        requires lives { H.has_app host.old self.old.number }
+        ensures made { OnOk result (turn_of (H.seen host.new) self.new
             ≡ accepts (port_of (bound_in self.old.names listener.now)) tick socket.now
             (turn_of (H.seen host.old) self.old)) }
+        ensures kept { OnOk result (H.keeps host.old host.new) }
     {
         let app = self.number();
         let Some(port) = self.port_of(listener) else {
@@ -167,8 +189,9 @@ impl<'a> AppScript<'a> {
 
     /// It connects to the port of the host with this address, and from the next tick on asks whether the connection
     /// stands. The error is want of memory.
-    fn connect<H: AskedHost>(
+    fn connect<R, H: ConnectingHost<R>>(
         &mut self,
+        rt: &R,
         host: &mut H,
         tick: u32,
         socket: &'a [u8],
@@ -176,17 +199,19 @@ impl<'a> AppScript<'a> {
         rport: u16,
         starts: &HostStarts,
     ) -> Result<(), AllocError>
+        requires stands { H.stands host.old }
         requires listens { (H.seen host.old).params.fixed ≡ false }
         requires lives { H.has_app host.old self.old.number }
         requires names { AreNamesOf (H.has_socket host.old self.old.number) self.old.names }
-        ensures { OnOk result (turn_of (H.seen host.new) self.new
+        ensures made { OnOk result (turn_of (H.seen host.new) self.new
             ≡ connects_on (starts_of starts.now.params) self.old.begun tick socket.now raddr rport
             (turn_of (H.seen host.old) self.old)) }
+        ensures kept { OnOk result (H.keeps host.old host.new) }
     {
         if self.has_begun() {
             return self.ask_ready(host, tick, socket);
         }
-        match host.connect_out(self.number(), tick, raddr, rport, starts)? {
+        match host.connect_out(rt, self.number(), tick, raddr, rport, starts)? {
             Connecting::Opened(place) => {
                 self.bind(socket, Bound::Socket(place))?;
                 self.begin();
@@ -206,8 +231,10 @@ impl<'a> AppScript<'a> {
         rport: u16,
         no_port: bool,
     ) -> Result<(), AllocError>
-        ensures { OnOk result (turn_of (H.seen host.new) self.new
+        requires { H.stands host.old }
+        ensures made { OnOk result (turn_of (H.seen host.new) self.new
             ≡ refused no_port tick raddr rport (turn_of (H.seen host.old) self.old)) }
+        ensures kept { OnOk result (H.keeps host.old host.new) }
     {
         let app = self.number();
         host.note(
@@ -230,9 +257,11 @@ impl<'a> AppScript<'a> {
         tick: u32,
         socket: &[u8],
     ) -> Result<(), AllocError>
+        requires stands { H.stands host.old }
         requires names { AreNamesOf (H.has_socket host.old self.old.number) self.old.names }
-        ensures { OnOk result (turn_of (H.seen host.new) self.new
+        ensures made { OnOk result (turn_of (H.seen host.new) self.new
             ≡ on_socket socket.now (λ n. waits_for n tick calls.Ready) (turn_of (H.seen host.old) self.old)) }
+        ensures kept { OnOk result (H.keeps host.old host.new) }
     {
         let Some(place) = self.flow_of(socket) else {
             self.step_over();
@@ -250,9 +279,11 @@ impl<'a> AppScript<'a> {
         tick: u32,
         socket: &[u8],
     ) -> Result<(), AllocError>
+        requires stands { H.stands host.old }
         requires names { AreNamesOf (H.has_socket host.old self.old.number) self.old.names }
-        ensures { OnOk result (turn_of (H.seen host.new) self.new
+        ensures made { OnOk result (turn_of (H.seen host.new) self.new
             ≡ on_socket socket.now (λ n. once n tick calls.Shut) (turn_of (H.seen host.old) self.old)) }
+        ensures kept { OnOk result (H.keeps host.old host.new) }
     {
         let Some(place) = self.flow_of(socket) else {
             self.step_over();
@@ -271,11 +302,13 @@ impl<'a> AppScript<'a> {
         socket: &[u8],
         call: &CallIn<'_>,
     ) -> Result<(), AllocError>
+        requires stands { H.stands host.old }
         requires kind { IsEndCall call.now }
         requires names { AreNamesOf (H.has_socket host.old self.old.number) self.old.names }
-        ensures { OnOk result (turn_of (H.seen host.new) self.new
+        ensures made { OnOk result (turn_of (H.seen host.new) self.new
             ≡ on_socket socket.now (λ n. ends n tick (call_of call.now) socket.now)
             (turn_of (H.seen host.old) self.old)) }
+        ensures kept { OnOk result (H.keeps host.old host.new) }
     {
         let Some(place) = self.flow_of(socket) else {
             self.step_over();

@@ -22,11 +22,13 @@ impl AppScript<'_> {
         socket: &[u8],
         text: &[u8],
     ) -> Result<(), AllocError>
+        requires stands { H.stands host.old }
         requires few { length text.now ≤ 4096 }
         requires part { self.old.done < length text.now }
         requires names { AreNamesOf (H.has_socket host.old self.old.number) self.old.names }
-        ensures { OnOk result (turn_of (H.seen host.new) self.new
+        ensures made { OnOk result (turn_of (H.seen host.new) self.new
             ≡ on_socket socket.now (λ n. sends n tick text.now) (turn_of (H.seen host.old) self.old)) }
+        ensures kept { OnOk result (H.keeps host.old host.new) }
     {
         let Some(place) = self.flow_of(socket) else {
             self.step_over();
@@ -45,10 +47,12 @@ impl AppScript<'_> {
         count: u32,
         filling: &FillBytes,
     ) -> Result<(), AllocError>
+        requires stands { H.stands host.old }
         requires part { self.old.done < count }
         requires names { AreNamesOf (H.has_socket host.old self.old.number) self.old.names }
-        ensures { OnOk result (turn_of (H.seen host.new) self.new
+        ensures made { OnOk result (turn_of (H.seen host.new) self.new
             ≡ on_socket socket.now (λ n. sends n tick (model_filling count)) (turn_of (H.seen host.old) self.old)) }
+        ensures kept { OnOk result (H.keeps host.old host.new) }
     {
         let Some(place) = self.flow_of(socket) else {
             self.step_over();
@@ -67,12 +71,14 @@ impl AppScript<'_> {
         bytes: &[u8],
         all: u32,
     ) -> Result<(), AllocError>
+        requires stands { H.stands host.old }
         requires socket { H.has_socket host.old self.old.number place }
         requires few { length bytes.now ≤ most }
         requires part { self.old.done + length bytes.now ≤ all }
-        ensures { (whole : List ℕ) → length whole ≡ all → bytes.now ≡ take most (drop self.old.done whole)
+        ensures made { (whole : List ℕ) → length whole ≡ all → bytes.now ≡ take most (drop self.old.done whole)
             → OnOk result (turn_of (H.seen host.new) self.new
             ≡ sends place tick whole (turn_of (H.seen host.old) self.old)) }
+        ensures kept { OnOk result (H.keeps host.old host.new) }
     {
         let answer = host.ask(self.number(), place, tick, &CallIn::Send { bytes })?;
         self.sent(answer, all);
@@ -87,10 +93,12 @@ impl AppScript<'_> {
         socket: &[u8],
         all: Option<u32>,
     ) -> Result<(), AllocError>
+        requires stands { H.stands host.old }
         requires part { IsBelow all self.old.done }
         requires names { AreNamesOf (H.has_socket host.old self.old.number) self.old.names }
-        ensures { OnOk result (turn_of (H.seen host.new) self.new
+        ensures made { OnOk result (turn_of (H.seen host.new) self.new
             ≡ on_socket socket.now (λ n. receives n tick all) (turn_of (H.seen host.old) self.old)) }
+        ensures kept { OnOk result (H.keeps host.old host.new) }
     {
         let Some(place) = self.flow_of(socket) else {
             self.step_over();

@@ -1,11 +1,11 @@
 //! The step that a script tries beside cores, and how it goes on by the answer.
 
-ghost use Rattle.std.specs.Prelude.{◌≡◌, IfSome};
+ghost use Rattle.std.specs.Prelude.{◌≡◌, None, IfSome, IfNone};
 ghost use Rattle.scenario_ranges.specs.Ranges.{IsStepInRange};
-ghost use Rattle.scenario_runs.specs.Applications.{unbind, stepped};
+ghost use Rattle.scenario_runs.specs.Applications.{bound_in, flow_of, unbind, stepped};
 ghost use Rattle.scenario_host.specs.Sound.{IsPart};
 ghost use Rattle.scenario_host.specs.Tries.{IsAtStep, IsTryOn, IsAttemptAt, IsAttemptOf, IsAnswerAt, IsAnswerWithin};
-ghost use Rattle.scenario_host.specs.Tries.{answered_at, answered_by};
+ghost use Rattle.scenario_host.specs.Tries.{IsTrialIn, IsTrialAt, answered_at, answered_by};
 
 use crate::filling::FillBytes;
 use crate::script::AppScript;
@@ -19,7 +19,8 @@ impl<'a> AppScript<'a> {
     /// that is killed in the tick, and one that has ended, tries nothing.
     pub fn attempt(&self, tick: u32, filling: &'a FillBytes) -> Option<Attempt<'a>>
         requires { IsAtStep self.now }
-        ensures { IfSome result (λ x. IsAttemptOf tick self.now x) }
+        ensures turn { IfSome result (λ x. IsAttemptOf tick self.now x) }
+        ensures call { IsTrialIn tick self.now result }
     {
         if self.is_killed_at(tick) {
             return None;
@@ -34,7 +35,8 @@ impl<'a> AppScript<'a> {
     fn attempt_at(&self, tick: u32, step: &'a Step, filling: &'a FillBytes) -> Option<Attempt<'a>>
         requires range { IsStepInRange step.now }
         requires part { IsPart step.now self.now.done }
-        ensures { IfSome result (λ x. IsAttemptAt tick step.now self.now x) }
+        ensures turn { IfSome result (λ x. IsAttemptAt tick step.now self.now x) }
+        ensures call { IsTrialAt step.now self.now result }
     {
         match step {
             Step::Send(socket, text) => {
@@ -62,7 +64,8 @@ impl<'a> AppScript<'a> {
 
     /// A call on the socket of this name, where the name stands for one.
     fn try_on(&self, socket: &[u8], call: CallIn<'a>) -> Option<Attempt<'a>>
-        ensures { IfSome result (λ x. IsTryOn socket.now call.entry self.now x) }
+        ensures on { IfSome result (λ x. IsTryOn socket.now call.entry self.now x) }
+        ensures none { IfNone result (flow_of (bound_in self.now.names socket.now) ≡ None) }
     {
         match self.flow_of(socket) {
             Some(place) => Some(Attempt {

@@ -28,7 +28,8 @@ use Rattle.scenario_laws.proofs.Acts.{Names}
 use Rattle.scenario_laws.proofs.Acts.{IsPlainCall}
 use Rattle.scenario_laws.proofs.Acts.{IsLastCall, MayAct, step_acts}
 use Rattle.scenario_laws.proofs.Deeds.{At, Worked, OfEachFlow, Keeps}
-use Rattle.scenario_laws.proofs.Sockets.{holder_by, holder_at, AreOwn, own_still, same_holders, push_held, IsOwned}
+use Rattle.scenario_laws.specs.Names.{holder_by, holder_at, AreOwn}
+use Rattle.scenario_laws.proofs.Sockets.{own_still, same_holders, push_held, IsOwned}
 use Rattle.scenario_laws.proofs.Sockets.{act_owned, others_still, own_after, kill_leaves}
 use Rattle.scenario_laws.proofs.AllTurned.{NumbersRise}
 use Rattle.scenario_laws.proofs.Deeds.{found_has}
@@ -160,8 +161,9 @@ turn_keeps s p K P Q t host x keeps listed kills own q = by_kill (is_killed_at t
   by_kill false h = by_left x.left
 
 -- it leaves the others their sockets, and the names of its own stand for its own
-turn_leaves : (s : Scenario) (p : HostParams) (t : ℕ) (host : Host) (x : Script) → AreOwn host.flows x.number x.names
-    → (m : ℕ) → (m ≡ x.number → ⊥) → (k : ℕ) → holder_at host.flows k ≡ Application m
+pub turn_leaves : (s : Scenario) (p : HostParams) (t : ℕ) (host : Host) (x : Script)
+    → AreOwn host.flows x.number x.names → (m : ℕ) → (m ≡ x.number → ⊥) → (k : ℕ)
+    → holder_at host.flows k ≡ Application m
     → holder_at (turn_on s p t host x).host.flows k ≡ Application m
 turn_leaves s p t host x own m other k h = by_kill (is_killed_at t x.kill) where
   here : Turn
@@ -183,7 +185,7 @@ turn_leaves s p t host x own m other k h = by_kill (is_killed_at t x.kill) where
 abbrev OwnsAs : (number : ℕ) → Turn → Type 0
 OwnsAs n y = AreOwn y.host.flows n y.script.names
 
-turn_owns : (s : Scenario) (p : HostParams) (t : ℕ) (host : Host) (x : Script) → AreOwn host.flows x.number x.names
+pub turn_owns : (s : Scenario) (p : HostParams) (t : ℕ) (host : Host) (x : Script) → AreOwn host.flows x.number x.names
     → AreOwn (turn_on s p t host x).host.flows x.number (turn_on s p t host x).script.names
 turn_owns s p t host x own = by_kill (is_killed_at t x.kill) where
   here : Turn

@@ -23,5 +23,5 @@ pub mod Goes
 pub mod AllTurned
 pub mod InTurns
 mod LowestSlots
-mod Counted
+pub mod Counted
 mod Sent

@@ -13,16 +13,10 @@ use Rattle.scenario_runs.specs.Applications.{Bound, AListener, ASocket, Turn, bo
 use Rattle.scenario_runs.specs.Applications.{aborted_where}
 use Rattle.scenario_laws.proofs.Acts.{Act, Rests, Calls, Accepts, Connects, GivesUp, Notes, Listens, leaves, MayAct}
 use Rattle.scenario_laws.proofs.Acts.{Names, IsNamed, MayName}
+use Rattle.scenario_laws.specs.Names.{holder_by, holder_at, IsHeld, AreTwo, AreApart, AreOwn}
 use Rattle.scenario_laws.proofs.Deeds.{Worked, OfEachFlow}
 
 -- ----- who has which socket
-abbrev pub holder_by : Option Live → Holder
-holder_by None = Waiting
-holder_by (Some l) = l.holder
-
-abbrev pub holder_at : List Live → (flow : ℕ) → Holder
-holder_at ls k = holder_by (slice_get ls k)
-
 pub not_waiting : (n : ℕ) → Waiting ≡ Application n → ⊥
 not_waiting n h = absurd (cc (h))
 
@@ -79,24 +73,6 @@ past_end [] = refl
 past_end (l ∷ ls) = past_end ls
 
 -- ----- names
-abbrev pub IsHeld : List Live → (number : ℕ) → Bound → Type 0
-IsHeld ls n (AListener port) = Unit {0}
-IsHeld ls n (ASocket k) = holder_at ls k ≡ Application n
-
-abbrev pub AreTwo : Bound → Bound → Type 0
-AreTwo (ASocket k) (ASocket j) = k ≡ j → ⊥
-AreTwo (ASocket k) (AListener port) = Unit {0}
-AreTwo (AListener port) other = Unit {0}
-
-abbrev pub AreApart : Names → Type 0
-AreApart [] = Unit {0}
-AreApart (b ∷ bs) = Each (λ (c : List ℕ × Bound). AreTwo b.1 c.1) bs × AreApart bs
-
--- Each of these sockets is the application's, and no two are one.
-pub record AreOwn (ls : List Live) (n : ℕ) (names : Names) : Type 0 where
-  pub held : Each (λ (b : List ℕ × Bound). IsHeld ls n b.1) names
-  pub apart : AreApart names
-
 -- all that the other list leaves to the application
 pub each_held : (ls ms : List Live) (n : ℕ) (names : Names)
     → ((k : ℕ) → holder_at ls k ≡ Application n → holder_at ms k ≡ Application n)

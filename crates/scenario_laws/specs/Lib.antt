@@ -8,3 +8,4 @@ pub mod Sockets
 pub mod Slots
 pub mod Counts
 pub mod Sends
+pub mod Names

@@ -1,18 +1,21 @@
 //! The laws of ports, kills and sockets.
 
 ghost use Rattle.std.specs.Prelude.{◌≡◌, ℕ, ◌≤◌, ◌<◌, List, [], ◌∷◌, length, true, false, Some};
+ghost use Rattle.tas_model.specs.declared.entry.HostParams.{HostParams};
 ghost use Rattle.host_rounds.specs.Logs.{HostRun, Flow, RunLog};
 ghost use Rattle.host_rounds.specs.Lists.{Each};
-ghost use Rattle.host_rounds.specs.Hosts.{Starts, first_port, ports_given, Waiting, Application};
+ghost use Rattle.host_rounds.specs.Hosts.{Host, Starts, first_port, ports_given, Waiting, Application};
 ghost use Rattle.scenario_text.specs.declared.scenario.Scenario.{Scenario};
 ghost use Rattle.scenario_ranges.specs.Ranges.{IsInRange};
-ghost use Rattle.scenario_runs.specs.Applications.{Turn, connects, refused};
+ghost use Rattle.scenario_runs.specs.Applications.{Script, Turn, connects, refused};
 ghost use Rattle.scenario_runs.specs.Runs.{Run};
 ghost use Rattle.scenario_laws.specs.Ticks.{InEachTick};
 ghost use Rattle.scenario_laws.specs.Ports.{HaveNext, begins_by_connect, connect_ports, ports_from, all_ports};
 ghost use Rattle.scenario_laws.specs.Ports.{had_no_port};
 ghost use Rattle.scenario_laws.specs.Kills.{IsKilled, CalledBefore, abort_ticks, AbortsByKill, HadKills};
 ghost use Rattle.scenario_laws.specs.Sockets.{holder_in, AreByHolder, entries_before};
+ghost use Rattle.scenario_laws.specs.Names.{AreOwn, holder_at};
+ghost use Rattle.scenario_laws.specs.Turns.{turn_on};
 
 /// The connects of a host get the ports from 49,152 on, one after the other and each once, where the scenario keeps
 /// the ranges of its grammar, as each does that is read from a text: there nobody listens on one of these ports.
@@ -66,4 +69,17 @@ pub fn kills_end_applications()
 pub fn applications_use_their_own_sockets()
     ensures { (s : Scenario) (log : RunLog) → Run s log
         → Each (λ (h : HostRun). Each (λ (f : Flow). AreByHolder s Waiting f.entries) h.flows) log.hosts }
+{}
+
+/// The names of each script stand for sockets of its own application, and stay so with each turn of an application.
+pub fn names_stand_for_own_sockets()
+    // After a turn the names of its own script do,
+    ensures own { (s : Scenario) (p : HostParams) (t : ℕ) (host : Host) (x : Script)
+        → AreOwn host.flows x.number x.names
+        → AreOwn (turn_on s p t host x).host.flows x.number (turn_on s p t host x).script.names }
+    // and each other application has the sockets that it had.
+    ensures others { (s : Scenario) (p : HostParams) (t : ℕ) (host : Host) (x : Script)
+        → AreOwn host.flows x.number x.names → (number : ℕ) → (number ≡ x.number → ⊥) → (flow : ℕ)
+        → holder_at host.flows flow ≡ Application number
+        → holder_at (turn_on s p t host x).host.flows flow ≡ Application number }
 {}

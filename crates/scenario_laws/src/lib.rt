@@ -8,6 +8,7 @@ mod laws;
 
 pub use app_laws::{
     applications_use_their_own_sockets, connects_have_ports_in_order, kills_end_applications,
+    names_stand_for_own_sockets,
 };
 pub use call_laws::{rates_are_controlled, scripts_go_step_by_step};
 pub use count_laws::{

@@ -80,18 +80,27 @@ pub record_frames : (w : World) (h f i : ℕ) (r : records.Flow) (l : Live) → 
     → frames_of_entries h f 0 (host_at w r.tuple.raddr) r.tuple r.entries ≡ live_frames w h i l
 record_frames w h f i r l same lacks = lacking_frames w h f r l.flow lacks ∙ ap (λ k. live_frames w h k l) same
 
+-- the frames of a flow more
+pub lives_more : (w : World) (h t : ℕ) (ls : List Live) (i : ℕ) (l : Live) (old before after : List Sent)
+    → slice_get ls i ≡ Some l → before ≡ old ++ of_tick t (frames_of_flows w h 0 (take i ls))
+    → after ≡ before ++ of_tick t (live_frames w h i l)
+    → after ≡ old ++ of_tick t (frames_of_flows w h 0 (take (i + 1) ls))
+lives_more w h t ls i l old before after e was more =
+    let front : List Sent = frames_of_flows w h 0 (take i ls) in
+    let place : 0 + length (take i ls) ≡ i = omega (arith, taken_len ls i l e) in
+    piece_more t old before after front (live_frames w h i l) (frames_of_flows w h 0 (take (i + 1) ls)) was more
+    (ap (frames_of_flows w h 0) (taken_more ls i l e)
+    ∙ (frames_of_flows-push w h 0 (take i ls) l ∙ ap (λ k. front ++ live_frames w h k l) place))
+
+-- and of a record's
 pub flows_more : (w : World) (h t f : ℕ) (ls : List Live) (i : ℕ) (l : Live) (r : records.Flow)
     (old before after : List Sent) → slice_get ls i ≡ Some l → f ≡ i → LacksTicks r l.flow
     → before ≡ old ++ of_tick t (frames_of_flows w h 0 (take i ls))
     → after ≡ before ++ of_tick t (frames_of_entries h f 0 (host_at w r.tuple.raddr) r.tuple r.entries)
     → after ≡ old ++ of_tick t (frames_of_flows w h 0 (take (i + 1) ls))
 flows_more w h t f ls i l r old before after e same lacks was more =
-    let front : List Sent = frames_of_flows w h 0 (take i ls) in
-    let place : 0 + length (take i ls) ≡ i = omega (arith, taken_len ls i l e) in
-    piece_more t old before after front (live_frames w h i l) (frames_of_flows w h 0 (take (i + 1) ls)) was
+    lives_more w h t ls i l old before after e was
     (more ∙ ap (λ fs. before ++ of_tick t fs) (record_frames w h f i r l same lacks))
-    (ap (frames_of_flows w h 0) (taken_more ls i l e)
-    ∙ (frames_of_flows-push w h 0 (take i ls) l ∙ ap (λ k. front ++ live_frames w h k l) place))
 
 -- ----- a host
 all_grew_len : (t : ℕ) (ls ms : List Live) → AllGrew t ls ms → length ls ≤ length ms

@@ -8,9 +8,9 @@ use Rattle.link_script.specs.DueFrames.{act_on, delay_by, is_due, longest_delay}
 use Rattle.link_script.specs.LinkLines.{LinkLines}
 use Rattle.scenario_text.specs.declared.scenario.Scenario.{Scenario}
 use Rattle.scenario_runs.specs.Worlds.{World}
-use Rattle.sent_frames.specs.Sending.{of_tick, addresses_of}
-use Rattle.scenario_world.specs.declared.playing.Playing.{Playing}
-use Rattle.scenario_world.specs.Playing.{FramesBefore, AreCounted, AreEarly, AreKept, AreRecent, IsWorld, params_of}
+use Rattle.sent_frames.specs.Sending.{of_tick}
+use Rattle.scenario_world.specs.declared.traffic.Traffic.{Traffic}
+use Rattle.scenario_world.specs.Playing.{FramesBefore, AreCounted, AreKept, AreRecent, IsWorldOf}
 
 -- the frames from a tick on
 abbrev from : (low : ℕ) → List Sent → List Sent
@@ -69,22 +69,20 @@ still_kept s t longest world kept last k all = by_low (ltb k.low (t - longest)) 
         }
 
 -- The hosts are a world as before where these frames are gone.
-pub forgotten : (s : Scenario) (t longest low : ℕ) (p q : Playing) → IsWorld s (t + 1) p → low ≡ t - longest
-    → ((id : FrameId) → delay_by (act_on s.link id) ≤ longest)
-    → q.hosts.items ≡ p.hosts.items → q.addresses.items ≡ p.addresses.items → q.counts.items ≡ p.counts.items
-    → q.sent ≡ filter (λ (f : Sent). leb low f.tick) p.sent → q.last ≡ p.last → IsWorld s (t + 1) q
-forgotten s t longest low p q w is all hosts addresses counts sent last =
+pub forgotten : (s : Scenario) (t longest low : ℕ) (world : World) (k l : Traffic) → IsWorldOf s (t + 1) world k
+    → low ≡ t - longest → ((id : FrameId) → delay_by (act_on s.link id) ≤ longest)
+    → l.addresses.items ≡ k.addresses.items → l.counts.items ≡ k.counts.items
+    → l.sent ≡ filter (λ (f : Sent). leb low f.tick) k.sent → l.last ≡ k.last → IsWorldOf s (t + 1) world l
+forgotten s t longest low world k l w is all addresses counts sent last =
     record {
-      params = ap params_of hosts ∙ w.params;
-      early = subst (λ az. AreEarly (t + 1) az) (sym hosts) w.early;
-      addresses = addresses ∙ (w.addresses ∙ ap addresses_of (sym hosts));
-      counted = subst (λ az. AreCounted az q.counts.items) (sym hosts)
-          (subst (λ cs. AreCounted p.hosts.items cs) (sym counts) w.counted);
-      kept = subst (λ az. AreKept s (t + 1) az q.sent q.last) (sym hosts)
-          (subst (λ fs. AreKept s (t + 1) p.hosts.items fs q.last)
-          (ap (λ n. from n p.sent) (sym is) ∙ sym sent)
-          (subst (λ n. AreKept s (t + 1) p.hosts.items (from (t - longest) p.sent) n) (sym last)
-          (still_kept s t longest p.hosts.items p.sent p.last w.kept all)));
+      params = w.params;
+      early = w.early;
+      addresses = addresses ∙ w.addresses;
+      counted = subst (λ cs. AreCounted world cs) (sym counts) w.counted;
+      kept = subst (λ fs. AreKept s (t + 1) world fs l.last) (sym sent)
+          (subst (λ fs. AreKept s (t + 1) world fs l.last) (ap (λ n. from n k.sent) (sym is))
+          (subst (λ n. AreKept s (t + 1) world (from (t - longest) k.sent) n) (sym last)
+          (still_kept s t longest world k.sent k.last w.kept all)));
     }
 
 -- What is left is recent.

@@ -133,7 +133,7 @@ all_early t (x ∷ xs) before =
     let e : ltb x.tick t ≡ true = grind (arith, nat_tests, here) in
     rw e (ap (λ ys. x ∷ ys) (all_early t xs before.1))
 
-count_grown : (t : ℕ) (h g : List Entry) → EntriesBefore t h → Grew t h g → sent_before t g ≡ sent_by h
+pub count_grown : (t : ℕ) (h g : List Entry) → EntriesBefore t h → Grew t h g → sent_before t g ≡ sent_by h
 count_grown t h g before grew =
     let p : Entry → Bool = λ (x : Entry). ltb x.tick t in
     ap sent_by

@@ -16,8 +16,9 @@ use Rattle.scenario_runs.specs.Runs.{AreRounds, IsTick, serial_sites, serial_wor
 use Rattle.sent_frames.specs.declared.counts.SentCounts.{SentCounts}
 use Rattle.sent_frames.specs.Sending.{addresses_of, of_tick, AreUpTo}
 use Rattle.scenario_world.specs.declared.playing.Playing.{Playing}
+use Rattle.scenario_world.specs.declared.traffic.Traffic.{Traffic}
 use Rattle.scenario_world.specs.Playing.{FramesBefore, AreCounted, AreCountedBefore, AreEarly, params_of}
-use Rattle.scenario_world.specs.Playing.{AreKept, IsWorldOf, IsWorld, IsPlayed}
+use Rattle.scenario_world.specs.Playing.{AreKept, IsWorldOf, IsWorld, IsPlayedOf, IsPlayed}
 use Rattle.scenario_world.proofs.ByTick.{SameBut, same_next, any_next, tick_frames}
 use Rattle.scenario_world.proofs.WorldTicks.{AreTicked, world_ticked, serial_is_tick, next_are_early, same_addresses}
 use Rattle.scenario_world.proofs.WorldTicks.{sent_but, sent_none}
@@ -36,26 +37,26 @@ ticked_len t [] (a ∷ az) ticked = absurd ticked
 ticked_len t (b ∷ bs) [] ticked = absurd ticked
 ticked_len t (b ∷ bs) (a ∷ az) ticked = ap suc (ticked_len t bs az ticked.1)
 
-pub hosts_len : (s : Scenario) (t : ℕ) (world : World) (p : Playing) → IsWorldOf s t world p
+pub hosts_len : (s : Scenario) (t : ℕ) (world : World) (k : Traffic) → IsWorldOf s t world k
     → length world ≡ length s.hosts
-hosts_len s t world p w =
+hosts_len s t world k w =
     sym (length-map world (λ (site : Site (List Script)). site.host.params))
     ∙ (ap length w.params ∙ length-map s.hosts (λ (h : HostLine). h.params))
 
-pub few_hosts : (s : Scenario) (t : ℕ) (p : Playing) → length s.hosts ≤ 8 → IsPlayed s t p
-    → length p.hosts.items ≤ 8
-few_hosts s t p few w =
-    let ticked = ticked_len t w.before p.hosts.items (world_ticked s t w.before p.hosts.items w.world.early w.tick) in
-    omega (arith, ticked, hosts_len s t w.before p w.world, few)
+pub few_hosts : (s : Scenario) (t : ℕ) (hosts : World) (k : Traffic) → length s.hosts ≤ 8 → IsPlayedOf s t hosts k
+    → length hosts ≤ 8
+few_hosts s t hosts k few w =
+    let ticked = ticked_len t w.before hosts (world_ticked s t w.before hosts w.world.early w.tick) in
+    omega (arith, ticked, hosts_len s t w.before k w.world, few)
 
 -- Each host played its part of the world's tick.
 pub played_world : (s : Scenario) (t : ℕ) (p : Playing) (came : List Sent) (lent hosts : World) → IsWorld s t p
-    → came ≡ due s.link p.sent t → lent ≡ p.hosts.items
+    → came ≡ due s.link p.traffic.sent t → lent ≡ p.hosts.items
     → ((whole : World) → came ≡ due s.link (sent_in whole) t → hosts ≡ serial_sites s whole t 0 lent)
     → hosts ≡ serial_world s t p.hosts.items
 unfolding serial_world
 played_world s t p came lent hosts w is same played =
-    played p.hosts.items (is ∙ due_as_kept s t p.hosts.items p.sent p.last w.kept)
+    played p.hosts.items (is ∙ due_as_kept s t p.hosts.items p.traffic.sent p.traffic.last w.kept)
     ∙ ap (serial_sites s p.hosts.items t 0) same
 
 pub serially_played : (s : Scenario) (t : ℕ) (p : Playing) (hosts : World) → IsWorld s t p
@@ -64,44 +65,37 @@ serially_played s t p hosts w played =
     subst (λ az. IsTick s t p.hosts.items az) (sym played) (serial_is_tick s t p.hosts.items w.early)
 
 -- the same on cores
-pub cores_played : (s : Scenario) (t : ℕ) (p : Playing) (came : List Sent) (lent hosts : World) → IsWorld s t p
-    → came ≡ due s.link p.sent t → lent ≡ p.hosts.items
+pub cores_played : (s : Scenario) (t : ℕ) (world : World) (k : Traffic) (came : List Sent) (lent hosts : World)
+    → IsWorldOf s t world k → came ≡ due s.link k.sent t → lent ≡ world
     → ((whole : World) → came ≡ due s.link (sent_in whole) t → AreEarly t lent → AreRounds s whole t 0 lent hosts)
-    → IsTick s t p.hosts.items hosts
-cores_played s t p came lent hosts w is same played =
-    subst (λ bs. AreRounds s p.hosts.items t 0 bs hosts) same
-    (played p.hosts.items (is ∙ due_as_kept s t p.hosts.items p.sent p.last w.kept)
+    → IsTick s t world hosts
+cores_played s t world k came lent hosts w is same played =
+    subst (λ bs. AreRounds s world t 0 bs hosts) same
+    (played world (is ∙ due_as_kept s t world k.sent k.last w.kept)
     (subst (λ bs. AreEarly t bs) (sym same) w.early))
 
 -- the hosts have played, and nothing else has changed
-pub are_played : (s : Scenario) (t : ℕ) (p q : Playing) (hosts : World) → IsWorld s t p
-    → IsTick s t p.hosts.items hosts → q.hosts.items ≡ hosts → q.addresses.items ≡ p.addresses.items
-    → q.counts.items ≡ p.counts.items → q.sent ≡ p.sent → q.last ≡ p.last → IsPlayed s t q
-are_played s t p q hosts w tick is addresses counts sent last =
+pub are_played : (s : Scenario) (t : ℕ) (world : World) (k : Traffic) (hosts next : World) → IsWorldOf s t world k
+    → IsTick s t world hosts → next ≡ hosts → IsPlayedOf s t next k
+are_played s t world k hosts next w tick is =
     record {
-      before = p.hosts.items;
-      world = record {
-        params = w.params;
-        early = w.early;
-        addresses = addresses ∙ w.addresses;
-        counted = subst (λ cs. AreCounted p.hosts.items cs) (sym counts) w.counted;
-        kept = subst (λ fs. AreKept s t p.hosts.items fs q.last) (sym sent)
-            (subst (λ n. AreKept s t p.hosts.items p.sent n) (sym last) w.kept);
-      };
-      tick = subst (λ az. IsTick s t p.hosts.items az) (sym is) tick;
+      before = world;
+      world = w;
+      tick = subst (λ az. IsTick s t world az) (sym is) tick;
     }
 
-pub to_count : (s : Scenario) (t : ℕ) (p : Playing) → IsPlayed s t p → AreCountedBefore t p.hosts.items p.counts.items
-to_count s t p w =
-    before_ticked t w.before p.hosts.items p.counts.items w.world.early w.world.counted
-    (world_ticked s t w.before p.hosts.items w.world.early w.tick)
+pub to_count : (s : Scenario) (t : ℕ) (hosts : World) (k : Traffic) → IsPlayedOf s t hosts k
+    → AreCountedBefore t hosts k.counts.items
+to_count s t hosts k w =
+    before_ticked t w.before hosts k.counts.items w.world.early w.world.counted
+    (world_ticked s t w.before hosts w.world.early w.tick)
 
 up_to : (t : ℕ) (fs : List Sent) → FramesBefore t fs → AreUpTo t fs
 up_to t [] before = tt
 up_to t (f ∷ fs) before = ((let here : f.tick < t = before.0 in omega arith), up_to t fs before.1)
 
-pub kept_up_to : (s : Scenario) (t : ℕ) (p : Playing) → IsPlayed s t p → AreUpTo t p.sent
-kept_up_to s t p w = up_to t p.sent w.world.kept.early
+pub kept_up_to : (s : Scenario) (t : ℕ) (hosts : World) (k : Traffic) → IsPlayedOf s t hosts k → AreUpTo t k.sent
+kept_up_to s t hosts k w = up_to t k.sent w.world.kept.early
 
 -- ----- after it
 before_next : (t : ℕ) (fs : List Sent) → AreUpTo t fs → FramesBefore (t + 1) fs
@@ -137,29 +131,30 @@ next_kept s t before after kept next last end k none but is up coming =
           ∙ tick_frames t kept (sent_in after) k.early)));
     }
 
--- The world before the next tick.
-pub next_world : (s : Scenario) (t : ℕ) (p q : Playing) (after : World) (counts : List SentCounts) → IsPlayed s t p
-    → p.hosts.items ≡ after → q.hosts.items ≡ after → q.counts.items ≡ counts
-    → q.addresses.items ≡ p.addresses.items → AreCounted after counts
-    → ((world : World) → p.addresses.items ≡ addresses_of world
-    → q.sent ≡ p.sent ++ of_tick t (frames_of_hosts world 0 after))
-    → AreUpTo t q.sent
-    → ((n : ℕ) → nat_lt n q.last ≡ (nat_lt n p.last || list_any (is_under_way s.link n) (of_tick t q.sent)))
-    → IsWorld s (t + 1) q
-next_world s t p q after counts w was_after is_after is_counts addresses counted sent up coming =
+-- The world before the next tick: the hosts that have played are these ones, and what is kept is `k` then, and `l`
+-- after what they sent in it.
+pub next_world : (s : Scenario) (t : ℕ) (hosts next after : World) (k l : Traffic) (counts : List SentCounts)
+    → IsPlayedOf s t hosts k → hosts ≡ after → next ≡ after → l.counts.items ≡ counts
+    → l.addresses.items ≡ k.addresses.items → AreCounted after counts
+    → ((world : World) → k.addresses.items ≡ addresses_of world
+    → l.sent ≡ k.sent ++ of_tick t (frames_of_hosts world 0 after))
+    → AreUpTo t l.sent
+    → ((n : ℕ) → nat_lt n l.last ≡ (nat_lt n k.last || list_any (is_under_way s.link n) (of_tick t l.sent)))
+    → IsWorldOf s (t + 1) next l
+next_world s t hosts next after k l counts w was_after is_after is_counts addresses counted sent up coming =
     let before : World = w.before in
     let early : AreEarly t before = w.world.early in
     let ticked : AreTicked t before after =
-    subst (λ az. AreTicked t before az) was_after (world_ticked s t before p.hosts.items early w.tick) in
-    let same : p.addresses.items ≡ addresses_of after = w.world.addresses
+    subst (λ az. AreTicked t before az) was_after (world_ticked s t before hosts early w.tick) in
+    let same : k.addresses.items ≡ addresses_of after = w.world.addresses
     ∙ sym (same_addresses t before after ticked) in
     record {
       params = ap params_of is_after ∙ (same_params t before after ticked ∙ w.world.params);
       early = subst (λ az. AreEarly (t + 1) az) (sym is_after) (next_are_early t before after early ticked);
       addresses = addresses ∙ (same ∙ ap addresses_of (sym is_after));
-      counted = subst (λ az. AreCounted az q.counts.items) (sym is_after)
+      counted = subst (λ az. AreCounted az l.counts.items) (sym is_after)
           (subst (λ cs. AreCounted after cs) (sym is_counts) counted);
-      kept = subst (λ az. AreKept s (t + 1) az q.sent q.last) (sym is_after)
-          (next_kept s t before after p.sent q.sent p.last q.last w.world.kept (sent_none t before early)
+      kept = subst (λ az. AreKept s (t + 1) az l.sent l.last) (sym is_after)
+          (next_kept s t before after k.sent l.sent k.last l.last w.world.kept (sent_none t before early)
           (sent_but t before after ticked) (sent after same) up coming);
     }

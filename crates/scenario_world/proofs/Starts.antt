@@ -8,8 +8,8 @@ use Rattle.scenario_text.specs.declared.scenario.HostLine.{HostLine}
 use Rattle.scenario_runs.specs.Worlds.{World, site_of, at_start, frames_of_hosts, sent_in, is_under_way}
 use Rattle.sent_frames.specs.declared.counts.SentCounts.{SentCounts}
 use Rattle.sent_frames.specs.Sending.{addresses_of, of_tick}
-use Rattle.scenario_world.specs.declared.playing.Playing.{Playing}
-use Rattle.scenario_world.specs.Playing.{IsCounted, AreCounted, AreEarly, params_of, line_params, AreKept, IsWorld}
+use Rattle.scenario_world.specs.declared.traffic.Traffic.{Traffic}
+use Rattle.scenario_world.specs.Playing.{IsCounted, AreCounted, AreEarly, params_of, line_params, AreKept, IsWorldOf}
 
 start_params : (s : Scenario) (hs : List HostLine) → params_of (map (site_of s) hs) ≡ line_params hs
 start_params s [] = refl
@@ -46,16 +46,16 @@ start_kept s world none =
       coming = λ n. ap (list_any (is_under_way s.link n)) none ∙ none_below n;
     }
 
-pub start_is : (s : Scenario) (p : Playing) → p.hosts.items ≡ at_start s
-    → p.addresses.items ≡ map (λ (h : HostLine). h.params.addr) s.hosts → AreCounted p.hosts.items p.counts.items
-    → p.sent ≡ [] → p.last ≡ 0 → IsWorld s 0 p
-start_is s p hosts addresses counted sent last =
-    let none : sent_in p.hosts.items ≡ [] = ap sent_in hosts ∙ start_sent s (at_start s) 0 s.hosts in
+pub start_is : (s : Scenario) (world : World) (k : Traffic) → world ≡ at_start s
+    → k.addresses.items ≡ map (λ (h : HostLine). h.params.addr) s.hosts → AreCounted world k.counts.items
+    → k.sent ≡ [] → k.last ≡ 0 → IsWorldOf s 0 world k
+start_is s world k hosts addresses counted sent last =
+    let none : sent_in world ≡ [] = ap sent_in hosts ∙ start_sent s (at_start s) 0 s.hosts in
     record {
       params = ap params_of hosts ∙ start_params s s.hosts;
       early = subst (λ w. AreEarly 0 w) (sym hosts) (start_early s s.hosts);
       addresses = addresses ∙ (start_addresses s s.hosts ∙ ap addresses_of (sym hosts));
       counted = counted;
-      kept = subst (λ fs. AreKept s 0 p.hosts.items fs p.last) (sym sent)
-          (subst (λ n. AreKept s 0 p.hosts.items [] n) (sym last) (start_kept s p.hosts.items none));
+      kept = subst (λ fs. AreKept s 0 world fs k.last) (sym sent)
+          (subst (λ n. AreKept s 0 world [] n) (sym last) (start_kept s world none));
     }

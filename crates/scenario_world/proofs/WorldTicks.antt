@@ -46,7 +46,7 @@ all_up_to : (t : ℕ) (ls : List Live) → AllEntriesBefore t ls → Each (IsUpT
 all_up_to t [] before = tt
 all_up_to t (l ∷ ls) before = (up_to_before t 0 l.flow.entries (omega arith) before.0, all_up_to t ls before.1)
 
-round_ticked : (s : Scenario) (params : HostParams) (t : ℕ) (due : Due ℕ) (before after : Site (List Script))
+pub round_ticked : (s : Scenario) (params : HostParams) (t : ℕ) (due : Due ℕ) (before after : Site (List Script))
     → IsEarly t before.host → Round (scripts_of s params) t due before after → Ticked t before.host after.host
 round_ticked s params t due before after early round =
     let moves = scenarios_by_moves s params in

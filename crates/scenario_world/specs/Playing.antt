@@ -19,6 +19,7 @@ use Rattle.local_host.specs.Steered.{Steered}
 use Rattle.sent_frames.specs.declared.counts.SentCounts.{SentCounts}
 use Rattle.sent_frames.specs.Sending.{addresses_of, of_tick, sent_by, answers_in, EntriesBefore, LinesBefore}
 use Rattle.scenario_world.specs.declared.playing.Playing.{Playing}
+use Rattle.scenario_world.specs.declared.traffic.Traffic.{Traffic}
 
 -- ----- before a tick
 -- The flows of the host have histories of the endpoint, and all that it did is of earlier ticks.
@@ -82,22 +83,25 @@ abbrev pub AreRecent : LinkLines → (tick : ℕ) → List Sent → Type 0
 AreRecent lines t frames = Each (λ (f : Sent). t ≤ f.tick + longest_delay lines) frames
 
 -- These hosts are a world of the scenario before a tick, and what is kept is theirs.
-pub record IsWorldOf (s : Scenario) (t : ℕ) (world : World) (p : Playing) : Type 0 where
+pub record IsWorldOf (s : Scenario) (t : ℕ) (world : World) (k : Traffic) : Type 0 where
   pub params : params_of world ≡ line_params s.hosts
   pub early : AreEarly t world
-  pub addresses : p.addresses.items ≡ addresses_of world
-  pub counted : AreCounted world p.counts.items
-  pub kept : AreKept s t world p.sent p.last
+  pub addresses : k.addresses.items ≡ addresses_of world
+  pub counted : AreCounted world k.counts.items
+  pub kept : AreKept s t world k.sent k.last
 
 -- A world of the scenario before a tick.
 abbrev pub IsWorld : Scenario → (tick : ℕ) → Playing → Type 0
-IsWorld s t p = IsWorldOf s t p.hosts.items p
+IsWorld s t p = IsWorldOf s t p.hosts.items p.traffic
 
--- The hosts played a right tick, and what is kept is still that of the world before it.
-pub record IsPlayed (s : Scenario) (t : ℕ) (p : Playing) : Type 0 where
+-- These hosts played a right tick, and what is kept is still that of the world before it.
+pub record IsPlayedOf (s : Scenario) (t : ℕ) (hosts : World) (k : Traffic) : Type 0 where
   pub before : World
-  pub world : IsWorldOf s t before p
-  pub tick : IsTick s t before p.hosts.items
+  pub world : IsWorldOf s t before k
+  pub tick : IsTick s t before hosts
+
+abbrev pub IsPlayed : Scenario → (tick : ℕ) → Playing → Type 0
+IsPlayed s t p = IsPlayedOf s t p.hosts.items p.traffic
 
 -- ----- cores
 -- The cores of these hosts, one after the other; the first host has this number.

@@ -7,7 +7,9 @@ mod on_cores;
 mod playing;
 mod resting;
 mod seats;
+mod traffic;
 mod world;
 
 pub use on_cores::play_scenario_on_cores;
+pub use traffic::Traffic;
 pub use world::{WorldEnd, play_scenario};

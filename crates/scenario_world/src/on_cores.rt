@@ -81,10 +81,10 @@ pub fn play_tick_on_cores<'a, R: Threads + Wait + Sync, G: Gate + Sync>(
     ensures below { (cores : ℕ) → HaveCores cores seats.old → AreBelow cores p.old.hosts.items
         → OnOk result (AreBelow cores p.new.hosts.items) }
     ensures world { OnOk result (IsWorld s.now (tick + 1) p.new) }
-    ensures recent { OnOk result (AreRecent s.now.link tick p.new.sent) }
+    ensures recent { OnOk result (AreRecent s.now.link tick p.new.traffic.sent) }
     ensures seats { OnOk result (cores_in seats.new ≡ cores_in seats.old) }
 {
-    let due = due(alloc, &s.link, &p.sent, tick)?;
+    let due = due(alloc, &s.link, &p.traffic.sent, tick)?;
     play_hosts_on_cores(rt, alloc, s, tick, &due, &mut p.hosts, seats, gate)?;
     drop(due);
     end_tick(alloc, s, tick, p)

@@ -10,7 +10,8 @@ ghost use Rattle.scenario_world.specs.Playing.{IsWorld, IsPlayed, AreRecent};
 
 use crate::arriving::arrivals_at;
 use crate::collecting::collect_all;
-use crate::resting::{are_closed, have_ended, last_coming};
+use crate::resting::{are_closed, have_ended};
+use crate::traffic::Traffic;
 use link_script::{DueList, SentList, due};
 use scenario_host::ScenarioHost;
 use scenario_text::Scenario;
@@ -21,11 +22,7 @@ use std::alloc::{AllocError, Global};
 #[derive(Drop)]
 pub struct Playing<'a> {
     pub hosts: Vec<ScenarioHost<'a>>,
-    pub addresses: Vec<u32>,
-    pub counts: Vec<SentCounts>,
-    pub sent: SentList,
-    /// The tick in which the last of all frames comes that were sent and not lost; 0 where there is none.
-    pub last: u64,
+    pub traffic: Traffic,
 }
 
 /// The hosts of a scenario before the first tick. The error is want of memory.
@@ -44,10 +41,12 @@ pub fn at_start<'a>(alloc: Global, s: &'a Scenario) -> Result<Playing<'a>, Alloc
     }
     Ok(Playing {
         hosts,
-        addresses,
-        counts,
-        sent: SentList::new(alloc),
-        last: 0,
+        traffic: Traffic {
+            addresses,
+            counts,
+            sent: SentList::new(alloc),
+            last: 0,
+        },
     })
 }
 
@@ -62,9 +61,9 @@ pub fn play_tick(
     requires world { IsWorld s.now tick p.old }
     ensures hosts { OnOk result (p.new.hosts.items ≡ serial_world s.now tick p.old.hosts.items) }
     ensures world { OnOk result (IsWorld s.now (tick + 1) p.new) }
-    ensures recent { OnOk result (AreRecent s.now.link tick p.new.sent) }
+    ensures recent { OnOk result (AreRecent s.now.link tick p.new.traffic.sent) }
 {
-    let due = due(alloc, &s.link, &p.sent, tick)?;
+    let due = due(alloc, &s.link, &p.traffic.sent, tick)?;
     play_hosts(alloc, s, tick, &due, &mut p.hosts)?;
     drop(due);
     end_tick(alloc, s, tick, p)
@@ -82,10 +81,10 @@ pub fn end_tick(
     requires played { IsPlayed s.now tick p.old }
     ensures hosts { p.new.hosts.items ≡ p.old.hosts.items }
     ensures world { OnOk result (IsWorld s.now (tick + 1) p.new) }
-    ensures recent { OnOk result (AreRecent s.now.link tick p.new.sent) }
+    ensures recent { OnOk result (AreRecent s.now.link tick p.new.traffic.sent) }
 {
     send_on(alloc, s, tick, p)?;
-    forget(s, tick, p);
+    p.traffic.forget(s, tick);
     Ok(())
 }
 
@@ -100,23 +99,12 @@ fn send_on(alloc: Global, s: &Scenario, tick: u32, p: &mut Playing<'_>) -> Resul
         alloc,
         tick,
         &p.hosts,
-        &p.addresses,
-        &mut p.counts,
-        &mut p.sent,
+        &p.traffic.addresses,
+        &mut p.traffic.counts,
+        &mut p.traffic.sent,
     )?;
-    p.last = last_coming(&s.link, p.sent.sent_in(tick), p.last);
+    p.traffic.note_last(&s.link, tick);
     Ok(())
-}
-
-/// The frames go of which nothing comes in the next tick or after it, so that a long run keeps only those on the link.
-fn forget(s: &Scenario, tick: u32, p: &mut Playing<'_>)
-    requires { IsWorld s.now (tick + 1) p.old }
-    ensures hosts { p.new.hosts.items ≡ p.old.hosts.items }
-    ensures world { IsWorld s.now (tick + 1) p.new }
-    ensures recent { AreRecent s.now.link tick p.new.sent }
-{
-    p.sent
-        .forget_before(tick.saturating_sub(s.link.longest_delay()));
 }
 
 /// Each host plays a tick, in which these frames are due. The error is want of memory.
@@ -141,5 +129,5 @@ fn play_hosts(
 pub fn is_at_rest(tick: u32, p: &Playing<'_>) -> bool
     ensures { (s : Scenario) → IsWorld s (tick + 1) p.now → result ≡ model_rest s tick p.now.hosts.items }
 {
-    have_ended(&p.hosts) && are_closed(&p.hosts) && p.last <= u64::from(tick)
+    have_ended(&p.hosts) && are_closed(&p.hosts) && p.traffic.last <= u64::from(tick)
 }

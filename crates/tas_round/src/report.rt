@@ -2,6 +2,8 @@
 
 ghost use Rattle.std.specs.Prelude.{◌≡◌, ℕ, ◌≤◌, ◌++◌, ◌∷◌, [], List, map, length, codes, false, Err, OnOk, OnErr};
 ghost use Rattle.std.specs.Prelude.{IfOk, if◌then◌else◌};
+ghost use Rattle.host_rounds.specs.Lists.{Each};
+ghost use Rattle.log_ranges.specs.Ranges.{LineFits, FlowFits, HostFits, Fits};
 ghost use Rattle.tas_runs.specs.Report.{report, line, names_of, host_text, hosts_text, log_text, flows_text};
 ghost use Rattle.tas_runs.specs.Report.{flow_lines, counts_text, addr_text};
 ghost use Rattle.run_texts.specs.Frames.{history_of};
@@ -17,10 +19,11 @@ use run_texts::{
 use std::alloc::{AllocError, Global};
 use tas_num::{IoFault, Sink};
 
-/// Writes the report of a run. All memory is taken before the first
-/// write.
+/// Writes the report of a run. All memory is taken before the first write.
 pub fn write_report<K: Sink>(alloc: Global, log: &RunLog, sink: &mut K) -> Result<(), IoFault>
-    ensures { WroteText (K.state sink.old) result (K.state sink.new) (report (log_in log.now)) }
+    ensures writes { WroteText (K.state sink.old) result (K.state sink.new) (report (log_in log.now)) }
+    // All numbers that were written are in the ranges of their fields.
+    ensures fits { OnOk result (Fits (log_in log.now)) }
 {
     let Ok(names) = lent_names(alloc, &log.hosts) else {
         return Err(IoFault::OutOfMemory);
@@ -63,6 +66,7 @@ fn put_whole<K: Sink>(
     ensures writes { Writes (K.state sink.old) writer.old result (K.state sink.new) writer.new
         (report (log_in log.now)) }
     ensures empty { OnOk result (writer.new ≡ []) }
+    ensures fits { OnOk result (Fits (log_in log.now)) }
 {
     put_report(writer, sink, names, log)?;
     writer.finish(sink)
@@ -77,7 +81,9 @@ fn put_report<K: Sink>(
     log: &RunLog,
 ) -> Result<(), IoFault>
     requires { map (λ n. n.now) names.now ≡ names_of (map host_in log.now.hosts) }
-    ensures { Writes (K.state sink.old) writer.old result (K.state sink.new) writer.new (report (log_in log.now)) }
+    ensures writes { Writes (K.state sink.old) writer.old result (K.state sink.new) writer.new
+        (report (log_in log.now)) }
+    ensures fits { OnOk result (Fits (log_in log.now)) }
 {
     write_title(writer, sink, log.replay)?;
     put_hosts(writer, sink, names, &log.hosts)?;
@@ -93,8 +99,9 @@ fn put_hosts<K: Sink>(
     hosts: &HostRuns,
 ) -> Result<(), IoFault>
     requires { map (λ n. n.now) names.now ≡ names_of (map host_in hosts.now) }
-    ensures { Writes (K.state sink.old) writer.old result (K.state sink.new) writer.new
+    ensures writes { Writes (K.state sink.old) writer.old result (K.state sink.new) writer.new
         (hosts_text (names_of (map host_in hosts.now)) (map host_in hosts.now)) }
+    ensures fits { OnOk result (Each HostFits (map host_in hosts.now)) }
 {
     for i in 0..hosts.len() {
         put_host(writer, sink, names, hosts.item(i))?;
@@ -109,9 +116,12 @@ fn put_host<K: Sink>(
     names: &[&[u8]],
     host: &HostRun,
 ) -> Result<(), IoFault>
-    ensures { Writes (K.state sink.old) writer.old result (K.state sink.new) writer.new
+    ensures writes { Writes (K.state sink.old) writer.old result (K.state sink.new) writer.new
         (host_text (map (λ n. n.now) names.now) (host_in host.now)) }
+    ensures fits { OnOk result (HostFits (host_in host.now)) }
 {
+    // What is read is in the range of its type.
+    let _addr = host.addr;
     put_name(writer, sink, host)?;
     put_log(writer, sink, names, host)?;
     put_flows(writer, sink, names, &host.flows)
@@ -132,8 +142,9 @@ fn put_log<K: Sink>(
     names: &[&[u8]],
     host: &HostRun,
 ) -> Result<(), IoFault>
-    ensures { Writes (K.state sink.old) writer.old result (K.state sink.new) writer.new
+    ensures writes { Writes (K.state sink.old) writer.old result (K.state sink.new) writer.new
         (log_text (map (λ n. n.now) names.now) host.now.log) }
+    ensures fits { OnOk result (Each LineFits host.now.log) }
 {
     write_log(writer, sink, names, host.log.stretches())
 }
@@ -145,8 +156,9 @@ fn put_flows<K: Sink>(
     names: &[&[u8]],
     flows: &FlowList,
 ) -> Result<(), IoFault>
-    ensures { Writes (K.state sink.old) writer.old result (K.state sink.new) writer.new
+    ensures writes { Writes (K.state sink.old) writer.old result (K.state sink.new) writer.new
         (flows_text (map (λ n. n.now) names.now) 0 (map history_of flows.now)) }
+    ensures fits { OnOk result (Each FlowFits (map history_of flows.now)) }
 {
     for i in 0..flows.len() {
         put_flow(writer, sink, names, i, flows.item(i))?;
@@ -162,8 +174,9 @@ fn put_flow<K: Sink>(
     i: usize,
     flow: &FlowHistory,
 ) -> Result<(), IoFault>
-    ensures { Writes (K.state sink.old) writer.old result (K.state sink.new) writer.new
+    ensures writes { Writes (K.state sink.old) writer.old result (K.state sink.new) writer.new
         (flow_lines (map (λ n. n.now) names.now) i (history_of flow.now)) }
+    ensures fits { OnOk result (FlowFits (history_of flow.now)) }
 {
     write_flow(writer, sink, names, i as u64, flow)
 }

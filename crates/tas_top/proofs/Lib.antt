@@ -1,3 +1,4 @@
 pub mod Causes
+pub mod Judging
 pub mod Puts
 pub mod Audited

@@ -4,6 +4,7 @@ ghost use Rattle.std.specs.Prelude.{◌≡◌, ◌≢◌, ◌⊎◌, [], map, st
 ghost use Rattle.std.specs.Prelude.{IfErr, OnOk, OnErr, Result, None, is_some};
 ghost use Rattle.std.specs.Io.KnownBytes.{Keeps};
 ghost use Rattle.tas_num.specs.Streams.{Wrote};
+ghost use Rattle.log_ranges.specs.Ranges.{Fits};
 ghost use Rattle.tas_round.specs.Runs.{log_in};
 ghost use Rattle.tas_round.specs.Written.{WroteText};
 ghost use Rattle.tas_round.specs.declared.logs.RunLog as code;
@@ -16,9 +17,10 @@ ghost use Rattle.tas_top.specs.Stops.{Untouched};
 ghost use Rattle.tas_top.specs.Stops.{ReadsFor, ReadsPast, ReadBefore, IsOfMade, SourceCalm, SinkCalm};
 ghost use Rattle.tas_top.specs.Telling.{IsTold};
 ghost use Rattle.tas_top.specs.Outputs.{output, text_of, WritesAll, WritesFront, IsWhole};
+ghost use Rattle.tas_top.specs.Outputs.{IsOfReport, WritesLegalReport};
 ghost use Rattle.program_words.specs.Requests.{input_in, request_in};
 ghost use Rattle.program_words.specs.Audits.{is_audit};
-ghost use Rattle.program_words.specs.Words.{form_of, names_cores, IsAsked, IsMade, most_bytes};
+ghost use Rattle.program_words.specs.Words.{form_of, Scenario, names_cores, IsAsked, IsMade, most_bytes};
 ghost use Rattle.tas_top.specs.declared.stop.Stop.{Stop};
 
 use crate::asking::asked_by;
@@ -52,6 +54,10 @@ pub fn tas<R: Threads + Wait + Sync, S: Source, K: Sink, F: Sink, G: Gate + Sync
     ensures headline { is_audit (map string_bytes words.now) ≡ false → (result ≡ 0) ⊎ (result ≡ 1)
         → WritesAll (given (map string_bytes words.now) (S.state source.old) (S.state source.new)
         (K.state sink.old) (K.state sink.new)) result }
+    // The report of a scenario's run that was so written is one that an auditor judges legal.
+    ensures legal { is_audit (map string_bytes words.now) ≡ false → (result ≡ 0) ⊎ (result ≡ 1)
+        → WritesLegalReport (given (map string_bytes words.now) (S.state source.old) (S.state source.new)
+        (K.state sink.old) (K.state sink.new)) }
     // Every status but 0 has its cause, and the fault line tells of it.
     ensures cause { is_audit (map string_bytes words.now) ≡ false
         → HasCause (given (map string_bytes words.now) (S.state source.old) (S.state source.new)
@@ -99,6 +105,10 @@ pub fn tas_serial<S: Source, K: Sink, F: Sink>(
     ensures headline { is_audit (map string_bytes words.now) ≡ false → (result ≡ 0) ⊎ (result ≡ 1)
         → WritesAll (given (map string_bytes words.now) (S.state source.old) (S.state source.new)
         (K.state sink.old) (K.state sink.new)) result }
+    // The report of a scenario's run that was so written is one that an auditor judges legal.
+    ensures legal { is_audit (map string_bytes words.now) ≡ false → (result ≡ 0) ⊎ (result ≡ 1)
+        → WritesLegalReport (given (map string_bytes words.now) (S.state source.old) (S.state source.new)
+        (K.state sink.old) (K.state sink.new)) }
     // Every status but 0 has its cause, and the fault line tells of it.
     ensures cause { is_audit (map string_bytes words.now) ≡ false
         → HasCause (given (map string_bytes words.now) (S.state source.old) (S.state source.new)
@@ -142,6 +152,10 @@ fn answer<X: FnOnce(Job) -> Result<RunLog, Stop>, S: Source, K: Sink, F: Sink>(
     ensures headline { (result ≡ 0) ⊎ (result ≡ 1)
         → WritesAll (given (map string_bytes words.now) (S.state source.old) (S.state source.new)
         (K.state sink.old) (K.state sink.new)) result }
+    // The report of a scenario's run that was so written is one that an auditor judges legal.
+    ensures legal { (result ≡ 0) ⊎ (result ≡ 1)
+        → WritesLegalReport (given (map string_bytes words.now) (S.state source.old) (S.state source.new)
+        (K.state sink.old) (K.state sink.new)) }
     // Every status but 0 has its cause, and the fault line tells of it.
     ensures cause { (result ≡ 0) ⊎ ((stop : Stop) × (result ≡ status_of stop)
         × Cause (given (map string_bytes words.now) (S.state source.old) (S.state source.new)
@@ -208,6 +222,9 @@ fn serve<X: FnOnce(Job) -> Result<RunLog, Stop>, S: Source, K: Sink>(
     ensures done { IfOk result (λ stalled. WritesAll
         (given (map string_bytes words.now) (S.state source.old) (S.state source.new)
         (K.state sink.old) (K.state sink.new)) (if stalled then 1 else 0)) }
+    ensures legal { OnOk result (WritesLegalReport
+        (given (map string_bytes words.now) (S.state source.old) (S.state source.new)
+        (K.state sink.old) (K.state sink.new))) }
     ensures unstalled { result ≢ Err Stop.Stalled }
     ensures cause { IfErr result (Cause (given (map string_bytes words.now) (S.state source.old) (S.state source.new)
         (K.state sink.old) (K.state sink.new))) }
@@ -266,6 +283,7 @@ fn write_log<K: Sink>(
         (Wrote (K.state sink.old) (Ok tt) (K.state sink.new) (output (request_in asked.now) (log_in log.now)) []) }
     ensures err { IfErr result
         (Unwritten (K.state sink.old) (K.state sink.new) (output (request_in asked.now) (log_in log.now))) }
+    ensures fits { IsOfReport (request_in asked.now) → OnOk result (Fits (log_in log.now)) }
 {
     let written = if asked.pcap {
         write_capture(alloc, log, sink)
@@ -286,7 +304,9 @@ fn write_text<K: Sink>(
     log: &RunLog,
     sink: &mut K,
 ) -> Result<(), IoFault>
-    ensures { WroteText (K.state sink.old) result (K.state sink.new) (text_of (input_in input) (log_in log.now)) }
+    ensures writes { WroteText (K.state sink.old) result (K.state sink.new)
+        (text_of (input_in input) (log_in log.now)) }
+    ensures fits { input_in input ≡ Scenario → OnOk result (Fits (log_in log.now)) }
 {
     match input {
         Input::Made { clients } => write_summary(alloc, clients, log, sink),

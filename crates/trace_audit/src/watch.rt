@@ -152,21 +152,18 @@ impl Watched {
         }
     }
 
-    /// Whether these bytes were read, and so many. The error is want of memory.
-    fn has_read(&self, alloc: Global, count: u64, bytes: &HexText<'_>) -> Result<bool, AllocError>
-        ensures right { IfOk result (λ right. right ≡ true → (hosts : List HostParams) → (n : Now)
-            → FlowWatched hosts self.now n → Comes (length hosts) n (Read count bytes.now)
-            → FlowWatched hosts self.now (with_line n (Read count bytes.now))) }
-        ensures wrong { IfOk result (λ right. right ≡ false → (hosts : List HostParams) → (n : Now)
-            → FlowWatched hosts self.now n → Comes (length hosts) n (Read count bytes.now)
-            → IsRightNow hosts (with_line n (Read count bytes.now)) → ⊥) }
+    /// Whether these bytes were read, and so many.
+    fn has_read(&self, count: u64, bytes: &HexText<'_>) -> bool
+        ensures right { result ≡ true → (hosts : List HostParams) → (n : Now) → FlowWatched hosts self.now n
+            → Comes (length hosts) n (Read count bytes.now)
+            → FlowWatched hosts self.now (with_line n (Read count bytes.now)) }
+        ensures wrong { result ≡ false → (hosts : List HostParams) → (n : Now) → FlowWatched hosts self.now n
+            → Comes (length hosts) n (Read count bytes.now)
+            → IsRightNow hosts (with_line n (Read count bytes.now)) → ⊥ }
     {
         match self {
-            Watched::Judged(judge) => {
-                let has = judge.has_read(alloc, count, bytes)?;
-                Ok(has)
-            }
-            Watched::Nothing | Watched::Begun(_) => Ok(true),
+            Watched::Judged(judge) => judge.has_read(count, bytes),
+            Watched::Nothing | Watched::Begun(_) => true,
         }
     }
 }
@@ -215,10 +212,7 @@ impl Watch {
                 Ok(right)
             }
             ReportLine::State { phase, reason } => Ok(self.flow.is_in(*phase, *reason)),
-            ReportLine::Read { count, bytes } => {
-                let right = self.flow.has_read(alloc, *count, bytes)?;
-                Ok(right)
-            }
+            ReportLine::Read { count, bytes } => Ok(self.flow.has_read(*count, bytes)),
             ReportLine::Title | ReportLine::Logged { .. } | ReportLine::End { .. } => Ok(true),
         }
     }

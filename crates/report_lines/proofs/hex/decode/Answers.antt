@@ -1,6 +1,8 @@
-use Rattle.std.proofs.Common.{arith}
-use Rattle.report_lines.proofs.HexBytes.{all_written}
+use Rattle.std.proofs.Common.{◌*◌, ◌/◌, length, sym, arith}
+use Rattle.report_lines.proofs.HexVectors.{bytes_parted}
 use Rattle.report_lines.proofs.hex.decode.Goals as goal
 
 pub returns : goal.returns
-returns c = all_written c.args.digits.now c.bytes.bytes c.bytes.i (omega arith) (omega arith) c.bytes.invariant
+returns c =
+    rw (c.decode_blocks.ensures, c.decode_rest.ensures, c.split_at.ensures.front, c.split_at.ensures.back)
+    (sym (bytes_parted c.args.digits.now (length c.args.bytes.now / 16 * 16) (omega arith)))

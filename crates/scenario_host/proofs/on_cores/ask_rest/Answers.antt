@@ -36,7 +36,7 @@ loop-k-preserved c =
           (rest_asked starts address c.args.tick c.args.attempts.now c.loop-k.k start c.loop-k.host
           w.take_turn.new.host c.loop-k.script-items (script c) w.take_turn.new.self c.loop-k.invariant (here c)
           (sym c.answer_at.ensures ∙ none_by c.answer_at.result w.if-is_none.ensures)
-          (w.in_ok-take_turn.ensures
+          (w.in_ok-take_turn.ensures.made
           ∙ ap (λ (hosts : List HostLine). turn starts (address_in hosts) c.args.tick
           (turn_of c.loop-k.host (script c))) w.as_slice.ensures)))
       | else-is_none w ↦

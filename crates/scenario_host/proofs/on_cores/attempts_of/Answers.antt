@@ -16,7 +16,7 @@ loop-script-preserved c =
     record {
       gathered = subst (AreAttemptsOf c.args.tick scripts) (sym pushed)
           (attempts_more c.args.tick scripts xs c.script-item.result c.attempt.result c.loop-script.invariant.gathered
-          (ap (slice_get scripts) c.loop-script.invariant.count ∙ here) c.attempt.ensures);
+          (ap (slice_get scripts) c.loop-script.invariant.count ∙ here) c.attempt.ensures.turn);
       count = omega (
         arith,
         ap length pushed,

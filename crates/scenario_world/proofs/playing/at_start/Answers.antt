@@ -41,6 +41,6 @@ returns-clause-world c =
     let past : length lines ≤ c.loop-line.line-index = c.loop-line-test.false in
     let all : take c.loop-line.line-index lines ≡ s.hosts = take_all c.loop-line.line-index lines past
     ∙ c.as_slice-line-items.ensures in
-    start_is s _ (c.loop-line.invariant.hosts ∙ ap (map (site_of s)) all)
+    start_is s c.loop-line.hosts.items _ (c.loop-line.invariant.hosts ∙ ap (map (site_of s)) all)
     (c.loop-line.invariant.addresses ∙ ap (map (λ (h : HostLine). h.params.addr)) all) c.loop-line.invariant.counted
     c.new-2.ensures refl

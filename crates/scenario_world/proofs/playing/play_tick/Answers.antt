@@ -1,4 +1,4 @@
-use Rattle.std.proofs.Common.{◌≡◌, length, refl, ◌∙◌, arith}
+use Rattle.std.proofs.Common.{◌≡◌, length, ◌∙◌, arith}
 use Rattle.std.proofs.lemmas.List.{with_items_is}
 use Rattle.local_host.proofs.Places.{ok_by}
 use Rattle.scenario_world.proofs.NextTick.{played_world, serially_played, are_played}
@@ -11,11 +11,11 @@ end_tick-requires-clause-played c =
     let p = c.args.p.now in
     let hosts = c.play_hosts.new.hosts in
     let len : length hosts ≡ p.hosts.len = omega arith in
-    are_played s t p _ hosts c.requires.world
+    are_played s t p.hosts.items p.traffic hosts _ c.requires.world
     (serially_played s t p hosts c.requires.world
     (played_world s t p c.in_ok-due.due c.deref_mut.result.now hosts c.requires.world c.in_ok-due.ensures
     c.deref_mut.ensures.value c.in_ok-play_hosts.ensures))
-    (with_items_is p.hosts hosts len) refl refl refl refl
+    (with_items_is p.hosts hosts len)
 
 pub returns-clause-hosts : goal.returns-clause-hosts
 returns-clause-hosts c =

@@ -1,7 +1,7 @@
 use Rattle.std.proofs.Common.{◌≡◌, ◌≢◌, ◌⊎◌, inr, ℕ, Bool, Err, ap, map, string_bytes, subst, sym, ◌∙◌}
 use Rattle.std.proofs.Common.{if◌then◌else◌}
 use Rattle.tas_top.specs.Runs.{given}
-use Rattle.tas_top.specs.Outputs.{WritesAll}
+use Rattle.tas_top.specs.Outputs.{WritesAll, WritesLegalReport}
 use Rattle.program_words.specs.Words.{form_of}
 use Rattle.tas_top.specs.declared.stop.Stop.{Stop}
 use Rattle.tas_top.specs.declared.stop.Stop.TheVariants.{Stalled}
@@ -22,6 +22,14 @@ returns-in-Err-clause-headline g c whole =
     (g.S.Source.state c.serve.new.source) (g.K.Sink.state c.args.sink.now) (g.K.Sink.state c.serve.new.sink) in
     let other : c.in-Err.stop ≢ Stalled = λ e. c.serve.ensures.unstalled (c.in-Err.is ∙ ap (λ (s : Stop). Err s) e) in
     never_whole c.in-Err.stop (WritesAll call c.told-in-Err.result) other
+    (subst (λ (n : ℕ). (n ≡ 0) ⊎ (n ≡ 1)) c.told-in-Err.ensures.status whole)
+
+pub returns-in-Err-clause-legal : goal.returns-in-Err-clause-legal
+returns-in-Err-clause-legal g c whole =
+    let call = given (map string_bytes c.args.words.now) (g.S.Source.state c.args.source.now)
+    (g.S.Source.state c.serve.new.source) (g.K.Sink.state c.args.sink.now) (g.K.Sink.state c.serve.new.sink) in
+    let other : c.in-Err.stop ≢ Stalled = λ e. c.serve.ensures.unstalled (c.in-Err.is ∙ ap (λ (s : Stop). Err s) e) in
+    never_whole c.in-Err.stop (WritesLegalReport call) other
     (subst (λ (n : ℕ). (n ≡ 0) ⊎ (n ≡ 1)) c.told-in-Err.ensures.status whole)
 
 pub returns-in-Err-clause-read : goal.returns-in-Err-clause-read

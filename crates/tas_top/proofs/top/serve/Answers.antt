@@ -10,6 +10,7 @@ use Rattle.program_words.specs.Requests.{request_in}
 use Rattle.tas_top.proofs.Causes.{writes_all, writes_front, reads_for, unrun_why, unrun_read, at_err, whichever}
 use Rattle.tas_top.proofs.Causes.{unread_why, unwritten_read, made_unread, made_is_read, made_words, made_unrun}
 use Rattle.tas_top.proofs.Causes.{made_unwritten}
+use Rattle.tas_top.proofs.Judging.{writes_legal}
 use Rattle.program_words.proofs.Asked.{clients_in_range, cores_in_range}
 use Rattle.tas_top.proofs.top.serve.Goals as goal
 
@@ -25,6 +26,20 @@ returns-clause-done g c =
     let call = given (map string_bytes c.args.words.now) before after (g.K.Sink.state c.args.sink.now)
     (g.K.Sink.state c.write_log.new.sink) in
     writes_all call bytes r log all c.in_ok-asked.ensures.ok run c.in_ok-write_log.ensures.ok
+
+pub returns-clause-legal : goal.returns-clause-legal
+returns-clause-legal g c =
+    let r = request_in c.in_ok-asked.asked in
+    let bytes = c.in_ok-bytes.bytes.items in
+    let log = log_in c.in_ok-log.log in
+    let before = g.S.Source.state c.args.source.now in
+    let after = g.S.Source.state c.read_input.new.source in
+    let all : IfSome (bytes_of r.input before.left) (λ (b : List ℕ). bytes ≡ b) = search rules in
+    let run : IsRun r bytes log = search rules in
+    let call = given (map string_bytes c.args.words.now) before after (g.K.Sink.state c.args.sink.now)
+    (g.K.Sink.state c.write_log.new.sink) in
+    writes_legal call bytes r log all c.in_ok-asked.ensures.ok run c.in_ok-write_log.ensures.ok
+    c.in_ok-write_log.ensures.fits
 
 pub returns-in_err-write_log-clause-front : goal.returns-in_err-write_log-clause-front
 returns-in_err-write_log-clause-front g c =

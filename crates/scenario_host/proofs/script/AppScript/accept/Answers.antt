@@ -4,13 +4,13 @@ use Rattle.asked_host.specs.Asking.{IsAccepting, asked_by}
 use Rattle.scenario_host.proofs.Stepping.{accepts_by}
 use Rattle.scenario_host.proofs.script.AppScript.accept.Goals as goal
 
-pub returns : goal.returns
-returns g c =
+pub returns-clause-made : goal.returns-clause-made
+returns-clause-made g c =
     let accepted : IsAccepting c.number-app.result c.args.tick c.in-Some.port (g.H.AskedHost.seen c.args.host.now)
     (g.H.AskedHost.seen c.accept.new.self) (Some c.in-Some-2.place) =
     subst (λ (o : Option ℕ). IsAccepting c.number-app.result c.args.tick c.in-Some.port
     (g.H.AskedHost.seen c.args.host.now) (g.H.AskedHost.seen c.accept.new.self) o) c.in-Some-2.is
-    c.in_ok-place.ensures in
+    c.in_ok-place.ensures.made in
     accepts_by c.args.listener.now c.in-Some.port c.in-Some-2.place c.args.tick c.args.socket.now
     (g.H.AskedHost.seen c.args.host.now)
     (asked_by c.number-app.result c.in-Some-2.place c.args.tick calls.Accept [] (g.H.AskedHost.seen c.args.host.now))

@@ -12,8 +12,8 @@ ask-requires-clause-socket g c =
     (socket_of (g.H.AskedHost.has_socket c.args.host.now c.args.self.now.number) c.args.self.now.names
     c.args.socket.now c.in-Some.place c.requires.names (sym c.flow_of.ensures ∙ c.in-Some.is))
 
-pub returns : goal.returns
-returns g c =
+pub returns-clause-made : goal.returns-clause-made
+returns-clause-made g c =
     waits_by c.in-Some.place c.args.tick calls.Ready (g.H.AskedHost.seen c.args.host.now)
     (g.H.AskedHost.seen c.ask.new.self) c.args.self.now c.waited.new.self c.in_ok-answer.answer
     (asked_as c.number.result c.args.self.now.number c.in-Some.place c.args.tick calls.Ready []

@@ -43,12 +43,12 @@ offer-requires-clause-few g c = (count g c).0
 pub offer-requires-clause-part : goal.offer-requires-clause-part
 offer-requires-clause-part g c = (count g c).1
 
-pub returns : goal.returns
-returns g c =
+pub returns-clause-made : goal.returns-clause-made
+returns-clause-made g c =
     ok_by c.offer.result
     (sent_found c.args.tick c.args.socket.now (filling c.args.count) (turn_of (g.H.AskedHost.seen c.args.host.now)
     c.args.self.now)
     (turn_of (g.H.AskedHost.seen c.offer.new.host) c.offer.new.self) c.in-Some.place (sym c.flow_of.ensures ∙
     c.in-Some.is))
-    (c.offer.ensures (filling c.args.count) (length-filling c.args.count)
+    (c.offer.ensures.made (filling c.args.count) (length-filling c.args.count)
     (c.rest.ensures ∙ ap (λ (n : ℕ). take most (drop n (filling c.args.count))) c.done.ensures))

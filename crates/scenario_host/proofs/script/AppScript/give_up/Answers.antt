@@ -13,12 +13,12 @@ give_up-requires-clause-socket g c =
     (socket_of (g.H.AskedHost.has_socket c.args.host.now c.args.self.now.number) c.args.self.now.names
     c.args.socket.now c.in-Some.place c.requires.names (sym c.flow_of.ensures ∙ c.in-Some.is))
 
-pub returns : goal.returns
-returns g c =
+pub returns-clause-made : goal.returns-clause-made
+returns-clause-made g c =
     ends_by c.in-Some.place c.args.tick (call_of c.args.call.now) c.args.socket.now (g.H.AskedHost.seen c.args.host.now)
     (asked_by c.number.result c.in-Some.place c.args.tick (call_of c.args.call.now) []
     (g.H.AskedHost.seen c.args.host.now)) (g.H.AskedHost.seen c.give_up.new.self) c.args.self.now
-    c.unbind.new.self c.step_over-2.new.self c.number.result c.number.ensures refl c.in_ok-give_up.ensures
+    c.unbind.new.self c.step_over-2.new.self c.number.result c.number.ensures refl c.in_ok-give_up.ensures.made
     c.unbind.ensures c.step_over-2.ensures
     ∙ on_found c.args.socket.now (λ (n : ℕ). ends n c.args.tick (call_of c.args.call.now) c.args.socket.now)
     (turn_of (g.H.AskedHost.seen c.args.host.now) c.args.self.now) c.in-Some.place

@@ -12,8 +12,8 @@ sent-requires g c =
     (record { made = c.in_ok-answer.ensures.made; answered = c.in_ok-answer.ensures.answer }) in
     omega (arith, few, c.requires.part)
 
-pub returns : goal.returns
-returns g c = λ whole count is.
+pub returns-clause-made : goal.returns-clause-made
+returns-clause-made g c = λ whole count is.
     sends_by c.args.place c.args.tick c.args.bytes.now whole (g.H.AskedHost.seen c.args.host.now)
     (g.H.AskedHost.seen c.ask.new.self) c.args.self.now c.sent.new.self c.args.all c.in_ok-answer.answer
     (asked_as c.number.result c.args.self.now.number c.args.place c.args.tick (calls.Send (length c.args.bytes.now))

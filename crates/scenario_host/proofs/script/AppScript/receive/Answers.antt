@@ -33,8 +33,8 @@ received-requires g c =
       answered = c.in_ok-answer.ensures.answer;
     })))
 
-pub returns : goal.returns
-returns g c =
+pub returns-clause-made : goal.returns-clause-made
+returns-clause-made g c =
     receives_by c.in-Some.place c.args.tick c.args.all (g.H.AskedHost.seen c.args.host.now)
     (g.H.AskedHost.seen c.ask.new.self) c.args.self.now
     c.received.new.self c.asks_for-most.result c.in_ok-answer.answer

@@ -1,0 +1,4 @@
+pub mod Distinct
+pub mod Few
+pub mod Worlds
+pub mod SilentFrames

@@ -1,7 +1,0 @@
-use Rattle.std.proofs.Common.{◌≡◌, ◌*◌, ◌/◌, ◌++◌, take, drop, length}
-use Rattle.report_lines.specs.Fronts.{bytes_in}
-use Rattle.report_lines.proofs.hex.decode.Given as goal
-
--- what was written and what is left are all bytes
-abbrev pub invariant-bytes : goal.invariant-bytes
-invariant-bytes l = take l.i l.bytes ++ bytes_in (drop (2 * l.i) l.digits) ≡ bytes_in l.digits

@@ -1,0 +1,10 @@
+pub mod Lists
+pub mod Places
+pub mod Turns
+pub mod Asks
+pub mod Together
+pub mod Once
+pub mod Going
+pub mod Due
+pub mod Owning
+pub mod Telling

@@ -1,0 +1,5 @@
+pub mod Steps
+pub mod Tries
+pub mod Names
+pub mod Replies
+pub mod Answers

@@ -1,0 +1,16 @@
+pub mod Rising
+pub mod Turning
+pub mod Heard
+pub mod LaneTries
+pub mod Replied
+pub mod Left
+pub mod Holders
+pub mod Trying
+pub mod Answered
+pub mod Rows
+pub mod Places
+pub mod Ticks
+pub mod Beginning
+pub mod Begins
+pub mod Looping
+pub mod Gone
