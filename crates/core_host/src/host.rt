@@ -1,5 +1,5 @@
 //! A host of a run whose flows are shared.
-ghost use Rattle.std.specs.Prelude.{◌≡◌, ◌<◌, ◌≤◌, ◌==◌, ℕ, true, length, position, IfOk};
+ghost use Rattle.std.specs.Prelude.{◌≡◌, ◌<◌, ◌≤◌, ◌==◌, ℕ, true, [], length, position, IfOk};
 ghost use Rattle.tas_model.specs.Valid.{InRange};
 ghost use Rattle.host_rounds.specs.Lists.{Each};
 ghost use Rattle.slow_worker.specs.declared.clock.Clock.TheVariants.{New};
@@ -75,6 +75,7 @@ impl CoreHost {
         ensures time { IfOk result (λ h. h.host.slow.time ≡ New) }
         // Packets are read with their checksums.
         ensures checks { IfOk result (λ h. h.host.slow.check_sums ≡ true) }
+        ensures filed { IfOk result (λ h. h.host.slow.filed ≡ []) }
     {
         let Assembled {
             shared,

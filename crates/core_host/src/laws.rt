@@ -1,5 +1,5 @@
 //! The laws of a host's ticks.
-ghost use Rattle.std.specs.Prelude.{ℕ};
+ghost use Rattle.std.specs.Prelude.{◌≡◌, ℕ};
 ghost use Rattle.host_rounds.specs.Histories.{HasHistory};
 ghost use Rattle.host_rounds.specs.Lists.{Each};
 ghost use Rattle.host_rounds.specs.Moves.{AreByMoves};
@@ -23,6 +23,9 @@ pub fn ticks_of_steps_are_shared<S, A>()
         → IsSharedTick scripts before.cores t due (site_in before state) (site_in after next) }
     ensures between { (scripts : Scripts S A) (t : ℕ) (due : Due A) (before after : Staffed) (state next : S)
         → IsBetweenTicks before → IsTick scripts t due before after state next → IsBetweenTicks after }
+    // It has its cores still.
+    ensures cores { (scripts : Scripts S A) (t : ℕ) (due : Due A) (before after : Staffed) (state next : S)
+        → IsBetweenTicks before → IsTick scripts t due before after state next → after.cores ≡ before.cores }
 {}
 
 /// Such a tick is a right one, whatever the scripts are.

@@ -4,6 +4,7 @@ ghost use Rattle.std.specs.List.{list_all};
 ghost use Rattle.scenario_ranges.specs.Ranges.{IsInRange};
 ghost use Rattle.scenario_runs.specs.Applications.{has_ended};
 ghost use Rattle.scenario_runs.specs.Worlds.{site_of};
+ghost use Rattle.shared_scripts.specs.Turns.{numbers_in};
 
 use scenario_host::{AppScript, FillBytes, scripts_on};
 use scenario_text::{HostLine, Scenario};
@@ -44,6 +45,17 @@ impl<'a> HostScripts<'a> {
             scripts,
             filling,
         })
+    }
+
+    /// The numbers of the applications, in their order. The error is want of memory.
+    pub fn numbers(&self) -> Result<Vec<u32>, AllocError>
+        ensures { IfOk result (λ numbers. numbers.items ≡ numbers_in self.now) }
+    {
+        let mut numbers = Vec::with_capacity(self.alloc, self.scripts.len())?;
+        for script in &self.scripts {
+            numbers.push(script.number())?;
+        }
+        Ok(numbers)
     }
 
     /// Whether all have ended.

@@ -74,3 +74,11 @@ returns-in-Ok-clause-checks g c =
     let is = assembled c.args.params c.args.number c.args.cores new.shared new.slow new.cores.items
     c.requires.cores.1 a.slow a.can a.slots a.count a.numbers a.turns a.new a.free a.queues a.senders in
     (c.in-Ok.ensures.hired c.args.params c.args.cores is).slow.check_sums
+
+pub returns-in-Ok-clause-filed : goal.returns-in-Ok-clause-filed
+returns-in-Ok-clause-filed g c =
+    let a = c.in_ok-shared.ensures in
+    let new = c.in_ok-shared.field-0 in
+    let is = assembled c.args.params c.args.number c.args.cores new.shared new.slow new.cores.items
+    c.requires.cores.1 a.slow a.can a.slots a.count a.numbers a.turns a.new a.free a.queues a.senders in
+    (c.in-Ok.ensures.hired c.args.params c.args.cores is).slow.filed

@@ -1,0 +1,4 @@
+pub mod Sites
+pub mod Looking
+pub mod Stepping
+pub mod Wholes
