@@ -1,7 +1,7 @@
 use Rattle.std.proofs.Common.{◌≡◌, ◌<◌, All, map, filter, take}
 use Rattle.local_host.specs.declared.steer.GroupMove.{GroupMove}
 use Rattle.scenario_host.specs.GroupMoves.{is_move_of, group_move}
-use Rattle.scenario_host.proofs.on_cores.moves_at.Given as goal
+use Rattle.scenario_host.proofs.moves.moves_at.Given as goal
 
 -- those of the lines so far
 abbrev pub invariant-loop-line : goal.invariant-loop-line

@@ -3,7 +3,7 @@ use Rattle.std.proofs.Common.{sym, ap, ◌∙◌}
 use Rattle.std.proofs.lemmas.List.{map-append, take_more}
 use Rattle.std.proofs.lemmas.List.Elements.{filter-append}
 use Rattle.scenario_host.specs.GroupMoves.{is_move_of, group_move}
-use Rattle.scenario_host.proofs.on_cores.moves_at.Goals as goal
+use Rattle.scenario_host.proofs.moves.moves_at.Goals as goal
 
 -- one item more of those that pass a test, each as it is shown
 one_more : {A B : Type 0} (p : A → Bool) (f : A → B) (xs : List A) (i : ℕ) (x : A) (now after : List B)
