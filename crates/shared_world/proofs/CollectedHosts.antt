@@ -1,0 +1,64 @@
+-- A host of shared flows, and all of them one after the other: their frames of a tick, and their counts.
+use Rattle.std.proofs.Common.{◌≡◌, ℕ, suc, ◌+◌, ◌<◌, List, [], ◌∷◌, ◌++◌, length, refl, sym, ap, ◌∙◌, subst, arith}
+use Rattle.std.proofs.Common.{append-nil}
+use Rattle.host_rounds.specs.Hosts.{Host}
+use Rattle.link_script.specs.declared.frames.Sent.{Sent}
+use Rattle.scenario_runs.specs.Applications.{Script}
+use Rattle.scenario_runs.specs.Worlds.{World, frames_of_hosts}
+use Rattle.sent_frames.specs.declared.counts.SentCounts.{SentCounts}
+use Rattle.sent_frames.specs.Sending.{of_tick}
+use Rattle.scenario_world.specs.Playing.{IsCountedBefore, IsCounted, AreCountedBefore, AreCounted}
+use Rattle.scenario_world.proofs.Counted.{piece_more}
+use Rattle.scenario_world.proofs.WorldTicks.{host_frames}
+use Rattle.core_host.specs.Views.{Staffed, seen_by}
+use Rattle.shared_world.specs.Sites.{sites_in}
+
+-- ----- counts of hosts
+-- so it is with some scripts
+abbrev pub AreToCount : (t : ℕ) → List Staffed → List SentCounts → Type 0
+AreToCount t hosts counts =
+    (scripts : List (List Script)) × (length scripts ≡ length hosts)
+    × AreCountedBefore t (sites_in hosts scripts) counts
+
+pub none_to_count : (t : ℕ) (counts : List SentCounts) → AreToCount t [] counts → counts ≡ []
+none_to_count t [] to = refl
+none_to_count t (c ∷ cs) to = absurd (to.1).1
+
+pub some_to_count : (t : ℕ) (h : Staffed) (hs : List Staffed) → AreToCount t (h ∷ hs) [] → ⊥
+some_to_count t h hs to = by_scripts to.0 (to.1).0 (to.1).1 where
+  by_scripts : (scripts : List (List Script)) → length scripts ≡ length (h ∷ hs)
+      → AreCountedBefore t (sites_in (h ∷ hs) scripts) [] → ⊥
+  by_scripts [] len counted = absurd (omega (arith, len))
+  by_scripts (x ∷ xs) len counted = counted
+
+-- the first one, and the others
+pub first_to_count : (t : ℕ) (h : Staffed) (hs : List Staffed) (c : SentCounts) (cs : List SentCounts)
+    → AreToCount t (h ∷ hs) (c ∷ cs) → IsCountedBefore t (seen_by h) c × AreToCount t hs cs
+first_to_count t h hs c cs to = by_scripts to.0 (to.1).0 (to.1).1 where
+  by_scripts : (scripts : List (List Script)) → length scripts ≡ length (h ∷ hs)
+      → AreCountedBefore t (sites_in (h ∷ hs) scripts) (c ∷ cs)
+      → IsCountedBefore t (seen_by h) c × AreToCount t hs cs
+  by_scripts [] len counted = absurd (omega (arith, len))
+  by_scripts (x ∷ xs) len counted =
+      let rest : length xs ≡ length hs = omega (arith, len) in (counted.0, (xs, (rest, counted.1)))
+
+-- All hosts are counted, where the first is, and the others are.
+pub all_counted : (h : Staffed) (hs : List Staffed) (c : SentCounts) (cs : List SentCounts) → IsCounted (seen_by h) c
+    → ((scripts : List (List Script)) → length scripts ≡ length hs → AreCounted (sites_in hs scripts) cs)
+    → (scripts : List (List Script)) → length scripts ≡ length (h ∷ hs)
+    → AreCounted (sites_in (h ∷ hs) scripts) (c ∷ cs)
+all_counted h hs c cs one rest [] len = absurd (omega (arith, len))
+all_counted h hs c cs one rest (x ∷ xs) len = let fewer : length xs ≡ length hs = omega (arith, len) in (one, rest xs fewer)
+
+-- ----- frames of hosts
+pub all_sent : (t n : ℕ) (world : World) (h : Staffed) (hs : List Staffed) (old middle end : List Sent)
+    → middle ≡ old ++ of_tick t (host_frames world n (seen_by h))
+    → ((scripts : List (List Script)) → length scripts ≡ length hs
+      → end ≡ middle ++ of_tick t (frames_of_hosts world (n + 1) (sites_in hs scripts)))
+    → (scripts : List (List Script)) → length scripts ≡ length (h ∷ hs)
+    → end ≡ old ++ of_tick t (frames_of_hosts world n (sites_in (h ∷ hs) scripts))
+all_sent t n world h hs old middle end one rest [] len = absurd (omega (arith, len))
+all_sent t n world h hs old middle end one rest (x ∷ xs) len =
+    let fewer : length xs ≡ length hs = omega (arith, len) in
+    piece_more t old middle end (host_frames world n (seen_by h)) (frames_of_hosts world (n + 1) (sites_in hs xs))
+    (frames_of_hosts world n (sites_in (h ∷ hs) (x ∷ xs))) one (rest xs fewer) refl
