@@ -126,6 +126,17 @@ collected_on t host addresses old now next i at was is more before after end giv
       last = last;
     }
 
+-- so it is where things are named otherwise
+pub collected_as : (t host : ℕ) (addresses : List ℕ) (old now now' : Staffed) (i at at' : ℕ) (was is is' : SentCounts)
+    (before after after' : List Sent) → now' ≡ now → at' ≡ at → is' ≡ is → after' ≡ after
+    → AreCollected t host addresses old now i at was is before after
+    → AreCollected t host addresses old now' i at' was is' before after'
+collected_as t host addresses old now now' i at at' was is is' before after after' hosts ats counts sent all =
+    subst (λ (h : Staffed). AreCollected t host addresses old h i at' was is' before after') (sym hosts)
+    (subst (λ (n : ℕ). AreCollected t host addresses old now i n was is' before after') (sym ats)
+    (subst (λ (c : SentCounts). AreCollected t host addresses old now i at was c before after') (sym counts)
+    (subst (λ (fs : List Sent). AreCollected t host addresses old now i at was is before fs) (sym sent) all)))
+
 -- It isn't in the index, and sent nothing.
 pub collected_past : (t host : ℕ) (addresses : List ℕ) (old now : Staffed) (i at : ℕ) (was is : SentCounts)
     (before after : List Sent) (given : Bool)

@@ -1,6 +1,6 @@
 -- A host of shared flows, and all of them one after the other: their frames of a tick, and their counts.
 use Rattle.std.proofs.Common.{◌≡◌, ℕ, suc, ◌+◌, ◌<◌, List, [], ◌∷◌, ◌++◌, length, refl, sym, ap, ◌∙◌, subst, arith}
-use Rattle.std.proofs.Common.{append-nil}
+use Rattle.std.specs.Prelude.{Result, OnOk}
 use Rattle.host_rounds.specs.Hosts.{Host}
 use Rattle.link_script.specs.declared.frames.Sent.{Sent}
 use Rattle.scenario_runs.specs.Applications.{Script}
@@ -11,6 +11,7 @@ use Rattle.scenario_world.specs.Playing.{IsCountedBefore, IsCounted, AreCountedB
 use Rattle.scenario_world.proofs.Counted.{piece_more}
 use Rattle.scenario_world.proofs.WorldTicks.{host_frames}
 use Rattle.core_host.specs.Views.{Staffed, seen_by}
+use Rattle.core_host.proofs.Played.{ok_map}
 use Rattle.shared_world.specs.Sites.{sites_in}
 
 -- ----- counts of hosts
@@ -42,23 +43,29 @@ first_to_count t h hs c cs to = by_scripts to.0 (to.1).0 (to.1).1 where
   by_scripts (x ∷ xs) len counted =
       let rest : length xs ≡ length hs = omega (arith, len) in (counted.0, (xs, (rest, counted.1)))
 
--- All hosts are counted, where the first is, and the others are.
-pub all_counted : (h : Staffed) (hs : List Staffed) (c : SentCounts) (cs : List SentCounts) → IsCounted (seen_by h) c
-    → ((scripts : List (List Script)) → length scripts ≡ length hs → AreCounted (sites_in hs scripts) cs)
+-- ----- all hosts
+-- They are counted, where the first is, and the others are.
+pub all_counted : {T E : Type 0} (r : Result T E) (h : Staffed) (hs : List Staffed) (c : SentCounts)
+    (cs : List SentCounts) → IsCounted (seen_by h) c
+    → ((scripts : List (List Script)) → length scripts ≡ length hs → OnOk r (AreCounted (sites_in hs scripts) cs))
     → (scripts : List (List Script)) → length scripts ≡ length (h ∷ hs)
-    → AreCounted (sites_in (h ∷ hs) scripts) (c ∷ cs)
-all_counted h hs c cs one rest [] len = absurd (omega (arith, len))
-all_counted h hs c cs one rest (x ∷ xs) len = let fewer : length xs ≡ length hs = omega (arith, len) in (one, rest xs fewer)
+    → OnOk r (AreCounted (sites_in (h ∷ hs) scripts) (c ∷ cs))
+all_counted r h hs c cs one rest [] len = absurd (omega (arith, len))
+all_counted r h hs c cs one rest (x ∷ xs) len =
+    let fewer : length xs ≡ length hs = omega (arith, len) in ok_map r (λ all. (one, all)) (rest xs fewer)
 
--- ----- frames of hosts
-pub all_sent : (t n : ℕ) (world : World) (h : Staffed) (hs : List Staffed) (old middle end : List Sent)
-    → middle ≡ old ++ of_tick t (host_frames world n (seen_by h))
+-- and their frames are those of the first, and those of the others
+pub all_sent : {T E : Type 0} (r : Result T E) (t n : ℕ) (world : World) (h : Staffed) (hs : List Staffed)
+    (old middle end : List Sent) → middle ≡ old ++ of_tick t (host_frames world n (seen_by h))
     → ((scripts : List (List Script)) → length scripts ≡ length hs
-      → end ≡ middle ++ of_tick t (frames_of_hosts world (n + 1) (sites_in hs scripts)))
+      → OnOk r (end ≡ middle ++ of_tick t (frames_of_hosts world (n + 1) (sites_in hs scripts))))
     → (scripts : List (List Script)) → length scripts ≡ length (h ∷ hs)
-    → end ≡ old ++ of_tick t (frames_of_hosts world n (sites_in (h ∷ hs) scripts))
-all_sent t n world h hs old middle end one rest [] len = absurd (omega (arith, len))
-all_sent t n world h hs old middle end one rest (x ∷ xs) len =
+    → OnOk r (end ≡ old ++ of_tick t (frames_of_hosts world n (sites_in (h ∷ hs) scripts)))
+all_sent r t n world h hs old middle end one rest [] len = absurd (omega (arith, len))
+all_sent r t n world h hs old middle end one rest (x ∷ xs) len =
     let fewer : length xs ≡ length hs = omega (arith, len) in
+    ok_map r
+    (λ more.
     piece_more t old middle end (host_frames world n (seen_by h)) (frames_of_hosts world (n + 1) (sites_in hs xs))
-    (frames_of_hosts world n (sites_in (h ∷ hs) (x ∷ xs))) one (rest xs fewer) refl
+    (frames_of_hosts world n (sites_in (h ∷ hs) (x ∷ xs))) one more refl)
+    (rest xs fewer)
