@@ -23,10 +23,10 @@ AreToCount t hosts counts =
 
 pub none_to_count : (t : ℕ) (counts : List SentCounts) → AreToCount t [] counts → counts ≡ []
 none_to_count t [] to = refl
-none_to_count t (c ∷ cs) to = absurd (to.1).1
+none_to_count t (c ∷ cs) to = absurd to.2
 
 pub some_to_count : (t : ℕ) (h : Staffed) (hs : List Staffed) → AreToCount t (h ∷ hs) [] → ⊥
-some_to_count t h hs to = by_scripts to.0 (to.1).0 (to.1).1 where
+some_to_count t h hs to = by_scripts to.0 to.1 to.2 where
   by_scripts : (scripts : List (List Script)) → length scripts ≡ length (h ∷ hs)
       → AreCountedBefore t (sites_in (h ∷ hs) scripts) [] → ⊥
   by_scripts [] len counted = absurd (omega (arith, len))
@@ -35,13 +35,13 @@ some_to_count t h hs to = by_scripts to.0 (to.1).0 (to.1).1 where
 -- the first one, and the others
 pub first_to_count : (t : ℕ) (h : Staffed) (hs : List Staffed) (c : SentCounts) (cs : List SentCounts)
     → AreToCount t (h ∷ hs) (c ∷ cs) → IsCountedBefore t (seen_by h) c × AreToCount t hs cs
-first_to_count t h hs c cs to = by_scripts to.0 (to.1).0 (to.1).1 where
+first_to_count t h hs c cs to = by_scripts to.0 to.1 to.2 where
   by_scripts : (scripts : List (List Script)) → length scripts ≡ length (h ∷ hs)
       → AreCountedBefore t (sites_in (h ∷ hs) scripts) (c ∷ cs)
       → IsCountedBefore t (seen_by h) c × AreToCount t hs cs
   by_scripts [] len counted = absurd (omega (arith, len))
   by_scripts (x ∷ xs) len counted =
-      let rest : length xs ≡ length hs = omega (arith, len) in (counted.0, (xs, (rest, counted.1)))
+      let rest : length xs ≡ length hs = omega (arith, len) in (counted.0, (xs, rest, counted.1))
 
 -- ----- all hosts
 -- They are counted, where the first is, and the others are.

@@ -15,14 +15,14 @@ use Rattle.shared_world.proofs.collecting.+collect_all.Goals as goal
 pub collect_all-requires : goal.collect_all-requires
 collect_all-requires t c =
     let e = c.in-Some.ensures.cases in
-    let f = c.in-Some-2.ensures.cases in
+    let f = c.in-Some-split_first_mut.ensures.cases in
     let hosts : c.args.number + 1 + length c.in-Some.rest.now < 2 ^ 32 =
     omega (arith, c.requires.hosts, ap length e.0) in
     let sound = subst (Each IsStaffSound) e.0 c.requires.sound in
     let silent = subst (AreSilentBut c.args.tick) e.0 c.requires.silent in
     let few = subst (Each (λ (h : Staffed). length (seen_by h).flows < 2 ^ 32)) e.0 c.requires.few in
-    let counted = first_to_count c.args.tick c.in-Some.host.now c.in-Some.rest.now c.in-Some-2.own.now
-    c.in-Some-2.others.now
+    let counted = first_to_count c.args.tick c.in-Some.host.now c.in-Some.rest.now c.in-Some-split_first_mut.own.now
+    c.in-Some-split_first_mut.others.now
     (subst (AreToCount c.args.tick (c.in-Some.host.now ∷ c.in-Some.rest.now)) f.0
     (subst (λ (hs : List Staffed). AreToCount c.args.tick hs c.args.counts.now) e.0 c.requires.counted)) in (
       search rules,

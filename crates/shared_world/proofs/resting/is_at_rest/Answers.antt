@@ -17,7 +17,7 @@ pub are_closed-requires : goal.are_closed-requires
 are_closed-requires c =
     let w = c.args.w.now in
     subst (λ (hs : List Staffed). Each IsStaffSound hs) (sym c.deref_mut.ensures.value)
-    (playable_sound (c.args.tick + 1) w.hosts.items w.scripts.items (c.requires.1.1).playable)
+    (playable_sound (c.args.tick + 1) w.hosts.items w.scripts.items (c.requires.2).playable)
 
 pub returns-then-not-is_quiet-clause-rest : goal.returns-then-not-is_quiet-clause-rest
 returns-then-not-is_quiet-clause-rest c s cores ready =
