@@ -1,65 +1,23 @@
 -- The flows of a host one after the other: which the index has, and whether they are closed.
-use Rattle.std.proofs.Common.{◌≡◌, ℕ, ◌+◌, ◌<◌, ◌≤◌, ◌==◌, ◌&&◌, Bool, true, false, List, [], ◌∷◌, length, take, drop}
-use Rattle.std.proofs.Common.{get_or, count_by, Option, Some, None, slice_get, is_some, refl, sym, ap, ◌∙◌, subst}
-use Rattle.std.proofs.Common.{arith}
-use Rattle.std.proofs.lemmas.List.{drop_all}
-use Rattle.std.proofs.lemmas.List.Sums.{count_by_more_no, count_by_more_yes}
+use Rattle.std.proofs.Common.{◌≡◌, ℕ, ◌+◌, ◌<◌, ◌&&◌, Bool, true, false, List, [], ◌∷◌, length, take, drop, get_or}
+use Rattle.std.proofs.Common.{count_by, Some, slice_get, sym, ap, ◌∙◌, arith}
 use Rattle.std.proofs.lemmas.List.Folds.{list_all_at}
+use Rattle.std.proofs.lemmas.List.Sums.{count_by_more_no, count_by_more_yes}
 use Rattle.std.proofs.lemmas.Option.{slice_get_within, get_or_from_slice_get, slice_get-get_or}
 use Rattle.std.specs.List.{list_all}
-use Rattle.tas_model.specs.Endpoint.{Endpoint, phase, phase_by, synchronized, is_closed, is_fin_acked}
-use Rattle.tas_model.specs.declared.entry.Phase.{Phase}
-use Rattle.tas_model.specs.declared.entry.Reason.{Reason}
-use Rattle.tas_model.specs.LegalHistory.{replay}
-use Rattle.flow_state.specs.Calls.{is_closed_phase}
-use Rattle.flow_state.specs.Flow.{Flow}
 use Rattle.host_rounds.specs.Hosts.{Host, Live, is_over}
 use Rattle.host_rounds.specs.Lists.{Each}
-use Rattle.host_rounds.specs.Logs as logs
 use Rattle.scenario_world.proofs.InSeats.{each_there}
 use Rattle.scenario_world.proofs.Lists.{cut_at}
-use Rattle.core_host.specs.Emission.{IsIndexedAt, flow_of}
-use Rattle.core_host.specs.Sound.{IsStaffSound}
+use Rattle.core_host.specs.Emission.{IsIndexedAt}
 use Rattle.core_host.specs.Views.{Staffed, seen_by}
 use Rattle.shared_world.specs.Looking.{IsLookedAt}
-use Rattle.shared_world.proofs.Looked.{looked_self, looked_on}
+use Rattle.shared_world.proofs.Looked.{looked_on}
 
 -- ----- an item of a list
 pub found_in : {X : Type 0} (xs : List X) (i : ℕ) → i < length xs → (x : X) × (slice_get xs i ≡ Some x)
 found_in [] i inside = absurd (omega (arith, inside))
 found_in (x ∷ xs) i inside = (get_or (x ∷ xs) i x, slice_get-get_or (x ∷ xs) i x inside)
-
--- ----- one flow
-in_sides : (una : ℕ) (zero shut fin_acked ended ended_first : Bool) → (una == 0) ≡ zero
-    → is_closed_phase (synchronized una shut fin_acked ended ended_first) ≡ false
-in_sides una true shut fin_acked ended ended_first is = rw is refl
-in_sides una false true fin_acked true true is = rw is refl
-in_sides una false true true true false is = rw is refl
-in_sides una false true false true false is = rw is refl
-in_sides una false true true false ended_first is = rw is refl
-in_sides una false true false false ended_first is = rw is refl
-in_sides una false false fin_acked true ended_first is = rw is refl
-in_sides una false false fin_acked false ended_first is = rw is refl
-
-by_reason : (why : Option Reason) (peer : Option ℕ) (una : ℕ) (shut fin_acked ended ended_first : Bool)
-    → is_closed_phase (phase_by why peer una shut fin_acked ended ended_first) ≡ is_some why
-by_reason (Some why) peer una shut fin_acked ended ended_first = refl
-by_reason None None una shut fin_acked ended ended_first = refl
-by_reason None (Some first) una shut fin_acked ended ended_first =
-    in_sides una (una == 0) shut fin_acked ended ended_first refl
-
--- the phase is CLOSED where the endpoint is
-pub closed_phase : (e : Endpoint) → is_closed_phase (phase e) ≡ is_closed e
-closed_phase e = by_reason e.reason e.peer e.tx.una e.tx.shut (is_fin_acked e.tx) e.rx.ended e.rx.ended_first
-
--- A flow is closed where the phase of its record is.
-pub over_by : (r : Flow) (l : Live) (p : Phase) (closed : Bool) → l.flow ≡ flow_of r
-    → p ≡ phase (replay r.params r.entries) → closed ≡ is_closed_phase p → closed ≡ is_over l
-over_by r l p closed same stands is =
-    is
-    ∙ (ap is_closed_phase stands
-    ∙ (closed_phase (replay r.params r.entries)
-    ∙ ap (λ (f : logs.Flow). is_closed (replay f.params f.entries)) (sym same)))
 
 -- ----- flows of the index
 abbrev pub indexed_before : (place : ℕ) → List Live → ℕ
@@ -126,9 +84,6 @@ pub record AreClosedTo (old now : Staffed) (i at : ℕ) : Type 0 where
   pub looked : IsLookedAt old now
   pub left : list_all is_over (drop i (seen_by old).flows) ≡ list_all is_over (seen_by old).flows
 
-pub none_closed : (h : Staffed) → IsStaffSound h → AreClosedTo h h 0 0
-none_closed h sound = record { count = refl; looked = looked_self h sound; left = refl }
-
 closed_more : (ls : List Live) (i : ℕ) (l : Live) (all : Bool) → slice_get ls i ≡ Some l → is_over l ≡ true
     → list_all is_over (drop i ls) ≡ all → list_all is_over (drop (i + 1) ls) ≡ all
 closed_more ls i l all here over is =
@@ -178,9 +133,3 @@ one_open old now i closed looked inside told is =
     list_all_at is_over ls i l inside
     (ap is_over (get_or_from_slice_get ls i l l found.1)
     ∙ (sym (told l (still_there old now i l looked found.1)) ∙ is))
-
--- All are closed.
-pub all_closed : (old now : Staffed) (i at : ℕ) → AreClosedTo old now i at → length (seen_by old).flows ≤ i
-    → list_all is_over (seen_by old).flows ≡ true
-all_closed old now i at to past =
-    sym to.left ∙ ap (list_all is_over) (drop_all i (seen_by old).flows past)

@@ -1,27 +1,25 @@
 -- The flows of a host of shared flows, one after the other: their frames of a tick, and their counts.
-use Rattle.std.proofs.Common.{◌≡◌, ℕ, suc, ◌+◌, ◌<◌, ◌≤◌, ◌^◌, Bool, true, false, List, [], ◌∷◌, ◌++◌, length, map}
-use Rattle.std.proofs.Common.{get_or, set, take, drop, Some, slice_get, refl, sym, ap, ◌∙◌, subst, arith}
-use Rattle.std.proofs.Common.{append_assoc, append-nil, length-append}
-use Rattle.std.proofs.lemmas.List.{length-map, map-append, take_all, drop_all}
+use Rattle.std.proofs.Common.{◌≡◌, ℕ, suc, ◌+◌, ◌<◌, Bool, true, false, List, [], ◌∷◌, ◌++◌, length, get_or, set}
+use Rattle.std.proofs.Common.{take, drop, Some, slice_get, sym, ap, ◌∙◌, subst, arith, append_assoc, append-nil}
+use Rattle.std.proofs.Common.{length-append}
+use Rattle.std.proofs.lemmas.List.{length-map, map-append}
 use Rattle.std.proofs.lemmas.Option.{slice_get-get_or, get_or_from_slice_get}
 use Rattle.host_rounds.specs.Hosts.{Host, Live}
-use Rattle.host_rounds.specs.Lists.{Each}
 use Rattle.host_rounds.specs.Logs as logs
 use Rattle.link_script.specs.declared.frames.Sent.{Sent}
 use Rattle.flow_state.specs.Flow.{Flow}
-use Rattle.scenario_runs.specs.Worlds.{World, host_at, frames_of_entries, frames_of_flows}
+use Rattle.scenario_runs.specs.Worlds.{World, host_at, frames_of_flows}
 use Rattle.sent_frames.specs.declared.counts.SentCounts.{SentCounts}
 use Rattle.sent_frames.specs.Sending.{addresses_of, of_tick, sent_by, sent_before, AreUpTo}
 use Rattle.scenario_world.proofs.Grown.{live_frames, counts_of, counts_before}
 use Rattle.scenario_world.proofs.Counted.{count_there, counts_more, lives_more}
 use Rattle.scenario_world.proofs.InSeats.{each_there}
 use Rattle.scenario_world.proofs.Lists.{cut_at, taken_more, taken_len}
-use Rattle.core_host.specs.Emission.{flow_of, IsIndexedAt, IsRecordAt}
-use Rattle.core_host.specs.Sound.{IsStaffSound}
+use Rattle.core_host.specs.Emission.{IsIndexedAt, IsRecordAt}
 use Rattle.core_host.specs.Views.{Staffed, seen_by}
 use Rattle.shared_world.specs.Looking.{IsLookedAt, IsSilentIn, IsSilentBut}
 use Rattle.shared_world.proofs.Closed.{SaysIndexed, indexed_before, indexed_more, indexed_still, said, still_there}
-use Rattle.shared_world.proofs.Looked.{looked_self, looked_on}
+use Rattle.shared_world.proofs.Looked.{looked_on}
 
 -- ----- counts
 -- the flow at a place has its count there
@@ -76,19 +74,6 @@ pub record AreCollected (t host : ℕ) (addresses : List ℕ) (old now : Staffed
       → after ≡ before ++ of_tick t (frames_of_flows world host 0 (take i (seen_by old).flows))
   pub last : AreUpTo t after
 
-pub none_collected : (t host : ℕ) (addresses : List ℕ) (h : Staffed) (counts : SentCounts) (sent : List Sent)
-    → IsStaffSound h → counts.flows.items ≡ counts_before t (seen_by h).flows → AreUpTo t sent
-    → AreCollected t host addresses h h 0 0 counts counts sent sent
-none_collected t host addresses h counts sent sound counted last = record {
-  count = refl;
-  looked = looked_self h sound;
-  flows = counted;
-  answers = refl;
-  lines = refl;
-  frames = λ world same. sym (append-nil sent);
-  last = last;
-}
-
 -- what the next place is, for the one that is collected there
 pub count_next : (t host : ℕ) (addresses : List ℕ) (old now : Staffed) (i at : ℕ) (was is : SentCounts)
     (before after : List Sent) (l : Live) → AreCollected t host addresses old now i at was is before after
@@ -109,10 +94,10 @@ pub collected_on : (t host : ℕ) (addresses : List ℕ) (old now next : Staffed
       → more.flows.items ≡ set is.flows.items i (sent_by l.flow.entries))
     → more.answers ≡ is.answers → more.lines ≡ is.lines → AreUpTo t end
     → AreCollected t host addresses old next (i + 1) (at + 1) was more before end
-collected_on t host addresses old now next i at was is more before after end given to inside says yes' looked frames
+collected_on t host addresses old now next i at was is more before after end given to inside says so looked frames
     flows answers lines last =
     let ls = (seen_by old).flows in
-    let found = said old now i given true to.looked inside says yes' in
+    let found = said old now i given true to.looked inside says so in
     let l = found.flow in
     let here = still_there old now i l to.looked found.here in
     record {
@@ -143,9 +128,9 @@ pub collected_past : (t host : ℕ) (addresses : List ℕ) (old now : Staffed) (
     → AreCollected t host addresses old now i at was is before after → i < length (seen_by old).flows
     → SaysIndexed now i given → given ≡ false → IsSilentBut t (seen_by old).flows
     → AreCollected t host addresses old now (i + 1) at was is before after
-collected_past t host addresses old now i at was is before after given to inside says not' silent =
+collected_past t host addresses old now i at was is before after given to inside says so silent =
     let ls = (seen_by old).flows in
-    let found = said old now i given false to.looked inside says not' in
+    let found = said old now i given false to.looked inside says so in
     let l = found.flow in
     let none = each_there (λ (k : Live). k.indexed ≡ false → IsSilentIn t k.flow.entries) ls i l silent found.here
     found.is in
@@ -160,21 +145,3 @@ collected_past t host addresses old now i at was is before after given to inside
           (none.frames host i (host_at world l.flow.tuple.raddr) l.flow.tuple) ∙ append-nil after));
       last = to.last;
     }
-
--- ----- all flows
-pub all_counted : (t host : ℕ) (addresses : List ℕ) (old now : Staffed) (i at : ℕ) (was is : SentCounts)
-    (before after : List Sent) → AreCollected t host addresses old now i at was is before after
-    → length (seen_by old).flows ≤ i → is.flows.items ≡ counts_of (seen_by old).flows
-all_counted t host addresses old now i at was is before after to past =
-    let ls = (seen_by old).flows in
-    to.flows
-    ∙ (ap (λ ms. counts_of (take i ls) ++ counts_before t ms) (drop_all i ls past)
-    ∙ (append-nil (counts_of (take i ls)) ∙ ap counts_of (take_all i ls past)))
-
-pub all_collected : (t host : ℕ) (addresses : List ℕ) (old now : Staffed) (i at : ℕ) (was is : SentCounts)
-    (before after : List Sent) → AreCollected t host addresses old now i at was is before after
-    → length (seen_by old).flows ≤ i → (world : World) → addresses ≡ addresses_of world
-    → after ≡ before ++ of_tick t (frames_of_flows world host 0 (seen_by old).flows)
-all_collected t host addresses old now i at was is before after to past world same =
-    to.frames world same
-    ∙ ap (λ ms. before ++ of_tick t (frames_of_flows world host 0 ms)) (take_all i (seen_by old).flows past)

@@ -1,7 +1,6 @@
 -- A host of shared flows, and all of them one after the other: their frames of a tick, and their counts.
-use Rattle.std.proofs.Common.{◌≡◌, ℕ, suc, ◌+◌, ◌<◌, List, [], ◌∷◌, ◌++◌, length, refl, sym, ap, ◌∙◌, subst, arith}
+use Rattle.std.proofs.Common.{◌≡◌, ℕ, ◌+◌, List, [], ◌∷◌, ◌++◌, length, refl, arith}
 use Rattle.std.specs.Prelude.{Result, OnOk}
-use Rattle.host_rounds.specs.Hosts.{Host}
 use Rattle.link_script.specs.declared.frames.Sent.{Sent}
 use Rattle.scenario_runs.specs.Applications.{Script}
 use Rattle.scenario_runs.specs.Worlds.{World, frames_of_hosts}
@@ -20,17 +19,6 @@ abbrev pub AreToCount : (t : ℕ) → List Staffed → List SentCounts → Type 
 AreToCount t hosts counts =
     (scripts : List (List Script)) × (length scripts ≡ length hosts)
     × AreCountedBefore t (sites_in hosts scripts) counts
-
-pub none_to_count : (t : ℕ) (counts : List SentCounts) → AreToCount t [] counts → counts ≡ []
-none_to_count t [] to = refl
-none_to_count t (c ∷ cs) to = absurd to.2
-
-pub some_to_count : (t : ℕ) (h : Staffed) (hs : List Staffed) → AreToCount t (h ∷ hs) [] → ⊥
-some_to_count t h hs to = by_scripts to.0 to.1 to.2 where
-  by_scripts : (scripts : List (List Script)) → length scripts ≡ length (h ∷ hs)
-      → AreCountedBefore t (sites_in (h ∷ hs) scripts) [] → ⊥
-  by_scripts [] len counted = absurd (omega (arith, len))
-  by_scripts (x ∷ xs) len counted = counted
 
 -- the first one, and the others
 pub first_to_count : (t : ℕ) (h : Staffed) (hs : List Staffed) (c : SentCounts) (cs : List SentCounts)

@@ -1,11 +1,11 @@
 -- Hosts with their scripts, and what of both a run at rest asks.
-use Rattle.std.proofs.Common.{◌≡◌, ℕ, suc, ◌+◌, ◌&&◌, Bool, true, false, not, List, [], ◌∷◌, length, refl, sym, ap, ◌∙◌, subst}
-use Rattle.std.proofs.Common.{arith, true≢false}
+use Rattle.std.proofs.Common.{◌≡◌, ℕ, ◌+◌, ◌&&◌, Bool, true, false, not, List, [], ◌∷◌, length, refl, sym, ap, ◌∙◌}
+use Rattle.std.proofs.Common.{subst, arith, true≢false}
 use Rattle.std.specs.Prelude.{nat_lt}
-use Rattle.std.specs.List.{list_all, list_any}
+use Rattle.std.specs.List.{list_all}
 use Rattle.host_rounds.specs.Hosts.{is_over}
 use Rattle.scenario_runs.specs.Applications.{Script, has_ended}
-use Rattle.scenario_runs.specs.Worlds.{World, all_ended, all_closed, is_at_rest, is_under_way, sent_in}
+use Rattle.scenario_runs.specs.Worlds.{World, all_ended, all_closed, is_at_rest}
 use Rattle.scenario_text.specs.declared.scenario.Scenario.{Scenario}
 use Rattle.core_host.specs.Views.{Staffed, seen_by}
 use Rattle.due_frames.specs.Few.{AreFew}

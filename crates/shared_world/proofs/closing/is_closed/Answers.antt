@@ -1,5 +1,5 @@
 -- Answers of the proof of closing/is_closed.
-use Rattle.std.proofs.Common.{◌≡◌, ℕ, ◌+◌, ◌<◌, length, sym, subst, arith}
+use Rattle.std.proofs.Common.{ℕ, ◌+◌, ◌<◌, length, sym, subst, arith}
 use Rattle.core_host.specs.Views.{Staffed, seen_by}
 use Rattle.shared_world.proofs.Closed.{AreClosedTo, indexed_there, closed_on, closed_past, one_open}
 use Rattle.shared_world.proofs.closing.is_closed.Goals.{then-is_indexed+else-not-is_closed_at, else-is_indexed}

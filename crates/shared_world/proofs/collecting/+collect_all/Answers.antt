@@ -1,7 +1,6 @@
 -- Answers of the proof of collecting/+collect_all.
 use Rattle.std.proofs.Common.{◌≡◌, ◌+◌, ◌<◌, ◌^◌, ◌++◌, ◌∷◌, List, length, sym, subst, ap, ◌∙◌, arith, rules, OnOk}
 use Rattle.host_rounds.specs.Lists.{Each}
-use Rattle.sent_frames.specs.declared.counts.SentCounts.{SentCounts}
 use Rattle.sent_frames.specs.Sending.{of_tick}
 use Rattle.scenario_runs.specs.Worlds.{frames_of_hosts}
 use Rattle.scenario_world.specs.Playing.{AreCounted}

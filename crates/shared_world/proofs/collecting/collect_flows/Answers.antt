@@ -1,6 +1,6 @@
 -- Answers of the proof of collecting/collect_flows.
-use Rattle.std.proofs.Common.{◌≡◌, ℕ, ◌+◌, ◌<◌, length, arith}
-use Rattle.core_host.specs.Views.{Staffed, seen_by}
+use Rattle.std.proofs.Common.{◌+◌, ◌<◌, length, arith}
+use Rattle.core_host.specs.Views.{seen_by}
 use Rattle.shared_world.proofs.Closed.{indexed_there}
 use Rattle.shared_world.proofs.Collected.{count_next, collected_on, collected_past, collected_as}
 use Rattle.shared_world.proofs.collecting.collect_flows.Goals.{then-is_indexed+in_ok-collect_at, else-is_indexed}
