@@ -89,9 +89,9 @@ pub collected_on : (t host : ℕ) (addresses : List ℕ) (old now next : Staffed
     → AreCollected t host addresses old now i at was is before after → i < length (seen_by old).flows
     → SaysIndexed now i given → given ≡ true → IsLookedAt now next
     → ((world : World) (l : Live) → addresses ≡ addresses_of world → slice_get (seen_by now).flows i ≡ Some l
-      → end ≡ after ++ of_tick t (live_frames world host i l))
+    → end ≡ after ++ of_tick t (live_frames world host i l))
     → ((l : Live) → slice_get (seen_by now).flows i ≡ Some l
-      → more.flows.items ≡ set is.flows.items i (sent_by l.flow.entries))
+    → more.flows.items ≡ set is.flows.items i (sent_by l.flow.entries))
     → more.answers ≡ is.answers → more.lines ≡ is.lines → AreUpTo t end
     → AreCollected t host addresses old next (i + 1) (at + 1) was more before end
 collected_on t host addresses old now next i at was is more before after end given to inside says so looked frames

@@ -46,7 +46,7 @@ all_counted r h hs c cs one rest (x ∷ xs) len =
 pub all_sent : {T E : Type 0} (r : Result T E) (t n : ℕ) (world : World) (h : Staffed) (hs : List Staffed)
     (old middle end : List Sent) → middle ≡ old ++ of_tick t (host_frames world n (seen_by h))
     → ((scripts : List (List Script)) → length scripts ≡ length hs
-      → OnOk r (end ≡ middle ++ of_tick t (frames_of_hosts world (n + 1) (sites_in hs scripts))))
+    → OnOk r (end ≡ middle ++ of_tick t (frames_of_hosts world (n + 1) (sites_in hs scripts))))
     → (scripts : List (List Script)) → length scripts ≡ length (h ∷ hs)
     → OnOk r (end ≡ old ++ of_tick t (frames_of_hosts world n (sites_in (h ∷ hs) scripts)))
 all_sent r t n world h hs old middle end one rest [] len = absurd (omega (arith, len))

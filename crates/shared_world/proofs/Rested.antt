@@ -56,8 +56,8 @@ goes_where false closed coming loud = refl
 -- what the definitions of runs say of it
 rest_is : (s : Scenario) (t cores : ℕ) (w : SharedWorld) → IsReady s (t + 1) cores w
     → is_at_rest s t (world_of w) ≡ (list_all (λ (xs : List Script). list_all has_ended xs) w.scripts.items
-      && list_all (λ (h : Staffed). list_all is_over (seen_by h).flows) w.hosts.items
-      && not (nat_lt t w.traffic.last))
+    && list_all (λ (h : Staffed). list_all is_over (seen_by h).flows) w.hosts.items
+    && not (nat_lt t w.traffic.last))
 rest_is s t cores w ready =
     let len = playable_len (t + 1) w.hosts.items w.scripts.items ready.playable in
     ap (λ b. all_ended (world_of w) && all_closed (world_of w) && not b) (ready.world.kept.coming t)

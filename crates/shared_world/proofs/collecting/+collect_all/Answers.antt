@@ -39,7 +39,7 @@ returns-clause-frames t c world scripts same len =
     let e = c.in-Some.ensures.cases in
     subst
     (λ (hs : List Staffed). OnOk c.collect_all.result (c.collect_all.new.sent
-      ≡ c.args.sent.now ++ of_tick c.args.tick (frames_of_hosts world c.args.number (sites_in hs scripts))))
+    ≡ c.args.sent.now ++ of_tick c.args.tick (frames_of_hosts world c.args.number (sites_in hs scripts))))
     (sym e.0)
     (all_sent c.collect_all.result c.args.tick c.args.number world c.in-Some.host.now c.in-Some.rest.now
     c.args.sent.now c.collect_host.new.sent c.collect_all.new.sent (c.in_ok-collect_host.ensures.frames world same)
@@ -50,7 +50,7 @@ returns-clause-counted t c scripts len =
     let e = c.in-Some.ensures.cases in
     subst
     (λ (hs : List Staffed). OnOk c.collect_all.result (AreCounted (sites_in hs scripts)
-      (c.collect_host.new.counts ∷ c.collect_all.new.counts)))
+    (c.collect_host.new.counts ∷ c.collect_all.new.counts)))
     (sym e.0)
     (all_counted c.collect_all.result c.in-Some.host.now c.in-Some.rest.now c.collect_host.new.counts
     c.collect_all.new.counts c.in_ok-collect_host.ensures.counted c.collect_all.ensures.counted scripts

@@ -17,8 +17,8 @@ pub returns-clause-frames : goal.returns-clause-frames
 returns-clause-frames c world l same here =
     subst
     (λ (f : Flow). OnOk c.collect_flow-done.result (c.collect_flow-done.new.sent
-      ≡ c.args.sent.now ++ of_tick c.args.tick (frames_of_entries c.args.sender.now.host c.args.place 0
-      (host_at world f.tuple.raddr) f.tuple f.entries)))
+    ≡ c.args.sent.now ++ of_tick c.args.tick (frames_of_entries c.args.sender.now.host c.args.place 0
+    (host_at world f.tuple.raddr) f.tuple f.entries)))
     (sym (c.take_record-flow.ensures.of_place c.args.place c.requires.there l here))
     (c.collect_flow-done.ensures.frames world same)
 
@@ -26,6 +26,6 @@ pub returns-clause-flows : goal.returns-clause-flows
 returns-clause-flows c l here =
     subst
     (λ (f : Flow). OnOk c.collect_flow-done.result (c.collect_flow-done.new.self.flows.items
-      ≡ set c.args.counts.now.flows.items c.args.place (sent_by f.entries)))
+    ≡ set c.args.counts.now.flows.items c.args.place (sent_by f.entries)))
     (sym (c.take_record-flow.ensures.of_place c.args.place c.requires.there l here))
     c.collect_flow-done.ensures.flows
