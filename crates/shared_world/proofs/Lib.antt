@@ -1,0 +1,4 @@
+pub mod Arrivals
+pub mod Stepped
+pub mod Silent
+pub mod Rounds

@@ -1,0 +1,232 @@
+-- A tick that hosts made step by step is a right tick of their world: for the answers for `made_ticks_are_right`.
+use Rattle.std.proofs.Common.{◌≡◌, ℕ, suc, ◌+◌, true, List, [], ◌∷◌, length, refl, sym, ap, ◌∙◌, subst, arith}
+use Rattle.core_rounds.specs.Shares.{AreDistinct}
+use Rattle.core_rounds.specs.SharedTicks.{IsSharedTick}
+use Rattle.core_rounds.proofs.SharedRounds.{shared_round, shared_low}
+use Rattle.core_worker.specs.declared.frames.Frame.{Frame}
+use Rattle.due_frames.specs.Few.{AreFew, HaveHistories}
+use Rattle.due_frames.proofs.Distinct.{due_distinct}
+use Rattle.due_frames.proofs.Worlds.{rounds_few}
+use Rattle.host_rounds.specs.Cores.{AllBelow}
+use Rattle.host_rounds.specs.Deliveries.{Arrival}
+use Rattle.host_rounds.specs.Rounds.{Round}
+use Rattle.host_rounds.specs.Scripts.{Scripts}
+use Rattle.link_script.specs.DueFrames.{due}
+use Rattle.link_script.specs.declared.frames.Sent.{Sent}
+use Rattle.phase_orders.specs.CoreTurns.{arrivals_of}
+use Rattle.phase_orders.proofs.Ticks.{shared_tick}
+use Rattle.scenario_runs.specs.Applications.{Script}
+use Rattle.scenario_runs.specs.Histories.{AreBelow}
+use Rattle.scenario_runs.specs.Runs.{AreRounds, IsTick as IsWorldTick}
+use Rattle.scenario_runs.specs.Worlds.{World, scripts_of, due_at, sent_in, arrivals_at}
+use Rattle.scenario_runs.proofs.ByMoves.{scenarios_by_moves}
+use Rattle.scenario_text.specs.declared.scenario.Scenario.{Scenario}
+use Rattle.scenario_world.specs.Playing.{AreEarly, IsEarly, IsWorldOf, IsPlayedOf}
+use Rattle.scenario_world.specs.declared.traffic.Traffic.{Traffic}
+use Rattle.scenario_world.proofs.NextTick.{hosts_len, due_as_kept}
+use Rattle.core_host.specs.Sharing.{IsPlayed}
+use Rattle.core_host.specs.Ticks.{IsTick, site_in}
+use Rattle.core_host.specs.Views.{Staffed, seen_by}
+use Rattle.core_host.proofs.FiledTicks.{tick_filed}
+use Rattle.core_host.proofs.OpenFlows.{open_found}
+use Rattle.core_host.proofs.Ticks.{tick_of_lanes, cores_stay}
+use Rattle.shared_scripts.specs.Begun.{IsBegun}
+use Rattle.shared_scripts.specs.Ended.{IsEnded}
+use Rattle.shared_scripts.specs.Going.{IsGoneOn}
+use Rattle.shared_scripts.specs.Playing.{IsPlayable}
+use Rattle.shared_scripts.specs.Turns.{numbers_in}
+use Rattle.shared_world.specs.Looking.{AreSilentBut, IsSilentBut}
+use Rattle.shared_world.specs.Sites.{sites_in, ArePlayable, IsOneOf, AreOf, IsReady, HasPlayed, world_of}
+use Rattle.shared_world.specs.Stepping.{frames_to, IsMade, AreMade}
+use Rattle.shared_world.specs.declared.world.SharedWorld.{SharedWorld}
+use Rattle.shared_world.proofs.Arrivals.{arrived}
+use Rattle.shared_world.proofs.Silent.{silent_after}
+
+-- ----- the laws of ticks that are made
+abbrev pub TickLaw : Type 0
+TickLaw = (s : Scenario) (t : ℕ) (name : List ℕ) (frames : List Frame) (scripts next : List Script)
+    (before trying played kicked sent after : Staffed)
+    → IsPlayable t before scripts → AreDistinct (arrivals_of true frames)
+    → IsBegun s t name frames scripts before trying → IsPlayed t trying played
+    → IsGoneOn s t scripts next played kicked → IsPlayed t kicked sent → IsEnded t sent after
+    → IsTick (scripts_of s (seen_by before).params) t
+    (record { frames = arrivals_of true frames; asks = numbers_in scripts }) before after scripts next
+
+abbrev pub NextLaw : Type 0
+NextLaw = (s : Scenario) (t : ℕ) (name : List ℕ) (frames : List Frame) (scripts next : List Script)
+    (before trying played kicked sent after : Staffed)
+    → IsPlayable t before scripts
+    → IsBegun s t name frames scripts before trying → IsPlayed t trying played
+    → IsGoneOn s t scripts next played kicked → IsPlayed t kicked sent → IsEnded t sent after
+    → IsPlayable (suc t) after next
+
+pub record MadeLaws : Type 0 where
+  pub tick : TickLaw
+  pub next : NextLaw
+
+-- ----- how many hosts there are
+pub sites_len : (t : ℕ) (bs : List Staffed) (xs : List (List Script)) → ArePlayable t bs xs
+    → length bs ≡ length (sites_in bs xs)
+sites_len t [] [] playable = refl
+sites_len t [] (x ∷ xs) playable = absurd playable
+sites_len t (b ∷ bs) [] playable = absurd playable
+sites_len t (b ∷ bs) (x ∷ xs) playable = ap suc (sites_len t bs xs playable.1)
+
+pub ready_len : (s : Scenario) (t cores : ℕ) (w : SharedWorld) → IsReady s t cores w
+    → length w.hosts.items ≡ length s.hosts
+ready_len s t cores w ready =
+    sites_len t w.hosts.items w.scripts.items ready.playable
+    ∙ hosts_len s t (world_of w) w.traffic ready.world
+
+-- As many hosts made the tick as began it,
+pub made_hosts : (s : Scenario) (t : ℕ) (came : List Sent) (n : ℕ) (xs ys : List (List Script)) (bs hs : List Staffed)
+    → AreMade s t came n xs ys bs hs → length hs ≡ length bs
+made_hosts s t came n [] [] [] [] made = refl
+made_hosts s t came n [] [] [] (h ∷ hs) made = absurd made
+made_hosts s t came n [] [] (b ∷ bs) hs made = absurd made
+made_hosts s t came n [] (y ∷ ys) bs hs made = absurd made
+made_hosts s t came n (x ∷ xs) [] bs hs made = absurd made
+made_hosts s t came n (x ∷ xs) (y ∷ ys) [] hs made = absurd made
+made_hosts s t came n (x ∷ xs) (y ∷ ys) (b ∷ bs) [] made = absurd made
+made_hosts s t came n (x ∷ xs) (y ∷ ys) (b ∷ bs) (h ∷ hs) made =
+    ap suc (made_hosts s t came (suc n) xs ys bs hs made.1)
+
+-- with as many scripts.
+pub made_scripts : (s : Scenario) (t : ℕ) (came : List Sent) (n : ℕ) (xs ys : List (List Script))
+    (bs hs : List Staffed) → AreMade s t came n xs ys bs hs → length ys ≡ length xs
+made_scripts s t came n [] [] [] [] made = refl
+made_scripts s t came n [] [] [] (h ∷ hs) made = absurd made
+made_scripts s t came n [] [] (b ∷ bs) hs made = absurd made
+made_scripts s t came n [] (y ∷ ys) bs hs made = absurd made
+made_scripts s t came n (x ∷ xs) [] bs hs made = absurd made
+made_scripts s t came n (x ∷ xs) (y ∷ ys) [] hs made = absurd made
+made_scripts s t came n (x ∷ xs) (y ∷ ys) (b ∷ bs) [] made = absurd made
+made_scripts s t came n (x ∷ xs) (y ∷ ys) (b ∷ bs) (h ∷ hs) made =
+    ap suc (made_scripts s t came (suc n) xs ys bs hs made.1)
+
+-- ----- host by host
+module _ (laws : MadeLaws) (s : Scenario) (whole : World) (t cores : ℕ) (came : List Sent) (few : AreFew whole)
+    (is : came ≡ due s.link (sent_in whole) t) where
+  -- One host's tick is one of its cores and its scripts.
+  one_tick : (n : ℕ) (x y : List Script) (b h : Staffed) → IsPlayable t b x → IsMade s t (frames_to n came) x y b h
+      → IsTick (scripts_of s (seen_by b).params) t (due_at s whole t n x) b h x y
+  one_tick n x y b h playable made =
+      let e : arrivals_of true (frames_to n came) ≡ arrivals_at s.link (sent_in whole) t n =
+      arrived s.link (sent_in whole) t n came is in
+      subst (λ (fs : List Arrival). IsTick (scripts_of s (seen_by b).params) t
+      (record { frames = fs; asks = numbers_in x }) b h x y) e
+      (laws.tick s t made.name (frames_to n came) x y b made.trying made.played made.kicked made.sent h playable
+      (subst AreDistinct (sym e) (due_distinct s.link whole t n few)) made.begun made.first made.gone made.second
+      made.ended)
+
+  -- What it leaves.
+  record OneTicked (n : ℕ) (x y : List Script) (b h : Staffed) : Type 0 where
+    pub round : Round (scripts_of s (seen_by b).params) t (due_at s whole t n x) (site_in b x) (site_in h y)
+    pub playable : IsPlayable (suc t) h y
+    pub one : IsOneOf cores h
+    pub below : AllBelow cores (seen_by b) → AllBelow cores (seen_by h)
+    pub silent : IsSilentBut t (seen_by h).flows
+
+  one_ticked : (n : ℕ) (x y : List Script) (b h : Staffed) → IsPlayable t b x → IsOneOf cores b
+      → IsEarly t (seen_by b) → IsMade s t (frames_to n came) x y b h → OneTicked n x y b h
+  one_ticked n x y b h playable one early made = record {
+    round = round;
+    playable = laws.next s t made.name (frames_to n came) x y b made.trying made.played made.kicked made.sent h
+        playable made.begun made.first made.gone made.second made.ended;
+    one = record {
+      cores = cores_stay scripts t frames b h x y playable.between tick ∙ one.cores;
+      filed = tick_filed scripts t frames b h x y playable.between tick one.filed;
+    };
+    below = λ low.
+        subst (λ (c : ℕ). AllBelow c (seen_by h)) one.cores
+        (shared_low scripts b.cores t frames (site_in b x) (site_in h y) moves early.histories shared
+        (subst (λ (c : ℕ). AllBelow c (seen_by b)) (sym one.cores) low));
+    silent = silent_after s (seen_by b).params t frames (site_in b x) (site_in h y) early
+        (open_found b playable.between.sound) round;
+  }
+    where
+      abbrev scripts : Scripts (List Script) ℕ
+      scripts = scripts_of s (seen_by b).params
+
+      abbrev frames : _
+      frames = due_at s whole t n x
+
+      tick : IsTick scripts t frames b h x y
+      tick = one_tick n x y b h playable made
+
+      moves : _
+      moves = scenarios_by_moves s (seen_by b).params
+
+      shared : IsSharedTick scripts b.cores t frames (site_in b x) (site_in h y)
+      shared =
+          shared_tick scripts b.host.slow.check_sums b.cores t frames (site_in b x) (site_in h y)
+          (tick_of_lanes scripts t frames b h x y playable.between tick)
+
+      round : Round scripts t frames (site_in b x) (site_in h y)
+      round = shared_round scripts b.cores t frames (site_in b x) (site_in h y) moves early.histories shared
+
+  -- What these hosts leave, the first of which has this number.
+  pub record AllTicked (n : ℕ) (xs ys : List (List Script)) (bs hs : List Staffed) : Type 0 where
+    pub rounds : AreRounds s whole t n (sites_in bs xs) (sites_in hs ys)
+    pub playable : ArePlayable (suc t) hs ys
+    pub hosts : AreOf cores hs
+    pub below : AreBelow cores (sites_in bs xs) → AreBelow cores (sites_in hs ys)
+    pub silent : AreSilentBut t hs
+
+  pub all_ticked : (n : ℕ) (xs ys : List (List Script)) (bs hs : List Staffed) → ArePlayable t bs xs → AreOf cores bs
+      → AreEarly t (sites_in bs xs) → AreMade s t came n xs ys bs hs → AllTicked n xs ys bs hs
+  all_ticked n [] [] [] [] playable of early made =
+      record { rounds = tt; playable = tt; hosts = tt; below = λ low. tt; silent = tt }
+  all_ticked n [] [] [] (h ∷ hs) playable of early made = absurd made
+  all_ticked n [] [] (b ∷ bs) hs playable of early made = absurd made
+  all_ticked n [] (y ∷ ys) bs hs playable of early made = absurd made
+  all_ticked n (x ∷ xs) [] bs hs playable of early made = absurd made
+  all_ticked n (x ∷ xs) (y ∷ ys) [] hs playable of early made = absurd made
+  all_ticked n (x ∷ xs) (y ∷ ys) (b ∷ bs) [] playable of early made = absurd made
+  all_ticked n (x ∷ xs) (y ∷ ys) (b ∷ bs) (h ∷ hs) playable of early made =
+      let here : OneTicked n x y b h = one_ticked n x y b h playable.0 of.0 early.0 made.0 in
+      let rest : AllTicked (suc n) xs ys bs hs =
+      all_ticked (suc n) xs ys bs hs playable.1 of.1 early.1 made.1 in
+      record {
+        rounds = (here.round, rest.rounds);
+        playable = (here.playable, rest.playable);
+        hosts = (here.one, rest.hosts);
+        below = λ low. (here.below low.0, rest.below low.1);
+        silent = (here.silent, rest.silent);
+      }
+
+-- ----- a world
+histories_of : (t : ℕ) (world : World) → AreEarly t world → HaveHistories world
+histories_of t [] early = tt
+histories_of t (site ∷ world) early = (early.0.histories, histories_of t world early.1)
+
+module _ (laws : MadeLaws) (s : Scenario) (t cores : ℕ) (w n : SharedWorld) (came : List Sent)
+    (ready : IsReady s t cores w) (is : came ≡ due s.link w.traffic.sent t)
+    (made : AreMade s t came 0 w.scripts.items n.scripts.items w.hosts.items n.hosts.items) where
+  world_ticked : AllTicked laws s (world_of w) t cores came ready.few
+      (is ∙ due_as_kept s t (world_of w) w.traffic.sent w.traffic.last ready.world.kept) 0 w.scripts.items
+      n.scripts.items w.hosts.items n.hosts.items
+  world_ticked =
+      all_ticked laws s (world_of w) t cores came ready.few
+      (is ∙ due_as_kept s t (world_of w) w.traffic.sent w.traffic.last ready.world.kept) 0 w.scripts.items
+      n.scripts.items w.hosts.items n.hosts.items ready.playable ready.hosts ready.world.early made
+
+  pub made_tick : IsWorldTick s t (world_of w) (world_of n)
+  made_tick = world_ticked.rounds
+
+  pub made_below : AreBelow cores (world_of w) → AreBelow cores (world_of n)
+  made_below = world_ticked.below
+
+  pub made_played : n.traffic ≡ w.traffic → HasPlayed s t cores n
+  made_played same = record {
+    playable = world_ticked.playable;
+    hosts = world_ticked.hosts;
+    played = record {
+      before = world_of w;
+      world = subst (IsWorldOf s t (world_of w)) (sym same) ready.world;
+      tick = made_tick;
+    };
+    few = rounds_few s (world_of w) t 0 (world_of w) (world_of n) made_tick
+        (histories_of t (world_of w) ready.world.early) ready.few;
+    silent = world_ticked.silent;
+  }
