@@ -30,7 +30,7 @@ frames_append n came more =
     ∙ map-append frame_of (filter (comes_to n) came) (filter (comes_to n) more)
 
 -- ----- as the host reads them
-content_by : Option Refused → List ℕ → Content
+abbrev content_by : Option Refused → List ℕ → Content
 content_by (Some r) b = Damaged (number_of r)
 content_by None b = Remote (receiver_tuple (fields_in b)) (segment_of (fields_in b))
 
@@ -58,7 +58,7 @@ mapped : (fs : List Sent) → arrivals_of true (map frame_of fs) ≡ map arrival
 mapped [] = refl
 mapped (f ∷ fs) =
     ap (λ (a : Arrival). a ∷ arrivals_of true (map frame_of fs)) (one_arrival f)
-    ∙ ap (λ (as : List Arrival). arrival f ∷ as) (mapped fs)
+    ∙ ap (λ (xs : List Arrival). arrival f ∷ xs) (mapped fs)
 
 -- The frames that come to a host, of those that are due, are those that come to it in the run.
 pub arrived : (lines : LinkLines) (sent : List Sent) (t n : ℕ) (came : List Sent) → came ≡ due lines sent t

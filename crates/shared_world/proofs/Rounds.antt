@@ -9,7 +9,7 @@ use Rattle.due_frames.proofs.Distinct.{due_distinct}
 use Rattle.due_frames.proofs.Worlds.{rounds_few}
 use Rattle.host_rounds.specs.Cores.{AllBelow}
 use Rattle.host_rounds.specs.Deliveries.{Arrival}
-use Rattle.host_rounds.specs.Rounds.{Round}
+use Rattle.host_rounds.specs.Rounds.{Due, Round}
 use Rattle.host_rounds.specs.Scripts.{Scripts}
 use Rattle.link_script.specs.DueFrames.{due}
 use Rattle.link_script.specs.declared.frames.Sent.{Sent}
@@ -127,43 +127,43 @@ module _ (laws : MadeLaws) (s : Scenario) (whole : World) (t cores : ℕ) (came 
     pub below : AllBelow cores (seen_by b) → AllBelow cores (seen_by h)
     pub silent : IsSilentBut t (seen_by h).flows
 
-  one_ticked : (n : ℕ) (x y : List Script) (b h : Staffed) → IsPlayable t b x → IsOneOf cores b
-      → IsEarly t (seen_by b) → IsMade s t (frames_to n came) x y b h → OneTicked n x y b h
-  one_ticked n x y b h playable one early made = record {
-    round = round;
-    playable = laws.next s t made.name (frames_to n came) x y b made.trying made.played made.kicked made.sent h
-        playable made.begun made.first made.gone made.second made.ended;
-    one = record {
-      cores = cores_stay scripts t frames b h x y playable.between tick ∙ one.cores;
-      filed = tick_filed scripts t frames b h x y playable.between tick one.filed;
-    };
-    below = λ low.
-        subst (λ (c : ℕ). AllBelow c (seen_by h)) one.cores
-        (shared_low scripts b.cores t frames (site_in b x) (site_in h y) moves early.histories shared
-        (subst (λ (c : ℕ). AllBelow c (seen_by b)) (sym one.cores) low));
-    silent = silent_after s (seen_by b).params t frames (site_in b x) (site_in h y) early
-        (open_found b playable.between.sound) round;
-  }
-    where
-      abbrev scripts : Scripts (List Script) ℕ
-      scripts = scripts_of s (seen_by b).params
+  module _ (n : ℕ) (x y : List Script) (b h : Staffed) (playable : IsPlayable t b x) (one : IsOneOf cores b)
+      (early : IsEarly t (seen_by b)) (made : IsMade s t (frames_to n came) x y b h) where
+    abbrev scripts : Scripts (List Script) ℕ
+    scripts = scripts_of s (seen_by b).params
 
-      abbrev frames : _
-      frames = due_at s whole t n x
+    abbrev frames : Due ℕ
+    frames = due_at s whole t n x
 
-      tick : IsTick scripts t frames b h x y
-      tick = one_tick n x y b h playable made
+    tick : IsTick scripts t frames b h x y
+    tick = one_tick n x y b h playable made
 
-      moves : _
-      moves = scenarios_by_moves s (seen_by b).params
+    shared : IsSharedTick scripts b.cores t frames (site_in b x) (site_in h y)
+    shared =
+        shared_tick scripts b.host.slow.check_sums b.cores t frames (site_in b x) (site_in h y)
+        (tick_of_lanes scripts t frames b h x y playable.between tick)
 
-      shared : IsSharedTick scripts b.cores t frames (site_in b x) (site_in h y)
-      shared =
-          shared_tick scripts b.host.slow.check_sums b.cores t frames (site_in b x) (site_in h y)
-          (tick_of_lanes scripts t frames b h x y playable.between tick)
+    round : Round scripts t frames (site_in b x) (site_in h y)
+    round =
+        shared_round scripts b.cores t frames (site_in b x) (site_in h y) (scenarios_by_moves s (seen_by b).params)
+        early.histories shared
 
-      round : Round scripts t frames (site_in b x) (site_in h y)
-      round = shared_round scripts b.cores t frames (site_in b x) (site_in h y) moves early.histories shared
+    one_ticked : OneTicked n x y b h
+    one_ticked = record {
+      round = round;
+      playable = laws.next s t made.name (frames_to n came) x y b made.trying made.played made.kicked made.sent h
+          playable made.begun made.first made.gone made.second made.ended;
+      one = record {
+        cores = cores_stay scripts t frames b h x y playable.between tick ∙ one.cores;
+        filed = tick_filed scripts t frames b h x y playable.between tick one.filed;
+      };
+      below = λ low.
+          subst (λ (c : ℕ). AllBelow c (seen_by h)) one.cores
+          (shared_low scripts b.cores t frames (site_in b x) (site_in h y) (scenarios_by_moves s (seen_by b).params)
+          early.histories shared (subst (λ (c : ℕ). AllBelow c (seen_by b)) (sym one.cores) low));
+      silent = silent_after s (seen_by b).params t frames (site_in b x) (site_in h y) early
+          (open_found b playable.between.sound) round;
+    }
 
   -- What these hosts leave, the first of which has this number.
   pub record AllTicked (n : ℕ) (xs ys : List (List Script)) (bs hs : List Staffed) : Type 0 where
@@ -187,8 +187,12 @@ module _ (laws : MadeLaws) (s : Scenario) (whole : World) (t cores : ℕ) (came 
       let here : OneTicked n x y b h = one_ticked n x y b h playable.0 of.0 early.0 made.0 in
       let rest : AllTicked (suc n) xs ys bs hs =
       all_ticked (suc n) xs ys bs hs playable.1 of.1 early.1 made.1 in
+      let next : suc n ≡ n + 1 = omega arith in
       record {
-        rounds = (here.round, rest.rounds);
+        rounds = (
+          here.round,
+          subst (λ (k : ℕ). AreRounds s whole t k (sites_in bs xs) (sites_in hs ys)) next rest.rounds,
+        );
         playable = (here.playable, rest.playable);
         hosts = (here.one, rest.hosts);
         below = λ low. (here.below low.0, rest.below low.1);
@@ -219,7 +223,7 @@ module _ (laws : MadeLaws) (s : Scenario) (t cores : ℕ) (w n : SharedWorld) (c
 
   pub made_played : n.traffic ≡ w.traffic → HasPlayed s t cores n
   made_played same = record {
-    playable = world_ticked.playable;
+    playable = subst (λ (k : ℕ). ArePlayable k n.hosts.items n.scripts.items) next world_ticked.playable;
     hosts = world_ticked.hosts;
     played = record {
       before = world_of w;
@@ -230,3 +234,6 @@ module _ (laws : MadeLaws) (s : Scenario) (t cores : ℕ) (w n : SharedWorld) (c
         (histories_of t (world_of w) ready.world.early) ready.few;
     silent = world_ticked.silent;
   }
+    where
+      next : suc t ≡ t + 1
+      next = omega arith

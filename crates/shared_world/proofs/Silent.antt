@@ -1,6 +1,6 @@
 -- A flow that an index hasn't after a tick sent nothing in it: for the answers for `play_tick`.
 use Rattle.std.proofs.Common.{◌≡◌, ℕ, zero, suc, ◌<◌, Bool, true, false, eqb, nat_lt, List, [], ◌∷◌, ◌++◌, length, filter}
-use Rattle.std.proofs.Common.{Option, Some, None, slice_get, refl, sym, ap, ◌∙◌, subst, arith, append-nil}
+use Rattle.std.proofs.Common.{Option, Some, None, if◌then◌else◌, slice_get, refl, sym, ap, ◌∙◌, subst, arith, append-nil}
 use Rattle.std.proofs.lemmas.List.Elements.{filter-append}
 use Rattle.tas_model.specs.declared.entry.Entry.{Entry}
 use Rattle.tas_model.specs.declared.entry.FourTuple.{FourTuple}
@@ -33,13 +33,15 @@ all_before t (x ∷ h) before =
     let e : nat_lt x.tick t ≡ true = grind (arith, here) in
     rw e (ap (λ (xs : List Entry). x ∷ xs) (all_before t h before.1))
 
+each_cond : {X : Type 0} (P : X → Type 0) (b : Bool) (x : X) (xs : List X) → P x → Each P xs
+    → Each P (if b then x ∷ xs else xs)
+each_cond P true x xs here rest = (here, rest)
+each_cond P false x xs here rest = rest
+
 each_filtered : {X : Type 0} (P : X → Type 0) (test : X → Bool) (xs : List X) → Each P xs → Each P (filter test xs)
 each_filtered P test [] each = tt
-each_filtered {X} P test (x ∷ xs) each = by (test x)
-  where
-    by : (b : Bool) → Each P (if b then x ∷ filter test xs else filter test xs)
-    by true = (each.0, each_filtered P test xs each.1)
-    by false = each_filtered P test xs each.1
+each_filtered P test (x ∷ xs) each =
+    each_cond P (test x) x (filter test xs) each.0 (each_filtered P test xs each.1)
 
 -- A history that was of earlier ticks, and grew by entries that send nothing, has no segment that was sent in the tick.
 pub silent_in : (t : ℕ) (h g : List Entry) → EntriesBefore t h → GrewSilently h g → IsSilentIn t g
