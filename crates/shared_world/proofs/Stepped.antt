@@ -1,5 +1,6 @@
 -- The steps of a tick, host by host: for the answers for `play_steps` and those that it calls.
-use Rattle.std.proofs.Common.{ℕ, suc, List, [], ◌∷◌}
+use Rattle.std.proofs.Common.{◌≡◌, ℕ, suc, List, [], ◌∷◌, length, arith}
+use Rattle.std.specs.Prelude.{Result, Ok, Err, OnOk}
 use Rattle.std.specs.List.{AllZip}
 use Rattle.host_rounds.specs.Lists.{Each}
 use Rattle.link_script.specs.declared.frames.Sent.{Sent}
@@ -11,6 +12,11 @@ use Rattle.scenario_text.specs.declared.scenario.Scenario.{Scenario}
 use Rattle.shared_scripts.specs.Ended.{IsEnded}
 use Rattle.shared_world.specs.Sites.{ArePlayable}
 use Rattle.shared_world.specs.Stepping.{frames_to, HaveBegun, WereBegun, HaveGoneOn, AreMade}
+
+-- What holds where the answer isn't the error, by what else does.
+pub ok_map : {T E P Q : Type 0} (r : Result T E) → (P → Q) → OnOk r P → OnOk r Q
+ok_map (Ok x) f p = f p
+ok_map (Err e) f p = tt
 
 module _ (s : Scenario) (t : ℕ) (came : List Sent) where
   -- ----- hosts that began the tick
@@ -58,6 +64,14 @@ module _ (s : Scenario) (t : ℕ) (came : List Sent) where
   )
 
   -- ----- hosts whose scripts went on
+  -- Where there is no host nothing is left to do.
+  pub none_gone : (xs : List (List Script)) (hs : List Staffed) → length hs ≡ 0 → WereBegun s t xs hs
+      → HaveGoneOn s t xs xs hs hs
+  none_gone [] [] none begun = tt
+  none_gone [] (h ∷ hs) none begun = absurd begun
+  none_gone (x ∷ xs) [] none begun = absurd begun
+  none_gone (x ∷ xs) (h ∷ hs) none begun = absurd (omega (arith, none))
+
   pub gone_sound : (xs ys : List (List Script)) (ps ks : List Staffed) → HaveGoneOn s t xs ys ps ks
       → Each IsStaffSound ks
   gone_sound [] [] [] [] gone = tt

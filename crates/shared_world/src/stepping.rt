@@ -63,6 +63,7 @@ fn begin_all<R: Wait>(
     requires playable { ArePlayable tick hosts.old scripts.now }
     ensures { OnOk result (HaveBegun s.now tick due.now number scripts.now hosts.old hosts.new) }
 {
+    let _count = s.hosts.len();
     if let Some((host, rest)) = hosts.split_first_mut() {
         if let Some((own, others)) = scripts.split_first() {
             begin(rt, alloc, s, tick, due, number, host, own)?;
