@@ -1,5 +1,7 @@
 -- A tick that hosts made step by step is a right tick of their world: for the answers for `made_ticks_are_right`.
 use Rattle.std.proofs.Common.{◌≡◌, ℕ, suc, ◌+◌, true, List, [], ◌∷◌, length, refl, sym, ap, ◌∙◌, subst, arith}
+use Rattle.std.specs.Vec.{with_items}
+use Rattle.std.proofs.lemmas.List.{with_items_is}
 use Rattle.core_rounds.specs.Shares.{AreDistinct}
 use Rattle.core_rounds.specs.SharedTicks.{IsSharedTick}
 use Rattle.core_rounds.proofs.SharedRounds.{shared_round, shared_low}
@@ -103,6 +105,28 @@ made_scripts s t came n (x ∷ xs) (y ∷ ys) [] hs made = absurd made
 made_scripts s t came n (x ∷ xs) (y ∷ ys) (b ∷ bs) [] made = absurd made
 made_scripts s t came n (x ∷ xs) (y ∷ ys) (b ∷ bs) (h ∷ hs) made =
     ap suc (made_scripts s t came (suc n) xs ys bs hs made.1)
+
+made_as : (s : Scenario) (t : ℕ) (came : List Sent) (n : ℕ) (xs xz ys yz : List (List Script))
+    (bs bz hs hz : List Staffed) → bs ≡ bz → xs ≡ xz → hz ≡ hs → yz ≡ ys → AreMade s t came n xs ys bs hs
+    → AreMade s t came n xz yz bz hz
+made_as s t came n xs xz ys yz bs bz hs hz same_before same_scripts same_after same_next made =
+    subst (λ (ps : List Staffed). AreMade s t came n xz yz ps hz) same_before
+    (subst (λ (ps : List Staffed). AreMade s t came n xz yz bs ps) (sym same_after)
+    (subst (λ (zs : List (List Script)). AreMade s t came n zs yz bs hs) same_scripts
+    (subst (λ (zs : List (List Script)). AreMade s t came n xs zs bs hs) (sym same_next) made)))
+
+-- The world with what its hosts and their scripts are after the steps of a tick.
+abbrev pub stepped : SharedWorld → List Staffed → List (List Script) → SharedWorld
+stepped w hs ys = record w { hosts = with_items w.hosts hs; scripts = with_items w.scripts ys }
+
+pub steps_made : (s : Scenario) (t : ℕ) (came : List Sent) (w : SharedWorld) (bs hs : List Staffed)
+    (xs ys : List (List Script)) → bs ≡ w.hosts.items → xs ≡ w.scripts.items → length hs ≡ w.hosts.len
+    → length ys ≡ w.scripts.len → AreMade s t came 0 xs ys bs hs
+    → AreMade s t came 0 w.scripts.items (stepped w hs ys).scripts.items w.hosts.items (stepped w hs ys).hosts.items
+steps_made s t came w bs hs xs ys before scripts hosts_len next_len made =
+    made_as s t came 0 xs w.scripts.items ys (stepped w hs ys).scripts.items bs w.hosts.items hs
+    (stepped w hs ys).hosts.items before scripts (with_items_is w.hosts hs hosts_len)
+    (with_items_is w.scripts ys next_len) made
 
 -- ----- host by host
 module _ (laws : MadeLaws) (s : Scenario) (whole : World) (t cores : ℕ) (came : List Sent) (few : AreFew whole)
