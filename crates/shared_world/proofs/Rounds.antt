@@ -23,8 +23,7 @@ use Rattle.scenario_runs.specs.Runs.{AreRounds, IsTick as IsWorldTick}
 use Rattle.scenario_runs.specs.Worlds.{World, scripts_of, due_at, sent_in, arrivals_at}
 use Rattle.scenario_runs.proofs.ByMoves.{scenarios_by_moves}
 use Rattle.scenario_text.specs.declared.scenario.Scenario.{Scenario}
-use Rattle.scenario_world.specs.Playing.{AreEarly, IsEarly, IsWorldOf, IsPlayedOf}
-use Rattle.scenario_world.specs.declared.traffic.Traffic.{Traffic}
+use Rattle.scenario_world.specs.Playing.{AreEarly, IsEarly, IsWorldOf}
 use Rattle.scenario_world.proofs.NextTick.{hosts_len, due_as_kept}
 use Rattle.core_host.specs.Sharing.{IsPlayed}
 use Rattle.core_host.specs.Ticks.{IsTick, site_in}

@@ -1,21 +1,19 @@
 -- A flow that an index hasn't after a tick sent nothing in it: for the answers for `play_tick`.
-use Rattle.std.proofs.Common.{◌≡◌, ℕ, zero, suc, ◌<◌, Bool, true, false, eqb, nat_lt, List, [], ◌∷◌, ◌++◌, length, filter}
-use Rattle.std.proofs.Common.{Option, Some, None, if◌then◌else◌, slice_get, refl, sym, ap, ◌∙◌, subst, arith, append-nil}
+use Rattle.std.proofs.Common.{◌≡◌, ℕ, zero, suc, ◌<◌, Bool, true, false, nat_lt, List, [], ◌∷◌, ◌++◌, length, filter}
+use Rattle.std.proofs.Common.{Some, if◌then◌else◌, slice_get, refl, sym, ap, ◌∙◌, subst, arith}
 use Rattle.std.proofs.lemmas.List.Elements.{filter-append}
 use Rattle.tas_model.specs.declared.entry.Entry.{Entry}
-use Rattle.tas_model.specs.declared.entry.FourTuple.{FourTuple}
 use Rattle.tas_model.specs.declared.entry.HostParams.{HostParams}
 use Rattle.tas_model.specs.Outputs as outputs
-use Rattle.host_rounds.specs.Hosts.{Live, Host}
+use Rattle.host_rounds.specs.Hosts.{Live}
 use Rattle.host_rounds.specs.Lists.{Each}
 use Rattle.host_rounds.specs.Rounds.{Due, Round}
 use Rattle.host_rounds.specs.Scripts.{Site}
 use Rattle.scenario_runs.specs.Applications.{Script}
-use Rattle.scenario_runs.specs.Worlds.{frames_of_entries, scripts_of}
+use Rattle.scenario_runs.specs.Worlds.{scripts_of}
 use Rattle.scenario_runs.proofs.ByMoves.{scenarios_by_moves}
 use Rattle.scenario_text.specs.declared.scenario.Scenario.{Scenario}
-use Rattle.sent_frames.specs.declared.frames.Origin.{Origin}
-use Rattle.sent_frames.specs.Sending.{of_tick, sent_by, sent_before, EntriesBefore}
+use Rattle.sent_frames.specs.Sending.{of_tick, EntriesBefore}
 use Rattle.sent_frames.proofs.Ticks.{none_of_tick}
 use Rattle.closed_flows.specs.Silence.{GrewSilently, SendsNone, SentNothing, IsFindable}
 use Rattle.closed_flows.proofs.Silent.{silent_sent}
@@ -48,9 +46,9 @@ pub silent_in : (t : ℕ) (h g : List Entry) → EntriesBefore t h → GrewSilen
 silent_in t h g before grew = record {
   counted =
       ap (λ (xs : List Entry). length (outputs.sent xs))
-          (ap (filter early) grew.grew
-          ∙ (filter-append early h grew.more ∙ ap (λ (xs : List Entry). xs ++ filter early grew.more) (all_before t h
-          before)))
+      (ap (filter early) grew.grew
+      ∙ (filter-append early h grew.more ∙ ap (λ (xs : List Entry). xs ++ filter early grew.more) (all_before t h
+      before)))
       ∙ (ap length (silent_sent h (h ++ filter early grew.more) (record {
         more = filter early grew.more;
         grew = refl;

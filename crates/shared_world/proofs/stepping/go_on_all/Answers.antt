@@ -1,5 +1,5 @@
 -- Answers of the proof of stepping/go_on_all.
-use Rattle.std.proofs.Common.{◌≡◌, ◌+◌, ◌<◌, ℕ, suc, Some, slice_get, get_or, set, refl, subst, length, arith}
+use Rattle.std.proofs.Common.{◌≡◌, ◌+◌, ℕ, suc, get_or, set, refl, subst, length, arith}
 use Rattle.shared_world.proofs.Stepped.{GoneTo, at_place, gone_len, next_begun, more_gone, all_gone}
 use Rattle.shared_world.proofs.stepping.go_on_all.Goals as goal
 

@@ -1,6 +1,6 @@
 -- Answers of the proof of stepping/play_steps.
-use Rattle.shared_world.proofs.Stepped.{begun_sound, begun_may, were_begun, gone_sound, gone_may, played_sound, all_made}
-use Rattle.shared_world.proofs.Stepped.{ok_map}
+use Rattle.shared_world.proofs.Stepped.{begun_sound, begun_may, were_begun, gone_sound, gone_may, played_sound}
+use Rattle.shared_world.proofs.Stepped.{all_made, ok_map}
 use Rattle.shared_world.proofs.stepping.play_steps.Goals as goal
 
 pub play_hosts-requires-clause-sound : goal.play_hosts-requires-clause-sound

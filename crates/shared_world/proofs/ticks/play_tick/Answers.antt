@@ -1,5 +1,5 @@
 -- Answers of the proof of ticks/play_tick.
-use Rattle.std.proofs.Common.{◌≡◌, ℕ, length, refl, sym, subst, ap, ◌∙◌, arith}
+use Rattle.std.proofs.Common.{◌≡◌, length, refl, sym, subst, ap, ◌∙◌, arith}
 use Rattle.scenario_runs.specs.Histories.{AreBelow}
 use Rattle.scenario_runs.specs.Runs.{IsTick}
 use Rattle.scenario_runs.specs.Worlds.{World}
