@@ -2,6 +2,7 @@
 use Rattle.std.proofs.Common.{◌≡◌, ℕ, suc, ◌+◌, true, List, [], ◌∷◌, length, refl, sym, ap, ◌∙◌, subst, arith}
 use Rattle.std.specs.Vec.{with_items}
 use Rattle.std.proofs.lemmas.List.{with_items_is}
+use Rattle.closed_flows.specs.Silence.{IsFindable}
 use Rattle.core_rounds.specs.Shares.{AreDistinct}
 use Rattle.core_rounds.specs.SharedTicks.{IsSharedTick}
 use Rattle.core_rounds.proofs.SharedRounds.{shared_round, shared_low}
@@ -11,12 +12,12 @@ use Rattle.due_frames.proofs.Distinct.{due_distinct}
 use Rattle.due_frames.proofs.Worlds.{rounds_few}
 use Rattle.host_rounds.specs.Cores.{AllBelow}
 use Rattle.host_rounds.specs.Deliveries.{Arrival}
+use Rattle.host_rounds.specs.Lists.{Each}
 use Rattle.host_rounds.specs.Rounds.{Due, Round}
 use Rattle.host_rounds.specs.Scripts.{Scripts}
 use Rattle.link_script.specs.DueFrames.{due}
 use Rattle.link_script.specs.declared.frames.Sent.{Sent}
 use Rattle.phase_orders.specs.CoreTurns.{arrivals_of}
-use Rattle.phase_orders.proofs.Ticks.{shared_tick}
 use Rattle.scenario_runs.specs.Applications.{Script}
 use Rattle.scenario_runs.specs.Histories.{AreBelow}
 use Rattle.scenario_runs.specs.Runs.{AreRounds, IsTick as IsWorldTick}
@@ -25,12 +26,11 @@ use Rattle.scenario_runs.proofs.ByMoves.{scenarios_by_moves}
 use Rattle.scenario_text.specs.declared.scenario.Scenario.{Scenario}
 use Rattle.scenario_world.specs.Playing.{AreEarly, IsEarly, IsWorldOf}
 use Rattle.scenario_world.proofs.NextTick.{hosts_len, due_as_kept}
+use Rattle.core_host.specs.Ending.{AreFiled}
 use Rattle.core_host.specs.Sharing.{IsPlayed}
-use Rattle.core_host.specs.Ticks.{IsTick, site_in}
+use Rattle.core_host.specs.Sound.{IsStaffSound}
+use Rattle.core_host.specs.Ticks.{IsBetweenTicks, IsTick, site_in}
 use Rattle.core_host.specs.Views.{Staffed, seen_by}
-use Rattle.core_host.proofs.FiledTicks.{tick_filed}
-use Rattle.core_host.proofs.OpenFlows.{open_found}
-use Rattle.core_host.proofs.Ticks.{tick_of_lanes, cores_stay}
 use Rattle.shared_scripts.specs.Begun.{IsBegun}
 use Rattle.shared_scripts.specs.Ended.{IsEnded}
 use Rattle.shared_scripts.specs.Going.{IsGoneOn}
@@ -44,6 +44,7 @@ use Rattle.shared_world.proofs.Arrivals.{arrived}
 use Rattle.shared_world.proofs.Silent.{silent_after}
 
 -- ----- the laws of ticks that are made
+-- Such a tick is one of its host and its scripts,
 abbrev pub TickLaw : Type 0
 TickLaw = (s : Scenario) (t : ℕ) (name : List ℕ) (frames : List Frame) (scripts next : List Script)
     (before trying played kicked sent after : Staffed)
@@ -53,6 +54,7 @@ TickLaw = (s : Scenario) (t : ℕ) (name : List ℕ) (frames : List Frame) (scri
     → IsTick (scripts_of s (seen_by before).params) t
     (record { frames = arrivals_of true frames; asks = numbers_in scripts }) before after scripts next
 
+-- and they may have the next one.
 abbrev pub NextLaw : Type 0
 NextLaw = (s : Scenario) (t : ℕ) (name : List ℕ) (frames : List Frame) (scripts next : List Script)
     (before trying played kicked sent after : Staffed)
@@ -61,9 +63,21 @@ NextLaw = (s : Scenario) (t : ℕ) (name : List ℕ) (frames : List Frame) (scri
     → IsGoneOn s t scripts next played kicked → IsPlayed t kicked sent → IsEnded t sent after
     → IsPlayable (suc t) after next
 
+-- What holds of the host then, by what it was before.
+abbrev pub LawOfTicks : ((scripts : Scripts (List Script) ℕ) (t : ℕ) (due : Due ℕ) (before after : Staffed)
+    (state next : List Script) → Type 0) → Type 0
+LawOfTicks law = (scripts : Scripts (List Script) ℕ) (t : ℕ) (due : Due ℕ) (before after : Staffed)
+    (state next : List Script) → IsBetweenTicks before → IsTick scripts t due before after state next
+    → law scripts t due before after state next
+
 pub record MadeLaws : Type 0 where
   pub tick : TickLaw
   pub next : NextLaw
+  pub shared : LawOfTicks (λ scripts t due before after state next. IsSharedTick scripts before.cores t due
+      (site_in before state) (site_in after next))
+  pub cores : LawOfTicks (λ scripts t due before after state next. after.cores ≡ before.cores)
+  pub filed : LawOfTicks (λ scripts t due before after state next. AreFiled before.host → AreFiled after.host)
+  pub findable : (h : Staffed) → IsStaffSound h → Each IsFindable (seen_by h).flows
 
 -- ----- how many hosts there are
 pub sites_len : (t : ℕ) (bs : List Staffed) (xs : List (List Script)) → ArePlayable t bs xs
@@ -162,9 +176,7 @@ module _ (laws : MadeLaws) (s : Scenario) (whole : World) (t cores : ℕ) (came 
     tick = one_tick n x y b h playable made
 
     shared : IsSharedTick scripts b.cores t frames (site_in b x) (site_in h y)
-    shared =
-        shared_tick scripts b.host.slow.check_sums b.cores t frames (site_in b x) (site_in h y)
-        (tick_of_lanes scripts t frames b h x y playable.between tick)
+    shared = laws.shared scripts t frames b h x y playable.between tick
 
     round : Round scripts t frames (site_in b x) (site_in h y)
     round =
@@ -177,15 +189,15 @@ module _ (laws : MadeLaws) (s : Scenario) (whole : World) (t cores : ℕ) (came 
       playable = laws.next s t made.name (frames_to n came) x y b made.trying made.played made.kicked made.sent h
           playable made.begun made.first made.gone made.second made.ended;
       one = record {
-        cores = cores_stay scripts t frames b h x y playable.between tick ∙ one.cores;
-        filed = tick_filed scripts t frames b h x y playable.between tick one.filed;
+        cores = laws.cores scripts t frames b h x y playable.between tick ∙ one.cores;
+        filed = laws.filed scripts t frames b h x y playable.between tick one.filed;
       };
       below = λ low.
           subst (λ (c : ℕ). AllBelow c (seen_by h)) one.cores
           (shared_low scripts b.cores t frames (site_in b x) (site_in h y) (scenarios_by_moves s (seen_by b).params)
           early.histories shared (subst (λ (c : ℕ). AllBelow c (seen_by b)) (sym one.cores) low));
       silent = silent_after s (seen_by b).params t frames (site_in b x) (site_in h y) early
-          (open_found b playable.between.sound) round;
+          (laws.findable b playable.between.sound) round;
     }
 
   -- What these hosts leave, the first of which has this number.

@@ -9,7 +9,8 @@ ghost use Rattle.shared_world.specs.Sites.{HasPlayed, IsReady, world_of};
 ghost use Rattle.shared_world.specs.Stepping.{AreMade};
 ghost use Rattle.shared_world.specs.declared.world.SharedWorld.{SharedWorld};
 
-use shared_scripts::ticks_are_made;
+use core_host::{filed_histories_are_kept, open_flows_are_in_the_index, ticks_of_steps_are_shared};
+use shared_scripts::{HostScripts, ticks_are_made};
 
 /// Where the hosts of a world made a tick step by step, with the frames that were due of those that are kept, what they
 /// left has played a right tick of it, each on its own cores.
@@ -28,4 +29,7 @@ pub(crate) fn made_ticks_are_right()
         → HasPlayed s t cores n }
 {
     ticks_are_made();
+    ticks_of_steps_are_shared::<HostScripts<'static>, u32>();
+    filed_histories_are_kept::<HostScripts<'static>, u32>();
+    open_flows_are_in_the_index();
 }
