@@ -3,3 +3,7 @@ pub mod Collected
 pub mod Closed
 pub mod Rested
 pub mod CollectedHosts
+pub mod Arrivals
+pub mod Stepped
+pub mod Silent
+pub mod Rounds
