@@ -1,5 +1,5 @@
 -- What hosts of shared flows leave, as the definitions of runs have it.
-use Rattle.std.proofs.Common.{◌≡◌, ℕ, List, [], ◌∷◌, ◌++◌, Unit, Result, Ok, length}
+use Rattle.std.proofs.Common.{◌≡◌, ℕ, List, [], ◌∷◌, ◌++◌, Result, Ok, length}
 use Rattle.std.proofs.Common.{refl, sym, ap, ◌∙◌, subst, append_assoc, append-nil, arith}
 use Rattle.host_rounds.specs.Lists.{Each}
 use Rattle.local_host.specs.Live.{IsLegal}
@@ -51,11 +51,11 @@ run_left s cores rest w end over left legal ticks stalled =
 
 -- ----- one after the other
 -- Of these hosts those in front of the ones that are left have left their ends, behind the ends of others.
-pub record HaveLeft (all rest : List Staffed) (others ends : List HostEnd) : Type 0 where
+pub record HaveLeft (all rest : List Staffed) (others now : List HostEnd) : Type 0 where
   pub gone : List Staffed
   pub more : List HostEnd
   pub hosts : all ≡ gone ++ rest
-  pub ends : ends ≡ others ++ more
+  pub ends : now ≡ others ++ more
   pub left : AreLeft gone more
 
 pub none_left : (all : List Staffed) (others : List HostEnd) → HaveLeft all all others others

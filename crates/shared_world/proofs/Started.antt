@@ -18,6 +18,7 @@ use Rattle.sound_hosts.specs.Hosts.{known_in}
 use Rattle.slow_worker.specs.declared.clock.Clock.TheVariants.{New}
 use Rattle.scenario_host.specs.Sound.{AreRising}
 use Rattle.scenario_host.proofs.Starting.{starts_sound}
+use Rattle.scenario_host.proofs.Walking.{each_at}
 use Rattle.scenario_ranges.specs.Ranges.{IsHostInRange, IsInRange}
 use Rattle.scenario_runs.specs.Applications.{Script}
 use Rattle.scenario_runs.specs.Worlds.{World, at_start, kill_tick, scripts_on, site_of}
@@ -48,7 +49,8 @@ scripts_len s (line ∷ lines) = ap suc (scripts_len s lines)
 pub scripts_there : (s : Scenario) (lines : List HostLine) (i : ℕ) (line : HostLine) (x : List Script)
     → slice_get lines i ≡ Some line → slice_get (scripts_at s lines) i ≡ Some x → x ≡ own_scripts s line
 scripts_there s [] i line x e f = absurd (cc (e))
-scripts_there s (l ∷ ls) zero line x e f = cc (e, f)
+scripts_there s (l ∷ ls) zero line x e f =
+    let same : l ≡ line = cc (e) in let own : own_scripts s l ≡ x = cc (f) in sym own ∙ ap (own_scripts s) same
 scripts_there s (l ∷ ls) (suc i) line x e f = scripts_there s ls i line x e f
 
 -- ----- their numbers
@@ -74,8 +76,13 @@ few_scripts kills host n (app ∷ apps) = by (bytes_eq app.host host) (few_scrip
         begun = false;
         names = [];
       }) ∷ []) []) ++ scripts_on kills host (n + 1) apps)) ≤ suc (length apps)
-  by true few = omega (arith, few)
-  by false few = omega (arith, few)
+  by true few =
+      let next : suc (length (numbers_in (scripts_on kills host (n + 1) apps))) ≤ suc (length apps) =
+      omega (arith, few) in
+      next
+  by false few =
+      let next : length (numbers_in (scripts_on kills host (n + 1) apps)) ≤ suc (length apps) = omega (arith, few) in
+      next
 
 -- they rise and are few, as a host wants them
 pub numbers_fit : (s : Scenario) (line : HostLine) (xs : List Script) (ns : List ℕ) → IsInRange s → IsHostInRange line
@@ -90,14 +97,12 @@ numbers_fit s line xs ns ranges host own are =
     )
 
 -- ----- one host
-line_in : {X : Type 0} (P : X → Type 0) (xs : List X) (i : ℕ) (x : X) → Each P xs → slice_get xs i ≡ Some x → P x
-line_in P [] i x each e = absurd (cc (e))
-line_in P (y ∷ ys) zero x each e = let same : y ≡ x = cc (e) in subst P same each.0
-line_in P (y ∷ ys) (suc i) x each e = line_in P ys i x each.1 e
-
 pub host_in_range : (s : Scenario) (i : ℕ) (line : HostLine) → IsInRange s → slice_get s.hosts i ≡ Some line
     → IsHostInRange line
-host_in_range s i line ranges e = line_in IsHostInRange s.hosts i line ranges.hosts e
+host_in_range s i line ranges e = each_at IsHostInRange s.hosts i line ranges.hosts e
+
+abbrev site_by : Host → List Script → Site (List Script)
+site_by host xs = record { host = host; scripts = xs }
 
 -- a host that was just made is its line's, before the first tick
 pub is_new : (s : Scenario) (cores : ℕ) (line : HostLine) (xs : List Script) (ns : List ℕ) (h : Staffed) → IsInRange s
@@ -113,11 +118,8 @@ is_new s cores line xs ns h ranges host own are seen sound staff clear unasked t
         cores = staff.0;
         filed = subst (λ (fs : List records.Flow). Each (IsFiledAs (known_in h.host)) fs) (sym filed) tt;
       };
-      site = ap (λ (host : Host). is_site host (own_scripts s line)) seen;
+      site = ap (λ (host : Host). site_by host (own_scripts s line)) seen;
     }
-  where
-    abbrev is_site : Host → List Script → Site (List Script)
-    is_site host xs = record { host = host; scripts = xs }
 
 pub is_new_ok : {Y : Type 0} (s : Scenario) (cores : ℕ) (line : HostLine) (xs : List Script) (ns : List ℕ)
     (r : Result Staffed Y) → IsInRange s → IsHostInRange line → xs ≡ own_scripts s line → ns ≡ numbers_in xs

@@ -30,8 +30,8 @@ ArePlayable t (h ∷ hs) [] = ⊥
 ArePlayable t (h ∷ hs) (x ∷ xs) = IsPlayable t h x × ArePlayable t hs xs
 
 -- The host has so many cores, and each record that it filed has the history that is known of its flow.
-pub record IsOneOf (cores : ℕ) (h : Staffed) : Type 0 where
-  pub cores : h.cores ≡ cores
+pub record IsOneOf (n : ℕ) (h : Staffed) : Type 0 where
+  pub cores : h.cores ≡ n
   pub filed : AreFiled h.host
 
 abbrev pub AreOf : (cores : ℕ) → List Staffed → Type 0

@@ -1,5 +1,6 @@
 //! What hosts of shared flows leave when a run is over.
-ghost use Rattle.std.specs.Prelude.{◌≡◌, ◌++◌, List, length, IfOk, OnOk, into_iter_items, into_iter_len};
+ghost use Rattle.std.specs.Prelude.{◌≡◌, ◌++◌, List, length, IfOk, OnOk};
+ghost use Rattle.std.specs.Vec.Iter.{into_iter_items, into_iter_len};
 ghost use Rattle.core_host.specs.Ending.{AreFiled};
 ghost use Rattle.core_host.specs.Sound.{IsStaffSound};
 ghost use Rattle.core_host.specs.Views.{Staffed, seen_by};

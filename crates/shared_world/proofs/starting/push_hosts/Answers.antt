@@ -1,5 +1,5 @@
 -- Answers of the proof of starting/push_hosts.
-use Rattle.std.proofs.Common.{◌≡◌, ◌≤◌, ◌<◌, length, take, slice_get, Some, sym, subst, ap, ◌∙◌, arith, length-take}
+use Rattle.std.proofs.Common.{◌≡◌, ◌≤◌, ◌<◌, List, length, take, slice_get, Some, sym, subst, ap, ◌∙◌, arith, length-take}
 use Rattle.std.proofs.lemmas.List.{take_all}
 use Rattle.std.proofs.lemmas.Option.{slice_get_read}
 use Rattle.scenario_text.specs.declared.scenario.HostLine.{HostLine}
@@ -25,5 +25,5 @@ returns g c =
     let s = c.args.s.now in
     let i = c.loop-number.number in
     let past : length s.hosts ≤ i = c.loop-number-test.false in
-    subst (λ (ls : _). AreNew s c.args.cores ls c.loop-number.hosts.items) (take_all i s.hosts past)
+    subst (λ (ls : List HostLine). AreNew s c.args.cores ls c.loop-number.hosts.items) (take_all i s.hosts past)
     c.loop-number.invariant.new
