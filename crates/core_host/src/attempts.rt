@@ -34,7 +34,7 @@ impl CoreHost {
         ensures { (b : Book) → slice_get self.old.host.books place ≡ Some b
             → OnOk result (IsTrying app b.id call.now self.old self.new) }
     {
-        let attempt = attempt_of(self.alloc, call)?;
+        let attempt = attempt_of(self.alloc, &mut self.rooms, call)?;
         let socket = Socket(self.books.id(place).slot);
         let at = lane_place(self.cores, self.names.as_slice(), app);
         set_out(&mut self.lanes[at], socket, attempt);
@@ -50,7 +50,7 @@ impl CoreHost {
         ensures { IfOk result (λ answer. IsAnswerTaken app answer self.old self.new) }
     {
         let at = lane_place(self.cores, self.names.as_slice(), app);
-        let answered = take_out(&mut self.lanes[at]);
+        let answered = take_out(&mut self.rooms, &mut self.lanes[at]);
         answer_in(answered)
     }
 }
@@ -87,19 +87,42 @@ fn name_place(names: &[u32], app: u32) -> Option<usize>
     names.iter().position(|number| *number == app)
 }
 
-/// The attempt that makes this call. The error is want of memory.
-fn attempt_of(alloc: Global, call: &CallIn<'_>) -> Result<Attempt, AllocError>
+/// The attempt that makes this call, in one of these buffers where it reads. The error is want of memory.
+fn attempt_of(
+    alloc: Global,
+    rooms: &mut Vec<Vec<u8>>,
+    call: &CallIn<'_>,
+) -> Result<Attempt, AllocError>
     requires { IsTryCall call.now }
     ensures made { IfOk result (λ attempt. IsAttemptOf call.now attempt) }
     ensures may { IfOk result (λ attempt. (a : Application) (s : Socket) → IsSocket a s → MayTry a s attempt) }
 {
     match call {
         CallIn::Send { bytes } => Ok(Attempt::Send(copy_of(alloc, bytes)?)),
-        CallIn::Recv { most } => Ok(Attempt::Recv(Vec::from_elem(alloc, 0, *most as usize)?)),
+        CallIn::Recv { most } => Ok(Attempt::Recv(room_of(alloc, rooms, *most as usize)?)),
         CallIn::Shut => Ok(Attempt::Shut),
         CallIn::Close => Ok(Attempt::Close),
         CallIn::Abort => Ok(Attempt::Abort),
         _ => unreachable!(),
+    }
+}
+
+/// A buffer of so many bytes: the one that was laid by last, where it has as many. The error is want of memory.
+fn room_of(alloc: Global, rooms: &mut Vec<Vec<u8>>, most: usize) -> Result<Vec<u8>, AllocError>
+    ensures { IfOk result (λ room. length room.items ≡ most) }
+{
+    if let Some(room) = rooms.pop() {
+        if room.len() == most {
+            return Ok(room);
+        }
+    }
+    Vec::from_elem(alloc, 0, most)
+}
+
+/// The buffer of the attempt is laid by for the next one that reads.
+fn lay_by(rooms: &mut Vec<Vec<u8>>, attempt: Attempt) {
+    if let Attempt::Recv(room) = attempt {
+        let _ = rooms.push(room);
     }
 }
 
@@ -125,15 +148,15 @@ fn set_out(lane: &mut Lane, socket: Socket, attempt: Attempt)
     }
 }
 
-/// Takes the answer out of the lane of an application, which tries nothing more.
-fn take_out(lane: &mut Lane) -> Answered
+/// Takes the answer out of the lane of an application, which tries nothing more. Its buffer is laid by.
+fn take_out(rooms: &mut Vec<Vec<u8>>, lane: &mut Lane) -> Answered
     requires { (l : AppLane) × (lane.old ≡ lanes_of.App l) }
     ensures lane { (l : AppLane) → lane.old ≡ lanes_of.App l → lane.new ≡ without_attempt l }
     ensures answer { (l : AppLane) → lane.old ≡ lanes_of.App l → result ≡ l.answer }
 {
     match lane {
         Lane::App(app) => {
-            app.attempt = Attempt::Nothing;
+            lay_by(rooms, mem::replace(&mut app.attempt, Attempt::Nothing));
             mem::replace(&mut app.answer, Answered::Nothing)
         }
         Lane::Core(_) => unreachable!(),

@@ -55,6 +55,7 @@ impl CoreHost {
             names: _,
             books,
             buffer: _,
+            rooms: _,
             busy: _,
         } = self;
         let SlowRemains {
@@ -89,6 +90,7 @@ impl CoreHost {
             names: _,
             books: _,
             buffer: _,
+            rooms: _,
             busy: _,
         } = self;
         drop(slow.end(rt));

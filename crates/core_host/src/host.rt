@@ -40,6 +40,8 @@ pub struct CoreHost {
     pub(crate) books: Books,
     /// What a call reads into: as many bytes as one may ask for.
     pub(crate) buffer: Vec<u8>,
+    /// Buffers of attempts that read, for the next ones.
+    pub(crate) rooms: Vec<Vec<u8>>,
     /// How many frames were handed out and calls are tried since the last phase: whether that is work for threads.
     pub(crate) busy: usize,
 }
@@ -94,6 +96,7 @@ impl CoreHost {
                 names: staff.names,
                 books: Books::new(alloc),
                 buffer: staff.buffer,
+                rooms: Vec::new(alloc),
                 busy: 0,
             }),
             Err(error) => {

@@ -11,7 +11,4 @@ pub mod Offers
 pub mod Sockets
 pub mod Stepping
 pub mod Playing
-pub mod OneTry
 pub mod Trials
-pub mod TriedTurns
-pub mod OnCores

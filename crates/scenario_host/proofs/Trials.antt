@@ -1,5 +1,5 @@
 -- Which call an application tries, and on which flow.
-use Rattle.std.proofs.Common.{◌≡◌, ℕ, zero, suc, ◌-◌, ◌≤◌, Bool, false, List, [], ◌∷◌, length, take, drop, get_or}
+use Rattle.std.proofs.Common.{◌≡◌, ℕ, ◌-◌, ◌≤◌, Bool, false, List, [], ◌∷◌, length, take, drop, get_or}
 use Rattle.std.proofs.Common.{Option, Some, None, IfSome, refl, sym, ap, subst, ◌∙◌, arith}
 use Rattle.std.specs.Prelude.{IfNone}
 use Rattle.tas_model.specs.declared.entry.Call.{Call}
@@ -14,7 +14,16 @@ use Rattle.scenario_ranges.specs.Ranges.{IsStepInRange}
 use Rattle.scenario_runs.specs.Applications.{Script, bound_in, flow_of, is_killed_at, most, filling, asks_for}
 use Rattle.scenario_host.specs.Tries.{IsTryOn, IsTrialOn, IsTrialAt, IsTrialFirst, IsTrialWhere, IsTrialIn}
 use Rattle.scenario_host.proofs.Offers.{rest_offered}
-use Rattle.scenario_host.proofs.OneTry.{IsSendOf, IsRecvOf}
+
+-- a call that sends these bytes
+abbrev pub IsSendOf : (bytes : List ℕ) → CallIn → Type 0
+IsSendOf bytes (ins.Send b) = b.now ≡ bytes
+IsSendOf bytes _ = ⊥
+
+-- one that reads so many bytes at most
+abbrev pub IsRecvOf : (asks : ℕ) → CallIn → Type 0
+IsRecvOf asks (ins.Recv n) = n ≡ asks
+IsRecvOf asks _ = ⊥
 
 -- this call, on the socket of this name
 trial_on : (name socket : List ℕ) (given : CallIn) (call : Call) (offer : List ℕ) (s : Script) (o : Option Attempt)

@@ -1,24 +1,21 @@
 -- What applications try while cores take frames, and how their scripts go on by the answers.
 use Rattle.std.specs.Prelude.{◌≡◌, ℕ, ◌+◌, ◌^◌, ◌<◌, ◌≤◌, Bool, true, false, List, [], ◌∷◌, length, take, drop}
-use Rattle.std.specs.Prelude.{slice_get, Option, Some, None, IfSome, ⊤}
+use Rattle.std.specs.Prelude.{Option, Some, None, ⊤}
 use Rattle.tas_model.specs.declared.entry.Call.{Call}
 use Rattle.tas_model.specs.declared.entry.Call.TheVariants as calls
 use Rattle.flow_state.specs.Calls.{call_of, offer_of}
 use Rattle.flow_state.specs.declared.call.CallIn.{CallIn}
 use Rattle.flow_state.specs.declared.call.Answer.{Answer}
 use Rattle.host_rounds.specs.Lists.{Each}
-use Rattle.host_rounds.specs.Hosts.{Host, Starts}
 use Rattle.local_host.specs.declared.attempts.Attempt.{Attempt}
 use Rattle.local_host.specs.Live.{took}
-use Rattle.local_host.specs.Trying.{IsTryable, IsMadeBy}
 use Rattle.scenario_text.specs.declared.scenario.Step.{Step}
 use Rattle.scenario_text.specs.declared.scenario.Step.TheVariants as steps
 use Rattle.scenario_ranges.specs.Ranges.{IsStepInRange}
-use Rattle.scenario_runs.specs.Applications.{Script, unbind, stepped, bound_in, flow_of, step_of, turn, is_killed_at}
+use Rattle.scenario_runs.specs.Applications.{Script, unbind, stepped, bound_in, flow_of, is_killed_at}
 use Rattle.scenario_runs.specs.Applications.{most, filling, asks_for}
 use Rattle.scenario_host.specs.Answers.{IsWithin, gave, sent_by, received_by}
 use Rattle.scenario_host.specs.Sound.{IsPartOfFirst}
-use Rattle.scenario_host.specs.Turns.{turn_of}
 
 -- ----- the script goes on
 -- by the answer to the call of this step
@@ -97,71 +94,3 @@ IsTrialWhere false s o = IsTrialFirst s.left s o
 -- What the application tries in the tick: the call of its step, or nothing where it is killed or has ended.
 abbrev pub IsTrialIn : (tick : ℕ) → Script → Option Attempt → Type 0
 IsTrialIn t s o = IsTrialWhere (is_killed_at t s.kill) s o
-
--- The attempt was made on a host, and this was the answer.
-pub record IsTry (t : ℕ) (x : Attempt) (a : Answer) (before after : Host) : Type 0 where
-  pub made : IsMadeBy t x (Some a) before.flows after.flows
-  pub others : record before { flows = after.flows } ≡ after
-
--- Where the attempt is made, and the script goes on by its answer, that is the step.
-pub record IsAttemptAt (t : ℕ) (step : Step) (s : Script) (x : Attempt) : Type 0 where
-  pub fresh : x.answer ≡ None
-  pub may : IsTryable x.call
-  pub turns : (starts : Starts) (address : List ℕ → ℕ) (a : Answer) (before after : Host) → IsTry t x a before after
-      → turn_of after (answered_at step a s) ≡ step_of starts address t step (turn_of before s)
-  pub within : (a : Answer) (before after : Host) → IsTry t x a before after → IsAnswerAt step a s
-
--- And that is the turn of its application.
-pub record IsAttemptOf (t : ℕ) (s : Script) (x : Attempt) : Type 0 where
-  pub fresh : x.answer ≡ None
-  pub may : IsTryable x.call
-  pub turns : (starts : Starts) (address : List ℕ → ℕ) (a : Answer) (before after : Host) → IsTry t x a before after
-      → turn_of after (answered_by a s) ≡ turn starts address t (turn_of before s)
-  pub within : (a : Answer) (before after : Host) → IsTry t x a before after → IsAnswerWithin a s
-
--- ----- attempts of all applications
--- One of each script that has one, in their order; scripts without an item here try nothing.
-abbrev pub AreAttemptsOf : (tick : ℕ) → List Script → List (Option Attempt) → Type 0
-AreAttemptsOf t ss [] = ⊤
-AreAttemptsOf t [] (x ∷ xs) = ⊥
-AreAttemptsOf t (s ∷ ss) (x ∷ xs) = IfSome x (IsAttemptOf t s) × AreAttemptsOf t ss xs
-
--- none where nothing was tried, or the attempt was not made
-abbrev pub answer_in : Option Attempt → Option Answer
-answer_in None = None
-answer_in (Some x) = x.answer
-
-abbrev pub answer_on : Option (Option Attempt) → Option Answer
-answer_on None = None
-answer_on (Some x) = answer_in x
-
--- the answer of the attempt at this place
-abbrev pub answer_at : List (Option Attempt) → (place : ℕ) → Option Answer
-answer_at xs k = answer_on (slice_get xs k)
-
-abbrev pub goes_by : Option Answer → Script → Script
-goes_by None s = s
-goes_by (Some a) s = answered_by a s
-
--- all scripts whose attempts were made go on
-abbrev pub answered_all : List (Option Attempt) → List Script → List Script
-answered_all [] ss = ss
-answered_all (x ∷ xs) [] = []
-answered_all (x ∷ xs) (s ∷ ss) = goes_by (answer_in x) s ∷ answered_all xs ss
-
-abbrev pub AreWithin : List (Option Attempt) → List Script → Type 0
-AreWithin [] ss = ⊤
-AreWithin (x ∷ xs) [] = ⊤
-AreWithin (x ∷ xs) (s ∷ ss) = IfSome (answer_in x) (λ (a : Answer). IsAnswerWithin a s) × AreWithin xs ss
-
--- of these applications those whose attempts were made
-abbrev pub tried_in : List (Option Attempt) → (applications : List ℕ) → List ℕ
-tried_in [] ns = []
-tried_in (x ∷ xs) [] = []
-tried_in (x ∷ xs) (n ∷ ns) = elim (answer_in x) [ None ↦ tried_in xs ns | Some a ↦ n ∷ tried_in xs ns ]
-
--- and all others
-abbrev pub later_in : List (Option Attempt) → (applications : List ℕ) → List ℕ
-later_in [] ns = ns
-later_in (x ∷ xs) [] = []
-later_in (x ∷ xs) (n ∷ ns) = elim (answer_in x) [ None ↦ n ∷ later_in xs ns | Some a ↦ later_in xs ns ]

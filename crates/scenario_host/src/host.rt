@@ -1,4 +1,4 @@
-//! A host of a scenario with its applications: a tick, in serial order or on cores.
+//! A host of a scenario with its applications: a tick in serial order.
 
 ghost use Rattle.std.specs.Prelude.{◌≡◌, ◌≤◌, ◌<◌, ◌+◌, ◌++◌, ℕ, false, [], map, fold, length, IfOk, OnOk};
 ghost use Rattle.std.specs.List.{list_all};
@@ -6,7 +6,6 @@ ghost use Rattle.host_rounds.specs.Lists.{Each};
 ghost use Rattle.host_rounds.specs.Hosts.{flows_of};
 ghost use Rattle.host_rounds.specs.Deliveries.{received_serially, delivered};
 ghost use Rattle.host_rounds.specs.SerialOrder.{ask_phase, serial_tick};
-ghost use Rattle.core_rounds.specs.CoreTicks.{IsCoresTick};
 ghost use Rattle.local_host.specs.Arriving.{arrival_in};
 ghost use Rattle.local_host.specs.Live.{flow_left, IsLegal};
 ghost use Rattle.scenario_ranges.specs.Ranges.{IsInRange, IsHostInRange};
@@ -17,18 +16,14 @@ ghost use Rattle.scenario_host.specs.Sound.{IsFit, IsSound};
 ghost use Rattle.scenario_host.specs.Turns.{turn_of, site_with};
 
 use crate::filling::FillBytes;
-use crate::on_cores::play_tick_on_cores;
 use crate::resting::{AppScripts, LEAST_REST};
 use crate::script::AppScript;
 use crate::start::scripts_on;
 use crate::starts::HostStarts;
-use local_host::{Arrival, Cores, HostEnd, LocalHost};
+use local_host::{Arrival, HostEnd, LocalHost};
 use scenario_text::{HostLine, Scenario};
 use std::alloc::{AllocError, Global};
 use std::marker::Model;
-use std::sync::Wait;
-use std::thread::Threads;
-use tas_num::Gate;
 
 /// A host of a scenario and its applications, seen as both in the middle of a run.
 #[derive(Drop)]
@@ -97,46 +92,6 @@ impl<'a> ScenarioHost<'a> {
             s,
             &self.starts,
             &self.filling,
-        ) {
-            Ok(()) => Ok(()),
-            Err(error) => {
-                self.host = LocalHost::new(self.alloc, self.starts.params);
-                self.scripts = AppScripts::new(self.alloc, Vec::new(self.alloc));
-                Err(error)
-            }
-        }
-    }
-
-    /// One tick on cores: the slow path, the frames that cores take side by side, those that they left, the call of
-    /// each application, and what may go. The error is want of memory, and leaves a host without flows and
-    /// applications.
-    pub fn play_on_cores<R: Threads + Wait + Sync, G: Gate + Sync>(
-        &mut self,
-        rt: &R,
-        tick: u32,
-        arrivals: &[Arrival<'_>],
-        s: &Scenario,
-        cores: &mut Cores,
-        gate: &G,
-    ) -> Result<(), AllocError>
-        ensures tick { OnOk result (IsCoresTick (scripts_of s.now self.old.host.params) cores.old.count tick
-            (record { frames = map arrival_in arrivals.now; asks = map (λ (x : Script). x.number) self.old.scripts })
-            self.old self.new) }
-        ensures cores { cores.new ≡ cores.old }
-    {
-        self.scripts.wake_all();
-        match play_tick_on_cores(
-            rt,
-            self.alloc,
-            &mut self.host,
-            &mut self.scripts.items,
-            tick,
-            arrivals,
-            s,
-            &self.starts,
-            &self.filling,
-            cores,
-            gate,
         ) {
             Ok(()) => Ok(()),
             Err(error) => {

@@ -4,7 +4,7 @@
 mod filling;
 mod host;
 mod kill;
-mod on_cores;
+mod moves;
 mod resting;
 mod script;
 mod start;
@@ -15,7 +15,7 @@ mod trying;
 
 pub use filling::FillBytes;
 pub use host::ScenarioHost;
-pub use on_cores::moves_at;
+pub use moves::moves_at;
 pub use script::AppScript;
 pub use start::scripts_on;
 pub use starts::HostStarts;

@@ -4,7 +4,7 @@ ghost use Rattle.std.specs.Prelude.{◌≡◌, None, IfSome, IfNone};
 ghost use Rattle.scenario_ranges.specs.Ranges.{IsStepInRange};
 ghost use Rattle.scenario_runs.specs.Applications.{bound_in, flow_of, unbind, stepped};
 ghost use Rattle.scenario_host.specs.Sound.{IsPart};
-ghost use Rattle.scenario_host.specs.Tries.{IsAtStep, IsTryOn, IsAttemptAt, IsAttemptOf, IsAnswerAt, IsAnswerWithin};
+ghost use Rattle.scenario_host.specs.Tries.{IsAtStep, IsTryOn, IsAnswerAt, IsAnswerWithin};
 ghost use Rattle.scenario_host.specs.Tries.{IsTrialIn, IsTrialAt, answered_at, answered_by};
 
 use crate::filling::FillBytes;
@@ -19,7 +19,6 @@ impl<'a> AppScript<'a> {
     /// that is killed in the tick, and one that has ended, tries nothing.
     pub fn attempt(&self, tick: u32, filling: &'a FillBytes) -> Option<Attempt<'a>>
         requires { IsAtStep self.now }
-        ensures turn { IfSome result (λ x. IsAttemptOf tick self.now x) }
         ensures call { IsTrialIn tick self.now result }
     {
         if self.is_killed_at(tick) {
@@ -35,7 +34,6 @@ impl<'a> AppScript<'a> {
     fn attempt_at(&self, tick: u32, step: &'a Step, filling: &'a FillBytes) -> Option<Attempt<'a>>
         requires range { IsStepInRange step.now }
         requires part { IsPart step.now self.now.done }
-        ensures turn { IfSome result (λ x. IsAttemptAt tick step.now self.now x) }
         ensures call { IsTrialAt step.now self.now result }
     {
         match step {

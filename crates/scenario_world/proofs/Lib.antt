@@ -11,5 +11,3 @@ pub mod NextTick
 pub mod Forgotten
 pub mod Played
 pub mod Finishing
-pub mod CoresPlayed
-pub mod InSeats

@@ -15,7 +15,6 @@ use Rattle.scenario_text.specs.declared.scenario.HostLine.{HostLine}
 use Rattle.scenario_runs.specs.Applications.{Script}
 use Rattle.scenario_runs.specs.Worlds.{World, sent_in, is_under_way}
 use Rattle.scenario_runs.specs.Runs.{IsTick}
-use Rattle.local_host.specs.Steered.{Steered}
 use Rattle.sent_frames.specs.declared.counts.SentCounts.{SentCounts}
 use Rattle.sent_frames.specs.Sending.{addresses_of, of_tick, sent_by, answers_in, EntriesBefore, LinesBefore}
 use Rattle.scenario_world.specs.declared.playing.Playing.{Playing}
@@ -102,14 +101,3 @@ pub record IsPlayedOf (s : Scenario) (t : ℕ) (hosts : World) (k : Traffic) : T
 
 abbrev pub IsPlayed : Scenario → (tick : ℕ) → Playing → Type 0
 IsPlayed s t p = IsPlayedOf s t p.hosts.items p.traffic
-
--- ----- cores
--- The cores of these hosts, one after the other; the first host has this number.
-abbrev pub AreNumbered : (first : ℕ) → List Steered → Type 0
-AreNumbered n [] = ⊤
-AreNumbered n (c ∷ cs) = (c.host ≡ n) × AreNumbered (n + 1) cs
-
--- each of these hosts has cores of its own
-pub record AreCoresOf (hosts : ℕ) (cores : List Steered) : Type 0 where
-  pub len : length cores ≡ hosts
-  pub numbered : AreNumbered 0 cores

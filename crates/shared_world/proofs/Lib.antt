@@ -3,3 +3,11 @@ pub mod Ended
 pub mod Running
 pub mod Started
 pub mod SentOn
+pub mod Collected
+pub mod Closed
+pub mod Rested
+pub mod CollectedHosts
+pub mod Arrivals
+pub mod Stepped
+pub mod Silent
+pub mod Rounds

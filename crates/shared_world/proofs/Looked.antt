@@ -1,14 +1,13 @@
 -- Hosts whose records were looked at, of one and of all of a world: what is as it was.
 use Rattle.std.proofs.Common.{◌≡◌, ℕ, ◌<◌, suc, List, [], ◌∷◌, length, refl, sym, ap, ◌∙◌, subst}
-use Rattle.std.specs.List.{AllZip}
 use Rattle.std.specs.Prelude.{IfSome}
-use Rattle.host_rounds.specs.Hosts.{Host, Live}
+use Rattle.host_rounds.specs.Hosts.{Host}
 use Rattle.host_rounds.specs.Lists.{Each}
 use Rattle.slow_worker.specs.Clocks.{last_tick}
 use Rattle.slow_worker.specs.declared.clock.Clock.{Clock}
 use Rattle.scenario_runs.specs.Applications.{Script}
 use Rattle.core_host.specs.Sound.{IsStaffSound, IsClear, IsUnasked}
-use Rattle.core_host.specs.Ticks.{IsBetweenTicks, site_in}
+use Rattle.core_host.specs.Ticks.{site_in}
 use Rattle.core_host.specs.Views.{Staffed, seen_by}
 use Rattle.shared_scripts.specs.Playing.{IsPlayable, Owns, RunsOn}
 use Rattle.shared_world.specs.Looking.{IsLookedAt, AreLookedAt, AreSilentBut, IsSilentBut}

@@ -45,17 +45,18 @@ pub(crate) fn collect_all(
         → OnOk result (AreCounted (sites_in hosts.old scripts) counts.new) }
     ensures last { OnOk result (AreUpTo tick sent.new) }
 {
-    if let Some((host, rest)) = hosts.split_first_mut() {
-        if let Some((own, others)) = counts.split_first_mut() {
-            let sender = Sender {
-                host: number,
-                addresses,
-            };
-            collect_host(alloc, &sender, tick, host, own, sent)?;
-            collect_all(alloc, tick, number + 1, rest, addresses, others, sent)?;
-        }
-    }
-    Ok(())
+    let Some((host, rest)) = hosts.split_first_mut() else {
+        return Ok(());
+    };
+    let Some((own, others)) = counts.split_first_mut() else {
+        unreachable!();
+    };
+    let sender = Sender {
+        host: number,
+        addresses,
+    };
+    collect_host(alloc, &sender, tick, host, own, sent)?;
+    collect_all(alloc, tick, number + 1, rest, addresses, others, sent)
 }
 
 /// The same of one host.

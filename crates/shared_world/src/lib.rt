@@ -6,6 +6,7 @@ mod arriving;
 mod closing;
 mod collecting;
 mod ending;
+mod laws;
 mod resting;
 mod run;
 mod starting;

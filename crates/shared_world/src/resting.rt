@@ -1,5 +1,5 @@
 //! Whether a run is at rest.
-ghost use Rattle.std.specs.Prelude.{◌≡◌, ◌+◌, ℕ, List};
+ghost use Rattle.std.specs.Prelude.{◌≡◌, ◌+◌, ◌&&◌, ℕ, List, nat_lt, not};
 ghost use Rattle.std.specs.List.{list_all};
 ghost use Rattle.scenario_runs.specs.Applications.{Script, has_ended};
 ghost use Rattle.scenario_runs.specs.Worlds.{is_at_rest as model_rest};
@@ -31,5 +31,16 @@ pub(crate) fn is_at_rest(tick: u32, w: &mut SharedWorld<'_>) -> bool
     ensures ready { (s : Scenario) (cores : ℕ) → IsReady s (tick + 1) cores w.old
         → IsReady s (tick + 1) cores w.new }
 {
-    have_ended(&w.scripts) && w.traffic.last <= u64::from(tick) && are_closed(&mut w.hosts)
+    if !is_quiet(tick, w) {
+        return false;
+    }
+    are_closed(&mut w.hosts)
+}
+
+/// Whether all scripts have ended, and no frame comes after the tick.
+fn is_quiet(tick: u32, w: &SharedWorld<'_>) -> bool
+    ensures { result ≡ (list_all (λ (xs : List Script). list_all has_ended xs) w.now.scripts.items
+        && not (nat_lt tick w.now.traffic.last)) }
+{
+    have_ended(&w.scripts) && w.traffic.last <= u64::from(tick)
 }

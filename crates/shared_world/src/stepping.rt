@@ -63,6 +63,7 @@ fn begin_all<R: Wait>(
     requires playable { ArePlayable tick hosts.old scripts.now }
     ensures { OnOk result (HaveBegun s.now tick due.now number scripts.now hosts.old hosts.new) }
 {
+    let _count = s.hosts.len();
     if let Some((host, rest)) = hosts.split_first_mut() {
         if let Some((own, others)) = scripts.split_first() {
             begin(rt, alloc, s, tick, due, number, host, own)?;
@@ -104,11 +105,8 @@ fn go_on_all<R: Wait>(
     requires { WereBegun s.now tick scripts.old hosts.old }
     ensures { OnOk result (HaveGoneOn s.now tick scripts.old scripts.new hosts.old hosts.new) }
 {
-    if let Some((host, rest)) = hosts.split_first_mut() {
-        if let Some((own, others)) = scripts.split_first_mut() {
-            own.go_on(rt, host, tick, s)?;
-            go_on_all(rt, s, tick, rest, others)?;
-        }
+    for (k, own) in scripts.iter_mut().enumerate() {
+        own.go_on(rt, &mut hosts[k], tick, s)?;
     }
     Ok(())
 }

@@ -6,6 +6,7 @@ ghost use Rattle.scenario_runs.specs.Runs.{IsTick};
 ghost use Rattle.shared_world.specs.Sites.{HasPlayed, IsReady, world_of};
 
 use crate::collecting::collect_all;
+use crate::laws::made_ticks_are_right;
 use crate::stepping::play_steps;
 use crate::world::SharedWorld;
 use core_phase::Lane;
@@ -39,6 +40,7 @@ pub(crate) fn play_tick<R: Wait, G: Gate>(
     ensures empty { OnOk result (lanes.new.items ≡ []) }
     ensures crew { crew.new ≡ crew.old }
 {
+    made_ticks_are_right();
     let due = due(alloc, &s.link, &w.traffic.sent, tick)?;
     play_steps(
         rt,

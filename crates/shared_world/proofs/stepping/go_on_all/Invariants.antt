@@ -1,0 +1,7 @@
+-- Invariants of the proof of stepping/go_on_all.
+use Rattle.shared_world.proofs.Stepped.{GoneTo}
+use Rattle.shared_world.proofs.stepping.go_on_all.Given as goal
+
+-- the scripts before this one went on
+abbrev pub invariant-loop-k : goal.invariant-loop-k
+invariant-loop-k g l = GoneTo l.s l.tick l.k l.fn.scripts l.scripts l.fn.hosts l.hosts
