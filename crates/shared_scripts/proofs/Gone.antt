@@ -13,7 +13,7 @@ use Rattle.host_rounds.specs.Lists.{Each}
 use Rattle.host_rounds.specs.SerialOrder.{ask_phase}
 use Rattle.phase_orders.specs.Collecting.{collected}
 use Rattle.scenario_host.specs.Answers.{sent_by, received_by}
-use Rattle.scenario_host.specs.Tries.{answered_at, answered_first, goes_by}
+use Rattle.scenario_host.specs.Tries.{answered_at, answered_first}
 use Rattle.scenario_laws.proofs.Deeds.{At, WorkKeeps, packet_keeps}
 use Rattle.scenario_runs.specs.Applications.{Script, done_or}
 use Rattle.scenario_runs.specs.Worlds.{scripts_of, starts_of}
@@ -29,7 +29,7 @@ use Rattle.core_host.specs.Sharing.{MayAllPlay}
 use Rattle.core_host.specs.Sound.{IsStaffSound, IsUnasked}
 use Rattle.core_host.specs.Ticks.{site_in}
 use Rattle.core_host.specs.Views.{Staffed, seen_by}
-use Rattle.shared_scripts.specs.Answers.{answers_in, heard_by, later_by}
+use Rattle.shared_scripts.specs.Answers.{goes_by, answers_in, heard_by, later_by}
 use Rattle.shared_scripts.specs.Going.{CanGoOn, IsGoneOn, IsReadyFor, numbers_of}
 use Rattle.shared_scripts.specs.Playing.{Owns}
 use Rattle.shared_scripts.specs.Turns.{HaveHadTurns, numbers_in}

@@ -3,14 +3,14 @@ use Rattle.std.proofs.Common.{◌≡◌, ℕ, zero, suc, ◌+◌, ◌<◌, ◌�
 use Rattle.std.proofs.Common.{slice_get, Option, Some, IfSome, refl, sym, ap, subst, ◌∙◌, arith}
 use Rattle.std.specs.Option.{is_some}
 use Rattle.flow_state.specs.declared.call.Answer.{Answer}
-use Rattle.scenario_host.specs.Tries.{goes_by, IsAnswerWithin}
+use Rattle.scenario_host.specs.Tries.{IsAnswerWithin}
 use Rattle.scenario_host.proofs.Walking.{drop_place, drop_set}
 use Rattle.scenario_runs.specs.Applications.{Script}
 use Rattle.scenario_text.specs.declared.scenario.Scenario.{Scenario}
 use Rattle.tas_model.specs.declared.entry.HostParams.{HostParams}
 use Rattle.core_host.specs.Sound.{IsStaffSound}
 use Rattle.core_host.specs.Views.{Staffed, seen_by}
-use Rattle.shared_scripts.specs.Answers.{heard_by, told_at, AreWithin}
+use Rattle.shared_scripts.specs.Answers.{goes_by, heard_by, told_at, AreWithin}
 use Rattle.shared_scripts.specs.Going.{IsReadyFor}
 use Rattle.shared_scripts.specs.Turns.{HaveHadTurns, HasHadTurn}
 use Rattle.shared_scripts.proofs.Rows.{none_had, either_had, either_ready, either_sound, either_params}

@@ -37,7 +37,7 @@ use Rattle.scenario_text.specs.declared.scenario.Step.{Step}
 use Rattle.scenario_runs.specs.Applications.{Script, has_ended}
 use Rattle.scenario_ranges.specs.Ranges.{IsStepInRange}
 use Rattle.scenario_host.specs.Sound.{AreRising, IsPart, IsPartOfFirst, IsFit}
-use Rattle.scenario_host.specs.Tries.{goes_by, answered_first, IsAtStep, IsAnswerFirst, IsAnswerWithin}
+use Rattle.scenario_host.specs.Tries.{answered_first, IsAtStep, IsAnswerFirst, IsAnswerWithin}
 use Rattle.scenario_host.proofs.Fit.{StaysFit, stays_same}
 use Rattle.script_tries.specs.Replies.{leaving_in, leavings_of, answered_in, answered_of, is_of, reply_to, gone_on}
 use Rattle.script_tries.specs.Replies.{later_of}
@@ -48,7 +48,7 @@ use Rattle.core_host.specs.Attempts.{answer_told}
 use Rattle.core_host.specs.Sharing.{in_tick, all_in_tick}
 use Rattle.core_host.specs.Sound.{AreApps, AreStaff}
 use Rattle.core_host.specs.Ticks.{AreSetTo}
-use Rattle.shared_scripts.specs.Answers.{answer_for, answer_unless, answer_to, answers_in, heard_by, later_by}
+use Rattle.shared_scripts.specs.Answers.{goes_by, answer_for, answer_unless, answer_to, answers_in, heard_by, later_by}
 use Rattle.shared_scripts.specs.Answers.{AreWithin}
 use Rattle.shared_scripts.specs.Begun.{has_number, try_in, lane_try}
 use Rattle.shared_scripts.specs.Turns.{numbers_in}

@@ -28,7 +28,7 @@ use Rattle.scenario_runs.specs.Applications.{Bound, AListener, ASocket, Script}
 use Rattle.scenario_runs.specs.Worlds.{scripts_of}
 use Rattle.scenario_laws.specs.Names.{holder_at, IsHeld}
 use Rattle.scenario_host.specs.Sound.{IsFit}
-use Rattle.scenario_host.specs.Tries.{IsAtStep, goes_by}
+use Rattle.scenario_host.specs.Tries.{IsAtStep}
 use Rattle.scenario_host.proofs.Fit.{StaysFit}
 use Rattle.script_tries.specs.Names.{AreRising, AreOwnIn, IsHeldIn, HaveOwnSockets, holder_by, holder_in}
 use Rattle.script_tries.proofs.Lists.{each_at}
@@ -53,7 +53,7 @@ use Rattle.core_host.specs.Ticks.{IsBetweenTicks, IsTick, site_in}
 use Rattle.core_host.specs.Views.{Staffed, seen_by}
 use Rattle.core_host.proofs.TickLanes as tick_lanes
 use Rattle.core_host.proofs.TickLanes.{set_out, same_checks, lines_still, no_lines, quiet_books}
-use Rattle.shared_scripts.specs.Answers.{answer_for, answer_unless, answer_to, answers_in, heard_by, later_by}
+use Rattle.shared_scripts.specs.Answers.{goes_by, answer_for, answer_unless, answer_to, answers_in, heard_by, later_by}
 use Rattle.shared_scripts.specs.Begun.{IsBegun, tries_of}
 use Rattle.shared_scripts.specs.Ended.{IsEnded}
 use Rattle.shared_scripts.specs.Going.{CanGoOn, IsGoneOn, numbers_of}

@@ -3,7 +3,7 @@ use Rattle.std.specs.Prelude.{◌≡◌, ℕ, ◌==◌, Bool, true, false, List,
 use Rattle.core_phase.specs.declared.lane.Lane.{Lane}
 use Rattle.core_phase.specs.declared.lane.Lane.TheVariants as lanes
 use Rattle.flow_state.specs.declared.call.Answer.{Answer}
-use Rattle.scenario_host.specs.Tries.{goes_by, IsAnswerWithin}
+use Rattle.scenario_host.specs.Tries.{answered_by, IsAnswerWithin}
 use Rattle.scenario_runs.specs.Applications.{Script, has_ended}
 use Rattle.core_host.specs.Attempts.{answer_told}
 use Rattle.core_host.specs.Emission.{AreTriesSet}
@@ -33,7 +33,12 @@ told_at None = None
 told_at (Some answer) = answer
 
 -- ----- scripts
--- each goes on by its answer, where it has one
+-- by its answer, where it has one
+abbrev pub goes_by : Option Answer → Script → Script
+goes_by None x = x
+goes_by (Some a) x = answered_by a x
+
+-- so each goes on
 abbrev pub heard_by : List (Option Answer) → List Script → List Script
 heard_by [] xs = xs
 heard_by (o ∷ os) [] = []

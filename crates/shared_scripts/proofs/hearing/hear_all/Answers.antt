@@ -3,9 +3,8 @@ use Rattle.std.proofs.Common.{◌≡◌, ◌+◌, Option, Some, slice_get, get_o
 use Rattle.std.proofs.lemmas.List.{with_items_is}
 use Rattle.flow_state.specs.declared.call.Answer.{Answer}
 use Rattle.scenario_runs.specs.Applications.{Script}
-use Rattle.scenario_host.specs.Tries.{goes_by}
 use Rattle.scenario_host.proofs.Walking.{get_at}
-use Rattle.shared_scripts.specs.Answers.{told_at}
+use Rattle.shared_scripts.specs.Answers.{goes_by, told_at}
 use Rattle.shared_scripts.proofs.Places.{HeardTo, heard_more, heard_all, may_hear}
 use Rattle.shared_scripts.proofs.hearing.hear_all.Goals.{in-Some, in_default}
 use Rattle.shared_scripts.proofs.hearing.hear_all.Goals as goal
