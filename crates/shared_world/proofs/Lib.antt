@@ -1,4 +1,8 @@
 pub mod Looked
+pub mod Ended
+pub mod Running
+pub mod Started
+pub mod SentOn
 pub mod Collected
 pub mod Closed
 pub mod Rested

@@ -1,5 +1,6 @@
 //! What hosts of shared flows leave when a run is over.
-ghost use Rattle.std.specs.Prelude.{◌≡◌, ◌++◌, List, IfOk, OnOk, into_iter_items};
+ghost use Rattle.std.specs.Prelude.{◌≡◌, ◌++◌, List, length, IfOk, OnOk};
+ghost use Rattle.std.specs.Vec.Iter.{into_iter_items, into_iter_len};
 ghost use Rattle.core_host.specs.Ending.{AreFiled};
 ghost use Rattle.core_host.specs.Sound.{IsStaffSound};
 ghost use Rattle.core_host.specs.Views.{Staffed, seen_by};
@@ -54,6 +55,7 @@ fn finish_each<R: Wait>(
     left: &mut IntoIter<CoreHost, Global>,
     ends: &mut Vec<HostEnd>,
 ) -> Result<(), AllocError>
+    requires len { into_iter_len left.old ≡ length (into_iter_items left.old) }
     requires sound { Each IsStaffSound (into_iter_items left.old) }
     requires filed { Each (λ (h : Staffed). AreFiled h.host) (into_iter_items left.old) }
     requires legal { Each (λ (e : HostEnd). Each IsLegal e.flows.items) ends.old.items }

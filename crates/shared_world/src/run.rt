@@ -176,7 +176,7 @@ fn finish<R: Wait>(
     rest: Rest,
 ) -> Result<WorldEnd, AllocError>
     requires { (cores : ℕ) × IsOver s.now cores rest world }
-    ensures { (cores : ℕ) → IsOver s.now cores rest world → IfOk result (λ end. IsRun s.now cores end) }
+    ensures { (cores : ℕ) → IsOver s.now cores rest world.entry → IfOk result (λ end. IsRun s.now cores end) }
 {
     let SharedWorld {
         hosts,
