@@ -1,13 +1,12 @@
 -- The flows of a host one after the other: which the index has, and whether they are closed.
 use Rattle.std.proofs.Common.{◌≡◌, ℕ, ◌+◌, ◌<◌, ◌&&◌, Bool, true, false, List, [], ◌∷◌, length, take, drop, get_or}
-use Rattle.std.proofs.Common.{count_by, Some, slice_get, sym, ap, ◌∙◌, arith}
+use Rattle.std.proofs.Common.{count_by, zero, suc, Some, slice_get, sym, ap, ◌∙◌, subst, arith}
 use Rattle.std.proofs.lemmas.List.Folds.{list_all_at}
 use Rattle.std.proofs.lemmas.List.Sums.{count_by_more_no, count_by_more_yes}
 use Rattle.std.proofs.lemmas.Option.{slice_get_within, get_or_from_slice_get, slice_get-get_or}
 use Rattle.std.specs.List.{list_all}
 use Rattle.host_rounds.specs.Hosts.{Host, Live, is_over}
 use Rattle.host_rounds.specs.Lists.{Each}
-use Rattle.scenario_world.proofs.InSeats.{each_there}
 use Rattle.scenario_world.proofs.Lists.{cut_at}
 use Rattle.core_host.specs.Emission.{IsIndexedAt}
 use Rattle.core_host.specs.Views.{Staffed, seen_by}
@@ -15,6 +14,11 @@ use Rattle.shared_world.specs.Looking.{IsLookedAt}
 use Rattle.shared_world.proofs.Looked.{looked_on}
 
 -- ----- an item of a list
+pub each_there : {X : Type 0} (P : X → Type 0) (xs : List X) (i : ℕ) (x : X) → Each P xs → slice_get xs i ≡ Some x → P x
+each_there P [] i x all here = absurd (cc (here))
+each_there P (y ∷ ys) zero x all here = let same : y ≡ x = cc (here) in subst P same all.0
+each_there P (y ∷ ys) (suc i) x all here = each_there P ys i x all.1 here
+
 pub found_in : {X : Type 0} (xs : List X) (i : ℕ) → i < length xs → (x : X) × (slice_get xs i ≡ Some x)
 found_in [] i inside = absurd (omega (arith, inside))
 found_in (x ∷ xs) i inside = (get_or (x ∷ xs) i x, slice_get-get_or (x ∷ xs) i x inside)

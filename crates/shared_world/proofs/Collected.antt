@@ -13,12 +13,11 @@ use Rattle.sent_frames.specs.declared.counts.SentCounts.{SentCounts}
 use Rattle.sent_frames.specs.Sending.{addresses_of, of_tick, sent_by, sent_before, AreUpTo}
 use Rattle.scenario_world.proofs.Grown.{live_frames, counts_of, counts_before}
 use Rattle.scenario_world.proofs.Counted.{count_there, counts_more, lives_more}
-use Rattle.scenario_world.proofs.InSeats.{each_there}
 use Rattle.scenario_world.proofs.Lists.{cut_at, taken_more, taken_len}
 use Rattle.core_host.specs.Emission.{IsIndexedAt, IsRecordAt}
 use Rattle.core_host.specs.Views.{Staffed, seen_by}
 use Rattle.shared_world.specs.Looking.{IsLookedAt, IsSilentIn, IsSilentBut}
-use Rattle.shared_world.proofs.Closed.{SaysIndexed, indexed_before, indexed_more, indexed_still, said, still_there}
+use Rattle.shared_world.proofs.Closed.{each_there, SaysIndexed, indexed_before, indexed_more, indexed_still, said, still_there}
 use Rattle.shared_world.proofs.Looked.{looked_on}
 
 -- ----- counts
