@@ -4,13 +4,13 @@ use Rattle.shared_world.proofs.Ended.{all_filed, run_left}
 use Rattle.shared_world.proofs.Looked.{playable_sound}
 use Rattle.shared_world.proofs.run.finish.Goals as goal
 
-pub finish_all-ends-requires-clause-sound : goal.finish_all-ends-requires-clause-sound
-finish_all-ends-requires-clause-sound g c =
+pub finish_all-requires-clause-sound : goal.finish_all-requires-clause-sound
+finish_all-requires-clause-sound g c =
     let w = c.args.world in
     playable_sound _ w.hosts.items w.scripts.items c.requires.1.ready.playable
 
-pub finish_all-ends-requires-clause-filed : goal.finish_all-ends-requires-clause-filed
-finish_all-ends-requires-clause-filed g c =
+pub finish_all-requires-clause-filed : goal.finish_all-requires-clause-filed
+finish_all-requires-clause-filed g c =
     all_filed c.requires.0 c.args.world.hosts.items c.requires.1.ready.hosts
 
 pub returns : goal.returns
