@@ -1,5 +1,5 @@
 -- A tick of all hosts, step by step.
-use Rattle.std.specs.Prelude.{◌≡◌, ℕ, suc, ◌==◌, List, [], ◌∷◌, map, filter, ⊤}
+use Rattle.std.specs.Prelude.{ℕ, suc, ◌==◌, List, [], ◌∷◌, map, filter, ⊤}
 use Rattle.link_script.specs.declared.frames.Sent.{Sent}
 use Rattle.core_worker.specs.declared.frames.Frame.{Frame}
 use Rattle.core_host.specs.Sharing.{IsPlayed}

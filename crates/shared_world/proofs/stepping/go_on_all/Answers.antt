@@ -1,5 +1,5 @@
 -- Answers of the proof of stepping/go_on_all.
-use Rattle.std.proofs.Common.{◌≡◌, ◌+◌, ℕ, suc, get_or, set, refl, subst, length, arith}
+use Rattle.std.proofs.Common.{◌≡◌, ◌+◌, ◌<◌, ℕ, suc, get_or, set, refl, subst, length, arith}
 use Rattle.shared_world.proofs.Stepped.{GoneTo, at_place, gone_len, next_begun, more_gone, all_gone}
 use Rattle.shared_world.proofs.stepping.go_on_all.Goals as goal
 
@@ -9,6 +9,15 @@ loop-k-init g c = record {
   same = gone_len c.args.s.now c.args.tick 0 c.args.scripts.now c.args.scripts.now c.args.hosts.now c.args.hosts.now
       (refl, refl, c.requires);
 }
+
+pub offset_bounds-hosts-k : goal.offset_bounds-hosts-k
+offset_bounds-hosts-k g c =
+    let xs = c.loop-k.scripts in
+    let ks = c.loop-k.hosts in
+    let same : length xs ≡ length ks =
+    gone_len c.args.s.now c.args.tick c.loop-k.k c.args.scripts.now xs c.args.hosts.now ks c.loop-k.invariant in
+    let near : c.loop-k.k < length ks = omega (arith, same, c.loop-k.auto.scripts, c.loop-k-test.true) in
+    omega (arith, near)
 
 pub go_on-requires : goal.go_on-requires
 go_on-requires g c =
