@@ -1,7 +1,7 @@
 -- Hosts of a scenario before the first tick, with their scripts.
 use Rattle.std.proofs.Common.{◌≡◌, ◌<◌, ◌≤◌, ◌+◌, ℕ, zero, suc, Bool, true, false, cond, List, [], ◌∷◌, ◌++◌}
-use Rattle.std.proofs.Common.{Some, IfOk, Result, Ok, Err, bytes_eq, length, map, take, slice_get, refl, sym, ap, ◌∙◌, subst, arith}
-use Rattle.std.proofs.lemmas.List.{take_all, length-map}
+use Rattle.std.proofs.Common.{Some, IfOk, Result, Ok, Err, bytes_eq, length, map, slice_get}
+use Rattle.std.proofs.Common.{refl, sym, ap, ◌∙◌, subst, arith}
 use Rattle.due_frames.proofs.Worlds.{start_few}
 use Rattle.due_frames.specs.Few.{AreFew}
 use Rattle.host_rounds.specs.Hosts.{Host}
@@ -92,7 +92,8 @@ numbers_fit s line xs ns ranges host own are =
     let few : length (numbers_in (own_scripts s line)) ≤ length s.apps = few_scripts s.kills line.name 0 s.apps in
     let apps : length s.apps ≤ 2048 = ranges.apps in
     let len : length ns ≡ length (numbers_in (own_scripts s line)) = ap length all in (
-      subst staffing.AreRising (sym all) (rising_numbers (own_scripts s line) (starts_sound s line ranges host).numbers),
+      subst staffing.AreRising (sym all)
+          (rising_numbers (own_scripts s line) (starts_sound s line ranges host).numbers),
       omega (arith, few, apps, len),
     )
 

@@ -1,5 +1,5 @@
 -- Answers of the proof of starting/push_hosts.
-use Rattle.std.proofs.Common.{◌≡◌, ◌≤◌, ◌<◌, List, length, take, slice_get, Some, refl, sym, subst, ap, ◌∙◌, arith, length-take}
+use Rattle.std.proofs.Common.{◌≡◌, ◌≤◌, ◌<◌, ℕ, List, length, take, slice_get, Some, refl, sym, subst, ap, ◌∙◌, arith}
 use Rattle.std.proofs.lemmas.List.{take_all}
 use Rattle.std.proofs.lemmas.Option.{slice_get_read}
 use Rattle.scenario_runs.specs.Applications.{Script}
@@ -12,7 +12,8 @@ use Rattle.shared_world.proofs.starting.push_hosts.Goals as goal
 pub bounds-scripts-number : goal.bounds-scripts-number
 bounds-scripts-number g c =
     let s = c.args.s.now in
-    let below : c.loop-number.number < length s.hosts = c.loop-number-test.true in
+    let below : c.loop-number.number < length s.hosts =
+    subst (λ (n : ℕ). c.loop-number.number < n) c.len-number-end.ensures c.loop-number-test.true in
     let len : length c.args.scripts.now ≡ length s.hosts = ap length c.requires.scripts ∙ scripts_len s s.hosts in
     omega (arith, below, len)
 
@@ -22,7 +23,8 @@ new_host-requires-clause-scripts g c =
     let s = c.args.s.now in
     let xs = c.args.scripts.now in
     let i = c.loop-number.number in
-    let below : i < length s.hosts = c.loop-number-test.true in
+    let below : i < length s.hosts =
+    subst (λ (n : ℕ). i < n) c.len-number-end.ensures c.loop-number-test.true in
     let len : length xs ≡ length s.hosts = ap length c.requires.scripts ∙ scripts_len s s.hosts in
     let inside : i < length xs = omega (arith, below, len) in
     let own = c.index-scripts-number.result in
@@ -33,7 +35,8 @@ new_host-requires-clause-scripts g c =
 
 pub push_reserved-requires : goal.push_reserved-requires
 push_reserved-requires g c =
-    let below : c.loop-number.number < length c.args.s.now.hosts = c.loop-number-test.true in
+    let below : c.loop-number.number < length c.args.s.now.hosts =
+    subst (λ (n : ℕ). c.loop-number.number < n) c.len-number-end.ensures c.loop-number-test.true in
     let len = c.loop-number.invariant.len in
     let same = c.loop-number.invariant.room in
     let room = c.requires.room in
@@ -43,7 +46,9 @@ pub loop-number-preserved : goal.loop-number-preserved
 loop-number-preserved g c =
     let s = c.args.s.now in
     let i = c.loop-number.number in
-    let one = item_there s.hosts i c.loop-number-test.true in
+    let below : i < length s.hosts =
+    subst (λ (n : ℕ). i < n) c.len-number-end.ensures c.loop-number-test.true in
+    let one = item_there s.hosts i below in
     record {
       new = new_more s c.args.cores (take i s.hosts) _ c.loop-number.hosts.items c.push_reserved.new.self.items one.0
           c.in_ok-host.host c.loop-number.invariant.new (c.in_ok-host.ensures one.0 one.1)
@@ -56,6 +61,6 @@ pub returns : goal.returns
 returns g c =
     let s = c.args.s.now in
     let i = c.loop-number.number in
-    let past : length s.hosts ≤ i = c.loop-number-test.false in
+    let past : length s.hosts ≤ i = subst (λ (n : ℕ). n ≤ i) c.len-number-end.ensures c.loop-number-test.false in
     subst (λ (ls : List HostLine). AreNew s c.args.cores ls c.loop-number.hosts.items) (take_all i s.hosts past)
     c.loop-number.invariant.new
