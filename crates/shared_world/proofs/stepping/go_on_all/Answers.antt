@@ -10,15 +10,6 @@ loop-k-init g c = record {
       (refl, refl, c.requires);
 }
 
-pub offset_bounds-hosts-k : goal.offset_bounds-hosts-k
-offset_bounds-hosts-k g c =
-    let xs = c.loop-k.scripts in
-    let ks = c.loop-k.hosts in
-    let same : length xs ≡ length ks =
-    gone_len c.args.s.now c.args.tick c.loop-k.k c.args.scripts.now xs c.args.hosts.now ks c.loop-k.invariant in
-    let near : c.loop-k.k < length ks = omega (arith, same, c.loop-k.auto.scripts, c.loop-k-test.true) in
-    omega (arith, near)
-
 pub go_on-requires : goal.go_on-requires
 go_on-requires g c =
     let xs = c.loop-k.scripts in

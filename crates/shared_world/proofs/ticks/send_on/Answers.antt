@@ -13,8 +13,8 @@ use Rattle.scenario_world.specs.Playing.{AreCounted, AreCountedBefore}
 use Rattle.scenario_world.proofs.NextTick.{to_count, kept_up_to, next_world}
 use Rattle.shared_world.specs.Looking.{AreLookedAt, AreSilentBut}
 use Rattle.shared_world.specs.Sites.{sites_in, world_of}
-use Rattle.shared_world.proofs.Looked.{len_looked, playable_len, playable_sound}
-use Rattle.shared_world.proofs.SentOn.{few_addresses, few_flows, few_played, next_ready, next_same}
+use Rattle.shared_world.proofs.Looked.{playable_len, playable_sound, sites_looked}
+use Rattle.shared_world.proofs.SentOn.{few_addresses, few_flows, few_played, next_ready}
 use Rattle.shared_world.proofs.ticks.send_on.Goals as goal
 
 pub collect_all-requires-clause-hosts : goal.collect_all-requires-clause-hosts
@@ -70,7 +70,8 @@ returns-clause-same c =
     let looked = subst (λ (hs : List Staffed). AreLookedAt hs hosts) c.deref_mut.ensures.value
     c.in_ok-collect_all.ensures.looked in
     let len : length hosts ≡ w.hosts.len = omega arith in
-    next_same w _ (subst (AreLookedAt w.hosts.items) (sym (with_items_is w.hosts hosts len)) looked) refl
+    sites_looked w.hosts.items _ w.scripts.items
+    (subst (AreLookedAt w.hosts.items) (sym (with_items_is w.hosts hosts len)) looked)
 
 pub returns-clause-ready : goal.returns-clause-ready
 returns-clause-ready c =
@@ -97,7 +98,7 @@ returns-clause-ready c =
     (λ world is.
     sent
     ∙ (c.in_ok-collect_all.ensures.frames world xs (c.deref.ensures.value ∙ is) all
-    ∙ ap (λ (hs : List Staffed). _ ++ of_tick t (frames_of_hosts world 0 (sites_in hs xs))) same))
+    ∙ ap (λ (hs : List Staffed). w.traffic.sent ++ of_tick t (frames_of_hosts world 0 (sites_in hs xs))) same))
     (subst (AreUpTo t) (sym sent) c.in_ok-collect_all.ensures.last)
     (λ n. c.note_last.ensures.last n
     ∙ ap (λ fs. nat_lt n w.traffic.last || list_any (is_under_way s.link n) (of_tick t fs)) (sym sent)))
