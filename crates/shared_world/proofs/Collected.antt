@@ -17,7 +17,8 @@ use Rattle.scenario_world.proofs.Lists.{cut_at, taken_more, taken_len}
 use Rattle.core_host.specs.Emission.{IsIndexedAt, IsRecordAt}
 use Rattle.core_host.specs.Views.{Staffed, seen_by}
 use Rattle.shared_world.specs.Looking.{IsLookedAt, IsSilentIn, IsSilentBut}
-use Rattle.shared_world.proofs.Closed.{each_there, SaysIndexed, indexed_before, indexed_more, indexed_still, said, still_there}
+use Rattle.shared_world.proofs.Closed.{SaysIndexed, each_there, indexed_before, indexed_more, indexed_still, said}
+use Rattle.shared_world.proofs.Closed.{still_there}
 use Rattle.shared_world.proofs.Looked.{looked_on}
 
 -- ----- counts

@@ -28,9 +28,10 @@ pub few_flows : (t : ℕ) (hs : List Staffed) (xs : List (List Script)) → AreP
     → Each (λ (h : Staffed). length (seen_by h).flows < 2 ^ 32) hs
 few_flows t [] xs can few = tt
 few_flows t (h ∷ hs) [] can few = absurd can
-few_flows t (h ∷ hs) (x ∷ xs) can few =
-    ((let here : length (seen_by h).flows ≤ 2 ^ 32 - 1 = (few.0).few in omega (arith, here)),
-      few_flows t hs xs can.1 few.1)
+few_flows t (h ∷ hs) (x ∷ xs) can few = (
+  (let here : length (seen_by h).flows ≤ 2 ^ 32 - 1 = (few.0).few in omega (arith, here)),
+  few_flows t hs xs can.1 few.1,
+)
 
 pub few_played : (s : Scenario) (t cores : ℕ) (w : SharedWorld) → length s.hosts ≤ 8 → HasPlayed s t cores w
     → length w.hosts.items ≤ 8

@@ -49,7 +49,11 @@ pub fn play_scenario_on_cores<R: Threads + Wait + Sync, G: Gate + Sync>(
 /// How many threads work beside the caller's on the lanes of such a run: one a lane where somebody watches it, and else
 /// no more than there are processors.
 fn threads_for<R: Threads, G: Gate>(rt: &R, gate: &G, s: &Scenario, cores: u32) -> usize {
-    let lanes = s.hosts.len().saturating_mul(cores as usize).saturating_add(s.apps.len());
+    let lanes = s
+        .hosts
+        .len()
+        .saturating_mul(cores as usize)
+        .saturating_add(s.apps.len());
     let workers = if gate.is_watched() {
         lanes
     } else {
