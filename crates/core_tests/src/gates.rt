@@ -171,17 +171,19 @@ fn two_cores_take_frames_at_once(rt: HostRuntime) -> Result<(), Fail> {
     Ok(())
 }
 
-/// Core 1 of host b has the frame with the client's word, and waits until the server tried to receive it.
+/// Core 1 of host b has the frame with the client's word, in tick 4, and waits until the server tried to receive it: its
+/// lane passes its points in both phases of each tick, so that this is its ninth time.
 #[test]
 fn a_core_waits_for_an_application(rt: HostRuntime) -> Result<(), Fail> {
-    let log = meets(&rt, rt.alloc(), ONE_CLIENT, &Hold::new(66, 2, 127, 1))?;
+    let log = meets(&rt, rt.alloc(), ONE_CLIENT, &Hold::new(66, 2, 127, 9))?;
     has_words(&rt, &log)
 }
 
-/// The server waits with its first try until core 1 of its host handled three frames.
+/// The server waits with its first try, in tick 4, until core 1 of its host handled the third frame, which is the one
+/// with the client's word.
 #[test]
 fn an_application_waits_for_a_core(rt: HostRuntime) -> Result<(), Fail> {
-    let log = meets(&rt, rt.alloc(), ONE_CLIENT, &Hold::new(126, 0, 67, 3))?;
+    let log = meets(&rt, rt.alloc(), ONE_CLIENT, &Hold::new(126, 8, 67, 3))?;
     has_words(&rt, &log)
 }
 
