@@ -171,8 +171,8 @@ fn two_cores_take_frames_at_once(rt: HostRuntime) -> Result<(), Fail> {
     Ok(())
 }
 
-/// Core 1 of host b has the frame with the client's word, in tick 4, and waits until the server tried to receive it: its
-/// lane passes its points in both phases of each tick, so that this is its ninth time.
+/// Core 1 of host b has the frame with the client's word, in tick 4, and waits until the server tried to receive it.
+/// Its lane passes its points in both phases of each tick, so that this is its ninth time.
 #[test]
 fn a_core_waits_for_an_application(rt: HostRuntime) -> Result<(), Fail> {
     let log = meets(&rt, rt.alloc(), ONE_CLIENT, &Hold::new(66, 2, 127, 9))?;
