@@ -20,6 +20,17 @@ pub enum Attempt {
     Abort,
 }
 
+impl Attempt {
+    /// How much there is to do, beside other attempts: 16 for a call, and 1 for each KiB that it may move.
+    pub(crate) fn weight(&self) -> usize {
+        match self {
+            Attempt::Nothing => 1,
+            Attempt::Send(bytes) | Attempt::Recv(bytes) => 16 + bytes.len() / 1024,
+            Attempt::Shut | Attempt::Close | Attempt::Abort => 16,
+        }
+    }
+}
+
 /// What the call was answered.
 #[derive(Drop)]
 pub enum Answered {

@@ -71,6 +71,10 @@ impl AppLane {
     }
 }
 
+/// How much a core has to do, beside a call of weight 16: its frames and kicks aren't counted, and where there is much
+/// to do most of it is the cores'. So cores go to one thread each, as far as there are threads.
+const CORE: usize = 65_536;
+
 /// A core, or an application.
 #[derive(Drop)]
 pub enum Lane {
@@ -84,6 +88,13 @@ impl Job for Lane {
     ghost can = { CanPlay };
 
     ghost made = { HasPlayed };
+
+    fn weight(&self) -> usize {
+        match self {
+            Lane::Core(_) => CORE,
+            Lane::App(lane) => lane.attempt.weight(),
+        }
+    }
 
     fn work<R: Wait, G: Gate>(&mut self, rt: &R, gate: &G) {
         match self {

@@ -1,8 +1,9 @@
 //! A phase: jobs that a crew's threads and the caller work on side by side.
-ghost use Rattle.std.specs.Prelude.{◌≡◌, ◌<◌, length, All, vec_capacity};
+ghost use Rattle.std.specs.Prelude.{◌≡◌, ◌<◌, ◌≤◌, ◌+◌, ◌++◌, length, All, vec_capacity};
 ghost use Rattle.std.specs.List.{AllZip};
 ghost use Rattle.crew.specs.Crews.{IsReady, IsOutAt, desk_of, desks_of};
 
+use crate::batch::{Batch, cut, weight_of, work_each};
 use crate::job::Job;
 use crate::post::{Post, take_post};
 use std::marker::Model;
@@ -12,7 +13,7 @@ use tas_num::Gate;
 /// Threads that wait for jobs. A contract sees their desks.
 #[derive(Drop)]
 pub struct Crew<W: Job + Drop> {
-    pub(crate) posts: Vec<Post<W>>,
+    pub(crate) posts: Vec<Post<Batch<W>>>,
 }
 
 impl<W: Job + Drop> Model for Crew<W> {
@@ -35,26 +36,30 @@ impl<W: Job + Drop> Crew<W> {
         self.posts.len()
     }
 
-    /// Works on all jobs side by side, and returns when each is done: each thread is handed one, from the last job on,
-    /// and the caller works on those that are left, and then on each that no thread has begun meanwhile. A job is back
-    /// in its place, as its own work left it.
+    /// Works on all jobs side by side, and returns when each is done. They are cut into as many runs as there are
+    /// threads and the caller, with as much to do in each by their weights, or one job each where they are no more:
+    /// each thread is handed one, from the last on, and the caller works on the first, and then on each that no thread
+    /// has begun meanwhile. A job is back in its place, as its own work left it.
     pub fn phase<R: Wait, G: Gate>(&mut self, rt: &R, gate: &G, jobs: &mut Vec<W>)
         requires { All W.can jobs.old.items }
         ensures made { AllZip W.made jobs.old.items jobs.new.items }
-        ensures room { vec_capacity jobs.new ≡ vec_capacity jobs.old }
+        ensures room { vec_capacity jobs.old ≤ vec_capacity jobs.new }
         ensures same { self.new ≡ self.old }
     {
-        work_all(rt, gate, &mut self.posts, jobs);
+        let weight = weight_of(jobs.as_slice(), 0);
+        work_all(rt, gate, &mut self.posts, jobs, weight);
     }
 }
 
-/// The jobs by the threads of these posts, the last one by the last post's, and by the caller.
+/// The jobs, which have this weight, by the threads of these posts, the last ones by the last post's, and by the
+/// caller.
 #[cycle(sharing)]
 fn work_all<R: Wait, G: Gate, W: Job + Drop>(
     rt: &R,
     gate: &G,
-    posts: &mut Vec<Post<W>>,
+    posts: &mut Vec<Post<Batch<W>>>,
     jobs: &mut Vec<W>,
+    weight: usize,
 )
     requires ready { All IsReady posts.old.items }
     requires can { All W.can jobs.old.items }
@@ -62,30 +67,31 @@ fn work_all<R: Wait, G: Gate, W: Job + Drop>(
     ensures len { length posts.new.items ≡ length posts.old.items }
     ensures desks { desks_of posts.new.items ≡ desks_of posts.old.items }
     ensures made { AllZip W.made jobs.old.items jobs.new.items }
-    ensures room { vec_capacity jobs.new ≡ vec_capacity jobs.old }
+    ensures room { vec_capacity jobs.old ≤ vec_capacity jobs.new }
     ensures posts_room { vec_capacity posts.new ≡ vec_capacity posts.old }
 {
     if jobs.len() < 2 {
-        work_here(rt, gate, jobs.as_mut_slice());
+        work_here(rt, gate, jobs);
         return;
     }
     let Some(mut post) = take_post(posts) else {
-        work_here(rt, gate, jobs.as_mut_slice());
+        work_here(rt, gate, jobs);
         return;
     };
-    share(rt, gate, &mut post, posts, jobs);
+    share(rt, gate, &mut post, posts, jobs, weight);
     posts.push_reserved(post);
 }
 
-/// The last job by this post's thread, where there is one, and the others by those posts' and the caller. Where that
+/// The last jobs by this post's thread, where there is one, and the others by those posts' and the caller. Where that
 /// thread has not begun by then, as it sleeps or has no processor, the caller works in its place.
 #[cycle(sharing)]
 fn share<R: Wait, G: Gate, W: Job + Drop>(
     rt: &R,
     gate: &G,
-    post: &mut Post<W>,
-    posts: &mut Vec<Post<W>>,
+    post: &mut Post<Batch<W>>,
+    posts: &mut Vec<Post<Batch<W>>>,
     jobs: &mut Vec<W>,
+    weight: usize,
 )
     requires some { 0 < length jobs.old.items }
     requires one { IsReady post.old }
@@ -97,20 +103,33 @@ fn share<R: Wait, G: Gate, W: Job + Drop>(
     ensures len { length posts.new.items ≡ length posts.old.items }
     ensures desks { desks_of posts.new.items ≡ desks_of posts.old.items }
     ensures made { AllZip W.made jobs.old.items jobs.new.items }
-    ensures room { vec_capacity jobs.new ≡ vec_capacity jobs.old }
+    ensures room { vec_capacity jobs.old ≤ vec_capacity jobs.new }
     ensures posts_room { vec_capacity posts.new ≡ vec_capacity posts.old }
 {
     if !post.is_manned() {
-        work_all(rt, gate, posts, jobs);
+        work_all(rt, gate, posts, jobs, weight);
         return;
     }
-    let Some(job) = jobs.pop() else {
+    let cut = cut(jobs.as_slice(), weight, posts.len().saturating_add(2));
+    let Ok(last) = jobs.split_off(cut.at) else {
+        work_all(rt, gate, posts, jobs, weight);
+        return;
+    };
+    post.send(Batch { jobs: last });
+    work_all(rt, gate, posts, jobs, weight.saturating_sub(cut.weight));
+    let mut done = finish(rt, gate, post);
+    put_behind(jobs, &mut done.jobs);
+}
+
+/// These jobs go behind the others, for which there is room.
+fn put_behind<W>(jobs: &mut Vec<W>, done: &mut Vec<W>)
+    requires room { length jobs.old.items + length done.old.items ≤ vec_capacity jobs.old }
+    ensures items { jobs.new.items ≡ jobs.old.items ++ done.old.items }
+    ensures room { vec_capacity jobs.old ≤ vec_capacity jobs.new }
+{
+    let Ok(()) = jobs.append(done) else {
         unreachable!()
     };
-    post.send(job);
-    work_all(rt, gate, posts, jobs);
-    let job = finish(rt, gate, post);
-    jobs.push_reserved(job);
 }
 
 /// The job that is out at this post, done: by the caller, where its thread has not begun it.
@@ -128,12 +147,10 @@ fn finish<R: Wait, G: Gate, W: Job + Drop>(rt: &R, gate: &G, post: &mut Post<W>)
 }
 
 /// The jobs by the caller, one after the other.
-fn work_here<R: Wait, G: Gate, W: Job>(rt: &R, gate: &G, jobs: &mut [W])
-    requires can { All W.can jobs.old }
-    ensures made { AllZip W.made jobs.old jobs.new }
+fn work_here<R: Wait, G: Gate, W: Job>(rt: &R, gate: &G, jobs: &mut Vec<W>)
+    requires can { All W.can jobs.old.items }
+    ensures made { AllZip W.made jobs.old.items jobs.new.items }
+    ensures room { vec_capacity jobs.old ≤ vec_capacity jobs.new }
 {
-    if let Some((job, rest)) = jobs.split_first_mut() {
-        job.work(rt, gate);
-        work_here(rt, gate, rest);
-    }
+    work_each(rt, gate, jobs.as_mut_slice());
 }

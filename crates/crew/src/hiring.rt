@@ -5,6 +5,7 @@ ghost use Rattle.std.specs.Thread.{IsSync};
 ghost use Rattle.crew.specs.Desks.{IsAway};
 ghost use Rattle.crew.specs.Crews.{IsReady, HasStopped, desks_of, Continues};
 
+use crate::batch::Batch;
 use crate::crew::Crew;
 use crate::desk::{Desk, Worker};
 use crate::job::Job;
@@ -67,9 +68,9 @@ fn hire<W: Job + Drop + Send, R: Threads + Wait + Sync, G: Gate + Sync, X: Run<W
     gate: &G,
     alloc: Global,
     threads: usize,
-    posts: Vec<Post<W>>,
+    posts: Vec<Post<Batch<W>>>,
     run: X,
-) -> Ended<W, X::Answer>
+) -> Ended<Batch<W>, X::Answer>
     requires can { X.can run }
     requires ready { All IsReady posts.items }
     requires fewer { length posts.items ≤ threads }
@@ -94,7 +95,7 @@ fn hire<W: Job + Drop + Send, R: Threads + Wait + Sync, G: Gate + Sync, X: Run<W
             let mut worker = worker;
             desk.serve(rt, gate, &mut worker);
         },
-        || -> Ended<W, X::Answer>
+        || -> Ended<Batch<W>, X::Answer>
             requires sync { IsSync R.row }
             requires can { X.can run }
             requires ready { All IsReady posts.items }
@@ -133,9 +134,9 @@ fn man<W: Job + Drop>(
 fn run_with<W: Job + Drop, R: Threads + Wait + Sync, G: Gate + Sync, X: Run<W>>(
     rt: &R,
     gate: &G,
-    posts: Vec<Post<W>>,
+    posts: Vec<Post<Batch<W>>>,
     run: X,
-) -> Ended<W, X::Answer>
+) -> Ended<Batch<W>, X::Answer>
     requires can { X.can run }
     requires ready { All IsReady posts.items }
     ensures gives { IfOk result.answer (X.gives run (length posts.items)) }

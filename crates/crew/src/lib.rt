@@ -1,6 +1,7 @@
 //! Threads that live for a whole run, and work on one job each at a time.
 #![tactic(auto)]
 
+mod batch;
 mod crew;
 mod desk;
 mod handover;

@@ -33,6 +33,10 @@ impl Job for Count {
 
     ghost made = { λ _ _. ⊤ };
 
+    fn weight(&self) -> usize {
+        self.turns as usize
+    }
+
     fn work<R: Wait, G: Gate>(&mut self, _rt: &R, _gate: &G) {
         self.work_on();
     }

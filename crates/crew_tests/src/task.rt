@@ -51,6 +51,10 @@ impl Job for Task {
 
     ghost made = { λ _ _. ⊤ };
 
+    fn weight(&self) -> usize {
+        self.turns as usize
+    }
+
     fn work<R: Wait, G: Gate>(&mut self, _rt: &R, gate: &G) {
         gate.pass(begins(self.place));
         self.turn();
