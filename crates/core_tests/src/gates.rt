@@ -77,6 +77,24 @@ close s
 move b 19 0 at 2
 ";
 
+/// The client is killed with the record of its flow in hand, in the tick in which the server's first segment after the
+/// handshake comes to it.
+const KILLED_HOLDING: &[u8] = b"host a 10.0.0.1 iss 1000 rto 3
+host b 10.0.0.2 iss 5000 rto 3
+app b server
+listen lst 80
+accept s lst
+recv s 5
+send s world
+close s
+app a client
+connect s b 80
+send s hello
+recv s 5
+close s
+kill a client at 5 holding
+";
+
 /// Holds a worker that passes one point, once others did so often, until another point was passed so often, or for so
 /// many turns.
 #[derive(Drop)]
@@ -185,6 +203,31 @@ fn a_core_waits_for_an_application(rt: HostRuntime) -> Result<(), Fail> {
 fn an_application_waits_for_a_core(rt: HostRuntime) -> Result<(), Fail> {
     let log = meets(&rt, rt.alloc(), ONE_CLIENT, &Hold::new(126, 8, 67, 3))?;
     has_words(&rt, &log)
+}
+
+/// The client's core waits before a frame of its flow, in tick 5, until the client's lane has played; in that tick the
+/// client is killed with the record of that very flow in hand. The frame is taken, then the flow is aborted, once.
+#[test]
+fn a_client_is_killed_with_a_record_for_which_a_core_has_a_frame(
+    rt: HostRuntime,
+) -> Result<(), Fail> {
+    let log = meets(&rt, rt.alloc(), KILLED_HOLDING, &Hold::new(2, 1, 63, 11))?;
+    assert!(rt; log.hosts.len() == 2);
+    let flows = &log.hosts.item(0).flows;
+    assert!(rt; flows.len() == 1);
+    ends_aborted(&rt, flows.item(0))
+}
+
+/// Wants a flow whose last two entries are a segment that a core received, and an abort.
+fn ends_aborted<R: Abort>(rt: &R, flow: &FlowHistory) -> Result<(), Fail> {
+    let count = flow.entries();
+    assert!(rt; count >= 2);
+    let last = flow.entry(count - 1);
+    let before = flow.entry(count - 2);
+    assert!(rt; matches!(last.call, CallView::Abort));
+    assert!(rt; matches!(before.call, CallView::Rx { .. }));
+    assert!(rt; matches!(before.caller, Caller::Core(_)));
+    Ok(())
 }
 
 /// Wants the words of both ends read by the other one.
