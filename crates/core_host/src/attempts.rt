@@ -87,7 +87,7 @@ fn name_place(names: &[u32], app: u32) -> Option<usize>
     names.iter().position(|number| *number == app)
 }
 
-/// The attempt that makes this call, in one of these buffers where it reads. The error is want of memory.
+/// The attempt that makes this call, in one of these buffers where it sends or reads. The error is want of memory.
 fn attempt_of(
     alloc: Global,
     rooms: &mut Vec<Vec<u8>>,
@@ -98,7 +98,7 @@ fn attempt_of(
     ensures may { IfOk result (λ attempt. (a : Application) (s : Socket) → IsSocket a s → MayTry a s attempt) }
 {
     match call {
-        CallIn::Send { bytes } => Ok(Attempt::Send(copy_of(alloc, bytes)?)),
+        CallIn::Send { bytes } => Ok(Attempt::Send(copy_of(alloc, rooms, bytes)?)),
         CallIn::Recv { most } => Ok(Attempt::Recv(room_of(alloc, rooms, *most as usize)?)),
         CallIn::Shut => Ok(Attempt::Shut),
         CallIn::Close => Ok(Attempt::Close),
@@ -107,29 +107,36 @@ fn attempt_of(
     }
 }
 
-/// A buffer of so many bytes: the one that was laid by last, where it has as many. The error is want of memory.
+/// A buffer of so many bytes: the one that was laid by last, where there is one. The error is want of memory.
 fn room_of(alloc: Global, rooms: &mut Vec<Vec<u8>>, most: usize) -> Result<Vec<u8>, AllocError>
     ensures { IfOk result (λ room. length room.items ≡ most) }
 {
-    if let Some(room) = rooms.pop() {
-        if room.len() == most {
-            return Ok(room);
-        }
-    }
-    Vec::from_elem(alloc, 0, most)
+    let Some(mut room) = rooms.pop() else {
+        return Vec::from_elem(alloc, 0, most);
+    };
+    room.resize(most, 0)?;
+    Ok(room)
 }
 
-/// The buffer of the attempt is laid by for the next one that reads.
+/// The buffer of the attempt is laid by for the next one.
 fn lay_by(rooms: &mut Vec<Vec<u8>>, attempt: Attempt) {
-    if let Attempt::Recv(room) = attempt {
-        let _ = rooms.push(room);
+    match attempt {
+        Attempt::Send(room) | Attempt::Recv(room) => {
+            let _ = rooms.push(room);
+        }
+        Attempt::Nothing | Attempt::Shut | Attempt::Close | Attempt::Abort => {}
     }
 }
 
-fn copy_of(alloc: Global, bytes: &[u8]) -> Result<Vec<u8>, AllocError>
+/// A copy of these bytes, in the buffer that was laid by last, where there is one. The error is want of memory.
+fn copy_of(alloc: Global, rooms: &mut Vec<Vec<u8>>, bytes: &[u8]) -> Result<Vec<u8>, AllocError>
     ensures { IfOk result (λ copy. copy.items ≡ bytes.now) }
 {
-    let mut copy = Vec::with_capacity(alloc, bytes.len())?;
+    let mut copy = match rooms.pop() {
+        Some(room) => room,
+        None => Vec::with_capacity(alloc, bytes.len())?,
+    };
+    copy.clear();
     copy.extend_from_slice(bytes)?;
     Ok(copy)
 }

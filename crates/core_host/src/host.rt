@@ -40,7 +40,7 @@ pub struct CoreHost {
     pub(crate) books: Books,
     /// What a call reads into: as many bytes as one may ask for.
     pub(crate) buffer: Vec<u8>,
-    /// Buffers of attempts that read, for the next ones.
+    /// Buffers of attempts that sent or read, for the next ones.
     pub(crate) rooms: Vec<Vec<u8>>,
     /// How many frames were handed out and calls are tried since the last phase: whether that is work for threads.
     pub(crate) busy: usize,
