@@ -24,6 +24,7 @@ use flow_lock::SlowPass;
 use flow_state::FlowRecord;
 use sound_phases::{phases_keep_it, phases_keep_the_count};
 use std::alloc::AllocError;
+use std::mem;
 use std::sync::Wait;
 use tas_num::Gate;
 
@@ -50,8 +51,10 @@ pub fn play_hosts<R: Wait, G: Gate>(
     ensures empty { OnOk result (lanes.new.items ≡ []) }
     ensures crew { crew.new ≡ crew.old }
 {
-    let few = is_little(gate, hosts);
-    play_from(rt, gate, crew, hosts, lanes, tick, few)
+    if is_little(gate, hosts) {
+        return play_each(rt, gate, hosts, tick);
+    }
+    play_from(rt, gate, crew, hosts, lanes, tick)
 }
 
 /// Whether there is so little to do that the caller's thread does it, lane by lane.
@@ -67,6 +70,24 @@ fn work_in(hosts: &[CoreHost]) -> usize {
     }
 }
 
+/// The hosts play one after the other, the lanes of each where they stand. The error is want of memory.
+fn play_each<R: Wait, G: Gate>(
+    rt: &R,
+    gate: &G,
+    hosts: &mut [CoreHost],
+    tick: u32,
+) -> Result<(), AllocError>
+    requires sound { Each IsStaffSound hosts.old }
+    requires may { Each MayAllPlay hosts.old }
+    ensures { OnOk result (AllZip (IsPlayed tick) hosts.old hosts.new) }
+{
+    if let Some((host, rest)) = hosts.split_first_mut() {
+        host.play_alone(rt, gate, tick)?;
+        play_each(rt, gate, rest, tick)?;
+    }
+    Ok(())
+}
+
 /// The lanes of these hosts play beside those that were lent by others, and come back. The error is want of memory.
 fn play_from<R: Wait, G: Gate>(
     rt: &R,
@@ -75,7 +96,6 @@ fn play_from<R: Wait, G: Gate>(
     hosts: &mut [CoreHost],
     lanes: &mut Vec<Lane>,
     tick: u32,
-    few: bool,
 ) -> Result<(), AllocError>
     requires sound { Each IsStaffSound hosts.old }
     requires may { Each MayAllPlay hosts.old }
@@ -86,52 +106,53 @@ fn play_from<R: Wait, G: Gate>(
     ensures crew { crew.new ≡ crew.old }
 {
     let Some((host, rest)) = hosts.split_first_mut() else {
-        return play_lanes(rt, gate, crew, lanes, few);
+        return play_lanes(rt, gate, crew, lanes);
     };
     host_is_played();
     let at = lanes.len();
     let leavers = host.lend_lanes(lanes, tick)?;
-    play_from(rt, gate, crew, rest, lanes, tick, few)?;
+    play_from(rt, gate, crew, rest, lanes, tick)?;
     host.take_lanes_back(lanes, at, leavers.as_slice())
 }
 
-/// All lanes work side by side, or one after the other where there is little to do. The error is want of memory in a
-/// core's turn.
+/// All lanes work side by side. The error is want of memory in a core's turn.
 fn play_lanes<R: Wait, G: Gate>(
     rt: &R,
     gate: &G,
     crew: &mut Crew<Lane>,
     lanes: &mut Vec<Lane>,
-    few: bool,
 ) -> Result<(), AllocError>
     requires can { Each CanPlay lanes.old.items }
     ensures lanes { OnOk result (AllZip HasPlayed lanes.old.items lanes.new.items) }
     ensures works { OnOk result (Each Works lanes.new.items) }
     ensures crew { crew.new ≡ crew.old }
 {
-    work_all(rt, gate, crew, lanes, few);
+    work_all(rt, gate, crew, lanes);
     if lanes_failed(lanes) {
         return Err(AllocError);
     }
     Ok(())
 }
 
-fn work_all<R: Wait, G: Gate>(
-    rt: &R,
-    gate: &G,
-    crew: &mut Crew<Lane>,
-    lanes: &mut Vec<Lane>,
-    few: bool,
-)
+fn work_all<R: Wait, G: Gate>(rt: &R, gate: &G, crew: &mut Crew<Lane>, lanes: &mut Vec<Lane>)
     requires can { All CanPlay lanes.old.items }
     ensures lanes { AllZip HasPlayed lanes.old.items lanes.new.items }
     ensures crew { crew.new ≡ crew.old }
 {
-    if few {
-        work_here(rt, gate, lanes);
-    } else {
-        crew.phase(rt, gate, lanes);
+    crew.phase(rt, gate, lanes);
+}
+
+/// The lanes work one after the other. The error is want of memory in a core's turn.
+fn play_here<R: Wait, G: Gate>(rt: &R, gate: &G, lanes: &mut Vec<Lane>) -> Result<(), AllocError>
+    requires can { Each CanPlay lanes.old.items }
+    ensures lanes { OnOk result (AllZip HasPlayed lanes.old.items lanes.new.items) }
+    ensures works { OnOk result (Each Works lanes.new.items) }
+{
+    work_here(rt, gate, lanes);
+    if lanes_failed(lanes) {
+        return Err(AllocError);
     }
+    Ok(())
 }
 
 /// The lanes work one after the other.
@@ -153,6 +174,57 @@ fn work_each<R: Wait, G: Gate>(rt: &R, gate: &G, lanes: &mut [Lane])
 }
 
 impl CoreHost {
+    /// Its lanes take their turns of this tick one after the other, without those of other hosts. The error is want of
+    /// memory.
+    fn play_alone<R: Wait, G: Gate>(
+        &mut self,
+        rt: &R,
+        gate: &G,
+        tick: u32,
+    ) -> Result<(), AllocError>
+        requires sound { IsStaffSound self.old }
+        requires may { MayAllPlay self.old }
+        ensures { OnOk result (IsPlayed tick self.old self.new) }
+    {
+        host_is_played();
+        let (mut own, leavers) = self.lend_own(tick)?;
+        play_here(rt, gate, &mut own)?;
+        self.take_own_back(own, leavers.as_slice());
+        Ok(())
+    }
+
+    /// Each lane is given a turn of this tick, and is away then. The answer says too who of them tries to give a socket
+    /// up. The error is want of memory.
+    fn lend_own(&mut self, tick: u32) -> Result<(Vec<Lane>, Vec<Option<Leaver>>), AllocError>
+        requires sound { IsStaffSound self.old }
+        requires may { MayAllPlay self.old }
+        ensures lent { IfOk result (λ out. AreLent (view_of self.old).made (all_in_tick tick self.old.lanes)
+            out.0.items) }
+        ensures leavers { IfOk result (λ out. out.1.items ≡ map leaver_of self.old.lanes) }
+        ensures host { OnOk result (self.new ≡ lent_by (length (all_in_tick tick self.old.lanes)) self.old) }
+    {
+        let leavers = leavers_of(
+            self.alloc,
+            self.cores,
+            self.names.as_slice(),
+            self.lanes.as_slice(),
+        )?;
+        self.busy = 0;
+        lend_all_in(&*self.shared, &mut self.slow.pass, &mut self.lanes, tick);
+        let own = mem::replace(&mut self.lanes, Vec::new(self.alloc));
+        Ok((own, leavers))
+    }
+
+    /// Its lanes come back with their turns, and it learns what was done in them.
+    fn take_own_back(&mut self, own: Vec<Lane>, leavers: &[Option<Leaver>])
+        requires { IsReadyFor own.items self.old }
+        ensures { IsBack leavers.now own.items self.old self.new }
+    {
+        self.lanes = own;
+        learn_all(&*self.shared, &mut self.slow.pass, &mut self.lanes);
+        leave_all(&mut self.books, self.lanes.as_slice(), leavers);
+    }
+
     /// Each lane is given a turn of this tick, and all go behind those of other hosts. The answer says who of them
     /// tries to give a socket up. The error is want of memory.
     fn lend_lanes(
@@ -167,15 +239,8 @@ impl CoreHost {
         ensures leavers { IfOk result (λ leavers. leavers.items ≡ map leaver_of self.old.lanes) }
         ensures host { OnOk result (self.new ≡ lent_by (length (all_in_tick tick self.old.lanes)) self.old) }
     {
-        let leavers = leavers_of(
-            self.alloc,
-            self.cores,
-            self.names.as_slice(),
-            self.lanes.as_slice(),
-        )?;
-        self.busy = 0;
-        lend_all_in(&*self.shared, &mut self.slow.pass, &mut self.lanes, tick);
-        lanes.append(&mut self.lanes)?;
+        let (mut own, leavers) = self.lend_own(tick)?;
+        lanes.append(&mut own)?;
         Ok(leavers)
     }
 
@@ -192,9 +257,8 @@ impl CoreHost {
         ensures lanes { OnOk result (lanes.new.items ≡ take at lanes.old.items) }
         ensures back { OnOk result (IsBack leavers.now (drop at lanes.old.items) self.old self.new) }
     {
-        self.lanes = lanes.split_off(at)?;
-        learn_all(&*self.shared, &mut self.slow.pass, &mut self.lanes);
-        leave_all(&mut self.books, self.lanes.as_slice(), leavers);
+        let own = lanes.split_off(at)?;
+        self.take_own_back(own, leavers);
         Ok(())
     }
 }
@@ -269,8 +333,7 @@ fn learn_all(shared: &Shared, slow: &mut SlowPass<FlowRecord>, lanes: &mut Vec<L
 }
 
 /// Where a host's lanes were lent, played and came back, none of them wanting memory, they may play, they may come
-/// back,
-/// and the host was played.
+/// back, and the host was played.
 fn host_is_played()
     ensures play { (t : ℕ) (h : Staffed) (own : List Lane) → IsStaffSound h → MayAllPlay h
         → AreLent (view_of h).made (all_in_tick t h.lanes) own → Each CanPlay own }
