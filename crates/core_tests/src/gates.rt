@@ -77,24 +77,6 @@ close s
 move b 19 0 at 2
 ";
 
-/// The client is killed with the record of its flow in hand, in the tick in which the server's first segment after the
-/// handshake comes to it.
-const KILLED_HOLDING: &[u8] = b"host a 10.0.0.1 iss 1000 rto 3
-host b 10.0.0.2 iss 5000 rto 3
-app b server
-listen lst 80
-accept s lst
-recv s 5
-send s world
-close s
-app a client
-connect s b 80
-send s hello
-recv s 5
-close s
-kill a client at 5 holding
-";
-
 /// Holds a worker that passes one point, once others did so often, until another point was passed so often, or for so
 /// many turns.
 #[derive(Drop)]
@@ -164,30 +146,15 @@ fn run_on<R: Threads + Wait + Sync, G: Gate + Sync>(
     Ok(run(rt, alloc, &scenario, Mode::Cores(cores), gate)?)
 }
 
-/// How often a run is tried in which one worker waits for another: the thread of either may still be starting when its
-/// time comes, and then another worker has its lane.
-const TRIES: u32 = 5;
-
-/// Runs a scenario on two cores by a gate that holds the worker that passes one point, once it did so often, until
-/// another point was passed so often; in one of a few tries it must have held it, and not until its turns ran out. The
-/// answer is that run's log.
+/// Runs a scenario on two cores by a gate, which must have held a worker, and not until its turns ran out. The answer
+/// is the run's log.
 fn meets<R: Threads + Wait + Sync + Abort>(
     rt: &R,
     alloc: Global,
     text: &[u8],
-    held: (u32, usize),
-    until: (u32, usize),
+    gate: &Hold,
 ) -> Result<RunLog, Fail> {
-    for _ in 1..TRIES {
-        let gate = Hold::new(held.0, held.1, until.0, until.1);
-        let log = run_on(rt, alloc, text, 2, &gate)?;
-        if !gate.ran_out.load(Ordering::SeqCst) {
-            assert!(rt; gate.was_held.load(Ordering::SeqCst));
-            return Ok(log);
-        }
-    }
-    let gate = Hold::new(held.0, held.1, until.0, until.1);
-    let log = run_on(rt, alloc, text, 2, &gate)?;
+    let log = run_on(rt, alloc, text, 2, gate)?;
     assert!(rt; gate.was_held.load(Ordering::SeqCst));
     assert!(rt; !gate.ran_out.load(Ordering::SeqCst));
     Ok(log)
@@ -199,8 +166,8 @@ fn two_cores_take_frames_at_once(rt: HostRuntime) -> Result<(), Fail> {
     let mut text = Vec::new(rt.alloc());
     text.extend_from_slice(ONE_CLIENT)?;
     text.extend_from_slice(OTHER_CLIENT)?;
-    meets(&rt, rt.alloc(), &text, (64, 0), (67, 1))?;
-    meets(&rt, rt.alloc(), &text, (66, 0), (65, 1))?;
+    meets(&rt, rt.alloc(), &text, &Hold::new(64, 0, 67, 1))?;
+    meets(&rt, rt.alloc(), &text, &Hold::new(66, 0, 65, 1))?;
     Ok(())
 }
 
@@ -208,7 +175,7 @@ fn two_cores_take_frames_at_once(rt: HostRuntime) -> Result<(), Fail> {
 /// Its lane passes its points in both phases of each tick, so that this is its ninth time.
 #[test]
 fn a_core_waits_for_an_application(rt: HostRuntime) -> Result<(), Fail> {
-    let log = meets(&rt, rt.alloc(), ONE_CLIENT, (66, 2), (127, 9))?;
+    let log = meets(&rt, rt.alloc(), ONE_CLIENT, &Hold::new(66, 2, 127, 9))?;
     has_words(&rt, &log)
 }
 
@@ -216,33 +183,8 @@ fn a_core_waits_for_an_application(rt: HostRuntime) -> Result<(), Fail> {
 /// with the client's word.
 #[test]
 fn an_application_waits_for_a_core(rt: HostRuntime) -> Result<(), Fail> {
-    let log = meets(&rt, rt.alloc(), ONE_CLIENT, (126, 8), (67, 3))?;
+    let log = meets(&rt, rt.alloc(), ONE_CLIENT, &Hold::new(126, 8, 67, 3))?;
     has_words(&rt, &log)
-}
-
-/// The client's core waits before a frame of its flow, in tick 5, until the client's lane has played; in that tick the
-/// client is killed with the record of that very flow in hand. The frame is taken, then the flow is aborted, once.
-#[test]
-fn a_client_is_killed_with_a_record_for_which_a_core_has_a_frame(
-    rt: HostRuntime,
-) -> Result<(), Fail> {
-    let log = meets(&rt, rt.alloc(), KILLED_HOLDING, (2, 1), (63, 11))?;
-    assert!(rt; log.hosts.len() == 2);
-    let flows = &log.hosts.item(0).flows;
-    assert!(rt; flows.len() == 1);
-    ends_aborted(&rt, flows.item(0))
-}
-
-/// Wants a flow whose last two entries are a segment that a core received, and an abort.
-fn ends_aborted<R: Abort>(rt: &R, flow: &FlowHistory) -> Result<(), Fail> {
-    let count = flow.entries();
-    assert!(rt; count >= 2);
-    let last = flow.entry(count - 1);
-    let before = flow.entry(count - 2);
-    assert!(rt; matches!(last.call, CallView::Abort));
-    assert!(rt; matches!(before.call, CallView::Rx { .. }));
-    assert!(rt; matches!(before.caller, Caller::Core(_)));
-    Ok(())
 }
 
 /// Wants the words of both ends read by the other one.
