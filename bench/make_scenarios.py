@@ -1,21 +1,23 @@
 #!/usr/bin/env python3
-"""Makes the benchmark's scenarios, whose reports with them are just below the most that an audit takes (64 MiB).
+"""Makes the benchmark's scenarios. The reports of the first two are, with them, just below the most that an audit takes
+(64 MiB).
 
 usage: bench/make_scenarios.py FOLDER
 
 bulk-88.txt     the scenario of `bulk 88`: clients that send 65,536 bytes each, of which one frame of seven is lost
 idle-1000.txt   1,000 connections that are idle over 1,130 ticks
+sends-1000.txt  1,000 clients that send 60,000 bytes each, of which no frame is lost
 """
 import pathlib
 import sys
 
 
-def bulk(clients):
-    lines = ["limit 5000", "host a 10.0.0.1 rto 8", "host b 10.0.0.2 rto 8", "dropeach a 7"]
+def bulk(clients, size=65536, link=("dropeach a 7",)):
+    lines = ["limit 5000", "host a 10.0.0.1 rto 8", "host b 10.0.0.2 rto 8", *link]
     for i in range(clients):
         lines += [f"app b s{i}", f"listen l {1000 + i}", "accept s l", "drain s", "close s"]
     for i in range(clients):
-        lines += [f"app a c{i}", f"connect s b {1000 + i}", "fill s 65536", "close s"]
+        lines += [f"app a c{i}", f"connect s b {1000 + i}", f"fill s {size}", "close s"]
     return lines
 
 
@@ -30,7 +32,8 @@ def idle(clients, ticks):
 def main():
     folder = pathlib.Path(sys.argv[1])
     folder.mkdir(parents=True, exist_ok=True)
-    for name, lines in (("bulk-88", bulk(88)), ("idle-1000", idle(1000, 1130))):
+    made = ("bulk-88", bulk(88)), ("idle-1000", idle(1000, 1130)), ("sends-1000", bulk(1000, 60000, ()))
+    for name, lines in made:
         (folder / f"{name}.txt").write_text("\n".join(lines) + "\n")
 
 
