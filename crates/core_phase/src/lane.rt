@@ -6,7 +6,7 @@ ghost use Rattle.core_phase.specs.Attempts.{MayTry};
 
 use crate::attempt::{Answered, Attempt, make};
 use core_worker::{CoreWorker, Shared};
-use crew::Job;
+use crew::{Job, Weighed};
 use libtas_sockets::{App, Socket};
 use std::alloc::Global;
 use std::sync::{Arc, Wait};
@@ -89,17 +89,19 @@ impl Job for Lane {
 
     ghost made = { HasPlayed };
 
-    fn weight(&self) -> usize {
-        match self {
-            Lane::Core(_) => CORE,
-            Lane::App(lane) => lane.attempt.weight(),
-        }
-    }
-
     fn work<R: Wait, G: Gate>(&mut self, rt: &R, gate: &G) {
         match self {
             Lane::Core(lane) => lane.play(rt, gate),
             Lane::App(lane) => lane.play(gate),
+        }
+    }
+}
+
+impl Weighed for Lane {
+    fn weight(&self) -> usize {
+        match self {
+            Lane::Core(_) => CORE,
+            Lane::App(lane) => lane.attempt.weight(),
         }
     }
 }

@@ -1,8 +1,8 @@
 //! What a thread is handed: jobs that stand side by side.
-ghost use Rattle.std.specs.Prelude.{◌≡◌, ◌≤◌, All, length};
+ghost use Rattle.std.specs.Prelude.{◌≡◌, ◌≤◌, ◌+◌, All, length};
 ghost use Rattle.std.specs.List.{AllZip};
 
-use crate::job::Job;
+use crate::job::{Job, Weighed};
 use std::sync::Wait;
 use tas_num::Gate;
 
@@ -20,17 +20,13 @@ impl<W: Job + Drop> Job for Batch<W> {
 
     ghost made = { λ b c. AllZip W.made b.jobs.items c.jobs.items };
 
-    fn weight(&self) -> usize {
-        weight_of(self.jobs.as_slice(), 0)
-    }
-
     fn work<R: Wait, G: Gate>(&mut self, rt: &R, gate: &G) {
         work_each(rt, gate, self.jobs.as_mut_slice());
     }
 }
 
-/// The jobs, one after the other.
-pub(crate) fn work_each<R: Wait, G: Gate, W: Job>(rt: &R, gate: &G, jobs: &mut [W])
+/// Works on the jobs one after the other, on the caller's thread.
+pub fn work_each<R: Wait, G: Gate, W: Job>(rt: &R, gate: &G, jobs: &mut [W])
     requires can { All W.can jobs.old }
     ensures made { AllZip W.made jobs.old jobs.new }
 {
@@ -41,7 +37,7 @@ pub(crate) fn work_each<R: Wait, G: Gate, W: Job>(rt: &R, gate: &G, jobs: &mut [
 }
 
 /// This, and how much there is to do in these jobs.
-pub(crate) fn weight_of<W: Job>(jobs: &[W], before: usize) -> usize {
+pub(crate) fn weight_of<W: Weighed>(jobs: &[W], before: usize) -> usize {
     match jobs.split_first() {
         Some((job, rest)) => weight_of(rest, before.saturating_add(job.weight())),
         None => before,
@@ -58,11 +54,12 @@ pub(crate) struct Parting {
 }
 
 /// Where these jobs are cut for a thread that gets the last of them, of which all together have this weight, and which
-/// so many workers share. Where there are no more jobs than workers, each gets one.
-pub(crate) fn cut<W: Job>(jobs: &[W], weight: usize, workers: usize) -> Parting
+/// so many workers share. Where there are no more jobs than workers it gets one, so that none waits behind another.
+pub(crate) fn cut<W: Weighed>(jobs: &[W], weight: usize, workers: usize) -> Parting
     requires some { 1 ≤ length jobs.now }
     requires workers { 1 ≤ workers }
-    ensures { result.at ≤ length jobs.now }
+    ensures at { result.at ≤ length jobs.now }
+    ensures one { length jobs.now ≤ workers → result.at + 1 ≡ length jobs.now }
 {
     if jobs.len() <= workers {
         return cut_at(jobs, 0, 0);
@@ -75,8 +72,9 @@ pub(crate) fn cut<W: Job>(jobs: &[W], weight: usize, workers: usize) -> Parting
 }
 
 /// Where the last jobs, with what came behind them, have this weight.
-fn cut_at<W: Job>(jobs: &[W], wanted: usize, behind: usize) -> Parting
-    ensures { result.at ≤ length jobs.now }
+fn cut_at<W: Weighed>(jobs: &[W], wanted: usize, behind: usize) -> Parting
+    ensures at { result.at ≤ length jobs.now }
+    ensures one { wanted ≤ behind → 1 ≤ length jobs.now → result.at + 1 ≡ length jobs.now }
 {
     let Some((job, rest)) = jobs.split_last() else {
         return Parting {

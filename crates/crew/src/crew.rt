@@ -4,7 +4,7 @@ ghost use Rattle.std.specs.List.{AllZip};
 ghost use Rattle.crew.specs.Crews.{IsReady, IsOutAt, desk_of, desks_of};
 
 use crate::batch::{Batch, cut, weight_of, work_each};
-use crate::job::Job;
+use crate::job::{Job, Weighed};
 use crate::post::{Post, take_post};
 use std::marker::Model;
 use std::sync::Wait;
@@ -35,11 +35,14 @@ impl<W: Job + Drop> Crew<W> {
     {
         self.posts.len()
     }
+}
 
-    /// Works on all jobs side by side, and returns when each is done. They are cut into as many runs as there are
-    /// threads and the caller, with as much to do in each by their weights, or one job each where they are no more:
-    /// each thread is handed one, from the last on, and the caller works on the first, and then on each that no thread
-    /// has begun meanwhile. A job is back in its place, as its own work left it.
+impl<W: Job + Weighed + Drop> Crew<W> {
+    /// Works on all jobs side by side, and returns when each is done. Its workers are the threads that were asked for
+    /// and the caller, counted as it begins. The jobs are cut into as many runs, with as much to do in each by their
+    /// weights; where there are no more jobs than workers, no thread gets two. Each thread is handed a run, from the
+    /// last on, and one that has not started is passed over. The caller works on the jobs that are left, and then on
+    /// each run that no thread has begun meanwhile. A job is back in its place, as its own work left it.
     pub fn phase<R: Wait, G: Gate>(&mut self, rt: &R, gate: &G, jobs: &mut Vec<W>)
         requires { All W.can jobs.old.items }
         ensures made { AllZip W.made jobs.old.items jobs.new.items }
@@ -47,20 +50,23 @@ impl<W: Job + Drop> Crew<W> {
         ensures same { self.new ≡ self.old }
     {
         let weight = weight_of(jobs.as_slice(), 0);
-        work_all(rt, gate, &mut self.posts, jobs, weight);
+        let workers = self.posts.len() + 1;
+        work_all(rt, gate, &mut self.posts, jobs, weight, workers);
     }
 }
 
 /// The jobs, which have this weight, by the threads of these posts, the last ones by the last post's, and by the
-/// caller.
+/// caller. They are cut for so many workers: the caller, these threads, and those that were passed over.
 #[cycle(sharing)]
-fn work_all<R: Wait, G: Gate, W: Job + Drop>(
+fn work_all<R: Wait, G: Gate, W: Job + Weighed + Drop>(
     rt: &R,
     gate: &G,
     posts: &mut Vec<Post<Batch<W>>>,
     jobs: &mut Vec<W>,
     weight: usize,
+    workers: usize,
 )
+    requires workers { length posts.old.items < workers }
     requires ready { All IsReady posts.old.items }
     requires can { All W.can jobs.old.items }
     ensures ready { All IsReady posts.new.items }
@@ -78,22 +84,25 @@ fn work_all<R: Wait, G: Gate, W: Job + Drop>(
         work_here(rt, gate, jobs);
         return;
     };
-    share(rt, gate, &mut post, posts, jobs, weight);
+    share(rt, gate, &mut post, posts, jobs, weight, workers);
     posts.push_reserved(post);
 }
 
 /// The last jobs by this post's thread, where there is one, and the others by those posts' and the caller. Where that
-/// thread has not begun by then, as it sleeps or has no processor, the caller works in its place.
+/// thread has not begun by then, as it sleeps or has no processor, the caller works in its place. A thread that has not
+/// started stays counted, so that no other thread's run is the longer for it.
 #[cycle(sharing)]
-fn share<R: Wait, G: Gate, W: Job + Drop>(
+fn share<R: Wait, G: Gate, W: Job + Weighed + Drop>(
     rt: &R,
     gate: &G,
     post: &mut Post<Batch<W>>,
     posts: &mut Vec<Post<Batch<W>>>,
     jobs: &mut Vec<W>,
     weight: usize,
+    workers: usize,
 )
     requires some { 0 < length jobs.old.items }
+    requires workers { length posts.old.items + 1 < workers }
     requires one { IsReady post.old }
     requires ready { All IsReady posts.old.items }
     requires can { All W.can jobs.old.items }
@@ -107,16 +116,17 @@ fn share<R: Wait, G: Gate, W: Job + Drop>(
     ensures posts_room { vec_capacity posts.new ≡ vec_capacity posts.old }
 {
     if !post.is_manned() {
-        work_all(rt, gate, posts, jobs, weight);
+        work_all(rt, gate, posts, jobs, weight, workers);
         return;
     }
-    let cut = cut(jobs.as_slice(), weight, posts.len().saturating_add(2));
+    let cut = cut(jobs.as_slice(), weight, workers);
     let Ok(last) = jobs.split_off(cut.at) else {
-        work_all(rt, gate, posts, jobs, weight);
+        work_all(rt, gate, posts, jobs, weight, workers);
         return;
     };
     post.send(Batch { jobs: last });
-    work_all(rt, gate, posts, jobs, weight.saturating_sub(cut.weight));
+    let left = weight.saturating_sub(cut.weight);
+    work_all(rt, gate, posts, jobs, left, workers - 1);
     let mut done = finish(rt, gate, post);
     put_behind(jobs, &mut done.jobs);
 }

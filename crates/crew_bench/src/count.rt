@@ -1,7 +1,7 @@
 //! A job that counts: so many turns of arithmetic, on about 500 bytes.
 ghost use Rattle.std.specs.Prelude.{⊤};
 
-use crew::Job;
+use crew::{Job, Weighed};
 use std::alloc::{AllocError, Global};
 use std::sync::Wait;
 use tas_num::Gate;
@@ -33,12 +33,14 @@ impl Job for Count {
 
     ghost made = { λ _ _. ⊤ };
 
-    fn weight(&self) -> usize {
-        self.turns as usize
-    }
-
     fn work<R: Wait, G: Gate>(&mut self, _rt: &R, _gate: &G) {
         self.work_on();
+    }
+}
+
+impl Weighed for Count {
+    fn weight(&self) -> usize {
+        self.turns as usize
     }
 }
 

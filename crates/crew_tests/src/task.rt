@@ -1,7 +1,7 @@
 //! A job of the tests: it counts how often it was worked on, and passes a point at its beginning and one at its end.
 ghost use Rattle.std.specs.Prelude.{⊤, ◌≡◌, IfOk};
 
-use crew::Job;
+use crew::{Job, Weighed};
 use std::alloc::{AllocError, Global};
 use std::sync::Wait;
 use tas_num::Gate;
@@ -51,15 +51,17 @@ impl Job for Task {
 
     ghost made = { λ _ _. ⊤ };
 
-    fn weight(&self) -> usize {
-        self.turns as usize
-    }
-
     fn work<R: Wait, G: Gate>(&mut self, _rt: &R, gate: &G) {
         gate.pass(begins(self.place));
         self.turn();
         self.worked = self.worked.wrapping_add(1);
         gate.pass(ends(self.place));
+    }
+}
+
+impl Weighed for Task {
+    fn weight(&self) -> usize {
+        self.turns as usize
     }
 }
 
